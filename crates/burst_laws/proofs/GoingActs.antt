@@ -33,10 +33,10 @@ use Rattle.running_laws.proofs.Asked.{call_is, call_there}
 use Rattle.running_laws.proofs.Calls.{going_call, going_expire}
 use Rattle.running_laws.proofs.Kept.{actor_told}
 use Rattle.running_laws.proofs.Turns.{going_turn}
-use Rattle.burst_tasks.specs.declared.task.Task.{Task}
-use Rattle.burst_tasks.specs.declared.task.Task.TheVariants as task
-use Rattle.burst_tasks.specs.Acts.{Does, actor_of}
-use Rattle.burst_tasks.specs.Acts as acts
+use Rattle.run_world.specs.declared.task.Task.{Task}
+use Rattle.run_world.specs.declared.task.Task.TheVariants as task
+use Rattle.run_world.specs.Acts.{Does, actor_of}
+use Rattle.run_world.specs.Acts as acts
 use Rattle.burst_laws.specs.Courses.{AreTasks, GoesOnAt, IsTaskOf, Lands, Standing}
 use Rattle.burst_laws.proofs.GoingLanding.{HasLanded, lands_nowhere, lands_there}
 use Rattle.burst_laws.proofs.GoingReports.{HasReported, after, before, called_now, going_before, has_reported, lists_after}

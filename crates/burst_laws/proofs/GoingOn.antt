@@ -4,8 +4,8 @@ use Rattle.sleep_model.specs.declared.machine.Machine.{Machine}
 use Rattle.sleep_model.specs.Fits.{is_word64}
 use Rattle.sleep_model.specs.Numbers.{time_of}
 use Rattle.sleep_state.specs.Places.{entries}
-use Rattle.burst_tasks.specs.declared.task.Task.{Task}
-use Rattle.burst_tasks.specs.Acts.{actor_of}
+use Rattle.run_world.specs.declared.task.Task.{Task}
+use Rattle.run_world.specs.Acts.{actor_of}
 use Rattle.burst_laws.specs.Courses.{Begins, Course, CoursesGoOn, Goes, GoesFarther, GoesOnAt, IsAct, Standing, has_task}
 use Rattle.burst_laws.proofs.GoingActs.{GoesOnBy, acted, actor_stays}
 use Rattle.burst_laws.proofs.GoingTasks.{has_none, has_same}

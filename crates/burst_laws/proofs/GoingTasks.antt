@@ -6,8 +6,8 @@ use Rattle.sleep_model.specs.declared.machine.Machine.{Machine}
 use Rattle.sleep_model.specs.declared.word.Stamp.{Stamp}
 use Rattle.sleep_model.specs.Path.{is_same}
 use Rattle.sleep_script.specs.Jobs.{JobState}
-use Rattle.burst_tasks.specs.declared.task.Task.{Task}
-use Rattle.burst_tasks.specs.Acts.{actor_of}
+use Rattle.run_world.specs.declared.task.Task.{Task}
+use Rattle.run_world.specs.Acts.{actor_of}
 use Rattle.burst_laws.specs.Courses.{AreApart, AreTasks, IsTaskOf, has_task}
 
 -- ---- one of a list is another

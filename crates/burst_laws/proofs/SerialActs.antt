@@ -17,9 +17,9 @@ use Rattle.turn_lock.specs.Books.{placed}
 use Rattle.run_laws.specs.Passes.{Noted}
 use Rattle.run_world.specs.Roots.{notes_on}
 use Rattle.run_world.specs.Told.{IsReport, IsTurn}
-use Rattle.burst_tasks.specs.declared.task.Task.{Task}
-use Rattle.burst_tasks.specs.Acts.{Does, Nothing, Turns, Calls, Expires, Plays, all_gains, known_by}
-use Rattle.burst_tasks.specs.Bursts.{AllPlayed}
+use Rattle.run_world.specs.declared.task.Task.{Task}
+use Rattle.run_world.specs.Acts.{Does, Nothing, Turns, Calls, Expires, Plays, all_gains, known_by}
+use Rattle.run_world.specs.Bursts.{AllPlayed}
 use Rattle.burst_laws.proofs.SerialNotes.{newest}
 use Rattle.burst_laws.proofs.SerialBooks.{Rises, rises_low}
 use Rattle.burst_laws.proofs.SerialPlans.{AllGo, Goes, Plan, flat, gains_of, notes}

@@ -16,9 +16,9 @@ use Rattle.run_world.specs.declared.object.WorldObject.{WorldObject}
 use Rattle.run_world.specs.Objects.{journal_of}
 use Rattle.run_world.specs.Roots.{notes_on}
 use Rattle.run_world.proofs.Adding.{items_count}
-use Rattle.burst_tasks.specs.declared.task.Task.{Task}
-use Rattle.burst_tasks.specs.Acts.{Does}
-use Rattle.burst_tasks.specs.Bursts.{IsBurst}
+use Rattle.run_world.specs.declared.task.Task.{Task}
+use Rattle.run_world.specs.Acts.{Does}
+use Rattle.run_world.specs.Bursts.{IsBurst}
 use Rattle.burst_laws.specs.Courses.{Begins, Course, Goes, IsAct, lists_of}
 use Rattle.burst_laws.specs.Serial.{BurstsAreSerial, IsSerial, plain_sources, standing_of}
 use Rattle.burst_laws.proofs.SerialNotes.{Follows, ascends, ascends_low, behind, gained_follows, newest}

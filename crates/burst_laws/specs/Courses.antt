@@ -18,9 +18,9 @@ use Rattle.turn_lock.specs.Books.{placed}
 use Rattle.run_laws.specs.Passes.{Noted}
 use Rattle.running_laws.specs.Running.{IsGoing, of_sources}
 use Rattle.run_world.specs.Roots.{notes_on}
-use Rattle.burst_tasks.specs.declared.task.Task.{Task}
-use Rattle.burst_tasks.specs.declared.task.Task.TheVariants as task
-use Rattle.burst_tasks.specs.Acts.{Does, actor_of}
+use Rattle.run_world.specs.declared.task.Task.{Task}
+use Rattle.run_world.specs.declared.task.Task.TheVariants as task
+use Rattle.run_world.specs.Acts.{Does, actor_of}
 
 -- where a burst stands: each object's list, the newest entry first, the machine's at 0, that of source s at 1 + s; and the tasks
 pub record Standing : Type 0 where

@@ -6,8 +6,8 @@ use Rattle.sleep_state.specs.Places.{entries}
 use Rattle.run_objects.specs.Objects.{SeatedCoreState, SeatedSourceState}
 use Rattle.wakeup_source.specs.SourceStates.{SourceState}
 use Rattle.running_laws.specs.Running.{AreSources}
-use Rattle.burst_tasks.specs.declared.task.Task.{Task}
-use Rattle.burst_tasks.specs.Bursts.{IsBurst}
+use Rattle.run_world.specs.declared.task.Task.{Task}
+use Rattle.run_world.specs.Bursts.{IsBurst}
 use Rattle.burst_laws.specs.Courses.{GoesFarther, GoesOnAt, Standing}
 use Rattle.burst_laws.specs.Serial.{plain_sources, standing_of}
 

@@ -2,8 +2,8 @@
 use Rattle.std.specs.Prelude.{◌≡◌, ℕ, List, length, map}
 use Rattle.run_objects.specs.Objects.{SeatedCoreState, SeatedSourceState}
 use Rattle.wakeup_source.specs.SourceStates.{SourceState}
-use Rattle.burst_tasks.specs.declared.task.Task.{Task}
-use Rattle.burst_tasks.specs.Bursts.{IsBurst}
+use Rattle.run_world.specs.declared.task.Task.{Task}
+use Rattle.run_world.specs.Bursts.{IsBurst}
 use Rattle.burst_laws.specs.Courses.{Course, Standing, lists_of}
 
 -- the sources without their seats

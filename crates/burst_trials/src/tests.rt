@@ -4,10 +4,10 @@ ghost use Rattle.sleep_model.specs.Numbers.{time_of};
 ghost use Rattle.sleep_model.specs.Order.{parents_of};
 ghost use Rattle.sleep_state.specs.Places.{entries};
 ghost use Rattle.run_world.specs.Held.{AreTimely};
-ghost use Rattle.burst_tasks.specs.Acts.{actor_of};
+ghost use Rattle.run_world.specs.Acts.{actor_of};
 ghost use Rattle.world_workers.specs.Bursts.{AreReady, AreTasksIn, HaveTurns};
 
-use burst_tasks::Task;
+use run_world::Task;
 use device_links::Links;
 use event_word::EventTable;
 use machine_file::{ReadMachine, read_machine};

@@ -16,9 +16,9 @@ use Rattle.run_objects.specs.Objects.{AreKept, SeatedCoreState, SeatedSourceStat
 use Rattle.run_world.specs.Held.{AreTimely}
 use Rattle.running_laws.specs.Running.{AreSources, IsRunning}
 use Rattle.running_laws.proofs.Asked.{timely}
-use Rattle.burst_tasks.specs.declared.task.Task.{Task}
-use Rattle.burst_tasks.specs.Acts.{actor_of}
-use Rattle.burst_tasks.specs.Bursts.{IsBurst}
+use Rattle.run_world.specs.declared.task.Task.{Task}
+use Rattle.run_world.specs.Acts.{actor_of}
+use Rattle.run_world.specs.Bursts.{IsBurst}
 use Rattle.world_workers.specs.declared.parts.Burst.{Burst}
 use Rattle.world_workers.specs.Bursts.{AreReady, AreTasksIn, HaveTurns}
 use Rattle.machine_rounds.specs.BurstsOf.{IsAway, IsBack}

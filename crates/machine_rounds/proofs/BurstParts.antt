@@ -20,7 +20,7 @@ use Rattle.run_objects.specs.Objects.{AreKept, SeatedSourceState, seats_of}
 use Rattle.run_world.specs.Held.{AreTimely}
 use Rattle.running_laws.specs.Running.{AreSources, IsSourceOf, of_sources}
 use Rattle.running_laws.proofs.Lists.{source_at}
-use Rattle.burst_tasks.specs.declared.task.Task.{Task}
+use Rattle.run_world.specs.declared.task.Task.{Task}
 use Rattle.world_workers.specs.Bursts.{AreTasksIn, HaveTurns}
 use Rattle.world_workers.specs.Tries.{IsTaskIn, turns_of}
 use Rattle.machine_rounds.specs.JobsOf.{AreAllJobs, JobsState, job_at}

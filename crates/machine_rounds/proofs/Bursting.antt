@@ -15,10 +15,10 @@ use Rattle.run_laws.proofs.Acts.{actor_is}
 use Rattle.run_objects.specs.Objects.{SeatedCoreState, SeatedSourceState}
 use Rattle.running_laws.specs.Running.{AreJobs, AreSources, IsGoing, IsRunning, calls_made}
 use Rattle.running_laws.proofs.Turns as turns
-use Rattle.burst_tasks.specs.declared.task.Task.{Task}
-use Rattle.burst_tasks.specs.declared.task.Task.TheVariants as task
-use Rattle.burst_tasks.specs.Acts.{actor_of, known_by}
-use Rattle.burst_tasks.specs.Bursts.{IsBurst}
+use Rattle.run_world.specs.declared.task.Task.{Task}
+use Rattle.run_world.specs.declared.task.Task.TheVariants as task
+use Rattle.run_world.specs.Acts.{actor_of, known_by}
+use Rattle.run_world.specs.Bursts.{IsBurst}
 use Rattle.burst_laws.specs.Courses.{GoesOnAt, IsTaskOf, has_task}
 use Rattle.burst_laws.specs.Keeping.{GoesOnWith}
 use Rattle.burst_laws.specs.Serial.{plain_sources, standing_of}

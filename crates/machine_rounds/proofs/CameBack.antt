@@ -7,10 +7,10 @@ use Rattle.sleep_model.specs.Path.{is_same}
 use Rattle.sleep_script.specs.Jobs.{JobState, first_timer, raised_timer}
 use Rattle.turn_lock.specs.declared.view.Made.{Made}
 use Rattle.run_laws.specs.Passes.{Noted}
-use Rattle.burst_tasks.specs.declared.task.Task.{Task}
-use Rattle.burst_tasks.specs.declared.task.Task.TheVariants as task
-use Rattle.burst_tasks.specs.Acts.{Calls, Does, Expires, Nothing, Plays, Turns, actor_of}
-use Rattle.burst_tasks.specs.Bursts.{AllPlayed}
+use Rattle.run_world.specs.declared.task.Task.{Task}
+use Rattle.run_world.specs.declared.task.Task.TheVariants as task
+use Rattle.run_world.specs.Acts.{Calls, Does, Expires, Nothing, Plays, Turns, actor_of}
+use Rattle.run_world.specs.Bursts.{AllPlayed}
 use Rattle.burst_laws.specs.Courses.{has_task}
 use Rattle.machine_rounds.specs.JobsOf.{JobsState}
 use Rattle.machine_rounds.specs.TasksOf.{AreJobsOf, acts, jobs_in, tasks_of, timers}

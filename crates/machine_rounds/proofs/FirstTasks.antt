@@ -14,9 +14,9 @@ use Rattle.merge_laws.proofs.Calling.{same_actor}
 use Rattle.run_laws.proofs.Acts.{actor_is}
 use Rattle.running_laws.specs.Running.{AreJobs, IsGoing, IsRunning}
 use Rattle.running_laws.proofs.Turns as turns
-use Rattle.burst_tasks.specs.declared.task.Task.{Task}
-use Rattle.burst_tasks.specs.declared.task.Task.TheVariants as task
-use Rattle.burst_tasks.specs.Acts.{actor_of, known_by}
+use Rattle.run_world.specs.declared.task.Task.{Task}
+use Rattle.run_world.specs.declared.task.Task.TheVariants as task
+use Rattle.run_world.specs.Acts.{actor_of, known_by}
 use Rattle.burst_laws.specs.Courses.{AreApart, AreTasks, GoesOnAt, IsTaskOf, has_task, lists_of}
 use Rattle.machine_rounds.specs.JobsOf.{AreAllJobs, JobsState, job_at}
 use Rattle.machine_rounds.specs.TasksOf.{acts, all_actors, numbered, numbered_from, tasks_of, timers}

@@ -3,9 +3,9 @@ use Rattle.std.proofs.Common.{◌≡◌, ◌+◌, ◌++◌, ◌∙◌, ℕ, zero
 use Rattle.sleep_model.specs.declared.entry.Actor.{Actor}
 use Rattle.sleep_model.specs.declared.word.Stamp.{Stamp}
 use Rattle.sleep_script.specs.Jobs.{JobState, later}
-use Rattle.burst_tasks.specs.declared.task.Task.{Task}
-use Rattle.burst_tasks.specs.declared.task.Task.TheVariants as task
-use Rattle.burst_tasks.specs.Acts.{known_by}
+use Rattle.run_world.specs.declared.task.Task.{Task}
+use Rattle.run_world.specs.declared.task.Task.TheVariants as task
+use Rattle.run_world.specs.Acts.{known_by}
 use Rattle.machine_rounds.specs.TasksOf.{highest, jobs_in, numbered, numbered_from}
 
 pub from_more : (kind : ℕ → Actor) (i n : ℕ) → numbered_from kind i (suc n) ≡ numbered_from kind i n ++ kind (i + n) ∷ []

@@ -6,7 +6,7 @@ use Rattle.atomic_table.specs.Seated.{TableId}
 use Rattle.event_word.specs.Seats.{AreAll}
 use Rattle.run_objects.specs.Objects.{SeatedCoreState, SeatedSourceState, seats_of}
 use Rattle.running_laws.specs.Running.{IsRunning}
-use Rattle.burst_tasks.specs.declared.task.Task.{Task}
+use Rattle.run_world.specs.declared.task.Task.{Task}
 use Rattle.machine_rounds.specs.JobsOf.{AreAllJobs, JobsState, job_at}
 use Rattle.machine_rounds.specs.RunFields.{sources_of}
 use Rattle.machine_rounds.specs.TasksOf.{AreJobsOf, highest, jobs_in, tasks_of}

@@ -4,9 +4,9 @@ use Rattle.sleep_model.specs.declared.entry.Actor.{Actor}
 use Rattle.sleep_model.specs.declared.entry.Actor.TheVariants as actor
 use Rattle.sleep_model.specs.declared.word.Stamp.{Stamp}
 use Rattle.sleep_script.specs.Jobs.{JobState, first_timer, later, raised, raised_timer}
-use Rattle.burst_tasks.specs.declared.task.Task.{Task}
-use Rattle.burst_tasks.specs.declared.task.Task.TheVariants as task
-use Rattle.burst_tasks.specs.Acts.{known_by}
+use Rattle.run_world.specs.declared.task.Task.{Task}
+use Rattle.run_world.specs.declared.task.Task.TheVariants as task
+use Rattle.run_world.specs.Acts.{known_by}
 use Rattle.machine_rounds.specs.JobsOf.{JobsState}
 
 -- the task of a job that knows at least that stamp

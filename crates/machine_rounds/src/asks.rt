@@ -72,6 +72,11 @@ impl Asks {
             && self.word(number / 64) == 1 << (number % 64)
     }
 
+    /// Whether that number is in it.
+    pub(crate) fn has(&self, number: u32) -> bool {
+        self.word(number / 64) & (1 << (number % 64)) != 0
+    }
+
     /// All that are in the other are in it.
     pub(crate) fn add(&mut self, other: &Asks) {
         for (word, more) in self.words.iter_mut().zip(other.words.iter()) {

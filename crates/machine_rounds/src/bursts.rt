@@ -37,7 +37,7 @@ struct Away<'m> {
 #[derive(Drop)]
 struct AfterBurst<'m> {
     run: Run<'m>,
-    /// How many turns did something, but for those of the busiest task.
+    /// How many calls on sources were made, but for those of the busiest task.
     beside: u64,
     /// How many tasks there were.
     tasks: usize,
@@ -264,13 +264,14 @@ impl<'m> Run<'m> {
         ensures machine { IfOk result (λ after. after.0.machine ≡ self.entry.machine) }
         ensures refused { IfOk result (λ after. IfSome after.1 (IsRefused after.0)) }
     {
+        let workers = pace.workers(workers);
         let AfterBurst {
             run,
             beside,
             tasks,
             stop,
         } = self.burst(rt, alloc, workers, gate)?;
-        pace.note(beside, tasks);
+        pace.note(beside, tasks, workers);
         let refused = run.refused(stop);
         Ok((run, refused))
     }

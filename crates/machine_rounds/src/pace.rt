@@ -1,30 +1,44 @@
-//! When a run makes bursts.
+//! When a run makes bursts, and by how many workers.
 
-/// The fewest turns beside the busiest task's that make a burst worth its threads.
+/// The fewest calls on sources beside the busiest task's that make a burst worth each thread that is made for it.
 const WORTH: u64 = 256;
 
 /// The fewest of them for each task that make it worth asking all tasks.
 const WORTH_A_TASK: u64 = 16;
 
+/// The first bursts, which all workers make.
+const WHOLE: u32 = 2;
+
 /// The most stretches in a row without a burst, each up to a jump of time.
 const MOST_ALONE: u32 = 65_536;
 
-/// A burst costs some tens of microseconds for its threads, which is most of a run that makes a few entries at each
-/// moment. It asks each task again and again, where the caller knows who may have something to do. And what one task does
-/// alone, as the maker of an attempt, no thread makes faster. So where bursts come to little, the caller goes on alone for
-/// a while, and then tries again: twice as long each time. No clause speaks of this.
+/// A burst costs some tens of microseconds for each thread, which is most of a run that makes a few entries at each
+/// moment. It asks each task again and again, where the caller knows who may have something to do. Turns of the machine
+/// stand one behind another under its lock, and what one task does alone no thread makes faster. So where bursts come to
+/// few calls on sources for the threads that they take, the caller goes on alone for a while, and then tries again: twice
+/// as long each time. A burst behind one that came to few calls is made by few workers. All is counted, and nothing
+/// measured by a clock. No clause speaks of this.
 #[derive(Drop)]
 pub(crate) struct Pace {
+    /// How many bursts were made.
+    made: u32,
     /// How many bursts in a row came to little.
     short: u32,
     /// For how many stretches the caller then goes on alone.
     alone: u32,
+    /// How many workers the last burst was worth.
+    worth: u64,
 }
 
 impl Pace {
     /// At first bursts are made.
     pub(crate) fn new() -> Self {
-        Pace { short: 0, alone: 0 }
+        Pace {
+            made: 0,
+            short: 0,
+            alone: 0,
+            worth: 0,
+        }
     }
 
     /// For how many stretches the caller goes on alone before the next burst. They are taken: the next answer is none,
@@ -35,14 +49,30 @@ impl Pace {
         alone
     }
 
-    /// A burst of `tasks` tasks made `beside` turns beside those of the busiest task.
-    pub(crate) fn note(&mut self, beside: u64, tasks: usize) {
-        if beside >= WORTH.max((tasks as u64).saturating_mul(WORTH_A_TASK)) {
+    /// How many of these workers make the next burst: all the first ones, then as many as the last one was worth, and two
+    /// at least.
+    pub(crate) fn workers(&self, most: u8) -> u8
+        requires { 1 ≤ most }
+        ensures { 1 ≤ result }
+    {
+        if self.made < WHOLE || self.worth >= u64::from(most) {
+            return most;
+        }
+        most.min(2).max(self.worth as u8)
+    }
+
+    /// A burst of `tasks` tasks by that many workers made `beside` calls on sources beside those of the busiest task.
+    pub(crate) fn note(&mut self, beside: u64, tasks: usize, workers: u8) {
+        self.made = self.made.saturating_add(1);
+        self.worth = beside / WORTH + 1;
+        let threads = (tasks as u64).min(u64::from(workers)).saturating_sub(1);
+        let least = (threads * WORTH).max((tasks as u64).saturating_mul(WORTH_A_TASK));
+        if beside >= least {
             self.short = 0;
             return;
         }
         self.short = self.short.saturating_add(1);
-        if self.short > 1 {
+        if self.short >= WHOLE {
             self.alone = MOST_ALONE.min(1 << (self.short.min(14) + 2));
         }
     }

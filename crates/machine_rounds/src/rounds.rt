@@ -42,6 +42,17 @@ impl<'m> Run<'m> {
         self.waiters.had_lock_turn(who, is_held, scripts);
     }
 
+    /// An actor that was called for a mark has had its try. Where the mark is raised still, the next one is called.
+    #[inline(never)]
+    fn pass_mark(&mut self, who: Actor, mark: u32)
+        ensures { self.new ≡ self.old }
+    {
+        if self.core().raised(mark) > 0 {
+            let scripts = self.machine.actors.len() as u32;
+            self.waiters.call_for_mark(who, mark, scripts);
+        }
+    }
+
     /// Wakes the readers of the count, where no event is in progress.
     #[inline(always)]
     fn wake_readers<R: Wait>(&mut self, rt: &R)
@@ -62,6 +73,9 @@ impl<'m> Run<'m> {
         let tried = self.ask(rt, who)?;
         if self.waiters.has_lock_turn(who) {
             self.pass_lock(who, &tried);
+        }
+        if let Some(mark) = self.waiters.take_call(who) {
+            self.pass_mark(who, mark);
         }
         match tried {
             Tried::Made => Ok(true),

@@ -321,7 +321,10 @@ impl<'m> Run<'m> {
             Kind::End(phase, device, _) | Kind::Skip(phase, device, _) => {
                 self.wake_after_end(phase, device);
             }
-            Kind::Post(mark) => self.waiters.wake_for_mark(mark),
+            Kind::Post(mark) => {
+                let scripts = self.machine.actors.len() as u32;
+                self.waiters.call_for_mark(who, mark, scripts);
+            }
             Kind::Over { .. } | Kind::AutoDone | Kind::AutoOff => {
                 let scripts = self.machine.actors.len() as u32;
                 self.waiters.wake_for_lock(who, scripts);

@@ -6,7 +6,7 @@ ghost use Rattle.sleep_script.specs.Jobs.{later};
 ghost use Rattle.machine_rounds.specs.TasksOf.{AreJobsOf, acts, all_actors, highest, jobs_in, numbered, tasks_of, timers};
 
 use crate::jobs::Jobs;
-use burst_tasks::Task;
+use run_world::Task;
 use sleep_base::Mem;
 use sleep_model::{Actor, Stamp};
 use sleep_script::{Job, TimerJob};

@@ -20,9 +20,14 @@ pub(crate) struct Waiters {
     awaited: Option<u32>,
     /// The maker that waits for it, if it is a script.
     maker: Option<u32>,
+    /// Scripts that wait for a mark.
     for_mark: Asks,
-    /// Those of them that wait for each mark.
+    /// Those of them that wait for each mark, among some that do no longer.
     by_mark: Vec<Asks>,
+    /// The mark that each script waited for last.
+    mark_of: Vec<u32>,
+    /// Scripts that were called for that mark, and whose tries are to come.
+    called: Asks,
     for_lock: Asks,
     /// The one of them that was woken last, and whose try is to come.
     next_for_lock: Option<u32>,
@@ -81,6 +86,8 @@ impl Waiters {
             maker: None,
             for_mark: Asks::new(alloc, scripts)?,
             by_mark: none_by_mark(alloc, scripts, marks)?,
+            mark_of: vec![in alloc; 0; scripts]?,
+            called: Asks::new(alloc, scripts)?,
             for_lock: Asks::new(alloc, scripts)?,
             next_for_lock: None,
             asleep: Asks::new(alloc, scripts)?,
@@ -172,6 +179,9 @@ impl Waiters {
         if let Some(waiting) = self.by_mark.get_mut(mark as usize) {
             waiting.insert(script);
         }
+        if let Some(last) = self.mark_of.get_mut(script as usize) {
+            *last = mark;
+        }
     }
 
     /// The autosleep work waits, for that.
@@ -239,11 +249,55 @@ impl Waiters {
         self.scripts.take(&mut self.readers);
     }
 
-    /// Wakes those that wait for that mark, which was raised.
+    /// That mark was raised by an actor, or left as it is by one that was called for it: calls the next of the scripts, of
+    /// which there are `many`, that wait for it, the first one behind the last. So as many are called as the mark is high,
+    /// in the order in which rounds come to them.
     #[inline(never)]
-    pub(crate) fn wake_for_mark(&mut self, mark: u32) {
-        if let Some(waiting) = self.by_mark.get_mut(mark as usize) {
-            self.scripts.take(waiting);
+    pub(crate) fn call_for_mark(&mut self, who: Actor, mark: u32, many: u32) {
+        let from = match who {
+            Actor::Script(script) => script.saturating_add(1),
+            _ => 0,
+        };
+        if !self.call_from(from, mark, many) {
+            self.call_from(0, mark, many);
+        }
+    }
+
+    /// Calls the first from a number on that waits for that mark. Whether there is one.
+    fn call_from(&mut self, from: u32, mark: u32, many: u32) -> bool {
+        match self.next_for_mark(from, mark, many) {
+            Some(script) => {
+                self.for_mark.remove(script);
+                self.called.insert(script);
+                self.scripts.insert(script);
+                true
+            }
+            None => false,
+        }
+    }
+
+    /// The first from a number on that waits for that mark. Who waits for it no longer leaves its list.
+    fn next_for_mark(&mut self, from: u32, mark: u32, many: u32) -> Option<u32> {
+        let waiting = self.by_mark.get_mut(mark as usize)?;
+        for _ in 0..many {
+            let script = waiting.next(from, many)?;
+            waiting.remove(script);
+            if self.for_mark.has(script) && self.mark_of.get(script as usize) == Some(&mark) {
+                return Some(script);
+            }
+        }
+        None
+    }
+
+    /// The mark that an actor was called for, where this is its try.
+    #[inline(always)]
+    pub(crate) fn take_call(&mut self, who: Actor) -> Option<u32> {
+        match who {
+            Actor::Script(script) if self.called.has(script) => {
+                self.called.remove(script);
+                self.mark_of.get(script as usize).copied()
+            }
+            _ => None,
         }
     }
 

@@ -1,5 +1,5 @@
 -- A call on a source and a turn of the machine, by what their objects gain.
-use Rattle.std.proofs.Common.{◌≡◌, ◌∙◌, ℕ, ◌+◌, List, [], ◌∷◌, ◌++◌, length, map, Option, Some, None, Result, Ok, Err, refl, sym, ap, subst}
+use Rattle.std.proofs.Common.{◌≡◌, ◌∙◌, inl, inr, ℕ, ◌+◌, List, [], ◌∷◌, ◌++◌, length, map, Option, Some, None, Result, Ok, Err, refl, sym, ap, subst}
 use Rattle.std.proofs.lemmas.List.{length-map, map-append}
 use Rattle.sleep_model.specs.declared.entry.Actor.{Actor}
 use Rattle.sleep_model.specs.declared.entry.JournalEntry.{JournalEntry}
@@ -9,6 +9,7 @@ use Rattle.sleep_model.specs.declared.word.Stamp.{Stamp}
 use Rattle.sleep_model.specs.declared.word.WordKind.{WordKind}
 use Rattle.sleep_model.specs.Legal.{JournalPart}
 use Rattle.sleep_model.specs.Merge.{of_source}
+use Rattle.sleep_model.specs.Numbers.{time_of}
 use Rattle.sleep_model.specs.Path.{attempts}
 use Rattle.sleep_model.specs.Sources.{makes, since}
 use Rattle.sleep_model.specs.Word.{position}
@@ -21,13 +22,14 @@ use Rattle.wakeup_source.specs.declared.call_by.CallBy.{CallBy}
 use Rattle.wakeup_source.specs.declared.fault.SourceFault.{SourceFault}
 use Rattle.wakeup_source.specs.Called.{Calls, Scene, Steps, after_step}
 use Rattle.wakeup_source.specs.SourceStates.{bare, note_entry, note_tick, step_entry}
+use Rattle.turn_lock.specs.declared.view.Made.{Made}
 use Rattle.turn_lock.specs.Passes.{HasGrown, gained}
-use Rattle.run_laws.specs.Passes.{items}
+use Rattle.run_laws.specs.Passes.{Noted, items}
 use Rattle.run_objects.specs.Objects.{SeatedCoreState, SeatedSourceState, scene_of}
 use Rattle.run_world.specs.declared.object.WorldObject.TheVariants as object
 use Rattle.run_world.specs.declared.timed.TimedSource.{TimedSource}
 use Rattle.run_world.specs.Roots.{notes_on}
-use Rattle.run_world.specs.Calling.{AfterCall, AfterMachineTurn}
+use Rattle.run_world.specs.Calling.{AfterCall, AfterMachineTurn, IsTried}
 use Rattle.run_world.specs.Objects.{notes_of, root_of}
 use Rattle.run_world.specs.Told.{AfterCoreTurn, AfterReport}
 use Rattle.run_world.proofs.Adding.{append_none, items_count, items_more, placed_more, placed_none}
@@ -69,35 +71,41 @@ module _ (by : CallBy) (c : SourceCall) (old new : TimedSource) where
   report_grown (Ok (Some stamp)) h =
       let more = call_adds by c (scene_of old.source) (scene_of new.source) h.calls in
       (notes_on (map of_source old.source.source.past) (map of_source more.0), grown_source old.source.source.past new.source.source.past more.0 more.1)
-  report_grown (Ok None) h = ([], same_notes h.1 ∙ sym (append_none (notes_of (object.Source old))))
-  report_grown (Err fault) h = ([], same_notes h ∙ sym (append_none (notes_of (object.Source old))))
+  report_grown (Ok None) h = ([], same_notes h.2 ∙ sym (append_none (notes_of (object.Source old))))
+  report_grown (Err fault) h = ([], same_notes h.1 ∙ sym (append_none (notes_of (object.Source old))))
+
+  -- a source that stays as it was has gained nothing
+  nothing : new.source ≡ old.source → gained root_of notes_of (1 + old.source.source.id) (notes_of (object.Source old)) (object.Source new) ≡ []
+  nothing same = placed_none (1 + old.source.source.id) (notes_of (object.Source old)) (notes_of (object.Source new)) (same_notes same)
 
   pub report_after : (result : Result (Option Stamp) SourceFault) → AfterCall by c old.source new.source result
-      → AfterReport by c old.source.source.id result (gained root_of notes_of (1 + old.source.source.id) (notes_of (object.Source old)) (object.Source new))
+      → AfterReport by c old.source.source.id old.source.source.past result (gained root_of notes_of (1 + old.source.source.id) (notes_of (object.Source old)) (object.Source new))
   unfolding HasMore
   report_after (Ok (Some stamp)) h =
-      let more = call_adds by c (scene_of old.source) (scene_of new.source) h.calls in
-      record {
-        old = scene_of old.source;
-        new = scene_of new.source;
-        added = more.0;
-        number = refl;
-        settled = h.settled;
-        may = h.may;
-        calls = h.calls;
-        grown = more.1;
-        leaves = h.leaves;
-        stamp_is = h.stamp_is;
-        gained = placed_more (1 + old.source.source.id) (length old.source.source.past) (notes_of (object.Source old)) (notes_of (object.Source new))
-            (notes_on (map of_source old.source.source.past) (map of_source more.0)) (grown_source old.source.source.past new.source.source.past more.0 more.1)
-            (items_count (map of_source old.source.source.past) ∙ length-map old.source.source.past of_source);
-      }
-  report_after (Ok None) h = (h.0, placed_none (1 + old.source.source.id) (notes_of (object.Source old)) (notes_of (object.Source new)) (same_notes h.1))
-  report_after (Err fault) h = placed_none (1 + old.source.source.id) (notes_of (object.Source old)) (notes_of (object.Source new)) (same_notes h)
+      let more = call_adds by c (scene_of old.source) (scene_of new.source) h.calls in (
+        record {
+          old = scene_of old.source;
+          new = scene_of new.source;
+          added = more.0;
+          number = refl;
+          settled = h.settled;
+          may = h.may;
+          calls = h.calls;
+          grown = more.1;
+          leaves = h.leaves;
+          stamp_is = h.stamp_is;
+          gained = placed_more (1 + old.source.source.id) (length old.source.source.past) (notes_of (object.Source old)) (notes_of (object.Source new))
+              (notes_on (map of_source old.source.source.past) (map of_source more.0)) (grown_source old.source.source.past new.source.source.past more.0 more.1)
+              (items_count (map of_source old.source.source.past) ∙ length-map old.source.source.past of_source);
+        },
+        refl,
+      )
+  report_after (Ok None) h = record { is = h.0; waits = h.1; gained = nothing h.2 }
+  report_after (Err fault) h = record { refused = h.0; gained = nothing h.1 }
 
 -- ---- a turn
 
-module _ (who : Actor) (calls : ℕ) (floor : Stamp) (old new : SeatedCoreState) where
+module _ (who : Actor) (calls : ℕ) (floor : Stamp) (now : ℕ) (old new : SeatedCoreState) where
   same_journal : new.core ≡ old.core → notes_of (object.Machine new) ≡ notes_of (object.Machine old)
   same_journal same = ap (λ (s : CoreState). items s.past) same
 
@@ -108,35 +116,54 @@ module _ (who : Actor) (calls : ℕ) (floor : Stamp) (old new : SeatedCoreState)
   no_more : notes_of (object.Machine new) ≡ notes_of (object.Machine old) → HasGrown root_of notes_of (notes_of (object.Machine old)) (object.Machine new)
   no_more same = ([], same ∙ sym (append_none (notes_of (object.Machine old))))
 
-  pub turn_grown : (result : Result (Option CoreTurn) CoreFault) → AfterMachineTurn old.core new.core who calls floor result → HasGrown root_of notes_of (notes_of (object.Machine old)) (object.Machine new)
-  turn_grown (Ok (Some (Did stamp k attempt))) h =
+  tried_grown : (result : Result CoreTurn CoreFault) → IsTried old.core new.core who calls floor result → HasGrown root_of notes_of (notes_of (object.Machine old)) (object.Machine new)
+  tried_grown (Ok (Did stamp k attempt)) h =
       (record { entry = made_entry old.core.past who h.word floor k; past = old.core.past } ∷ [], one_more (made_entry old.core.past who h.word floor k) h.after.1)
-  turn_grown (Ok (Some (NotYet why))) h = no_more (same_journal h.after.1)
-  turn_grown (Ok (Some Done)) h = no_more (same_journal h.after.1)
-  turn_grown (Ok None) h = no_more (same_journal h.1)
-  turn_grown (Err fault) h = no_more (same_journal h.after.2)
+  tried_grown (Ok (NotYet why)) h = no_more (same_journal h.after.1)
+  tried_grown (Ok Done) h = no_more (same_journal h.after.1)
+  tried_grown (Err fault) h = no_more (same_journal h.after.2)
+
+  pub turn_grown : (result : Result CoreTurn CoreFault) → AfterMachineTurn old.core new.core who calls floor now result → HasGrown root_of notes_of (notes_of (object.Machine old)) (object.Machine new)
+  turn_grown result (inl h) = tried_grown result h.1
+  turn_grown result (inr h) = no_more (same_journal h.same)
 
   none_gained : notes_of (object.Machine new) ≡ notes_of (object.Machine old) → gained root_of notes_of 0 (notes_of (object.Machine old)) (object.Machine new) ≡ []
   none_gained same = placed_none 0 (notes_of (object.Machine old)) (notes_of (object.Machine new)) same
 
-  pub turn_after : (result : Result (Option CoreTurn) CoreFault) → AfterMachineTurn old.core new.core who calls floor result
-      → AfterCoreTurn old.core.machine who calls floor result (gained root_of notes_of 0 (notes_of (object.Machine old)) (object.Machine new))
-  turn_after (Ok (Some (Did stamp k attempt))) h =
-      let e : JournalEntry = made_entry old.core.past who h.word floor k in
-      record {
-        past = old.core.past;
-        word = h.word;
-        calls_are = h.calls_are;
-        due_is = h.after.0;
-        floor_low = h.floor_low;
-        last_low = h.last_low;
-        stamp_is = h.after.2;
-        attempt_is = h.after.3 ∙ ap (λ (s : CoreState). attempts (entries s.past)) h.after.1;
-        legal = subst (λ (s : CoreState). JournalPart s.machine (entries s.past)) h.after.1 h.legal;
-        gained = placed_more 0 (length old.core.past) (notes_of (object.Machine old)) (notes_of (object.Machine new)) (record { entry = e; past = old.core.past } ∷ [])
-            (one_more e h.after.1) (items_count old.core.past);
-      }
-  turn_after (Ok (Some (NotYet why))) h = record { past = old.core.past; word = h.word; calls_are = h.calls_are; due_is = h.after.0; floor_low = h.floor_low; gained = none_gained (same_journal h.after.1) }
-  turn_after (Ok (Some Done)) h = record { past = old.core.past; word = h.word; calls_are = h.calls_are; due_is = h.after.0; floor_low = h.floor_low; gained = none_gained (same_journal h.after.1) }
-  turn_after (Ok None) h = ((old.core.past, h.0), none_gained (same_journal h.1))
-  turn_after (Err fault) h = none_gained (same_journal h.after.2)
+  -- what the turn has gained
+  gains : List (Made Noted)
+  gains = gained root_of notes_of 0 (notes_of (object.Machine old)) (object.Machine new)
+
+  tried_after : (result : Result CoreTurn CoreFault) → now ≡ time_of (entries old.core.past) → IsTried old.core new.core who calls floor result → AfterCoreTurn old.core.machine who calls floor now old.core.past result gains
+  unfolding gains
+  tried_after (Ok (Did stamp k attempt)) is h =
+      let e : JournalEntry = made_entry old.core.past who h.word floor k in (
+        record {
+          past = old.core.past;
+          word = h.word;
+          calls_are = h.calls_are;
+          due_is = h.after.0;
+          floor_low = h.floor_low;
+          last_low = h.last_low;
+          stamp_is = h.after.2;
+          attempt_is = h.after.3 ∙ ap (λ (s : CoreState). attempts (entries s.past)) h.after.1;
+          legal = subst (λ (s : CoreState). JournalPart s.machine (entries s.past)) h.after.1 h.legal;
+          gained = placed_more 0 (length old.core.past) (notes_of (object.Machine old)) (notes_of (object.Machine new)) (record { entry = e; past = old.core.past } ∷ [])
+              (one_more e h.after.1) (items_count old.core.past);
+        },
+        refl,
+        is,
+      )
+  tried_after (Ok (NotYet why)) is h =
+      inl (record { word = h.word; calls_are = h.calls_are; now_is = is; due_is = h.after.0; floor_low = h.floor_low; gained = none_gained (same_journal h.after.1) })
+  tried_after (Ok Done) is h = record { word = h.word; calls_are = h.calls_are; now_is = is; due_is = h.after.0; floor_low = h.floor_low; gained = none_gained (same_journal h.after.1) }
+  tried_after (Err fault) is h =
+      record { calls_are = h.calls_are; now_is = is; no_maker = h.after.0; no_device = h.after.1; gained = none_gained (same_journal h.after.2) }
+
+  pub turn_after : (result : Result CoreTurn CoreFault) → AfterMachineTurn old.core new.core who calls floor now result
+      → AfterCoreTurn old.core.machine who calls floor now old.core.past result (gained root_of notes_of 0 (notes_of (object.Machine old)) (object.Machine new))
+  unfolding gains
+  turn_after result (inl h) = tried_after result h.0 h.1
+  turn_after result (inr h) =
+      subst (λ (r : Result CoreTurn CoreFault). AfterCoreTurn old.core.machine who calls floor now old.core.past r gains) (sym h.told)
+      (inr (record { due = h.due; time = h.time; told = refl; due_is = h.due_is; time_is = h.time_is; differs = h.differs; gained = none_gained (same_journal h.same) }))

@@ -6,8 +6,8 @@ use Rattle.run_laws.specs.Passes.{Noted}
 use Rattle.run_objects.specs.Objects.{SeatedCoreState, SeatedSourceState}
 use Rattle.run_world.specs.declared.object.WorldObject.{WorldObject}
 use Rattle.run_world.specs.Held.{AreAll, IsClosedWorld}
-use Rattle.burst_tasks.specs.declared.task.Task.{Task}
-use Rattle.burst_tasks.specs.Acts.{Plays, all_gains}
+use Rattle.run_world.specs.declared.task.Task.{Task}
+use Rattle.run_world.specs.Acts.{Plays, all_gains}
 
 -- each task went on by acts of its own, and its pass made just what they added
 abbrev pub AllPlayed : ℕ → ℕ → List Task → List (List (Made Noted)) → List Task → Type 0

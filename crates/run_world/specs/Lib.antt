@@ -4,3 +4,5 @@ pub mod Calling
 pub mod Objects
 pub mod Told
 pub mod Held
+pub mod Acts
+pub mod Bursts

@@ -1,9 +1,11 @@
 -- What a call on an object of the world came to.
-use Rattle.std.specs.Prelude.{◌≡◌, ◌≢◌, ◌≤◌, ◌+◌, ℕ, List, [], ◌∷◌, ◌++◌, map, length, Option, Some, None, Result, Ok, Err}
+use Rattle.std.specs.Prelude.{◌≡◌, ◌≢◌, ◌≤◌, ◌+◌, ◌⊎◌, ℕ, false, List, [], ◌∷◌, ◌++◌, map, length, Option, Some, None, Result, Ok, Err}
 use Rattle.sleep_model.specs.declared.entry.Actor.{Actor}
 use Rattle.sleep_model.specs.declared.entry.JournalEntry.{JournalEntry}
 use Rattle.sleep_model.specs.declared.entry.SourceEntry.{SourceEntry}
 use Rattle.sleep_model.specs.declared.entry.Kind.{Kind}
+use Rattle.sleep_model.specs.declared.log.Why.{Why}
+use Rattle.sleep_model.specs.declared.log.Why.TheVariants as why
 use Rattle.sleep_model.specs.declared.machine.Machine.{Machine}
 use Rattle.sleep_model.specs.declared.machine.SourceCall.{SourceCall}
 use Rattle.sleep_model.specs.declared.machine.SourceCall.TheVariants as calls
@@ -12,10 +14,13 @@ use Rattle.sleep_model.specs.declared.place.Due.{Due}
 use Rattle.sleep_model.specs.declared.word.EventNow.{EventNow}
 use Rattle.sleep_model.specs.declared.word.Stamp.{Stamp}
 use Rattle.sleep_model.specs.Calls.{calls_due}
+use Rattle.sleep_model.specs.Devices.{is_device}
 use Rattle.sleep_model.specs.Due.{due}
 use Rattle.sleep_model.specs.Legal.{JournalPart}
 use Rattle.sleep_model.specs.Merge.{of_source}
-use Rattle.sleep_model.specs.Path.{attempts}
+use Rattle.sleep_model.specs.Numbers.{time_of}
+use Rattle.sleep_model.specs.Path.{attempts, is_actor, maker}
+use Rattle.sleep_model.specs.Sources.{expiry, has_expired}
 use Rattle.sleep_model.specs.Word.{position}
 use Rattle.sleep_state.specs.Places.{entries}
 use Rattle.sleep_core.specs.declared.turns.CoreFault.{CoreFault}
@@ -30,7 +35,12 @@ use Rattle.wakeup_source.specs.SourceStates.{IsSettled, bare}
 use Rattle.wakeup_source.specs.Told.{MayCall}
 use Rattle.turn_lock.specs.declared.view.Made.{Made}
 use Rattle.turn_lock.specs.Books.{placed}
-use Rattle.run_laws.specs.Passes.{Noted}
+use Rattle.turn_lock.specs.Locks.{IsTaken}
+use Rattle.turn_lock.specs.Passes.{Token}
+use Rattle.run_laws.specs.Passes.{Noted, items}
+use Rattle.run_world.specs.declared.object.WorldObject.{WorldObject}
+use Rattle.run_world.specs.Calling.{IsRefusedBy}
+use Rattle.run_world.specs.Objects.{notes_of, root_of}
 use Rattle.run_world.specs.Roots.{notes_on}
 
 -- a whole call on that source, which was between calls: what the pass gained is just the call's entries, behind the source's history
@@ -47,11 +57,28 @@ pub record IsReport (by : CallBy) (call : SourceCall) (s : ℕ) (stamp : Stamp) 
   pub stamp_is : stamp ≡ new.source.floor
   pub gained : gains ≡ placed (1 + s) (length old.source.past) (notes_on (map of_source old.source.past) (map of_source added))
 
--- a report that answers a stamp added its entries; none comes for an expiry alone, whose moment has not come; nothing else adds any
-abbrev pub AfterReport : CallBy → SourceCall → ℕ → Result (Option Stamp) SourceFault → List (Made Noted) → Type 0
-AfterReport by call s (Ok (Some stamp)) gains = IsReport by call s stamp gains
-AfterReport by call s (Ok None) gains = (call ≡ calls.Expire) × (gains ≡ [])
-AfterReport by call s (Err fault) gains = gains ≡ []
+-- a report that made no call: it was an expiry whose moment, by the history before, has not come, and the pass gained nothing
+pub record IsNoReport (by : CallBy) (call : SourceCall) (past : List SourceEntry) (gains : List (Made Noted)) : Type 0 where
+  pub is : call ≡ calls.Expire
+  pub waits : has_expired (expiry (bare past)) by.now ≡ false
+  pub gained : gains ≡ []
+
+-- a report that was refused, for the places that the history before has left, or for want of memory: the pass gained nothing
+pub record IsRefusedReport (fault : SourceFault) (past : List SourceEntry) (gains : List (Made Noted)) : Type 0 where
+  pub refused : IsRefusedBy fault (length past)
+  pub gained : gains ≡ []
+
+-- a report on a source with that history that answers a stamp added its entries; none comes for an expiry alone, whose moment has not come; nothing else adds any
+abbrev pub AfterReport : CallBy → SourceCall → ℕ → List SourceEntry → Result (Option Stamp) SourceFault → List (Made Noted) → Type 0
+AfterReport by call s past (Ok (Some stamp)) gains = (report : IsReport by call s stamp gains) × (report.old.source.past ≡ past)
+AfterReport by call s past (Ok None) gains = IsNoReport by call past gains
+AfterReport by call s past (Err fault) gains = IsRefusedReport fault past gains
+
+-- the history that a pass finds at a source's lock: what it made there itself stands in it, at its places
+pub record FindsSource (p : Token WorldObject Noted) (s : ℕ) (past : List SourceEntry) : Type 0 where
+  pub found : WorldObject
+  pub taken : IsTaken root_of notes_of p.me.0 (1 + s) found
+  pub notes : notes_of found ≡ items (map of_source past)
 
 -- a turn of the machine by an actor whose calls were all made: what the pass gained is its one entry, which is due, behind the journal
 pub record IsTurn (m : Machine) (who : Actor) (calls : ℕ) (floor stamp : Stamp) (k : Kind) (attempt : ℕ) (gains : List (Made Noted)) : Type 0 where
@@ -66,20 +93,49 @@ pub record IsTurn (m : Machine) (who : Actor) (calls : ℕ) (floor stamp : Stamp
   pub legal : JournalPart m (entries (made_entry past who word floor k ∷ past))
   pub gained : gains ≡ placed 0 (length past) (record { entry = made_entry past who word floor k; past = past } ∷ [])
 
--- a turn that was tried, and did nothing: the pass gained nothing
-pub record IsNoTurn (m : Machine) (who : Actor) (calls : ℕ) (floor : Stamp) (answer : Due) (gains : List (Made Noted)) : Type 0 where
-  pub past : List JournalEntry
+-- a turn that was tried at the core's time, and did nothing: the pass gained nothing
+pub record IsNoTurn
+    (m : Machine) (who : Actor) (calls : ℕ) (floor : Stamp) (now : ℕ) (past : List JournalEntry) (answer : Due)
+    (gains : List (Made Noted)) : Type 0 where
   pub word : EventNow
   pub calls_are : calls ≡ calls_due m who (entries past)
+  pub now_is : now ≡ time_of (entries past)
   pub due_is : due m (entries past) who word ≡ answer
   pub floor_low : floor.pos ≤ position word
   pub gained : gains ≡ []
 
--- a turn that did something added its entry; none comes where the calls made are not those that are due then; nothing else adds any
-abbrev pub AfterCoreTurn : Machine → Actor → ℕ → Stamp → Result (Option CoreTurn) CoreFault → List (Made Noted) → Type 0
-AfterCoreTurn m who calls floor (Ok (Some (Did stamp k attempt))) gains = IsTurn m who calls floor stamp k attempt gains
-AfterCoreTurn m who calls floor (Ok (Some (NotYet why))) gains = IsNoTurn m who calls floor (Waits why) gains
-AfterCoreTurn m who calls floor (Ok (Some Done)) gains = IsNoTurn m who calls floor Gone gains
-AfterCoreTurn m who calls floor (Ok None) gains =
-    ((past : List JournalEntry) × (calls ≢ calls_due m who (entries past))) × (gains ≡ [])
-AfterCoreTurn m who calls floor (Err fault) gains = gains ≡ []
+-- a turn by numbers that are no longer the core's is told the core's own, of which one is not what was given, and the pass gained nothing
+pub record IsStaleTurn
+    (m : Machine) (who : Actor) (calls now : ℕ) (past : List JournalEntry) (cause : Why) (gains : List (Made Noted))
+    : Type 0 where
+  pub due : ℕ
+  pub time : ℕ
+  pub told : cause ≡ why.Stale due time
+  pub due_is : due ≡ calls_due m who (entries past)
+  pub time_is : time ≡ time_of (entries past)
+  pub differs : (due ≢ calls) ⊎ (time ≢ now)
+  pub gained : gains ≡ []
+
+-- a turn that found no memory: it comes to no maker of an open attempt, and to no device, and the pass gained nothing
+pub record IsRefusedTurn
+    (m : Machine) (who : Actor) (calls now : ℕ) (past : List JournalEntry) (gains : List (Made Noted)) : Type 0 where
+  pub calls_are : calls ≡ calls_due m who (entries past)
+  pub now_is : now ≡ time_of (entries past)
+  pub no_maker : is_actor who (maker (entries past)) ≡ false
+  pub no_device : is_device who ≡ false
+  pub gained : gains ≡ []
+
+-- a turn by a journal that did something added its entry at its time; whoever waits does so by what is due, or for numbers that are no longer the core's; nothing else adds any
+abbrev pub AfterCoreTurn : Machine → Actor → ℕ → Stamp → ℕ → List JournalEntry → Result CoreTurn CoreFault → List (Made Noted) → Type 0
+AfterCoreTurn m who calls floor now past (Ok (Did stamp k attempt)) gains =
+    (turn : IsTurn m who calls floor stamp k attempt gains) × (turn.past ≡ past) × (now ≡ time_of (entries past))
+AfterCoreTurn m who calls floor now past (Ok (NotYet cause)) gains =
+    IsNoTurn m who calls floor now past (Waits cause) gains ⊎ IsStaleTurn m who calls now past cause gains
+AfterCoreTurn m who calls floor now past (Ok Done) gains = IsNoTurn m who calls floor now past Gone gains
+AfterCoreTurn m who calls floor now past (Err fault) gains = IsRefusedTurn m who calls now past gains
+
+-- the journal that a pass finds at the machine's lock: what it made there itself stands in it, at its places
+pub record FindsMachine (p : Token WorldObject Noted) (past : List JournalEntry) : Type 0 where
+  pub found : WorldObject
+  pub taken : IsTaken root_of notes_of p.me.0 0 found
+  pub notes : notes_of found ≡ items past

@@ -1,8 +1,12 @@
 //! What stands under one lock.
 
-ghost use Rattle.std.specs.Prelude.{◌≡◌, ◌+◌, None, Some};
+ghost use Rattle.std.specs.Prelude.{◌≡◌, ◌+◌, List, map, None, Some};
+ghost use Rattle.sleep_model.specs.declared.entry.JournalEntry.{JournalEntry};
+ghost use Rattle.sleep_model.specs.declared.entry.SourceEntry.{SourceEntry};
 ghost use Rattle.sleep_model.specs.declared.machine.Machine.{Machine};
+ghost use Rattle.sleep_model.specs.Merge.{of_source};
 ghost use Rattle.sleep_core.specs.Cores.{IsActor};
+ghost use Rattle.run_laws.specs.Passes.{items};
 ghost use Rattle.turn_lock.specs.Passes.{HasGrown, gained};
 ghost use Rattle.run_world.specs.Objects.{notes_of, root_of};
 ghost use Rattle.run_world.specs.Told.{AfterCoreTurn, AfterReport};
@@ -54,7 +58,8 @@ impl<'m> WorldObject<'m> {
         requires now { by.now ≡ (root_of self.old).moment }
         ensures root { root_of self.new ≡ root_of self.old }
         ensures grown { HasGrown root_of notes_of (notes_of self.old) self.new }
-        ensures after { AfterReport by call (root_of self.old).number result
+        ensures after { (past : List SourceEntry) × (notes_of self.old ≡ items (map of_source past))
+            × AfterReport by call (root_of self.old).number past result
             (gained root_of notes_of (1 + (root_of self.old).number) (notes_of self.old) self.new) }
     {
         match self {
@@ -63,8 +68,8 @@ impl<'m> WorldObject<'m> {
         }
     }
 
-    /// A turn of the machine that it is, by an actor that has made `calls` calls on sources; None where those are
-    /// not all that are due.
+    /// A turn of the machine that it is, at the time `now` by an actor that has made `calls` calls on sources; `Stale`
+    /// where those are not all that are due, or that is not the time.
     pub(crate) fn turn<R: Wait>(
         &mut self,
         rt: &R,
@@ -72,16 +77,18 @@ impl<'m> WorldObject<'m> {
         who: Actor,
         calls: u32,
         floor: Stamp,
-    ) -> Result<Option<CoreTurn>, CoreFault>
+        now: u64,
+    ) -> Result<CoreTurn, CoreFault>
         requires machine { (m : Machine) × ((root_of self.old).machine ≡ Some m) × IsActor m who }
         requires table { (root_of self.old).table ≡ table.now.desk.shared.table_id }
         ensures root { root_of self.new ≡ root_of self.old }
         ensures grown { HasGrown root_of notes_of (notes_of self.old) self.new }
         ensures after { (m : Machine) → (root_of self.old).machine ≡ Some m
-            → AfterCoreTurn m who calls floor result (gained root_of notes_of 0 (notes_of self.old) self.new) }
+            → (past : List JournalEntry) × (notes_of self.old ≡ items past)
+            × AfterCoreTurn m who calls floor now past result (gained root_of notes_of 0 (notes_of self.old) self.new) }
     {
         match self {
-            WorldObject::Machine(machine) => machine.turn(rt, table, who, calls, floor),
+            WorldObject::Machine(machine) => machine.turn(rt, table, who, calls, floor, now),
             WorldObject::Source(_) => unreachable!(),
         }
     }

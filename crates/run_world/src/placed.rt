@@ -10,7 +10,7 @@ use event_word::EventTable;
 use run_objects::SeatedCore;
 use sleep_base::Mem;
 use sleep_core::{CoreFault, CoreTurn};
-use sleep_model::{Actor, Stamp};
+use sleep_model::{Actor, Stamp, Why};
 use std::alloc::Global;
 use std::marker::Model;
 use std::sync::Wait;
@@ -31,7 +31,18 @@ impl<'m> Model for PlacedCore<'m> {
     ghost view = { λ p. p.core.value };
 }
 
-/// A turn of the machine; None where the calls are not those that are due.
+/// That number of calls in the bits that a turn tells it by; more of them wait for ever.
+fn told_calls<R: Wait>(rt: &R, calls: u64) -> u32
+    ensures { result ≡ calls }
+{
+    if calls <= u64::from(u32::MAX) {
+        return calls as u32;
+    }
+    for _ in rt.forever() {}
+    unreachable!()
+}
+
+/// A turn of the machine, or its own numbers where those given are not all its own.
 fn turn_of<R: Wait>(
     machine: &mut SeatedCore<'_>,
     rt: &R,
@@ -39,22 +50,22 @@ fn turn_of<R: Wait>(
     who: Actor,
     calls: u32,
     floor: Stamp,
-) -> Result<Option<CoreTurn>, CoreFault>
+    now: u64,
+) -> Result<CoreTurn, CoreFault>
     requires actor { IsActor machine.old.core.machine who }
     requires table { machine.old.seat.table_id ≡ table.now.desk.shared.table_id }
-    ensures after { AfterMachineTurn machine.old.core machine.new.core who calls floor result }
+    ensures after { AfterMachineTurn machine.old.core machine.new.core who calls floor now result }
     ensures table { machine.new.seat.table_id ≡ machine.old.seat.table_id }
     ensures sources { sources_of machine.new.seat ≡ sources_of machine.old.seat }
     ensures machine { machine.new.core.machine ≡ machine.old.core.machine }
 {
-    if machine.core().calls_due(who) != u64::from(calls) {
-        return Ok(None);
-    }
+    let due = machine.core().calls_due(who);
     let time = machine.core().time();
-    match machine.turn(rt, table, who, calls, floor, time) {
-        Ok(turn) => Ok(Some(turn)),
-        Err(fault) => Err(fault),
+    if due != u64::from(calls) || time != now {
+        let calls = told_calls(rt, due);
+        return Ok(CoreTurn::NotYet(Why::Stale { calls, time }));
     }
+    machine.turn(rt, table, who, calls, floor, now)
 }
 
 impl<'m> PlacedCore<'m> {
@@ -78,8 +89,8 @@ impl<'m> PlacedCore<'m> {
         core
     }
 
-    /// A turn of the machine by an actor that has made `calls` calls on sources; None where those are not all that are
-    /// due.
+    /// A turn of the machine at the time `now` by an actor that has made `calls` calls on sources; `Stale` where those are
+    /// not all that are due, or that is not the time.
     pub(crate) fn turn<R: Wait>(
         &mut self,
         rt: &R,
@@ -87,14 +98,15 @@ impl<'m> PlacedCore<'m> {
         who: Actor,
         calls: u32,
         floor: Stamp,
-    ) -> Result<Option<CoreTurn>, CoreFault>
+        now: u64,
+    ) -> Result<CoreTurn, CoreFault>
         requires actor { IsActor self.old.core.machine who }
         requires table { self.old.seat.table_id ≡ table.now.desk.shared.table_id }
-        ensures after { AfterMachineTurn self.old.core self.new.core who calls floor result }
+        ensures after { AfterMachineTurn self.old.core self.new.core who calls floor now result }
         ensures table { self.new.seat.table_id ≡ self.old.seat.table_id }
         ensures sources { sources_of self.new.seat ≡ sources_of self.old.seat }
         ensures machine { self.new.core.machine ≡ self.old.core.machine }
     {
-        turn_of(&mut self.core, rt, table, who, calls, floor)
+        turn_of(&mut self.core, rt, table, who, calls, floor, now)
     }
 }

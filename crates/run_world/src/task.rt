@@ -14,7 +14,7 @@ pub enum Task<'m> {
 
 impl<'m> Task<'m> {
     ghost use Rattle.std.specs.Prelude.{◌≡◌};
-    ghost use Rattle.burst_tasks.specs.Acts.{Wants, known_by};
+    ghost use Rattle.run_world.specs.Acts.{Wants, known_by};
 
     /// What it does next: a call on a source, else a turn of the machine.
     pub fn next(&self) -> Want

@@ -1,8 +1,9 @@
 //! A wakeup source in a burst.
 
-ghost use Rattle.std.specs.Prelude.{◌≡◌, ◌≤◌, ◌^◌};
+ghost use Rattle.std.specs.Prelude.{◌≡◌, ◌≤◌, ◌^◌, false};
 ghost use Rattle.std.specs.Bool.{OnFalse, OnTrue};
 ghost use Rattle.sleep_model.specs.declared.machine.SourceCall.TheVariants as calls;
+ghost use Rattle.sleep_model.specs.Sources.{expiry, has_expired};
 ghost use Rattle.wakeup_source.specs.SourceStates.{IsSettled, bare, latest};
 ghost use Rattle.wakeup_source.specs.Told.{MayCall};
 ghost use Rattle.run_world.specs.Calling.{AfterCall};
@@ -26,7 +27,8 @@ pub struct TimedSource {
 /// Whether a call may be made on the source: an expiry only once its moment has come.
 fn may_make(source: &SeatedSource, call: SourceCall, now: u64) -> bool
     ensures may { OnTrue result (MayCall call (bare source.now.source.past) now) }
-    ensures waits { OnFalse result (call ≡ calls.Expire) }
+    ensures waits { OnFalse result ((call ≡ calls.Expire)
+        × (has_expired (expiry (bare source.now.source.past)) now ≡ false)) }
     ensures settled { IsSettled source.now.source }
 {
     let due = source.source().due();

@@ -1,13 +1,15 @@
 //! The locks of the world, and the calls that workers make under them.
 
 ghost use Rattle.std.specs.Prelude.{◌≡◌, ◌≤◌, ◌+◌, ◌++◌, List, length};
+ghost use Rattle.sleep_model.specs.declared.entry.JournalEntry.{JournalEntry};
+ghost use Rattle.sleep_model.specs.declared.entry.SourceEntry.{SourceEntry};
 ghost use Rattle.sleep_model.specs.declared.machine.Machine.{Machine};
 ghost use Rattle.sleep_core.specs.Cores.{IsActor};
 ghost use Rattle.run_laws.specs.Passes.{Noted};
 ghost use Rattle.turn_lock.specs.declared.view.Made.{Made};
 ghost use Rattle.turn_lock.specs.Passes.{first_of, made_of, number_of};
 ghost use Rattle.run_world.specs.Objects.{IsWorldPass};
-ghost use Rattle.run_world.specs.Told.{AfterCoreTurn, AfterReport};
+ghost use Rattle.run_world.specs.Told.{AfterCoreTurn, AfterReport, FindsMachine, FindsSource};
 
 use crate::gate::Gate;
 use crate::note::WorldNote;
@@ -53,14 +55,15 @@ pub struct Reported<'m> {
 #[derive(Drop)]
 pub struct CoreReply<'m> {
     pub pass: WorldPass<'m>,
-    /// What it did; None where the actor has calls on sources to make first.
-    pub answer: Result<Option<CoreTurn>, CoreFault>,
+    /// What it did; `Stale` where the actor's number of calls or its time is not the machine's.
+    pub answer: Result<CoreTurn, CoreFault>,
 }
 
 impl<'w, 'm, R: Wait, G: Gate> World<'w, 'm, R, G> {
     /// A whole call on a source, under its lock alone (`__pm_stay_awake`, `__pm_relax`, `pm_wakeup_ws_event`,
-    /// `pm_wakeup_timer_fn`). Answers as `SeatedSource::call`; what the pass then made is what it had made, and the
-    /// call's entries, which stand at the end of the source's history. Any other answer than a stamp adds nothing.
+    /// `pm_wakeup_timer_fn`). Answers as `SeatedSource::call`, and None exactly for an expiry whose moment has not come;
+    /// what the pass then made is what it had made, and the call's entries, which stand at the end of the source's
+    /// history. Any other answer than a stamp adds nothing.
     pub fn report(
         &self,
         pass: WorldPass<'m>,
@@ -76,7 +79,8 @@ impl<'w, 'm, R: Wait, G: Gate> World<'w, 'm, R, G> {
             self.now.desk.now.shared.table_id self.now.moment result.pass.token }
         ensures same { (number_of result.pass.token ≡ number_of pass.entry.token) × (first_of result.pass.token ≡ first_of pass.entry.token) }
         ensures made { (gains : List (Made Noted)) × (made_of result.pass.token ≡ made_of pass.entry.token ++ gains)
-            × AfterReport by call source result.answer gains }
+            × (past : List SourceEntry) × FindsSource pass.entry.token source past
+            × AfterReport by call source past result.answer gains }
     {
         let mut held = take(self.desk, self.rt, pass, 1 + source as usize);
         let answer = held.value().report(self.rt, self.table, by, call);
@@ -86,16 +90,18 @@ impl<'w, 'm, R: Wait, G: Gate> World<'w, 'm, R, G> {
         }
     }
 
-    /// A turn of an actor that has made `calls` calls on sources, under the machine's lock alone. The gate hears of
-    /// the actor once it has the lock, before it looks at anything. Time is the machine's; None where the calls are not
-    /// all that are due. Else answers as `SeatedCore::turn`; what the pass then made is what it had made, and the turn's
-    /// entry, which stands at the end of the journal. Any other answer than `Did` adds nothing.
+    /// A turn at the time `now` of an actor that has made `calls` calls on sources, under the machine's lock alone. The
+    /// gate hears of the actor once it has the lock, before it looks at anything. `NotYet(Stale)` with the machine's own
+    /// numbers exactly where those are not all calls that are due, or that is not the machine's time. Else answers as
+    /// `SeatedCore::turn`; what the pass then made is what it had made, and the turn's entry, which stands at the end of
+    /// the journal. Any other answer than `Did` adds nothing.
     pub fn core_turn(
         &self,
         pass: WorldPass<'m>,
         who: Actor,
         calls: u32,
         floor: Stamp,
+        now: u64,
     ) -> CoreReply<'m>
         requires pass { IsWorldPass self.now.machine.now self.now.table.now.desk.shared.table_id
             self.now.desk.now.shared.table_id self.now.moment pass.token }
@@ -104,11 +110,14 @@ impl<'w, 'm, R: Wait, G: Gate> World<'w, 'm, R, G> {
             self.now.desk.now.shared.table_id self.now.moment result.pass.token }
         ensures same { (number_of result.pass.token ≡ number_of pass.entry.token) × (first_of result.pass.token ≡ first_of pass.entry.token) }
         ensures made { (gains : List (Made Noted)) × (made_of result.pass.token ≡ made_of pass.entry.token ++ gains)
-            × AfterCoreTurn self.now.machine.now who calls floor result.answer gains }
+            × (past : List JournalEntry) × FindsMachine pass.entry.token past
+            × AfterCoreTurn self.now.machine.now who calls floor now past result.answer gains }
     {
         let mut held = take(self.desk, self.rt, pass, 0);
         self.gate.held(who);
-        let answer = held.value().turn(self.rt, self.table, who, calls, floor);
+        let answer = held
+            .value()
+            .turn(self.rt, self.table, who, calls, floor, now);
         CoreReply {
             pass: give(self.desk, held),
             answer,

@@ -1,6 +1,8 @@
 -- What a try of a task comes to, by what the world answers.
-use Rattle.std.proofs.Common.{◌≡◌, ◌≤◌, ◌+◌, ℕ, Bool, true, false, List, [], ◌∷◌, ◌++◌, length, Option, Some, None, Result, Ok, Err, refl, sym, ap, subst, arith}
+use Rattle.std.proofs.Common.{◌≡◌, ◌≤◌, ◌+◌, inl, inr, ℕ, Bool, true, false, List, [], ◌∷◌, ◌++◌, length, Option, Some, None, Result, Ok, Err, refl, sym, ap, subst, arith}
 use Rattle.sleep_model.specs.declared.entry.Actor.TheVariants as actor
+use Rattle.sleep_model.specs.declared.entry.JournalEntry.{JournalEntry}
+use Rattle.sleep_model.specs.declared.entry.SourceEntry.{SourceEntry}
 use Rattle.sleep_model.specs.declared.log.Want.TheVariants as want
 use Rattle.sleep_model.specs.declared.machine.Machine.{Machine}
 use Rattle.sleep_model.specs.declared.machine.SourceCall.{SourceCall}
@@ -20,9 +22,9 @@ use Rattle.run_laws.specs.Passes.{Noted}
 use Rattle.run_world.specs.declared.object.WorldObject.{WorldObject}
 use Rattle.run_world.specs.Objects.{IsWorldPass}
 use Rattle.run_world.specs.Told.{AfterCoreTurn, AfterReport, IsTurn}
-use Rattle.burst_tasks.specs.declared.task.Task.{Task}
-use Rattle.burst_tasks.specs.declared.task.Task.TheVariants as task
-use Rattle.burst_tasks.specs.Acts.{Does, Nothing, Turns, Calls, Expires}
+use Rattle.run_world.specs.declared.task.Task.{Task}
+use Rattle.run_world.specs.declared.task.Task.TheVariants as task
+use Rattle.run_world.specs.Acts.{Does, Nothing, Turns, Calls, Expires}
 use Rattle.world_workers.specs.Tries.{GoesIn, HasActed, HasMade, IsRangedTurn, IsTaskIn, told_call, told_expiry, told_turn}
 
 few_more : (ends : Bool) (n : ℕ) → one_more ends n ≤ n + 1
@@ -58,47 +60,48 @@ module _ (m : Machine) (table locks : TableId) (moment : ℕ) (before after : To
   }
 
   -- a turn of the machine that a job wanted
-  pub acted_turn : (job : JobState) → IsTaskIn m (task.Acts job) → (answer : Result (Option CoreTurn) CoreFault) → IsWanted job want.Core → IsRangedTurn answer
-      → AfterCoreTurn m job.who job.calls job.floor answer gains → HasActed m table locks moment (task.Acts job) (task.Acts (told_turn answer job)) before after
-  acted_turn job is_in (Ok (Some (Did stamp k attempt))) wants ranged h = record {
+  pub acted_turn : (job : JobState) → IsTaskIn m (task.Acts job) → (answer : Result CoreTurn CoreFault) → IsWanted job want.Core → IsRangedTurn answer
+      → (past : List JournalEntry) → AfterCoreTurn m job.who job.calls job.floor moment past answer gains → HasActed m table locks moment (task.Acts job) (task.Acts (told_turn answer job)) before after
+  acted_turn job is_in (Ok (Did stamp k attempt)) wants ranged past h = record {
     gains = gains;
     goes = record { pass = pass; is_in = is_in };
     made = made;
-    does = Turns job stamp k attempt gains wants ranged (subst (λ (x : Machine). IsTurn x job.who job.calls job.floor stamp k attempt gains) (sym is_in.0) h);
+    does = Turns job stamp k attempt gains wants ranged (subst (λ (x : Machine). IsTurn x job.who job.calls job.floor stamp k attempt gains) (sym is_in.0) h.0);
     who = refl;
     turns = few_more (ends_turn k) job.turns;
   }
-  acted_turn job is_in (Ok (Some (NotYet why))) wants ranged h = acted_none (task.Acts job) is_in h.gained
-  acted_turn job is_in (Ok (Some Done)) wants ranged h = acted_none (task.Acts job) is_in h.gained
-  acted_turn job is_in (Ok None) wants ranged h = acted_none (task.Acts job) is_in h.1
-  acted_turn job is_in (Err fault) wants ranged h = acted_none (task.Acts job) is_in h
+  acted_turn job is_in (Ok (NotYet why)) wants ranged past (inl h) = acted_none (task.Acts job) is_in h.gained
+  acted_turn job is_in (Ok (NotYet why)) wants ranged past (inr h) = acted_none (task.Acts job) is_in h.gained
+  acted_turn job is_in (Ok Done) wants ranged past h = acted_none (task.Acts job) is_in h.gained
+  acted_turn job is_in (Err fault) wants ranged past h = acted_none (task.Acts job) is_in h.gained
 
   -- a call on a source that a job wanted
   pub acted_call : (job : JobState) → IsTaskIn m (task.Acts job) → (s : ℕ) (call : SourceCall) (answer : Result (Option Stamp) SourceFault) → s ≤ length m.sources
-      → IsWanted job (want.Source s call) → is_ranged (note s call) ≡ true → AfterReport (record { actor = job.who; floor = job.floor; now = moment }) call s answer gains
+      → IsWanted job (want.Source s call) → is_ranged (note s call) ≡ true
+      → (past : List SourceEntry) → AfterReport (record { actor = job.who; floor = job.floor; now = moment }) call s past answer gains
       → HasActed m table locks moment (task.Acts job) (task.Acts (told_call answer job)) before after
-  acted_call job is_in s call (Ok (Some stamp)) there wants ranged h = record {
+  acted_call job is_in s call (Ok (Some stamp)) there wants ranged past h = record {
     gains = gains;
     goes = record { pass = pass; is_in = is_in };
     made = made;
-    does = Calls job s call stamp gains (omega (arith, there)) wants ranged h;
+    does = Calls job s call stamp gains (omega (arith, there)) wants ranged h.0;
     who = refl;
     turns = omega arith;
   }
-  acted_call job is_in s call (Ok None) there wants ranged h = acted_none (task.Acts job) is_in h.1
-  acted_call job is_in s call (Err fault) there wants ranged h = acted_none (task.Acts job) is_in h
+  acted_call job is_in s call (Ok None) there wants ranged past h = acted_none (task.Acts job) is_in h.gained
+  acted_call job is_in s call (Err fault) there wants ranged past h = acted_none (task.Acts job) is_in h.gained
 
   -- the call of a timer
-  pub acted_expiry : (timer : TimerState) → IsTaskIn m (task.Fires timer) → (answer : Result (Option Stamp) SourceFault)
-      → AfterReport (record { actor = actor.Timer timer.source; floor = timer.floor; now = moment }) calls.Expire timer.source answer gains
+  pub acted_expiry : (timer : TimerState) → IsTaskIn m (task.Fires timer) → (answer : Result (Option Stamp) SourceFault) (past : List SourceEntry)
+      → AfterReport (record { actor = actor.Timer timer.source; floor = timer.floor; now = moment }) calls.Expire timer.source past answer gains
       → HasActed m table locks moment (task.Fires timer) (task.Fires (told_expiry answer timer)) before after
-  acted_expiry timer is_in (Ok (Some stamp)) h = record {
+  acted_expiry timer is_in (Ok (Some stamp)) past h = record {
     gains = gains;
     goes = record { pass = pass; is_in = is_in };
     made = made;
-    does = Expires timer stamp gains (omega (arith, is_in)) h;
+    does = Expires timer stamp gains (omega (arith, is_in)) h.0;
     who = refl;
     turns = omega arith;
   }
-  acted_expiry timer is_in (Ok None) h = acted_none (task.Fires timer) is_in h.1
-  acted_expiry timer is_in (Err fault) h = acted_none (task.Fires timer) is_in h
+  acted_expiry timer is_in (Ok None) past h = acted_none (task.Fires timer) is_in h.gained
+  acted_expiry timer is_in (Err fault) past h = acted_none (task.Fires timer) is_in h.gained

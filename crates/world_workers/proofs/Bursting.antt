@@ -12,9 +12,9 @@ use Rattle.run_objects.specs.Objects.{AreKept, SeatedCoreState, SeatedSourceStat
 use Rattle.run_world.specs.declared.object.WorldObject.{WorldObject}
 use Rattle.run_world.specs.Held.{AreAll as AreAllObjects, IsClosedWorld}
 use Rattle.run_world.specs.Objects.{AreObjects}
-use Rattle.burst_tasks.specs.declared.task.Task.{Task}
-use Rattle.burst_tasks.specs.Acts.{actor_of}
-use Rattle.burst_tasks.specs.Bursts.{AllPlayed, IsBurst}
+use Rattle.run_world.specs.declared.task.Task.{Task}
+use Rattle.run_world.specs.Acts.{actor_of}
+use Rattle.run_world.specs.Bursts.{AllPlayed, IsBurst}
 use Rattle.world_workers.specs.declared.worker.Worker.{Worker}
 use Rattle.world_workers.specs.Bursts.{AreReady}
 use Rattle.world_workers.specs.Workers.{AreFresh, AreParts, AreWorkersOf, HaveGone}

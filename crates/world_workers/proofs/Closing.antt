@@ -14,7 +14,7 @@ use Rattle.run_world.specs.declared.object.WorldObject.TheVariants as object
 use Rattle.run_world.specs.Held.{IsClosedWorld}
 use Rattle.run_world.specs.Roots.{WorldRoot, machine_root, source_root}
 use Rattle.run_world.specs.Objects.{AreObjects}
-use Rattle.burst_tasks.specs.declared.task.Task.{Task}
+use Rattle.run_world.specs.declared.task.Task.{Task}
 use Rattle.world_workers.specs.Bursts.{AreReady, AreTasksIn}
 use Rattle.world_workers.proofs.Opening.{kept_at, seat_at, that_at, those_count}
 

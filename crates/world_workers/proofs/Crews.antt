@@ -13,9 +13,9 @@ use Rattle.turn_lock.specs.Passing.{made_lists, tokens}
 use Rattle.run_laws.specs.Passes.{Noted}
 use Rattle.run_world.specs.declared.object.WorldObject.{WorldObject}
 use Rattle.run_world.specs.Objects.{AreObjects, IsWorldPass}
-use Rattle.burst_tasks.specs.declared.task.Task.{Task}
-use Rattle.burst_tasks.specs.Acts.{Does, Plays, actor_of, all_gains}
-use Rattle.burst_tasks.specs.Bursts.{AllPlayed}
+use Rattle.run_world.specs.declared.task.Task.{Task}
+use Rattle.run_world.specs.Acts.{Does, Plays, actor_of, all_gains}
+use Rattle.run_world.specs.Bursts.{AllPlayed}
 use Rattle.world_workers.specs.declared.worker.Worker.{Worker}
 use Rattle.world_workers.specs.Tries.{HasMade, IsTaskIn}
 use Rattle.world_workers.specs.Bursts.{AreTasksIn}

@@ -7,7 +7,7 @@ use Rattle.turn_lock.specs.declared.view.Made.{Made}
 use Rattle.turn_lock.specs.Passes.{first_of, made_of}
 use Rattle.run_laws.specs.Passes.{Noted}
 use Rattle.run_world.specs.declared.object.WorldObject.{WorldObject}
-use Rattle.burst_tasks.specs.Acts.{Does, all_gains}
+use Rattle.run_world.specs.Acts.{Does, all_gains}
 use Rattle.world_workers.specs.declared.worker.Worker.{Worker}
 use Rattle.world_workers.specs.Tries.{HasActed, HasMade}
 use Rattle.world_workers.specs.Workers.{IsWorkerOf, Moment, Since}

@@ -12,7 +12,7 @@ use Rattle.run_world.specs.declared.object.WorldObject.TheVariants as object
 use Rattle.run_world.specs.Held.{AreAll, AreAt, AreThose}
 use Rattle.run_world.specs.Roots.{machine_root, source_root}
 use Rattle.run_world.specs.Objects.{AreObjects, root_of}
-use Rattle.burst_tasks.specs.declared.task.Task.{Task}
+use Rattle.run_world.specs.declared.task.Task.{Task}
 use Rattle.world_workers.specs.Bursts.{AreReady}
 
 -- ---- lists

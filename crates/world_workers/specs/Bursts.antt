@@ -4,7 +4,7 @@ use Rattle.sleep_model.specs.declared.machine.Machine.{Machine}
 use Rattle.atomic_table.specs.Seated.{TableId}
 use Rattle.event_word.specs.Seats.{AreAll}
 use Rattle.run_objects.specs.Objects.{SeatedCoreState, SeatedSourceState, seats_of}
-use Rattle.burst_tasks.specs.declared.task.Task.{Task}
+use Rattle.run_world.specs.declared.task.Task.{Task}
 use Rattle.world_workers.specs.Tries.{IsTaskIn, turns_of}
 
 -- each task is of that machine

@@ -15,18 +15,18 @@ use Rattle.turn_lock.specs.Passes.{Token, first_of, made_of, number_of}
 use Rattle.run_laws.specs.Passes.{Noted}
 use Rattle.run_world.specs.declared.object.WorldObject.{WorldObject}
 use Rattle.run_world.specs.Objects.{IsWorldPass}
-use Rattle.burst_tasks.specs.declared.task.Task.{Task}
-use Rattle.burst_tasks.specs.declared.task.Task.TheVariants as task
-use Rattle.burst_tasks.specs.Acts.{Does, actor_of}
+use Rattle.run_world.specs.declared.task.Task.{Task}
+use Rattle.run_world.specs.declared.task.Task.TheVariants as task
+use Rattle.run_world.specs.Acts.{Does, actor_of}
 
 -- a job after what a turn of the machine came to
-abbrev pub told_turn : Result (Option CoreTurn) CoreFault → JobState → JobState
-told_turn (Ok (Some (Did stamp k attempt))) job = after_turn stamp k attempt job
+abbrev pub told_turn : Result CoreTurn CoreFault → JobState → JobState
+told_turn (Ok (Did stamp k attempt)) job = after_turn stamp k attempt job
 told_turn _ job = job
 
 -- the kind of the entry that a turn made is in the ranges of its fields
-abbrev pub IsRangedTurn : Result (Option CoreTurn) CoreFault → Type 0
-IsRangedTurn (Ok (Some (Did stamp k attempt))) = is_ranged k ≡ true
+abbrev pub IsRangedTurn : Result CoreTurn CoreFault → Type 0
+IsRangedTurn (Ok (Did stamp k attempt)) = is_ranged k ≡ true
 IsRangedTurn _ = Unit {0}
 
 -- a job after what a call on a source came to

@@ -9,8 +9,8 @@ use Rattle.turn_lock.specs.declared.view.Made.{Made}
 use Rattle.turn_lock.specs.Passes.{Token, first_of}
 use Rattle.run_laws.specs.Passes.{Noted}
 use Rattle.run_world.specs.declared.object.WorldObject.{WorldObject}
-use Rattle.burst_tasks.specs.declared.task.Task.{Task}
-use Rattle.burst_tasks.specs.Acts.{Plays, all_gains}
+use Rattle.run_world.specs.declared.task.Task.{Task}
+use Rattle.run_world.specs.Acts.{Plays, all_gains}
 use Rattle.world_workers.specs.declared.worker.Worker.{Worker}
 use Rattle.world_workers.specs.Tries.{GoesIn, HasMade}
 

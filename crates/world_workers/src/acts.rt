@@ -5,11 +5,11 @@ ghost use Rattle.sleep_model.specs.declared.log.Want.TheVariants as want;
 ghost use Rattle.sleep_model.specs.Calls.{note};
 ghost use Rattle.sleep_script.specs.Jobs.{IsWanted};
 ghost use Rattle.fit_laws.specs.Ranged.{is_ranged};
-ghost use Rattle.burst_tasks.specs.declared.task.Task.TheVariants as variant;
-ghost use Rattle.burst_tasks.specs.Acts.{actor_of};
+ghost use Rattle.run_world.specs.declared.task.Task.TheVariants as variant;
+ghost use Rattle.run_world.specs.Acts.{actor_of};
 ghost use Rattle.world_workers.specs.Tries.{GoesIn, HasActed, IsRangedTurn, told_call, told_expiry, told_turn, turns_of};
 
-use burst_tasks::Task;
+use run_world::Task;
 use fit_laws::{calls_are_ranged, kinds_are_ranged};
 use run_world::{Gate, World, WorldPass};
 use sleep_core::{CoreFault, CoreTurn};
@@ -21,8 +21,10 @@ use wakeup_source::{CallBy, SourceFault};
 /// What came of a try.
 #[derive(Clone, Copy, Debug, Drop, PartialEq, Eq)]
 pub enum Tried {
-    /// The actor made entries.
+    /// A turn of the machine made an entry.
     Made,
+    /// A call on a source made entries.
+    Called,
     /// It has nothing to do now.
     Waits,
     /// It has nothing to do any more.
@@ -41,7 +43,7 @@ pub struct Acted<'m> {
 }
 
 /// Tells a job what its turn of the machine came to.
-fn tell_turn(job: &mut Job<'_>, answer: Result<Option<CoreTurn>, CoreFault>) -> Tried
+fn tell_turn(job: &mut Job<'_>, answer: Result<CoreTurn, CoreFault>) -> Tried
     requires made { job.old.pending ≡ [] }
     requires few { job.old.turns < 2 ^ 63 }
     ensures told { job.new ≡ told_turn answer job.old }
@@ -49,20 +51,18 @@ fn tell_turn(job: &mut Job<'_>, answer: Result<Option<CoreTurn>, CoreFault>) -> 
 {
     match answer {
         Ok(
-            Some(
-                CoreTurn::Did {
-                    stamp,
-                    kind,
-                    attempt,
-                },
-            ),
+            CoreTurn::Did {
+                stamp,
+                kind,
+                attempt,
+            },
         ) => {
             kinds_are_ranged(kind);
             job.told_turn(stamp, kind, attempt);
             Tried::Made
         }
-        Ok(Some(CoreTurn::NotYet(_))) | Ok(None) => Tried::Waits,
-        Ok(Some(CoreTurn::Done)) => Tried::Gone,
+        Ok(CoreTurn::NotYet(_)) => Tried::Waits,
+        Ok(CoreTurn::Done) => Tried::Gone,
         Err(CoreFault::Mem) => Tried::Mem,
     }
 }
@@ -76,7 +76,7 @@ fn tell_call(job: &mut Job<'_>, source: u32, answer: Result<Option<Stamp>, Sourc
     match answer {
         Ok(Some(stamp)) => {
             job.told_source(stamp);
-            Tried::Made
+            Tried::Called
         }
         Ok(None) => Tried::Waits,
         Err(SourceFault::Full) => Tried::Full(source),
@@ -95,7 +95,7 @@ fn tell_expiry(
     match answer {
         Ok(Some(stamp)) => {
             timer.told_source(stamp);
-            Tried::Made
+            Tried::Called
         }
         Ok(None) => Tried::Waits,
         Err(SourceFault::Full) => Tried::Full(source),
@@ -136,7 +136,7 @@ fn turn<'m, R: Wait, G: Gate>(
             tried: Tried::Waits,
         };
     }
-    let reply = world.core_turn(pass, who, job.calls(), job.floor());
+    let reply = world.core_turn(pass, who, job.calls(), job.floor(), world.moment);
     let tried = tell_turn(job, reply.answer);
     Acted {
         pass: reply.pass,

@@ -5,8 +5,8 @@ ghost use Rattle.sleep_model.specs.Numbers.{time_of};
 ghost use Rattle.sleep_state.specs.Places.{entries};
 ghost use Rattle.run_objects.specs.Objects.{AreKept};
 ghost use Rattle.run_world.specs.Held.{AreTimely};
-ghost use Rattle.burst_tasks.specs.Acts.{actor_of};
-ghost use Rattle.burst_tasks.specs.Bursts.{IsBurst};
+ghost use Rattle.run_world.specs.Acts.{actor_of};
+ghost use Rattle.run_world.specs.Bursts.{IsBurst};
 ghost use Rattle.world_workers.specs.Bursts.{AreReady, HaveTurns};
 ghost use Rattle.world_workers.specs.Workers.{AreFresh, AreWorkersOf, HaveGone};
 
@@ -95,7 +95,7 @@ pub fn make_burst<'m, R: Threads + Sync + Wait, G: Gate + Sync>(
         passes,
         tasks,
         stop,
-        busiest,
+        beside,
     } = brought;
     let Ok((core, sources)) = close_world(alloc, locks, passes) else {
         return Err(lost(tasks));
@@ -107,7 +107,7 @@ pub fn make_burst<'m, R: Threads + Sync + Wait, G: Gate + Sync>(
             tasks,
         },
         did,
-        beside: did.saturating_sub(busiest),
+        beside,
         stop,
     })
 }

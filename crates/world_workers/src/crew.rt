@@ -3,13 +3,13 @@
 ghost use Rattle.std.specs.Prelude.{◌≡◌, ◌≤◌, ◌<◌, ◌+◌, ◌^◌, ℕ, List, length, map, IfOk};
 ghost use Rattle.sleep_model.specs.declared.machine.Machine.{Machine};
 ghost use Rattle.atomic_table.specs.Seated.{TableId};
-ghost use Rattle.burst_tasks.specs.Acts.{actor_of};
+ghost use Rattle.run_world.specs.Acts.{actor_of};
 ghost use Rattle.world_workers.specs.Bursts.{HaveTurns};
 ghost use Rattle.world_workers.specs.Workers.{AreFresh, AreParts, AreWorkersOf};
 
 use crate::parts::{Stop, graver, stop_of};
 use crate::worker::Worker;
-use burst_tasks::Task;
+use run_world::Task;
 use run_world::WorldPass;
 use sleep_base::Mem;
 use sleep_model::Actor;
@@ -48,8 +48,8 @@ pub(crate) struct Brought<'m> {
     pub(crate) passes: Vec<WorldPass<'m>>,
     pub(crate) tasks: Vec<Task<'m>>,
     pub(crate) stop: Option<Stop>,
-    /// How many turns of the busiest task did something.
-    pub(crate) busiest: u64,
+    /// How many calls on sources were made, but for those of the task that made most.
+    pub(crate) beside: u64,
 }
 
 /// The passes and the tasks of the workers, in their order, and why one stopped, if one did.
@@ -60,10 +60,12 @@ pub(crate) fn taken_apart<'m>(alloc: Global, workers: Vec<Worker<'m>>) -> Result
     let mut passes = Vec::with_capacity(alloc, workers.len())?;
     let mut tasks = Vec::with_capacity(alloc, workers.len())?;
     let mut stop = None;
+    let mut calls: u64 = 0;
     let mut busiest = 0;
     for worker in workers {
         stop = graver(stop, stop_of(worker.tried, worker.place));
-        busiest = worker.pause.made.max(busiest);
+        calls = calls.saturating_add(worker.pause.calls);
+        busiest = worker.pause.calls.max(busiest);
         let (pass, task) = worker.into_parts();
         passes.push(pass)?;
         tasks.push(task)?;
@@ -72,6 +74,6 @@ pub(crate) fn taken_apart<'m>(alloc: Global, workers: Vec<Worker<'m>>) -> Result
         passes,
         tasks,
         stop,
-        busiest,
+        beside: calls.saturating_sub(busiest),
     })
 }

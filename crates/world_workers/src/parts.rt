@@ -1,7 +1,7 @@
 //! What goes into a burst, and comes out of it.
 
 use crate::acts::Tried;
-use burst_tasks::Task;
+use run_world::Task;
 use event_word::EventTable;
 use run_objects::{SeatedCore, SeatedSource};
 use sleep_model::{Actor, Machine};
@@ -45,7 +45,7 @@ pub struct Burst<'m> {
     pub parts: BurstParts<'m>,
     /// How many turns did something.
     pub did: u64,
-    /// How many of them were not the busiest task's. No clause speaks of it.
+    /// How many calls on sources were made, but for those of the task that made most. No clause speaks of it.
     pub beside: u64,
     /// Why a task stopped, if one did: want of memory before a full source, and the least of those. No clause speaks of it.
     pub stop: Option<Stop>,
@@ -56,7 +56,7 @@ pub(crate) fn stop_of(tried: Tried, task: u32) -> Option<Stop> {
     match tried {
         Tried::Full(source) => Some(Stop::Full { task, source }),
         Tried::Mem => Some(Stop::Mem { task }),
-        Tried::Made | Tried::Waits | Tried::Gone => None,
+        Tried::Made | Tried::Called | Tried::Waits | Tried::Gone => None,
     }
 }
 

@@ -13,8 +13,8 @@ pub(crate) struct Pause {
     left: u32,
     /// How long the last pause was.
     length: u32,
-    /// In how many rounds it made entries.
-    pub(crate) made: u64,
+    /// How many calls on sources it made.
+    pub(crate) calls: u64,
 }
 
 impl Pause {
@@ -23,7 +23,7 @@ impl Pause {
         Pause {
             left: 0,
             length: 0,
-            made: 0,
+            calls: 0,
         }
     }
 
@@ -39,9 +39,10 @@ impl Pause {
     /// What came of a try.
     pub(crate) fn note(&mut self, tried: Tried) {
         match tried {
-            Tried::Made => {
+            Tried::Made => self.length = 0,
+            Tried::Called => {
                 self.length = 0;
-                self.made = self.made.saturating_add(1);
+                self.calls = self.calls.saturating_add(1);
             }
             Tried::Waits => {
                 self.length = 2 * self.length.min(LONGEST / 2) + 1;

@@ -12,7 +12,7 @@ use std::sync::Wait;
 /// The answer to the pool for a try.
 fn turn_of(tried: Tried) -> Turn {
     match tried {
-        Tried::Made => Turn::Did,
+        Tried::Made | Tried::Called => Turn::Did,
         Tried::Waits => Turn::NotYet,
         Tried::Gone => Turn::Done,
         Tried::Full(_) | Tried::Mem => Turn::Stop,

@@ -1,12 +1,12 @@
 //! A worker of a burst.
 
 ghost use Rattle.std.specs.Prelude.{◌≡◌, ◌<◌, ◌+◌, ◌^◌, Some, IsSome};
-ghost use Rattle.burst_tasks.specs.Acts.{actor_of};
+ghost use Rattle.run_world.specs.Acts.{actor_of};
 ghost use Rattle.world_workers.specs.Tries.{turns_of};
 
 use crate::acts::Tried;
 use crate::pause::Pause;
-use burst_tasks::Task;
+use run_world::Task;
 use run_world::WorldPass;
 use sleep_model::Actor;
 

@@ -1,7 +1,7 @@
 use Rattle.std.proofs.Common.{◌∙◌, ap, sym}
 use Rattle.sleep_model.specs.declared.word.Stamp.{Stamp}
 use Rattle.sleep_script.specs.Jobs.{later}
-use Rattle.burst_tasks.specs.Acts.{known_by}
+use Rattle.run_world.specs.Acts.{known_by}
 use Rattle.machine_rounds.proofs.Numbered.{highest_more}
 use Rattle.machine_rounds.proofs.tasks.highest_of.Goals as goal
 

@@ -1,6 +1,6 @@
 use Rattle.std.proofs.Common.{◌∙◌, ◌++◌, List, [], ◌∷◌, ap, sym}
 use Rattle.sleep_script.specs.Jobs.{JobState}
-use Rattle.burst_tasks.specs.declared.task.Task.{Task}
+use Rattle.run_world.specs.declared.task.Task.{Task}
 use Rattle.machine_rounds.specs.TasksOf.{jobs_in}
 use Rattle.machine_rounds.proofs.Numbered.{jobs_more, timer_more}
 use Rattle.machine_rounds.proofs.tasks.jobs_among.Goals as goal

@@ -1,4 +1,4 @@
-use Rattle.burst_tasks.specs.declared.task.Task.TheVariants as task
+use Rattle.run_world.specs.declared.task.Task.TheVariants as task
 use Rattle.world_workers.proofs.Acting.{acted_still}
 use Rattle.world_workers.proofs.acts.act_job.Goals as goal
 

@@ -2,7 +2,7 @@ use Rattle.std.proofs.Common.{◌≡◌, ◌∙◌, ℕ, List, length, sym, ap, 
 use Rattle.sleep_model.specs.Numbers.{time_of}
 use Rattle.sleep_state.specs.Places.{entries}
 use Rattle.sleep_core.specs.Cores.{CoreState}
-use Rattle.burst_tasks.specs.Bursts.{IsBurst}
+use Rattle.run_world.specs.Bursts.{IsBurst}
 use Rattle.world_workers.specs.declared.worker.Worker.{Worker}
 use Rattle.world_workers.specs.Workers.{AreParts, AreWorkersOf, HaveGone}
 use Rattle.world_workers.proofs.Bursting.{actors_back, is_burst, is_ready, passes_back, start, world_count, world_first, written}

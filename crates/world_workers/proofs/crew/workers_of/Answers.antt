@@ -4,8 +4,8 @@ use Rattle.sleep_model.specs.declared.entry.Actor.{Actor}
 use Rattle.turn_lock.specs.declared.table.Pass.{Pass}
 use Rattle.run_laws.specs.Passes.{Noted}
 use Rattle.run_world.specs.declared.object.WorldObject.{WorldObject}
-use Rattle.burst_tasks.specs.declared.task.Task.{Task}
-use Rattle.burst_tasks.specs.Acts.{actor_of}
+use Rattle.run_world.specs.declared.task.Task.{Task}
+use Rattle.run_world.specs.Acts.{actor_of}
 use Rattle.world_workers.specs.Bursts.{HaveTurns}
 use Rattle.world_workers.proofs.Crews.{all_lent, fewer, fresh_more, its_actor, no_length, one_left, parts_more}
 use Rattle.world_workers.proofs.crew.workers_of.Goals as goal

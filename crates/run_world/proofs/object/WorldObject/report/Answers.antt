@@ -1,4 +1,4 @@
-use Rattle.std.proofs.Common.{◌+◌, sym, subst}
+use Rattle.std.proofs.Common.{◌+◌, ap, sym, subst}
 use Rattle.turn_lock.specs.Passes.{HasGrown, gained}
 use Rattle.run_world.specs.declared.object.WorldObject.{WorldObject}
 use Rattle.run_world.specs.declared.object.WorldObject.TheVariants as object
@@ -14,5 +14,9 @@ returns-clause-grown g c =
 
 pub returns-clause-after : goal.returns-clause-after
 returns-clause-after g c =
-    subst (λ (y : WorldObject). AfterReport c.args.by c.args.call (root_of y).number c.report.result (gained root_of notes_of (1 + (root_of y).number) (notes_of y) (object.Source c.report.new.self))) (sym c.in-Source.is)
-    (report_after c.args.by c.args.call c.in-Source.source c.report.new.self c.report.result c.report.ensures.after)
+    let past = c.in-Source.source.source.source.past in (
+      past,
+      ap notes_of c.in-Source.is,
+      subst (λ (y : WorldObject). AfterReport c.args.by c.args.call (root_of y).number past c.report.result (gained root_of notes_of (1 + (root_of y).number) (notes_of y) (object.Source c.report.new.self))) (sym c.in-Source.is)
+          (report_after c.args.by c.args.call c.in-Source.source c.report.new.self c.report.result c.report.ensures.after),
+    )

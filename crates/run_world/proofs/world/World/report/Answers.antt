@@ -20,4 +20,4 @@ pub returns-clause-made : goal.returns-clause-made
 returns-clause-made g c =
     let number = ap (λ (r : WorldRoot). r.number) (source_taken _ _ _ _ c.args.pass.token c.requires.pass c.args.source c.take-held.result.value c.value.result.now c.take-held.ensures.taken c.value.ensures.value) in
     report_made c.value.result.now c.take-held.result.value c.report-answer.new.self _ _ _ _ _ c.value.ensures.value c.take-held.ensures.list c.take-held.ensures.same.1 c.give.ensures.made
-    c.args.by c.args.call c.args.source c.report-answer.result number c.take-held.ensures.held.1 c.report-answer.ensures.after
+    c.args.by c.args.call c.args.source c.args.pass.token c.report-answer.result number c.take-held.ensures.held.1 c.take-held.ensures.taken c.report-answer.ensures.after
