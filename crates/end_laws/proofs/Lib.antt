@@ -1,0 +1,4 @@
+pub mod Attempts
+pub mod Dozing
+pub mod Moments
+pub mod Waking

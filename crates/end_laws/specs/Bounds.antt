@@ -1,0 +1,1 @@
+-- How many entries a log has at most.

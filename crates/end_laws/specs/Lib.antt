@@ -1,0 +1,5 @@
+pub mod Attempts
+pub mod Bounds
+pub mod Makers
+pub mod Moments
+pub mod Waking

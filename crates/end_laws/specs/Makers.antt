@@ -1,0 +1,1 @@
+-- Who makes the entries of a legal log tells all of it.

@@ -1,0 +1,33 @@
+-- The moments for which something waits: none is past where nobody can make anything, and each wakes somebody.
+use Rattle.std.specs.Prelude.{◌≡◌, ◌<◌, ℕ, true, false, List, ◌∷◌, IfSome}
+use Rattle.sleep_model.specs.declared.entry.Actor.TheVariants as actor
+use Rattle.sleep_model.specs.declared.entry.Entry.{Entry}
+use Rattle.sleep_model.specs.declared.entry.Kind.TheVariants as kind
+use Rattle.sleep_model.specs.declared.machine.Machine.{Machine}
+use Rattle.sleep_model.specs.declared.word.EventNow.{EventNow}
+use Rattle.sleep_model.specs.Legal.{JournalPart, JumpStep, is_finished, is_idle, next_time}
+use Rattle.sleep_model.specs.Numbers.{time_of}
+
+-- ---- next moments lie ahead
+
+-- the least pending moment, if there is one, is later than now (own)
+abbrev pub LiesAhead : Machine → List Entry → (ℕ → List Entry) → Type 0
+LiesAhead m past of = IfSome (next_time m past of) (λ at. time_of past < at)
+
+-- so it is behind each legal journal where nobody can make anything and something is left to do, by whatever histories of sources and whatever word (schedule_timeout, mod_timer)
+abbrev pub NextMomentsLieAhead : Type 0
+NextMomentsLieAhead =
+    (m : Machine) (past : List Entry) (of : ℕ → List Entry) (now : EventNow) → JournalPart m past
+    → is_idle m past of now ≡ true → is_finished m past of now ≡ false → LiesAhead m past of
+
+-- ---- jumps wake
+
+-- the jump to a moment, by whoever saw that word (own)
+abbrev pub jump_to : ℕ → EventNow → Entry
+jump_to at now = record { time = at; now = now; actor = actor.Time; kind = kind.Jump }
+
+-- behind a jump somebody can make something, whatever the word is then (schedule_timeout, pm_wakeup_timer_fn)
+abbrev pub JumpsWake : Type 0
+JumpsWake =
+    (m : Machine) (past : List Entry) (of : ℕ → List Entry) (now later : EventNow) (at : ℕ) → JournalPart m past
+    → JumpStep m past of now at → is_idle m (jump_to at now ∷ past) of later ≡ false

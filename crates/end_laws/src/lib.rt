@@ -1,0 +1,51 @@
+//! How logs end: no sleeping machine lets time pass over an event, time goes forward, each attempt ends, and a log has a
+//! bound. Each function here is a law of all legal logs, and does nothing.
+#![tactic(auto)]
+
+ghost use Rattle.end_laws.specs.Attempts.{AttemptsAreShort, AttemptsEnd};
+ghost use Rattle.end_laws.specs.Moments.{JumpsWake, NextMomentsLieAhead};
+ghost use Rattle.end_laws.specs.Waking.{EventsWakeFirst, TimeGoesForward};
+
+/// An event that comes while the machine sleeps wakes it before any time passes: where time jumps while the machine
+/// sleeps, no step was made on the event word since it entered (`kernel/power/suspend.c`, `suspend_enter`;
+/// `drivers/base/power/wakeup.c`, `pm_wakeup_pending`).
+#[tactic(auto, using(crate::proofs::Waking::events_first))]
+pub fn events_wake_first()
+    ensures { EventsWakeFirst }
+{}
+
+/// Each jump of time is to a later moment, and each other entry has the moment of the last jump before it (own: one
+/// virtual clock).
+#[tactic(auto, using(crate::proofs::Waking::time_forward))]
+pub fn time_goes_forward()
+    ensures { TimeGoesForward }
+{}
+
+/// Each attempt that a log of an accepted machine begins it ends, where it is finished or goes no further
+/// (`kernel/power/suspend.c`, `pm_suspend`).
+#[tactic(auto, using(crate::proofs::Attempts::all_end))]
+pub fn attempts_end()
+    ensures { AttemptsEnd }
+{}
+
+/// An attempt's maker and its devices make no more entries in it than are enough: 40, 20 more a device, and 2 more a
+/// notifier, a part of the core and a processor (`kernel/power/suspend.c`, `enter_state`).
+#[tactic(auto, using(crate::proofs::Attempts::short))]
+pub fn attempts_are_short()
+    ensures { AttemptsAreShort }
+{}
+
+/// Where nobody can make anything and something is left to do, each moment for which something waits is later than now:
+/// the end of a sleep, of a nap, of a freeze and of an event, and the alarm (`kernel/time/timer.c`, `schedule_timeout`).
+/// Whatever the histories of the sources and the word are.
+#[tactic(auto, using(crate::proofs::Moments::lie_ahead))]
+pub fn next_moments_lie_ahead()
+    ensures { NextMomentsLieAhead }
+{}
+
+/// Behind a jump of time somebody can make something, whatever the word is then; so no jump follows a jump
+/// (`kernel/time/timer.c`, `schedule_timeout`; `drivers/base/power/wakeup.c`, `pm_wakeup_timer_fn`).
+#[tactic(auto, using(crate::proofs::Moments::wake))]
+pub fn jumps_wake()
+    ensures { JumpsWake }
+{}
