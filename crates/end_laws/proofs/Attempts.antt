@@ -145,7 +145,7 @@ all_end m acc log h over = (ends_from m log.entries [] h.legal.journal (ends_clo
 
 -- ---- attempts are short
 
-or_left_false : (a b : Bool) → (a || b) ≡ false → a ≡ false
+pub or_left_false : (a b : Bool) → (a || b) ≡ false → a ≡ false
 or_left_false true b e = e
 or_left_false false b e = refl
 

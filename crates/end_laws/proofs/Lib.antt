@@ -1,4 +1,9 @@
 pub mod Attempts
+pub mod Bounding
+pub mod Counting
 pub mod Dozing
+pub mod Freezing
 pub mod Moments
+pub mod Stepping
 pub mod Waking
+pub mod Working

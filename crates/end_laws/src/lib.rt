@@ -3,6 +3,7 @@
 #![tactic(auto)]
 
 ghost use Rattle.end_laws.specs.Attempts.{AttemptsAreShort, AttemptsEnd};
+ghost use Rattle.end_laws.specs.Bounds.{AllLogsAreBounded, JournalsAreBounded, LogsAreBounded};
 ghost use Rattle.end_laws.specs.Moments.{JumpsWake, NextMomentsLieAhead};
 ghost use Rattle.end_laws.specs.Waking.{EventsWakeFirst, TimeGoesForward};
 
@@ -48,4 +49,24 @@ pub fn next_moments_lie_ahead()
 #[tactic(auto, using(crate::proofs::Moments::wake))]
 pub fn jumps_wake()
     ensures { JumpsWake }
+{}
+
+/// A legal journal of an accepted machine has no more entries but jumps of time than its attempts, its freezes, its
+/// scripts' operations and the runs of its autosleep work may make (own: Linux keeps no journal).
+#[tactic(auto, using(crate::proofs::Bounding::journal_bounded))]
+pub fn journals_are_bounded()
+    ensures { JournalsAreBounded }
+{}
+
+/// A legal log of an accepted machine has no more entries than the machine tells: its journal has as many but for the
+/// jumps, each source no more than its calls have places, and no jump follows a jump (own: Linux keeps no log).
+#[tactic(auto, using(crate::proofs::Bounding::logs_bounded))]
+pub fn logs_are_bounded()
+    ensures { LogsAreBounded }
+{}
+
+/// Whatever the accepted machine is, a legal log of it has at most 37,585,025 entries (own).
+#[tactic(auto, using(crate::proofs::Bounding::all_bounded))]
+pub fn all_logs_are_bounded()
+    ensures { AllLogsAreBounded }
 {}
