@@ -1,13 +1,11 @@
 -- Each attempt ends, and makes few entries.
-use Rattle.std.proofs.Common.{◌≡◌, ◌≤◌, ◌+◌, ◌∙◌, ◌⊎◌, inl, inr, ℕ, Bool, true, false, ◌==◌, ◌&&◌, ◌||◌, List, [], ◌∷◌, reverse, Option, Some, None, is_some, cond, refl, sym, ap, subst, arith}
+use Rattle.std.proofs.Common.{◌≡◌, ◌≤◌, ◌+◌, ◌∙◌, ◌⊎◌, inl, inr, ℕ, Bool, true, false, ◌==◌, ◌||◌, List, [], ◌∷◌, Option, Some, None, is_some, cond, refl, sym, ap, subst, arith}
 use mathlib.Core.List.{reverse_aux}
 use Rattle.std.proofs.lemmas.Bool.{true≢false, or_cases}
 use Rattle.sleep_model.specs.declared.entry.Actor.{Actor}
-use Rattle.sleep_model.specs.declared.entry.Actor.TheVariants as actor
 use Rattle.sleep_model.specs.declared.entry.Entry.{Entry}
 use Rattle.sleep_model.specs.declared.entry.Kind.{Kind}
 use Rattle.sleep_model.specs.declared.entry.Kind.TheVariants as kind
-use Rattle.sleep_model.specs.declared.log.Log.{Log}
 use Rattle.sleep_model.specs.declared.machine.Machine.{Machine}
 use Rattle.sleep_model.specs.declared.machine.Op.{Op}
 use Rattle.sleep_model.specs.declared.place.Seat.{Seat}
@@ -16,7 +14,7 @@ use Rattle.sleep_model.specs.declared.place.Work.{Work}
 use Rattle.sleep_model.specs.declared.word.EventNow.{EventNow}
 use Rattle.sleep_model.specs.Accepted.{IsAccepted}
 use Rattle.sleep_model.specs.Devices.{is_device}
-use Rattle.sleep_model.specs.Legal.{IsFinishedLog, IsLegalLog, IsStuckLog, JournalPart}
+use Rattle.sleep_model.specs.Legal.{JournalPart}
 use Rattle.sleep_model.specs.Parts.{is_kept, journal, part_of}
 use Rattle.sleep_model.specs.Path.{attempts, is_actor, maker}
 use Rattle.sleep_model.specs.Places.{one_if}

@@ -1,5 +1,5 @@
 -- How many entries a log has at most.
-use Rattle.std.proofs.Common.{◌≡◌, ◌≤◌, ◌<◌, ◌+◌, ◌*◌, ◌∙◌, ◌⊎◌, inl, inr, ◌||◌, ℕ, zero, suc, min, Bool, true, false, nat_le, nat_lt, List, [], ◌∷◌, length, cond, refl, sym, ap, subst, arith}
+use Rattle.std.proofs.Common.{◌≡◌, ◌≤◌, ◌<◌, ◌+◌, ◌*◌, ◌∙◌, ◌⊎◌, inl, inr, ◌||◌, ℕ, zero, suc, Bool, true, false, nat_le, nat_lt, List, [], ◌∷◌, length, cond, refl, sym, ap, subst, arith}
 use Rattle.std.specs.List.{list_all, range_with_len}
 use Rattle.std.proofs.Math.Nat.{add-mul, mul_assoc}
 use Rattle.std.proofs.lemmas.Nat.{mul-le}
@@ -12,7 +12,6 @@ use Rattle.sleep_model.specs.declared.entry.Kind.TheVariants as kind
 use Rattle.sleep_model.specs.declared.machine.Machine.{Machine}
 use Rattle.sleep_model.specs.declared.word.EventNow.{EventNow}
 use Rattle.sleep_model.specs.Accepted.{IsAccepted}
-use Rattle.sleep_model.specs.Autosleep.{runs}
 use Rattle.sleep_model.specs.Devices.{is_device}
 use Rattle.sleep_model.specs.Legal.{IsLegal, JointPart, JointStep, JournalPart, JumpStep, Placed, is_idle, is_short, is_there}
 use Rattle.sleep_model.specs.Numbers.{numbers}
@@ -31,7 +30,7 @@ use Rattle.attempt_laws.proofs.Needing.{attempt_needs_few, device_entry_spends, 
 use Rattle.end_laws.specs.Attempts.{is_own}
 use Rattle.end_laws.specs.Bounds.{AllLogsAreBounded, JournalsAreBounded, LogsAreBounded, but_jumps, most_of_journal, most_of_sources, one_but_jump}
 use Rattle.end_laws.proofs.Attempts.{or_left_false}
-use Rattle.end_laws.proofs.Counting.{counted, froze, is_spent, one_more_at_most, one_most, one_same, spent, stepped, worked}
+use Rattle.end_laws.proofs.Counting.{counted, one_more_at_most, one_most, one_same, spent}
 use Rattle.end_laws.proofs.Freezing.{freezes, freezes_bounded, two_each}
 use Rattle.end_laws.proofs.Moments.{wake}
 use Rattle.end_laws.proofs.Stepping.{steps_bounded}

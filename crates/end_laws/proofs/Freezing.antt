@@ -1,5 +1,5 @@
 -- Each of the two freezes of an attempt freezes each task at most once.
-use Rattle.std.proofs.Common.{◌≡◌, ◌≤◌, ◌<◌, ◌+◌, ◌*◌, ◌∙◌, ℕ, zero, suc, Bool, true, false, not, ◌&&◌, ◌||◌, List, [], ◌∷◌, length, map, Option, Some, None, is_some, slice_set, cond, refl, sym, ap, subst, arith}
+use Rattle.std.proofs.Common.{◌≡◌, ◌≤◌, ◌+◌, ◌*◌, ◌∙◌, ℕ, zero, suc, Bool, true, false, not, ◌&&◌, List, [], ◌∷◌, length, map, Option, Some, is_some, slice_set, refl, sym, ap, arith}
 use Rattle.std.proofs.lemmas.Bool.{true≢false}
 use Rattle.std.proofs.Math.Nat.{add-mul}
 use Rattle.sleep_model.specs.declared.entry.Actor.{Actor}
@@ -15,7 +15,7 @@ use Rattle.sleep_model.specs.declared.machine.Machine.{Machine}
 use Rattle.sleep_model.specs.declared.machine.Op.{Op}
 use Rattle.sleep_model.specs.declared.machine.Script.{Script}
 use Rattle.sleep_model.specs.declared.machine.TaskKind.{TaskKind}
-use Rattle.sleep_model.specs.declared.machine.TaskKind.TheVariants.{User, Kthread, Irq}
+use Rattle.sleep_model.specs.declared.machine.TaskKind.TheVariants.{Kthread}
 use Rattle.sleep_model.specs.declared.place.Freezing.{Freezing}
 use Rattle.sleep_model.specs.declared.place.Seat.{Seat}
 use Rattle.sleep_model.specs.declared.place.Stage.{Stage}
@@ -24,11 +24,11 @@ use Rattle.sleep_model.specs.declared.place.Work.{Work}
 use Rattle.sleep_model.specs.declared.word.EventNow.{EventNow}
 use Rattle.sleep_model.specs.Attempt.{freeze_since}
 use Rattle.sleep_model.specs.Devices.{is_device}
-use Rattle.sleep_model.specs.Freezer.{all_asked, all_let_go, asked_by, freezing, freezing_at, freezings, freezings_after, let_go, put_frozen, unasked}
+use Rattle.sleep_model.specs.Freezer.{all_asked, all_let_go, asked_by, freezing, freezing_at, freezings, freezings_after, let_go, unasked}
 use Rattle.sleep_model.specs.Legal.{JournalPart}
 use Rattle.sleep_model.specs.Path.{attempts}
 use Rattle.sleep_model.specs.Places.{one_if}
-use Rattle.sleep_model.specs.Table.{stage_after, stage_of}
+use Rattle.sleep_model.specs.Table.{stage_after}
 use Rattle.attempt_laws.specs.Room.{one_unless}
 use Rattle.sleep_laws.proofs.Holding.{Aside, IsMaker, Kept, at_stage, entry_of}
 use Rattle.sleep_laws.proofs.Made.{Made, Comes, StepMade, TaskMade, WorkMade, DeviceMade, EntryMade, AtOnce, PastNotifiers, PastCpus, PastParts, PastPartsUp, PastCpusUp, PastPosts, ByMaker, ByTask, ByWork, ByDevice, ByTime}

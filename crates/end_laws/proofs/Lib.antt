@@ -3,6 +3,7 @@ pub mod Bounding
 pub mod Counting
 pub mod Dozing
 pub mod Freezing
+pub mod Makers
 pub mod Moments
 pub mod Stepping
 pub mod Waking

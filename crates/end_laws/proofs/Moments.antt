@@ -1,13 +1,11 @@
 -- Where nobody can make anything and something is left to do, each moment for which something waits is later than now; so a jump to one wakes somebody.
-use Rattle.std.proofs.Common.{◌≡◌, ◌≤◌, ◌<◌, ◌+◌, ◌∙◌, ℕ, zero, suc, Bool, true, false, not, ◌&&◌, ◌||◌, min, nat_le, nat_lt, List, [], ◌∷◌, length, IfSome, Option, Some, None, is_some, is_none, slice_get, cond, refl, sym, ap, subst, arith}
+use Rattle.std.proofs.Common.{◌≡◌, ◌<◌, ◌+◌, ◌∙◌, ℕ, zero, suc, Bool, true, false, not, ◌&&◌, ◌||◌, nat_le, nat_lt, List, [], ◌∷◌, length, IfSome, Option, Some, None, is_some, is_none, slice_get, cond, refl, sym, ap, subst, arith}
 use Rattle.std.proofs.lemmas.Bool.{true≢false}
 use Rattle.std.proofs.lemmas.Bool.Decides.{nat_tests}
 use Rattle.std.proofs.lemmas.Option.{slice_get_within}
-use Rattle.sleep_model.specs.declared.entry.Actor.{Actor}
 use Rattle.sleep_model.specs.declared.entry.Actor.TheVariants as actor
 use Rattle.sleep_model.specs.declared.entry.Entry.{Entry}
 use Rattle.sleep_model.specs.declared.entry.Group.{Group}
-use Rattle.sleep_model.specs.declared.entry.FrozeEnd.TheVariants as froze
 use Rattle.sleep_model.specs.declared.entry.Kind.{Kind}
 use Rattle.sleep_model.specs.declared.entry.Kind.TheVariants as kind
 use Rattle.sleep_model.specs.declared.log.Why.TheVariants as why
@@ -24,14 +22,13 @@ use Rattle.sleep_model.specs.declared.place.Sleep.{Sleep}
 use Rattle.sleep_model.specs.declared.place.Stage.{Stage}
 use Rattle.sleep_model.specs.declared.place.Stage.TheVariants as stage
 use Rattle.sleep_model.specs.declared.place.Work.{Work}
-use Rattle.sleep_model.specs.declared.place.Work.TheVariants.{Resting, Reading, Saving, Attempting, Looking, Napping, Closing}
+use Rattle.sleep_model.specs.declared.place.Work.TheVariants.{Napping}
 use Rattle.sleep_model.specs.declared.word.EventNow.{EventNow}
-use Rattle.sleep_model.specs.Attempt.{attempt_due, due_at, enter_due, freeze_due, freeze_since, froze_due, gives_up_at, sleep_of, sleeps_now, stage_due, wakes_due}
+use Rattle.sleep_model.specs.Attempt.{attempt_due, enter_due, freeze_due, freeze_since, froze_due, gives_up_at, sleep_of, sleeps_now, stage_due, wakes_due}
 use Rattle.sleep_model.specs.Autosleep.{auto_due, naps_until, work, work_due}
 use Rattle.sleep_model.specs.Due.{all_gone, due, is_over, own_due}
 use Rattle.sleep_model.specs.Freezer.{freezing, left}
-use Rattle.sleep_model.specs.Guard.{pending}
-use Rattle.sleep_model.specs.Legal.{JournalPart, JumpStep, alarm_at, deadline_at, is_finished, is_idle, is_made, journal_time, next_expiry, next_sleep, next_time, none_expires, pending_nap, pending_sleep, sooner}
+use Rattle.sleep_model.specs.Legal.{JournalPart, alarm_at, deadline_at, is_finished, is_idle, is_made, journal_time, next_expiry, next_sleep, next_time, none_expires, pending_nap, pending_sleep, sooner}
 use Rattle.sleep_model.specs.Numbers.{time_of}
 use Rattle.sleep_model.specs.Path.{is_actor, maker}
 use Rattle.sleep_model.specs.Places.{is_state}
@@ -46,7 +43,7 @@ use Rattle.sleep_laws.proofs.Ending.{and_left, and_right, first_made, not_true}
 use Rattle.sleep_laws.proofs.Holding.{at_stage}
 use Rattle.sleep_laws.proofs.Made.{seat_of}
 use Rattle.sleep_laws.proofs.Telling.{none≢some, some≢none}
-use Rattle.source_laws.proofs.Limiting.{ScriptTries, script_tries}
+use Rattle.source_laws.proofs.Limiting.{script_tries}
 use Rattle.source_laws.proofs.Running.{work_tries}
 use Rattle.source_laws.proofs.Trying.{is_attempting, passes, steps_if, steps_in}
 use Rattle.fit_laws.proofs.Sitting.{op_at}

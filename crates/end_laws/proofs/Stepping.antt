@@ -1,5 +1,5 @@
 -- No script comes further than its operations and its exit.
-use Rattle.std.proofs.Common.{◌≡◌, ◌≤◌, ◌<◌, ◌+◌, ◌*◌, ◌∙◌, ℕ, zero, suc, Bool, true, false, ◌==◌, nat_lt, List, [], ◌∷◌, length, filter, flat_map, replicate, ◌++◌, Option, Some, None, slice_get, cond, refl, sym, ap, subst, arith}
+use Rattle.std.proofs.Common.{◌≡◌, ◌≤◌, ◌<◌, ◌+◌, ◌*◌, ◌∙◌, ℕ, zero, suc, Bool, true, false, nat_lt, List, [], ◌∷◌, length, filter, flat_map, replicate, Option, Some, slice_get, cond, refl, sym, ap, subst, arith}
 use Rattle.std.proofs.lemmas.Bool.{true≢false}
 use Rattle.std.proofs.lemmas.Bool.Decides.{nat_tests}
 use Rattle.std.proofs.lemmas.List.{length-append}
@@ -12,19 +12,18 @@ use Rattle.sleep_model.specs.declared.machine.Machine.{Machine}
 use Rattle.sleep_model.specs.declared.machine.Op.{Op}
 use Rattle.sleep_model.specs.declared.machine.Script.{Script}
 use Rattle.sleep_model.specs.declared.place.Seat.{Seat}
-use Rattle.sleep_model.specs.declared.place.Stage.{Stage}
 use Rattle.sleep_model.specs.declared.word.EventNow.{EventNow}
 use Rattle.sleep_model.specs.Calls.{ends_step}
 use Rattle.sleep_model.specs.Legal.{JournalPart}
-use Rattle.sleep_model.specs.Path.{is_actor, is_same, maker}
-use Rattle.sleep_model.specs.Places.{all_operations, is_state, one_if}
+use Rattle.sleep_model.specs.Path.{is_same}
+use Rattle.sleep_model.specs.Places.{is_state, one_if}
 use Rattle.sleep_model.specs.Scripts.{entry_steps, makes_entry, operations}
 use Rattle.sleep_model.specs.Seats.{first_seat, seat_at, seat_part, seats}
-use Rattle.sleep_laws.proofs.Made.{StepMade, TaskMade, EntryMade, ByMaker, ByTask, ByWork, ByDevice, ByTime}
+use Rattle.sleep_laws.proofs.Made.{StepMade, TaskMade, EntryMade, ByMaker, ByTask}
 use Rattle.sleep_laws.proofs.MakingOwn.{entry_made}
 use Rattle.source_laws.proofs.Limiting.{script_tries}
 use Rattle.source_laws.proofs.Summing.{total}
-use Rattle.source_laws.proofs.Trying.{Trial, ByMaking, ByTrying, ByWorking, ByOther, done_of, done_other, done_out, done_own, passes, same_actor, steps_if, steps_in}
+use Rattle.source_laws.proofs.Trying.{done_of, done_other, done_out, done_own, passes, same_actor, steps_if, steps_in}
 use Rattle.fit_laws.proofs.Sitting.{seats_len}
 use Rattle.end_laws.specs.Bounds.{most_steps}
 use Rattle.end_laws.proofs.Counting.{far, stepped}

@@ -1,5 +1,5 @@
 -- Where time jumps a machine that sleeps has seen no step, and each jump is to a later moment.
-use Rattle.std.proofs.Common.{◌≡◌, ◌≤◌, ◌<◌, ◌+◌, ◌*◌, ◌-◌, ◌∙◌, ℕ, zero, suc, Bool, true, false, not, ◌==◌, ◌&&◌, ◌||◌, nat_lt, nat_le, List, [], ◌∷◌, length, Option, Some, None, is_some, cond, refl, sym, ap, subst, arith}
+use Rattle.std.proofs.Common.{◌≡◌, ◌≤◌, ◌<◌, ◌+◌, ◌∙◌, ℕ, Bool, true, false, not, ◌==◌, ◌&&◌, nat_lt, nat_le, List, [], ◌∷◌, length, Option, Some, None, cond, refl, sym, ap, subst, arith}
 use Rattle.std.proofs.lemmas.Bool.{true≢false}
 use Rattle.std.proofs.lemmas.Bool.Decides.{nat_tests}
 use Rattle.sleep_model.specs.declared.entry.Actor.{Actor}
@@ -9,7 +9,6 @@ use Rattle.sleep_model.specs.declared.entry.Kind.{Kind}
 use Rattle.sleep_model.specs.declared.entry.Kind.TheVariants as kind
 use Rattle.sleep_model.specs.declared.log.Why.TheVariants as why
 use Rattle.sleep_model.specs.declared.machine.Machine.{Machine}
-use Rattle.sleep_model.specs.declared.place.Due.{Due}
 use Rattle.sleep_model.specs.declared.place.Due.TheVariants as turn
 use Rattle.sleep_model.specs.declared.place.Sleep.{Sleep}
 use Rattle.sleep_model.specs.declared.place.Stage.{Stage}
@@ -17,10 +16,10 @@ use Rattle.sleep_model.specs.declared.place.Stage.TheVariants as stage
 use Rattle.sleep_model.specs.declared.word.EventNow.{EventNow}
 use Rattle.sleep_model.specs.Attempt.{attempt_due, due_at, enter_due, sleep_after, sleep_of, stage_due, wakes_due}
 use Rattle.sleep_model.specs.Due.{due, own_due}
-use Rattle.sleep_model.specs.Legal.{IsLegal, IsOnTime, JointPart, JointStep, JournalPart, JournalStep, JumpStep, Placed, is_enabled, is_idle, is_made, none_enabled, none_expires}
+use Rattle.sleep_model.specs.Legal.{IsOnTime, JointPart, JointStep, JournalPart, JournalStep, Placed, is_enabled, is_idle, is_made, none_enabled, none_expires}
 use Rattle.sleep_model.specs.Numbers.{after_step, numbers, time_after, time_of, word_step}
-use Rattle.sleep_model.specs.Parts.{Part, OfJournal, Notes, Moves, OfTime, is_kept, journal, part_of}
-use Rattle.sleep_model.specs.Path.{is_actor, is_same, maker}
+use Rattle.sleep_model.specs.Parts.{Part, OfTime, is_kept, journal, part_of}
+use Rattle.sleep_model.specs.Path.{is_actor, maker}
 use Rattle.sleep_model.specs.Sources.{history}
 use Rattle.sleep_model.specs.Table.{behind, stage_of}
 use Rattle.sleep_model.specs.Word.{position}
@@ -29,7 +28,6 @@ use Rattle.sleep_laws.proofs.Answering.{Side, side_kept}
 use Rattle.sleep_laws.proofs.Ending.{MakerIn, and_left, and_right, first_made, maker_in, none_of, not_made, not_true}
 use Rattle.sleep_laws.proofs.Holding.{StageMaker, at_stage, held}
 use Rattle.sleep_laws.proofs.Telling.{some≢none}
-use Rattle.sleep_laws.proofs.Turning.{never}
 use Rattle.end_laws.specs.Waking.{EventsWakeFirst, TimeGoesForward, events_wake_first, is_unstirred, jumps_unstirred, keeps_time, time_goes_forward}
 
 -- ---- the parts of a list

@@ -1,5 +1,5 @@
 -- The autosleep work makes at most eight entries in each of its runs, outside its attempts.
-use Rattle.std.proofs.Common.{◌≡◌, ◌≤◌, ◌+◌, ◌*◌, ◌∙◌, ℕ, Bool, true, false, not, ◌==◌, ◌&&◌, ◌||◌, List, [], ◌∷◌, Option, Some, None, cond, refl, sym, ap, subst, arith}
+use Rattle.std.proofs.Common.{◌≡◌, ◌≤◌, ◌+◌, ◌*◌, ◌∙◌, ℕ, Bool, true, false, not, ◌==◌, ◌&&◌, List, [], ◌∷◌, Option, Some, None, cond, refl, sym, ap, subst, arith}
 use Rattle.std.proofs.lemmas.Bool.{true≢false}
 use Rattle.sleep_model.specs.declared.entry.Actor.{Actor}
 use Rattle.sleep_model.specs.declared.entry.Actor.TheVariants as actor
@@ -10,7 +10,7 @@ use Rattle.sleep_model.specs.declared.machine.Machine.{Machine}
 use Rattle.sleep_model.specs.declared.place.Work.{Work}
 use Rattle.sleep_model.specs.declared.place.Work.TheVariants.{Resting, Reading, Saving, Attempting, Looking, Napping, Closing}
 use Rattle.sleep_model.specs.declared.word.EventNow.{EventNow}
-use Rattle.sleep_model.specs.Autosleep.{after_look, looks_at, runs, runs_after, seen_count, work, work_after, work_step}
+use Rattle.sleep_model.specs.Autosleep.{after_look, looks_at, runs, runs_after, seen_count, work, work_step}
 use Rattle.sleep_model.specs.Devices.{is_device}
 use Rattle.sleep_model.specs.Legal.{JournalPart}
 use Rattle.sleep_model.specs.Path.{is_actor, is_same, maker}
@@ -18,7 +18,7 @@ use Rattle.sleep_model.specs.Places.{one_if}
 use Rattle.sleep_laws.proofs.Made.{WorkMade, EntryMade, ByMaker, ByTask, ByWork, ByDevice, ByTime}
 use Rattle.sleep_laws.proofs.MakingOwn.{entry_made}
 use Rattle.source_laws.proofs.Running.{runs_more, work_other, work_own}
-use Rattle.source_laws.proofs.Trying.{Trial, ByMaking, ByTrying, ByWorking, ByOther, is_over, same_actor, trial}
+use Rattle.source_laws.proofs.Trying.{Trial, ByMaking, ByTrying, ByWorking, ByOther, is_over, trial}
 use Rattle.attempt_laws.specs.Room.{is_attempt}
 use Rattle.end_laws.specs.Attempts.{is_own}
 use Rattle.end_laws.proofs.Counting.{is_spent, is_worked, one_or, or_first, worked}

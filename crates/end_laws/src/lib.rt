@@ -4,6 +4,7 @@
 
 ghost use Rattle.end_laws.specs.Attempts.{AttemptsAreShort, AttemptsEnd};
 ghost use Rattle.end_laws.specs.Bounds.{AllLogsAreBounded, JournalsAreBounded, LogsAreBounded};
+ghost use Rattle.end_laws.specs.Makers.{MakersTellEntries, MakersTellLogs};
 ghost use Rattle.end_laws.specs.Moments.{JumpsWake, NextMomentsLieAhead};
 ghost use Rattle.end_laws.specs.Waking.{EventsWakeFirst, TimeGoesForward};
 
@@ -69,4 +70,17 @@ pub fn logs_are_bounded()
 #[tactic(auto, using(crate::proofs::Bounding::all_bounded))]
 pub fn all_logs_are_bounded()
     ensures { AllLogsAreBounded }
+{}
+
+/// Behind a legal log each actor may make one entry, by all entries so far and nothing else: each entry is the one that
+/// its actor may make (own: Linux keeps no log).
+#[tactic(auto, using(crate::proofs::Makers::tell_entries))]
+pub fn makers_tell_entries()
+    ensures { MakersTellEntries }
+{}
+
+/// So two legal logs of one machine that were made by the same actors in turn are the same (own).
+#[tactic(auto, using(crate::proofs::Makers::tell_logs))]
+pub fn makers_tell_logs()
+    ensures { MakersTellLogs }
 {}
