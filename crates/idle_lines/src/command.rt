@@ -1,11 +1,10 @@
 ghost use Rattle.std.specs.Prelude.{◌≡◌, ◌≤◌, IfErr, IfOk};
 ghost use Rattle.program_ending.specs.declared.ending.Ending.TheVariants as ending;
-ghost use Rattle.idle_loop.specs.Kept.{AreSizes};
+ghost use Rattle.idle_loop.specs.Sizes.{AreSizes};
 ghost use Rattle.idle_lines.specs.Lines.{IsIdleText};
 
 use crate::text::log_text;
-use idle_loop::IdleSizes;
-use idle_workers::run_idle;
+use idle_loop::{IdleSizes, run_idle};
 use program_ending::Ending;
 use std::alloc::Global;
 use std::sync::Wait;

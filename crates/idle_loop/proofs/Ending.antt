@@ -1,128 +1,179 @@
--- When one worker's run is over.
-use Rattle.std.proofs.Common.{◌≡◌, ℕ, ◌+◌, ◌<◌, ◌≤◌, ◌++◌, Bool, true, false, Option, Some, None, List, [], ◌∷◌, ◌==◌, replicate, reverse, refl, ap, sym, subst, ◌∙◌, arith}
-use Rattle.std.proofs.lemmas.Bool.{false≢true}
-use Rattle.std.proofs.lemmas.List.{get_or-replicate, length-replicate}
-use Rattle.idle_loop.specs.declared.entry.IdleState.{IdleState}
-use Rattle.idle_loop.specs.declared.entry.IdleState.TheVariants as state
+-- The log of a run that is over.
+use Rattle.std.proofs.Common.{◌≡◌, ◌∙◌, ℕ, zero, suc, ◌+◌, ◌<◌, ◌≤◌, ◌++◌, Bool, Some, None, List, [], ◌∷◌, length, reverse, slice_index_or, Vec, refl, ap, sym, subst, arith}
+use mathlib.Core.Option.{some, some-ne-none, some-injective}
+use lib.ListN.{get_elem?}
+use Rattle.std.proofs.lemmas.List.{length-map, length-reverse, reverse-reverse}
+use Rattle.std.specs.declared.alloc.Global.{Global}
+use Rattle.atomic_table.specs.Seated.{TableId}
+use Rattle.sleep_model.specs.declared.word.EventNow.{EventNow}
+use Rattle.event_word.specs.declared.table.EventSeat.{EventSeat}
+use Rattle.event_word.specs.Histories.{AllSeen, AreClosed, IsSeen, SourceStep, steps_of}
+use Rattle.event_word.specs.Lists.{looked_lists, made_lists, tokens}
+use Rattle.event_word.specs.Seats.{Token, AreAll, looked_of, made_of, number_of}
+use Rattle.event_word.specs.Steps.{MadeStep}
+use Rattle.idle_gate.specs.declared.state.IdleState.{IdleState}
+use Rattle.idle_gate.specs.declared.state.IdleState.TheVariants as state
 use Rattle.idle_loop.specs.declared.entry.IdleKind.{IdleKind}
-use Rattle.idle_loop.specs.declared.entry.IdleKind.TheVariants.{Hard, Begin, Wake, TryOk, TryBusy, Leave}
 use Rattle.idle_loop.specs.declared.entry.IdleEntry.{IdleEntry}
 use Rattle.idle_loop.specs.declared.entry.IdleLog.{IdleLog}
 use Rattle.idle_loop.specs.declared.entry.IdleSizes.{IdleSizes}
-use Rattle.idle_loop.specs.declared.entry.WakerNow.{WakerNow}
-use Rattle.idle_loop.specs.IdleLogs.{woken, state_by, state_after, one_more, session_by, session_of, hards_of, wakes_of, since_begin, begun, MayMake, IsIdleLog, IsOver, is_entered, IsIdleRun}
-use Rattle.idle_loop.specs.Kept.{Alone, AreSizes, IsSession, Stands, IsKept, HasNothing, waker_at, new_waker, first_alone}
-use Rattle.idle_loop.proofs.Races.{Due, due_of, awake, in_turn, loses_none, sleeps_over_none}
-use Rattle.idle_loop.proofs.Keeping.{session_none}
+use Rattle.idle_gate.specs.Gates.{Gate}
+use Rattle.idle_loop.specs.IdleLogs.{IsIdleLog, IsIdleRun, IsOver, MayMake, begun, session_of}
+use Rattle.idle_gate.specs.Gates.{is_entered}
+use Rattle.idle_loop.proofs.Over.{ended_log, nothing_awake, nothing_entered}
+use Rattle.idle_loop.specs.Books.{Forgot, IsBook}
+use Rattle.idle_loop.specs.Merging.{Merges, SeeMore, forgotten}
+use Rattle.idle_loop.proofs.Booking.{forgot_none}
+use Rattle.idle_loop.proofs.Merges.{Merged, merged, merges_to_legal, open_none}
+use Rattle.idle_loop.specs.declared.closing.Left.{Left}
+use Rattle.idle_loop.specs.Turns.{InTurn, befores, seen_by}
+use Rattle.idle_loop.specs.Ends.{AreLeft, IsAtRest, IsLeft}
+use Rattle.idle_loop.specs.Makers.{AreAtPlaces, AreMade, AllBelow, AreMakers, places}
+use Rattle.idle_loop.proofs.Histories.{AllHard, all_hard, befores_places, hard_steps, makers_below, makers_in, seen_low, turns_at_places, word_hard}
+use Rattle.idle_loop.proofs.Premises.{hards_in_turn, wakes_in_turn, woke_is}
 
--- a waker that has made its last wake is through
-pub through_one : (a : Alone) (who : ℕ) → IsKept a → who < a.sizes.wakers → a.sizes.events ≤ (waker_at a.wakers who).wakes → wakes_of who a.past ≡ a.sizes.events
-through_one a who kept low last =
-    let stands : Stands who (waker_at a.wakers who) a.past = kept.wakers who low in
-    let first : wakes_of who a.past ≡ (waker_at a.wakers who).wakes = stands.0 in
-    let turn = in_turn a.sizes a.past kept.legal who in
-    let least : wakes_of who a.past ≤ hards_of who a.past = turn.0 in
-    let most : hards_of who a.past ≤ a.sizes.events = turn.2 in
-    omega arith
+-- ---- the merged log
 
-abbrev IsNoSession : Option ℕ → Type 0
-IsNoSession None = Unit {0}
-IsNoSession (Some n) = ⊥
+rest_nothing : (z : IdleSizes) (gate : Gate) (journal past : List IdleEntry) (ms : List ℕ) (s : IdleState) → IsBook z gate journal → Merged ms journal past → IsIdleLog z past → gate.state ≡ s → IsAtRest z s gate.in_session gate.begun
+    → (what : IdleKind) → MayMake z past z.wakers what → ⊥
+rest_nothing z gate journal past ms state.Idle book m legal is rest =
+    let none : forgotten journal ≡ None = forgot_none gate.forgotten (forgotten journal) (subst (λ (b : Bool). Forgot b gate.forgotten (forgotten journal)) rest.0 book.session) in
+    let last : z.sessions ≤ begun past = subst (λ (n : ℕ). z.sessions ≤ n) (book.begun.0 ∙ sym m.begun) rest.1 in
+    nothing_awake z past (m.state ∙ (sym book.state ∙ is)) (open_none (length ms) (forgotten journal) (session_of past) m.session none) last
+rest_nothing z gate journal past ms state.Enter book m legal is rest = nothing_entered z past legal (m.state ∙ (sym book.state ∙ is))
+rest_nothing z gate journal past ms state.Wake book m legal is rest = absurd rest
 
-no_session : (o : Option ℕ) → o ≡ None → IsNoSession o
-no_session o is = subst IsNoSession (sym is) tt
+-- a journal and hard events whose makers are in turn merge to the log of a whole run
+pub whole_run : (z : IdleSizes) (gate : Gate) (journal past : List IdleEntry) (ms : List ℕ) (log : IdleLog) → IsBook z gate journal → AreMade z ms journal → Merges ms journal past → IsAtRest z gate.state gate.in_session gate.begun → reverse log.entries.items ≡ past
+    → log.idle ≡ is_entered gate.state → IsIdleRun z log
+whole_run z gate journal past ms log book made merges rest same idle =
+    let legal : IsIdleLog z past = merges_to_legal z ms journal past book.legal (hards_in_turn z ms journal made.below made.each) (wakes_in_turn z ms journal book.legal made.each) merges in
+    let m : Merged ms journal past = merged z ms journal past book.legal merges in
+    let over : IsOver z past = record { through = λ who low. m.woke who ∙ (made.each who low).through; nothing = rest_nothing z gate journal past ms gate.state book m legal refl rest } in
+    ended_log z past log legal over same (idle ∙ ap is_entered (book.state ∙ sym m.state))
 
-more_is_none : (o : Option ℕ) → one_more o ≡ None → o ≡ None
-more_is_none None is = refl
-more_is_none (Some n) is = absurd (no_session (Some (n + 1)) is)
+pub see_more : (low seen most : ℕ) (entries : List IdleEntry) → seen ≤ most → SeeMore low seen entries → SeeMore low most entries
+see_more low seen most [] high sees = omega (arith, high, sees)
+see_more low seen most (e ∷ entries) high sees = (sees.0, see_more e.hard seen most entries high sees.1)
 
-awake_step : (what : IdleKind) (b : Bool) (s : IdleState) (o : Option ℕ) (wakes hards : ℕ) → Due what b s o wakes hards → (o ≡ None → s ≡ state.Idle) → session_by what o ≡ None → state_by what s ≡ state.Idle
-awake_step Hard b s o wakes hards due before none = before (more_is_none o none)
-awake_step Begin b s o wakes hards due before none = absurd (no_session (Some 0) none)
-awake_step Wake b s o wakes hards due before none = ap woken (before none)
-awake_step TryOk b s o wakes hards due before none = absurd (no_session (Some 0) (sym due ∙ none))
-awake_step TryBusy b s o wakes hards due before none = due
-awake_step Leave b s o wakes hards due before none = refl
+-- ---- seats and places that are left
 
--- where no session is open the idler is awake
-none_awake : (z : IdleSizes) (past : List IdleEntry) → IsIdleLog z past → session_of past ≡ None → state_after past ≡ state.Idle
-none_awake z [] legal none = refl
-none_awake z (e ∷ past) legal none = awake_step e.what (e.who == 0) (state_after past) (session_of past) (wakes_of 0 past) (hards_of 0 past)
-    (due_of z past e.who 0 e.what legal.1) (none_awake z past legal.2) none
+left_long : (z : IdleSizes) (table : TableId) (journal : List IdleEntry) (from : ℕ) (ss : List EventSeat) (vs : List (Vec ℕ Global)) → AreLeft z table journal from ss vs → length vs ≡ length ss
+left_long z table journal from [] [] are = refl
+left_long z table journal from [] (v ∷ vs) are = absurd are
+left_long z table journal from (s ∷ ss) [] are = absurd are
+left_long z table journal from (s ∷ ss) (v ∷ vs) are = ap suc (left_long z table journal (from + 1) ss vs are.1)
 
-not_awake : (s : IdleState) → s ≡ state.Enter → s ≡ state.Idle → ⊥
-not_awake s is other = awake s other is
+seat_at : (z : IdleSizes) (table : TableId) (journal : List IdleEntry) (from : ℕ) (ss : List EventSeat) (vs : List (Vec ℕ Global)) → AreLeft z table journal from ss vs → (k : ℕ) (t : Token) → get_elem? (tokens ss) k ≡ some t → (t.table_id ≡ table) × (number_of t ≡ Some (from + k))
+seat_at z table journal from [] [] are k t at = absurd (some-ne-none t (sym at))
+seat_at z table journal from [] (v ∷ vs) are k t at = absurd are
+seat_at z table journal from (s ∷ ss) [] are k t at = absurd are
+seat_at z table journal from (s ∷ ss) (v ∷ vs) are zero t at =
+    let same : s.token ≡ t = some-injective s.token t at in
+    (ap (λ (u : Token). u.table_id) (sym same) ∙ are.0.at, ap number_of (sym same) ∙ (are.0.number ∙ ap (λ (n : ℕ). Some n) (let e : from ≡ from + 0 = omega arith in e)))
+seat_at z table journal from (s ∷ ss) (v ∷ vs) are (suc k) t at =
+    let is = seat_at z table journal (from + 1) ss vs are.1 k t at in (is.0, is.1 ∙ ap (λ (n : ℕ). Some n) (let e : from + 1 + k ≡ from + suc k = omega arith in e))
 
-abbrev IsWaked : IdleState → Type 0
-IsWaked state.Idle = ⊥
-IsWaked state.Enter = ⊥
-IsWaked state.Wake = Unit {0}
-
-not_waked : (s : IdleState) → s ≡ state.Wake → IsWaked s
-not_waked s is = subst IsWaked (sym is) tt
-
--- an idler that has entered may make nothing
-pub nothing_entered : (z : IdleSizes) (past : List IdleEntry) → IsIdleLog z past → state_after past ≡ state.Enter → (what : IdleKind) → MayMake z past z.wakers what → ⊥
-nothing_entered z past legal is Hard may = let low = may.0 in omega arith
-nothing_entered z past legal is Wake may = let low = may.0 in omega arith
-nothing_entered z past legal is Begin may = not_awake (state_after past) is (none_awake z past legal may.1)
-nothing_entered z past legal is TryOk may = not_awake (state_after past) is may.1
-nothing_entered z past legal is TryBusy may = not_awake (state_after past) is may.1
-nothing_entered z past legal is Leave may = subst IsWaked is (not_waked (state_after past) may.1)
-
-pub entered_none : (a : Alone) → IsKept a → a.gate.state ≡ state.Enter → HasNothing a
-entered_none a kept is = nothing_entered a.sizes a.past kept.legal (sym kept.state ∙ is)
-
-closed : (a : Alone) → IsKept a → a.gate.in_session ≡ false → session_of a.past ≡ None
-closed a kept none = session_none a.gate.forgotten a.word.hard (session_of a.past) (subst (λ (b : Bool). IsSession b a.gate.forgotten a.word.hard (session_of a.past)) none kept.session)
-
--- nor may one that is awake, where no session is open and none is left
-pub nothing_awake : (z : IdleSizes) (past : List IdleEntry) → state_after past ≡ state.Idle → session_of past ≡ None → z.sessions ≤ begun past → (what : IdleKind) → MayMake z past z.wakers what → ⊥
-nothing_awake z past is none last Hard may = let low = may.0 in omega arith
-nothing_awake z past is none last Wake may = let low = may.0 in omega arith
-nothing_awake z past is none last Begin may = let few : begun past < z.sessions = may.2 in omega arith
-nothing_awake z past is none last TryOk may = no_session (Some 0) (sym may.2 ∙ none)
-nothing_awake z past is none last TryBusy may = no_session (Some (may.2 + 1)) (sym may.3 ∙ none)
-nothing_awake z past is none last Leave may = subst IsWaked is (not_waked (state_after past) may.1)
-
-pub awake_none : (a : Alone) → IsKept a → a.gate.state ≡ state.Idle → a.gate.in_session ≡ false → a.sizes.sessions ≤ a.gate.begun → HasNothing a
-awake_none a kept is none last = nothing_awake a.sizes a.past (sym kept.state ∙ is) (closed a kept none) (subst (λ (n : ℕ). a.sizes.sessions ≤ n) kept.begun last)
-
-legal_before : (z : IdleSizes) (later past : List IdleEntry) → IsIdleLog z (later ++ past) → IsIdleLog z past
-legal_before z [] past legal = legal
-legal_before z (e ∷ later) past legal = legal_before z later past legal.2
-
-entered_is : (s : IdleState) → is_entered s ≡ true → s ≡ state.Enter
-entered_is state.Idle is = absurd (false≢true is)
-entered_is state.Enter is = refl
-entered_is state.Wake is = absurd (false≢true is)
-
--- a log that is over
-pub ended_log : (z : IdleSizes) (past : List IdleEntry) (log : IdleLog) → IsIdleLog z past → IsOver z past → reverse log.entries.items ≡ past → log.idle ≡ is_entered (state_after past) → IsIdleRun z log
-ended_log z past log legal over same idle = record {
-  legal = subst (IsIdleLog z) (sym same) legal;
-  over = subst (IsOver z) (sym same) over;
-  ended = idle ∙ ap (λ (es : List IdleEntry). is_entered (state_after es)) (sym same);
-  none_lost = λ later older parts. loses_none z older (legal_before z later older (subst (IsIdleLog z) (sym same ∙ parts) legal));
-  none_sleeps = λ who slept. subst (λ (es : List IdleEntry). since_begin who es ≡ 0) (sym same) (sleeps_over_none z past legal over (entered_is (state_after past) (sym idle ∙ slept)) who);
+-- all seats are back
+pub all_seats : (z : IdleSizes) (table : TableId) (l : Left) → IsLeft z table l → AreAll l.look.token (tokens l.seats.items)
+all_seats z table l is = record {
+  counted = length-map l.seats.items (λ (s : EventSeat). s.token) ∙ (is.count ∙ sym is.sources);
+  each_is = λ k t at. let one = seat_at z table l.book.journal 0 l.seats.items l.places.items is.each k t at in (one.0 ∙ sym is.look, one.1 ∙ ap (λ (n : ℕ). Some n) (let e : 0 + k ≡ k = omega arith in e));
 }
 
--- a run that is over
-pub ended_run : (a : Alone) (log : IdleLog) → IsKept a → IsOver a.sizes a.past → reverse log.entries.items ≡ a.past → log.idle ≡ is_entered a.gate.state → IsIdleRun a.sizes log
-ended_run a log kept over same idle = ended_log a.sizes a.past log kept.legal over same (idle ∙ ap is_entered kept.state)
+-- what one waker left
+pub record IsOne (z : IdleSizes) (journal : List IdleEntry) (who : ℕ) (made : List MadeStep) : Type 0 where
+  pub owes : Bool
+  pub floor : ℕ
+  pub turns : InTurn owes floor made (seen_by who journal)
+  pub few : length made ≤ z.events
+  pub through : length (seen_by who journal) ≡ z.events
 
-first_stands : (who : ℕ) (w : WakerNow) → w ≡ new_waker → Stands who w []
-first_stands who w is = subst (λ (v : WakerNow). Stands who v []) (sym is) (refl, refl)
+one_at : (z : IdleSizes) (table : TableId) (journal : List IdleEntry) (from : ℕ) (ss : List EventSeat) (vs : List (Vec ℕ Global)) → AreLeft z table journal from ss vs → (k : ℕ) → k < length ss → IsOne z journal (from + k) (slice_index_or (made_lists ss) k [])
+one_at z table journal from [] [] are k low = absurd (omega (arith, low))
+one_at z table journal from [] (v ∷ vs) are k low = absurd are
+one_at z table journal from (s ∷ ss) [] are k low = absurd are
+one_at z table journal from (s ∷ ss) (v ∷ vs) are zero low = subst (λ (n : ℕ). IsOne z journal n (made_of s.token)) (let e : from ≡ from + 0 = omega arith in e)
+    (record { owes = are.0.owes; floor = are.0.floor; turns = are.0.turns; few = are.0.few; through = are.0.through })
+one_at z table journal from (s ∷ ss) (v ∷ vs) are (suc k) low = subst (λ (n : ℕ). IsOne z journal n (slice_index_or (made_lists ss) k [])) (let e : from + 1 + k ≡ from + suc k = omega arith in e) (one_at z table journal (from + 1) ss vs are.1 k (omega (arith, low)))
 
--- all that is so at first
-pub kept_at_first : (z : IdleSizes) → AreSizes z → IsKept (first_alone z)
-kept_at_first z sizes = record {
-  sizes = sizes;
-  legal = tt;
-  hard = refl;
-  state = refl;
-  session = tt;
-  begun = refl;
-  counted = length-replicate z.wakers new_waker;
-  wakers = λ who low. first_stands who (waker_at (replicate z.wakers new_waker) who) (get_or-replicate z.wakers who new_waker new_waker low);
-}
+places_at : (z : IdleSizes) (table : TableId) (journal : List IdleEntry) (from : ℕ) (history : List SourceStep) (ss : List EventSeat) (vs : List (Vec ℕ Global)) → AllHard history → AreLeft z table journal from ss vs
+    → ((k : ℕ) → k < length ss → slice_index_or (made_lists ss) k [] ≡ steps_of (from + k) history) → AreAtPlaces (makers_in history) from vs
+places_at z table journal from history [] [] all are each = tt
+places_at z table journal from history [] (v ∷ vs) all are each = absurd are
+places_at z table journal from history (s ∷ ss) [] all are each = absurd are
+places_at z table journal from history (s ∷ ss) (v ∷ vs) all are each =
+    let own : made_of s.token ≡ steps_of from history = each 0 (omega arith) ∙ ap (λ (n : ℕ). steps_of n history) (let e : from + 0 ≡ from = omega arith in e) in (
+      are.0.places ∙ ap (λ (l : List ℕ). reverse l) (ap befores own ∙ befores_places from history all),
+      places_at z table journal (from + 1) history ss vs all are.1 (λ k low. each (suc k) (omega (arith, low)) ∙ ap (λ (n : ℕ). steps_of n history) (let e : from + suc k ≡ from + 1 + k = omega arith in e)),
+    )
+
+all_less : (a b n : ℕ) → a ≡ b → b ≤ n → a ≤ n
+all_less a b n same low = omega (arith, same, low)
+
+module _ (z : IdleSizes) (table : TableId) (l : Left) (is : IsLeft z table l) (looks : List (List EventNow)) (now : EventNow) (closed : AreClosed (made_lists l.seats.items) looks now) where
+  long : length (made_lists l.seats.items) ≡ z.wakers
+  long = length-map l.seats.items (λ (s : EventSeat). made_of s.token) ∙ is.count
+
+  steps_at : (k : ℕ) → k < length l.seats.items → slice_index_or (made_lists l.seats.items) k [] ≡ steps_of k closed.history
+  steps_at k low = closed.each_made k (subst (λ (n : ℕ). k < n) (sym (length-map l.seats.items (λ (s : EventSeat). made_of s.token))) low)
+
+  one : (k : ℕ) → k < length l.seats.items → IsOne z l.book.journal k (steps_of k closed.history)
+  one k low = subst (IsOne z l.book.journal k) (steps_at k low) (subst (λ (n : ℕ). IsOne z l.book.journal n (slice_index_or (made_lists l.seats.items) k [])) (let e : 0 + k ≡ k = omega arith in e)
+      (one_at z table l.book.journal 0 l.seats.items l.places.items is.each k low))
+
+  -- all steps were hard events
+  pub all : AllHard closed.history
+  all = all_hard (length (made_lists l.seats.items)) closed.history closed.makers (λ k low.
+      let low' : k < length l.seats.items = subst (λ (n : ℕ). k < n) (length-map l.seats.items (λ (s : EventSeat). made_of s.token)) low in
+      let o = one k low' in hard_steps o.owes o.floor (steps_of k closed.history) (seen_by k l.book.journal) o.turns)
+
+  counted : now.hard ≡ length (makers_in closed.history)
+  counted = ap (λ (w : EventNow). w.hard) (closed.last.0 ∙ word_hard closed.history all) ∙ sym (length-map closed.history (λ (s : SourceStep). s.source))
+
+  -- the places are those of the makers
+  pub left_makers : AreMakers now.hard (makers_in closed.history) l.places.items
+  left_makers =
+      let same : length l.places.items ≡ z.wakers = left_long z table l.book.journal 0 l.seats.items l.places.items is.each ∙ is.count in
+      record {
+        counted = counted;
+        few = all_less (length l.places.items) z.wakers 16 same is.sizes.wakers.1;
+        below = subst (λ (n : ℕ). AllBelow n (makers_in closed.history)) (long ∙ sym same) (makers_below (length (made_lists l.seats.items)) closed.history closed.makers);
+        each = places_at z table l.book.journal 0 closed.history l.seats.items l.places.items all is.each (λ k low. steps_at k low ∙ ap (λ (n : ℕ). steps_of n closed.history) (let e : k ≡ 0 + k = omega arith in e));
+      }
+
+  -- and each maker is in turn
+  pub left_made : AreMade z (makers_in closed.history) l.book.journal
+  left_made = record {
+    below = subst (λ (n : ℕ). AllBelow n (makers_in closed.history)) long (makers_below (length (made_lists l.seats.items)) closed.history closed.makers);
+    each = λ who low.
+        let o = one who (subst (λ (n : ℕ). who < n) (sym is.count) low) in
+        let same : length (places who (makers_in closed.history)) ≡ length (steps_of who closed.history) = ap length (sym (befores_places who closed.history all)) ∙ length-map (steps_of who closed.history) (λ (s : MadeStep). s.before.hard) in
+        record {
+          owes = o.owes;
+          floor = o.floor;
+          turns = turns_at_places who closed.history o.owes o.floor (seen_by who l.book.journal) all o.turns;
+          few = all_less _ _ z.events same o.few;
+          through = sym (woke_is who l.book.journal) ∙ o.through;
+        };
+  }
+
+last_seen : (history : List SourceStep) (ws : List (List EventNow)) (word : EventNow) (more : List EventNow) → AllSeen history (ws ++ (word ∷ more) ∷ []) → IsSeen history word
+last_seen history [] word more seen = seen.0.0
+last_seen history (w ∷ ws) word more seen = last_seen history ws word more seen.1
+
+-- the journal saw no more than all hard events
+pub left_seen : (z : IdleSizes) (table : TableId) (l : Left) (is : IsLeft z table l) (now : EventNow) (closed : AreClosed (made_lists l.seats.items) (looked_lists l.seats.items ++ looked_of l.look.token ∷ []) now) → (makers : List ℕ)
+    → makers ≡ reverse (makers_in closed.history) → l.book.seen ≤ length makers
+left_seen z table l is now closed makers same =
+    let there : AllSeen closed.history (looked_lists l.seats.items ++ (is.last ∷ is.more) ∷ []) = subst (λ (ws : List EventNow). AllSeen closed.history (looked_lists l.seats.items ++ ws ∷ [])) is.looked closed.seen.0 in
+    let low : is.last.hard ≤ length closed.history = seen_low closed.history is.last (all z table l is _ now closed) (last_seen closed.history (looked_lists l.seats.items) is.last is.more there) in
+    let long : length makers ≡ length closed.history = ap length same ∙ (length-reverse (makers_in closed.history) ∙ length-map closed.history (λ (s : SourceStep). s.source)) in
+    let saw : l.book.seen ≤ is.last.hard = is.seen in
+    omega (arith, low, long, saw)
+
+pub long_makers : (count : ℕ) (ms makers : List ℕ) (lists : List (Vec ℕ Global)) → AreMakers count ms lists → makers ≡ reverse ms → length makers ≡ count
+long_makers count ms makers lists are same = ap length same ∙ (length-reverse ms ∙ sym are.counted)
+
+pub made_back : (z : IdleSizes) (ms makers : List ℕ) (journal : List IdleEntry) → makers ≡ reverse ms → AreMade z ms journal → AreMade z (reverse makers) journal
+made_back z ms makers journal same made = subst (λ (l : List ℕ). AreMade z l journal) (sym (ap (λ (l : List ℕ). reverse l) same ∙ reverse-reverse ms)) made

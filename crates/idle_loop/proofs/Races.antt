@@ -3,13 +3,14 @@ use Rattle.std.proofs.Common.{◌≡◌, ℕ, zero, suc, ◌+◌, ◌<◌, ◌�
 use mathlib.Core.Logic.{dite}
 use native.Mathlib.Decide.{ℕ_discrete}
 use Rattle.std.proofs.lemmas.Bool.{false≢true}
-use Rattle.idle_loop.specs.declared.entry.IdleState.{IdleState}
-use Rattle.idle_loop.specs.declared.entry.IdleState.TheVariants as state
+use Rattle.idle_gate.specs.declared.state.IdleState.{IdleState}
+use Rattle.idle_gate.specs.declared.state.IdleState.TheVariants as state
 use Rattle.idle_loop.specs.declared.entry.IdleKind.{IdleKind}
 use Rattle.idle_loop.specs.declared.entry.IdleKind.TheVariants.{Hard, Begin, Wake, TryOk, TryBusy, Leave}
 use Rattle.idle_loop.specs.declared.entry.IdleEntry.{IdleEntry}
 use Rattle.idle_loop.specs.declared.entry.IdleSizes.{IdleSizes}
-use Rattle.idle_loop.specs.IdleLogs.{woken, state_by, state_after, session_by, session_of, is_hard, is_wake, since_by, since_begin, hards_of, wakes_of, MayMake, IsIdleLog}
+use Rattle.idle_loop.specs.IdleLogs.{state_by, state_after, session_by, session_of, is_hard, is_wake, since_by, since_begin, hards_of, wakes_of, MayMake, IsIdleLog}
+use Rattle.idle_gate.specs.Gates.{woken}
 use Rattle.idle_loop.specs.Laws.{LosesNone, SleepsOverNone}
 
 -- what an option tells is at least that

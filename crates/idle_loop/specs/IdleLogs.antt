@@ -1,18 +1,13 @@
 -- A log of suspend-to-idle (kernel/power/suspend.c, s2idle_loop). The entries before one stand newest first.
 use Rattle.std.specs.Prelude.{◌≡◌, ◌<◌, ◌+◌, ◌==◌, ◌++◌, if◌then◌else◌, ℕ, Bool, true, false, List, [], ◌∷◌, Option, Some, None, reverse}
-use Rattle.idle_loop.specs.declared.entry.IdleState.{IdleState}
-use Rattle.idle_loop.specs.declared.entry.IdleState.TheVariants as state
+use Rattle.idle_gate.specs.declared.state.IdleState.{IdleState}
+use Rattle.idle_gate.specs.declared.state.IdleState.TheVariants as state
+use Rattle.idle_gate.specs.Gates.{woken, is_entered}
 use Rattle.idle_loop.specs.declared.entry.IdleKind.{IdleKind}
 use Rattle.idle_loop.specs.declared.entry.IdleKind.TheVariants.{Hard, Begin, Wake, TryOk, TryBusy, Leave}
 use Rattle.idle_loop.specs.declared.entry.IdleEntry.{IdleEntry}
 use Rattle.idle_loop.specs.declared.entry.IdleSizes.{IdleSizes}
 use Rattle.idle_loop.specs.declared.entry.IdleLog.{IdleLog}
-
--- a wake takes Enter to Wake and leaves each other state (s2idle_wake)
-abbrev pub woken : IdleState → IdleState
-woken state.Idle = state.Idle
-woken state.Enter = state.Wake
-woken state.Wake = state.Wake
 
 -- the state after an entry (s2idle_enter, s2idle_wake)
 abbrev pub state_by : IdleKind → IdleState → IdleState
@@ -128,12 +123,6 @@ IsIdleLog z (e ∷ past) = (e.hard ≡ hards past) × MayMake z past e.who e.wha
 pub record IsOver (z : IdleSizes) (past : List IdleEntry) : Type 0 where
   pub through : (who : ℕ) → who < z.wakers → wakes_of who past ≡ z.events
   pub nothing : (what : IdleKind) → MayMake z past z.wakers what → ⊥
-
--- whether the idler has entered
-abbrev pub is_entered : IdleState → Bool
-is_entered state.Idle = false
-is_entered state.Enter = true
-is_entered state.Wake = false
 
 -- where the idler has entered, a waker that made a hard event in this session still owes its wake: no wakeup is
 -- lost (s2idle_enter, s2idle_wake)

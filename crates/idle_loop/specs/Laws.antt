@@ -1,6 +1,6 @@
 -- Laws of every log of suspend-to-idle (kernel/power/suspend.c, s2idle_loop).
 use Rattle.std.specs.Prelude.{◌≡◌, ℕ, List}
-use Rattle.idle_loop.specs.declared.entry.IdleState.TheVariants as state
+use Rattle.idle_gate.specs.declared.state.IdleState.TheVariants as state
 use Rattle.idle_loop.specs.declared.entry.IdleEntry.{IdleEntry}
 use Rattle.idle_loop.specs.declared.entry.IdleSizes.{IdleSizes}
 use Rattle.idle_loop.specs.IdleLogs.{IsIdleLog, IsOver, NoneIsLost, state_after, since_begin}

@@ -1,4 +1,12 @@
 pub mod IdleLogs
-pub mod Gates
 pub mod Laws
-pub mod Kept
+pub mod Sizes
+pub mod Merging
+pub mod Books
+pub mod Turns
+pub mod Parts
+pub mod Steps
+pub mod Crews
+pub mod Same
+pub mod Makers
+pub mod Ends

@@ -1,16 +1,5 @@
 //! What a log of suspend-to-idle says.
 
-/// Where the idler stands (`enum s2idle_states`, `s2idle_state`).
-#[derive(Clone, Copy, Debug, PartialEq, Eq)]
-pub enum IdleState {
-    /// It is awake (`S2IDLE_STATE_NONE`).
-    Idle,
-    /// It has entered (`S2IDLE_STATE_ENTER`).
-    Enter,
-    /// A waker has called it (`S2IDLE_STATE_WAKE`).
-    Wake,
-}
-
 /// What an entry tells.
 #[derive(Clone, Copy, Debug, PartialEq, Eq)]
 pub enum IdleKind {
@@ -51,11 +40,4 @@ pub struct IdleSizes {
 pub struct IdleLog {
     pub entries: Vec<IdleEntry>,
     pub idle: bool,
-}
-
-/// What a waker has made: how many wakes, and whether a hard event whose wake is still to be made.
-#[derive(Clone, Copy, Debug, PartialEq, Eq)]
-pub struct WakerNow {
-    pub wakes: u32,
-    pub owes: bool,
 }

@@ -1,9 +1,7 @@
 ghost use Rattle.std.specs.Prelude.{◌≡◌};
-ghost use Rattle.idle_loop.specs.Kept.{AreSizes};
+ghost use Rattle.idle_loop.specs.Sizes.{AreSizes};
 
-use idle_loop::{IdleEntry, IdleKind, IdleLog, IdleSizes, run_idle_alone};
-use idle_merge::merge_idle;
-use idle_workers::run_idle;
+use idle_loop::{IdleEntry, IdleKind, IdleLog, IdleSizes, merge_idle, run_idle};
 use sleep_base::Mem;
 use std::alloc::Global;
 use std::sync::Wait;
@@ -24,7 +22,7 @@ fn a_second_event_ends_the_session(rt: HostRuntime) -> Result<(), Fail> {
         events: 2,
         sessions: 1,
     };
-    let log = run_idle_alone(&rt, rt.alloc(), sizes)?;
+    let log = run_idle(&rt, rt.alloc(), sizes, 1)?;
     let row = [
         entry(0, 0, IdleKind::Hard),
         entry(1, 1, IdleKind::Begin),
@@ -47,7 +45,7 @@ fn a_forgotten_event_lets_it_sleep(rt: HostRuntime) -> Result<(), Fail> {
         events: 1,
         sessions: 1,
     };
-    let log = run_idle_alone(&rt, rt.alloc(), sizes)?;
+    let log = run_idle(&rt, rt.alloc(), sizes, 1)?;
     let row = [
         entry(0, 0, IdleKind::Hard),
         entry(1, 1, IdleKind::Begin),
@@ -66,7 +64,7 @@ fn the_greatest_sizes_end(rt: HostRuntime) -> Result<(), Fail> {
         events: 1000,
         sessions: 1000,
     };
-    let log = run_idle_alone(&rt, rt.alloc(), sizes)?;
+    let log = run_idle(&rt, rt.alloc(), sizes, 1)?;
     assert!(rt; log.entries.len() >= 32_000 && log.entries.len() <= 50_001);
     Ok(())
 }
@@ -79,7 +77,7 @@ fn a_run_taken_apart_merges_again(rt: HostRuntime) -> Result<(), Fail> {
         events: 2,
         sessions: 1,
     };
-    let log = run_idle_alone(&rt, rt.alloc(), sizes)?;
+    let log = run_idle(&rt, rt.alloc(), sizes, 1)?;
     let journal = [
         entry(1, 1, IdleKind::Begin),
         entry(1, 0, IdleKind::Wake),
@@ -93,22 +91,45 @@ fn a_run_taken_apart_merges_again(rt: HostRuntime) -> Result<(), Fail> {
     Ok(())
 }
 
-/// Whether two logs are the same.
-fn is_same(log: &IdleLog, other: &IdleLog) -> bool {
-    log.entries.as_slice() == other.entries.as_slice() && log.idle == other.idle
+/// One number of all entries, in their order.
+fn sum_of(log: &IdleLog) -> u32 {
+    let mut sum = 0u32;
+    for entry in &log.entries {
+        let kind = match entry.what {
+            IdleKind::Hard => 0u32,
+            IdleKind::Begin => 1,
+            IdleKind::Wake => 2,
+            IdleKind::TryOk => 3,
+            IdleKind::TryBusy => 4,
+            IdleKind::Leave => 5,
+        };
+        sum = sum
+            .wrapping_mul(31)
+            .wrapping_add(entry.hard.wrapping_mul(256))
+            .wrapping_add(entry.who.wrapping_mul(8))
+            .wrapping_add(kind);
+    }
+    sum
 }
 
-/// Whether one worker makes the log that a run without threads makes.
-fn is_alone<R: Threads + Wait + Sync>(rt: &R, alloc: Global, sizes: IdleSizes) -> Result<bool, Mem>
+/// Whether one worker's log is not in idle at its end, and has that many entries, with that sum.
+fn is_of_rounds<R: Threads + Wait + Sync>(
+    rt: &R,
+    alloc: Global,
+    sizes: IdleSizes,
+    count: usize,
+    sum: u32,
+) -> Result<bool, Mem>
     requires { AreSizes sizes }
 {
     let log = run_idle(rt, alloc, sizes, 1)?;
-    let alone = run_idle_alone(rt, alloc, sizes)?;
-    Ok(is_same(&log, &alone))
+    Ok(log.entries.len() == count && sum_of(&log) == sum && !log.idle)
 }
 
+/// One worker goes in rounds over the wakers and the idler, a step each. The numbers are those of the second writing in
+/// Python (`text_by_rounds` of `julampok.second.idle`).
 #[test]
-fn one_worker_makes_the_log_of_a_run_alone(rt: HostRuntime) {
+fn one_worker_goes_in_rounds(rt: HostRuntime) {
     let short = IdleSizes {
         wakers: 1,
         events: 2,
@@ -119,8 +140,8 @@ fn one_worker_makes_the_log_of_a_run_alone(rt: HostRuntime) {
         events: 700,
         sessions: 300,
     };
-    assert!(rt; is_alone(&rt, rt.alloc(), short) == Ok(true));
-    assert!(rt; is_alone(&rt, rt.alloc(), long) == Ok(true));
+    assert!(rt; is_of_rounds(&rt, rt.alloc(), short, 8, 2_311_345_203) == Ok(true));
+    assert!(rt; is_of_rounds(&rt, rt.alloc(), long, 23_002, 1_670_223_522) == Ok(true));
 }
 
 /// How many entries of a kind the log has.

@@ -3,7 +3,7 @@ use Rattle.std.proofs.Common.{◌≡◌, ℕ, List, false, refl, sym, subst}
 use Rattle.command_line.specs.declared.command.Command.TheVariants.{Idle}
 use Rattle.command_line.specs.Words.{IsInRange}
 use Rattle.idle_loop.specs.declared.entry.IdleSizes.{IdleSizes}
-use Rattle.idle_loop.specs.Kept.{AreSizes}
+use Rattle.idle_loop.specs.Sizes.{AreSizes}
 use Rattle.idle_lines.specs.Lines.{IsIdleText}
 use Rattle.program_ending.specs.declared.ending.Ending.{Ending}
 use Rattle.program_ending.specs.declared.ending.Ending.TheVariants.{Done, Stuck, Illegal, NoForm, ReadFault, WriteFault, Refused, NoMemory}

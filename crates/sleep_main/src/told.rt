@@ -1,7 +1,7 @@
 //! Commands that read an input and tell of it.
 
 ghost use Rattle.std.specs.Prelude.{◌≡◌, ◌≤◌};
-ghost use Rattle.idle_loop.specs.Kept.{AreSizes};
+ghost use Rattle.idle_loop.specs.Sizes.{AreSizes};
 ghost use Rattle.sleep_main.specs.Endings.{CheckEnded, IdleEnded, LocksEnded, StatsEnded, WritesJudged, WritesTold, WritesVerdict, stream, streams};
 
 use crate::input::{MOST_LOG_INPUT, read_input};

@@ -1,3 +1,0 @@
-pub mod Merges
-pub mod Placing
-pub mod Booking

@@ -1,6 +1,0 @@
-use Rattle.std.proofs.Common.{◌≡◌, drop, vec_len}
-use Rattle.idle_workers.specs.Makers.{filled}
-use Rattle.idle_workers.proofs.makers.fill.Given as goal
-
-abbrev pub invariant-loop-place : goal.invariant-loop-place
-invariant-loop-place l = (filled l.who (drop l.place-index l.places) l.makers.items ≡ filled l.who l.places l.fn.makers.items) × (vec_len l.makers ≡ vec_len l.fn.makers)

@@ -1,4 +1,0 @@
-use Rattle.idle_workers.proofs.run.to_end.Goals as goal
-
-pub leave-requires : goal.leave-requires
-leave-requires g c = (c.args.sizes, _, c.loop.invariant.crew)

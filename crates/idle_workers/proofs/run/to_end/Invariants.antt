@@ -1,9 +1,0 @@
-use Rattle.idle_workers.specs.Crews.{IsCrew}
-use Rattle.idle_workers.proofs.run.to_end.Given as goal
-
-abbrev pub invariant-loop : goal.invariant-loop
-invariant-loop g l = record {
-  can_next : (goal.iterator-loop g).can_next l.iterator';
-  ends : (goal.iterator-loop g).is_finite l.iterator';
-  crew : IsCrew l.sizes l.table.desk.shared.table_id l.crew;
-}

@@ -1,6 +1,0 @@
-use Rattle.std.proofs.Common.{refl}
-use Rattle.idle_workers.proofs.Stepping.{gains_one}
-use Rattle.idle_workers.proofs.steps.begin.Goals as goal
-
-pub returns-clause-gains : goal.returns-clause-gains
-returns-clause-gains g c = gains_one c.args.book.now.sizes.wakers c.args.book.now c.begin.new.self _ refl c.begin.ensures.journal c.begin.ensures.sizes

@@ -1,6 +1,0 @@
-use Rattle.std.proofs.Common.{refl}
-use Rattle.idle_workers.proofs.Stepping.{gains_one}
-use Rattle.idle_workers.proofs.steps.try_enter.Goals as goal
-
-pub returns-clause-gains : goal.returns-clause-gains
-returns-clause-gains g c = gains_one c.args.book.now.sizes.wakers c.args.book.now c.try_enter.new.self _ refl c.try_enter.ensures.journal c.try_enter.ensures.sizes
