@@ -3,8 +3,8 @@ use Rattle.std.specs.Prelude.{◌≡◌, ◌⊎◌, ℕ, List, Some, None}
 use Rattle.sleep_model.specs.declared.log.Log.{Log}
 use Rattle.sleep_model.specs.declared.machine.Machine.{Machine}
 use Rattle.sleep_model.specs.Order.{parents_of}
-use Rattle.sleep_stats.specs.declared.chain.Chain.{Chain}
-use Rattle.sleep_stats.specs.Chains.{IsLongest}
+use Rattle.device_chain.specs.declared.chain.Chain.{Chain}
+use Rattle.device_chain.specs.Chains.{IsLongest}
 use Rattle.sleep_stats.specs.Counting.{counts_of}
 use Rattle.sleep_stats.specs.Linked.{last_linked}
 use Rattle.program_ending.specs.declared.refusal.Refusal.{Refusal}

@@ -6,7 +6,7 @@ use Rattle.sleep_base.specs.Errno.{name_of}
 use Rattle.phase_table.specs.Phases.{phase_name}
 use Rattle.sleep_model.specs.declared.machine.Machine.{Machine}
 use Rattle.sleep_model.specs.Text.{device, newline, space}
-use Rattle.sleep_stats.specs.declared.chain.Chain.{Chain}
+use Rattle.device_chain.specs.declared.chain.Chain.{Chain}
 use Rattle.sleep_stats.specs.declared.counts.Counts.{Counts}
 use Rattle.sleep_stats.specs.declared.counts.LastDev.{LastDev}
 

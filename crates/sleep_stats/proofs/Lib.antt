@@ -1,5 +1,2 @@
-pub mod Certifying
-pub mod Chaining
-pub mod Leveling
-pub mod Standing
 mod Marking
+mod Standing

@@ -1,4 +1,3 @@
-pub mod Chains
 pub mod Counting
 pub mod Linked
 pub mod States

@@ -1,4 +1,4 @@
--- The links at a log's end, and who stands right above and right below a device there (drivers/base/core.c, device_link_add).
+-- The links at a log's end (drivers/base/core.c, device_link_add).
 use Rattle.std.specs.Prelude.{ℕ, Bool, true, ◌==◌, ◌&&◌, List, [], ◌∷◌, ◌++◌, map, reverse, Option, Some, None, if◌then◌else◌}
 use Rattle.sleep_model.specs.declared.entry.Entry.{Entry}
 use Rattle.sleep_model.specs.declared.entry.Kind.{Kind}
@@ -7,8 +7,7 @@ use Rattle.sleep_model.specs.declared.log.Log.{Log}
 use Rattle.sleep_model.specs.declared.machine.Link.{Link}
 use Rattle.sleep_model.specs.declared.machine.Machine.{Machine}
 use Rattle.sleep_model.specs.Links.{is_linked}
-use Rattle.sleep_model.specs.Order.{parents_of, order_by}
-use Rattle.device_links.specs.Kept.{near_above, near_below}
+use Rattle.sleep_model.specs.Order.{parents_of}
 use Rattle.device_links.specs.Linked.{Linked}
 
 -- links, the oldest first, with one more at their end that is active; one that stands is not taken again (device_link_add)
@@ -58,15 +57,3 @@ last_links m log = map (with_last log.entries) (added_links m log)
 -- the devices and the links at a log's end
 abbrev pub last_linked : Machine → Log → Linked
 last_linked m log = record { parents = parents_of m.devices; links = reverse (last_links m log) }
-
--- the devices that must sleep before d does, by the links that are active, each once (dpm_wait_for_subordinate)
-abbrev pub below_of : Linked → ℕ → List ℕ
-below_of l d = near_below l.parents l.links d
-
--- the devices that must be awake before d is, by the links that are active, each once (dpm_wait_for_superior)
-abbrev pub above_of : Linked → ℕ → List ℕ
-above_of l d = near_above l.parents l.links d
-
--- all devices, in the order in which they are resumed (dpm_list)
-abbrev pub order_of : Linked → List ℕ
-order_of l = order_by l.parents l.links

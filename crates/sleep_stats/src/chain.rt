@@ -1,62 +1,17 @@
-//! The longest chain of devices, each right below the one before.
+//! The longest chain of devices at a log's end.
 
-ghost use Rattle.std.specs.Prelude.{◌≡◌, ◌<◌, true, IfOk, length};
+ghost use Rattle.std.specs.Prelude.{◌≡◌, IfOk};
 ghost use Rattle.sleep_model.specs.Accepted.{IsAccepted};
 ghost use Rattle.sleep_model.specs.Order.{parents_of};
 ghost use Rattle.device_links.specs.Passes.{CanStand};
-ghost use Rattle.sleep_stats.specs.Chains.{AreLevels, IsLed, IsLongest, is_chain, level_at};
+ghost use Rattle.device_chain.specs.Chains.{IsLongest, is_certified};
 ghost use Rattle.sleep_stats.specs.Linked.{added_links, last_linked};
 
-use crate::levels::{first_at, greatest, level_at, levels_of};
 use crate::linked::last_linked;
-use device_links::{DevList, Links};
-use device_rows::Stack;
-use sleep_base::{Mem, lost};
+use device_chain::{Chain, is_certified, longest_chain};
+use sleep_base::Mem;
 use sleep_model::{Log, Machine};
 use std::alloc::Global;
-
-/// A chain of devices, each right below the one before, and the level of each device of the machine, in the order of
-/// registration.
-#[derive(Debug, Drop)]
-pub struct Chain {
-    pub devices: DevList,
-    pub levels: DevList,
-}
-
-/// The chain that leads to a device, before which each time stands the first registered of those right above, of a level one
-/// less.
-fn chain_to(alloc: Global, links: &Links, levels: &[u32], end: u32) -> Result<Vec<u32>, Mem>
-    requires levels { AreLevels links.now levels.now }
-    requires device { end < length links.now.parents }
-    ensures chain { IfOk result (λ v. is_chain links.now v.items ≡ true) }
-    ensures led { IfOk result (λ v. IsLed links.now levels.now end v.items) }
-    ensures long { IfOk result (λ v. length v.items ≡ level_at levels.now end) }
-{
-    let mut chain = Stack::new(alloc);
-    let mut first = end;
-    chain.push(end)?;
-    for level in (1..level_at(levels, end)).rev() {
-        match first_at(levels, level, links.above(first)) {
-            Some(device) => first = device,
-            None => unreachable!(),
-        }
-        chain.push(first)?;
-    }
-    Ok(chain.into_vec())
-}
-
-/// The longest chain, by the levels of all devices: it leads to the first registered of those with the greatest level.
-fn longest_by(alloc: Global, links: &Links, levels: &[u32]) -> Result<Vec<u32>, Mem>
-    requires { AreLevels links.now levels.now }
-    ensures { IfOk result (λ v. IsLongest links.now (record { devices = v.items; levels = levels.now })) }
-{
-    let order = links.order();
-    let top = greatest(levels, order);
-    match first_at(levels, top, order) {
-        Some(end) => chain_to(alloc, links, levels, end),
-        None => Ok(Vec::new(alloc)),
-    }
-}
 
 /// The longest chain of devices at a log's end.
 pub fn longest(alloc: Global, machine: &Machine, log: &Log) -> Result<Chain, Mem>
@@ -65,15 +20,20 @@ pub fn longest(alloc: Global, machine: &Machine, log: &Log) -> Result<Chain, Mem
     ensures { IfOk result (λ c. IsLongest (last_linked machine.now log.now) c) }
 {
     let links = last_linked(alloc, machine, log)?;
-    let Ok(levels) = levels_of(alloc, &links) else {
-        return Err(lost(links));
-    };
-    let Ok(devices) = longest_by(alloc, &links, &levels) else {
-        return Err(lost((links, levels)));
-    };
+    let chain = longest_chain(alloc, &links);
     drop(links);
-    Ok(Chain {
-        devices: DevList::of_vec(devices),
-        levels: DevList::of_vec(levels),
-    })
+    chain
+}
+
+/// Whether the chain is one at the log's end, and the levels are those of all devices, up to its length, so that no chain is
+/// longer.
+pub fn certified(alloc: Global, machine: &Machine, log: &Log, chain: &Chain) -> Result<bool, Mem>
+    requires accepted { IsAccepted machine.now }
+    requires stand { CanStand (parents_of machine.now.devices) (added_links machine.now log.now) }
+    ensures { IfOk result (λ sure. sure ≡ is_certified (last_linked machine.now log.now) chain.now) }
+{
+    let links = last_linked(alloc, machine, log)?;
+    let sure = is_certified(&links, chain);
+    drop(links);
+    Ok(sure)
 }

@@ -12,19 +12,8 @@ ghost use Rattle.sleep_stats.specs.States.{AreLast, AreMarked, AreSet};
 use device_links::Links;
 use indexmap::IndexMap;
 use sleep_base::Mem;
-use sleep_model::{Device, Kind, Link, Log, Machine};
+use sleep_model::{Kind, Link, Log, Machine, parents_of};
 use std::alloc::Global;
-
-/// The parent of each device.
-fn parents_of(alloc: Global, devices: &[Device]) -> Result<Vec<Option<u32>>, Mem>
-    ensures { IfOk result (λ v. v.items ≡ parents_of devices.now) }
-{
-    let mut parents = Vec::with_capacity(alloc, devices.len())?;
-    for device in devices {
-        parents.push(device.parent)?;
-    }
-    Ok(parents)
-}
 
 /// The ends of a link.
 #[derive(Clone, Copy, PartialEq, Eq, Hash)]

@@ -11,7 +11,8 @@ use Rattle.wake_locks.specs.declared.answer.LockFault.TheVariants.{Full, Mem}
 use Rattle.wake_locks.specs.declared.standing.Standing.{Standing}
 use Rattle.wake_locks.specs.LockFields.{IsAt, IsGapFor, IsMeant}
 use Rattle.wake_locks.specs.Locks.{LockState, new_lock, after_call, put, AreInOrder}
-use Rattle.wake_locks.specs.Texts.{is_name, timed, timeout, asked_in, line_of, lock_text, unlock_text}
+use Rattle.sleep_model.specs.NameBytes.{is_name}
+use Rattle.wake_locks.specs.Texts.{timed, timeout, asked_in, line_of, lock_text, unlock_text}
 use Rattle.wake_locks.specs.Writes.{IsFull, WriteEnded, answered, on_lock, locks_by, asked_lock, off_lock, unlocks_by, asked_unlock}
 use Rattle.wake_locks.proofs.Placed.{find_there, find_gap, put_there, put_in_order, at_place}
 

@@ -1,24 +1,14 @@
 -- The texts that are written to wake_lock and wake_unlock.
-use Rattle.std.specs.Prelude.{ℕ, ◌+◌, ◌-◌, ◌*◌, ◌/◌, ◌==◌, ◌&&◌, ◌||◌, Bool, false, not, List, [], length, take, drop, fold, nat_le, slice_index, position, if◌then◌else◌, Option, Some, None, option_map}
+use Rattle.std.specs.Prelude.{ℕ, ◌+◌, ◌-◌, ◌*◌, ◌/◌, ◌==◌, ◌&&◌, false, not, List, [], length, take, drop, fold, nat_le, slice_index, position, if◌then◌else◌, Option, Some, None, option_map}
 use Rattle.std.specs.List.{list_all}
+use Rattle.sleep_base.specs.Digits.{is_digit}
+use Rattle.sleep_model.specs.NameBytes.{is_name}
 use Rattle.sleep_model.specs.declared.machine.SourceCall.{SourceCall}
 use Rattle.sleep_model.specs.declared.machine.SourceCall.TheVariants as call
-
--- a to z, 0 to 9, _, . or - (own)
-abbrev pub is_name_byte : ℕ → Bool
-is_name_byte b = (nat_le 97 b && nat_le b 122) || (nat_le 48 b && nat_le b 57) || b == 95 || b == 46 || b == 45
-
--- a name: 1 to 32 such bytes (own)
-abbrev pub is_name : List ℕ → Bool
-is_name text = nat_le 1 (length text) && nat_le (length text) 32 && list_all is_name_byte text
 
 -- the text without the newline that may end it
 abbrev pub line_of : List ℕ → List ℕ
 line_of text = if slice_index text (length text - 1) == 10 then take (length text - 1) text else text
-
--- a digit
-abbrev pub is_digit : ℕ → Bool
-is_digit b = nat_le 48 b && nat_le b 57
 
 -- the number of these digits
 abbrev pub value_of : List ℕ → ℕ

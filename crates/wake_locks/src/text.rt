@@ -1,8 +1,9 @@
 ghost use Rattle.std.specs.Prelude.{◌≡◌, ◌≤◌, ◌<◌, ℕ, length, not, ◌==◌, position, if◌then◌else◌, IfSome, Some, None};
-ghost use Rattle.std.specs.List.{list_all};
-ghost use Rattle.wake_locks.specs.Texts.{is_name_byte, is_name, line_of, is_digit, nanoseconds, timed, behind_spaces, timeout, named, lock_text, unlock_text};
+ghost use Rattle.sleep_model.specs.NameBytes.{is_name};
+ghost use Rattle.wake_locks.specs.Texts.{line_of, nanoseconds, timed, behind_spaces, timeout, named, lock_text, unlock_text};
 
-use sleep_model::{NAME_BYTES, Name, SourceCall};
+use sleep_base::are_digits;
+use sleep_model::{NAME_BYTES, Name, SourceCall, are_name_bytes};
 
 /// The longest timeout, a day in nanoseconds, and the most digits of one.
 const MOST_NANOSECONDS: u64 = 86_400_000_000_000;
@@ -11,20 +12,6 @@ const MOST_DIGITS: usize = 20;
 
 /// Nanoseconds in a millisecond.
 const MILLISECOND: u64 = 1_000_000;
-
-/// `a` to `z`, `0` to `9`, `_`, `.` or `-`.
-fn is_name_byte(byte: u8) -> bool
-    ensures { result ≡ is_name_byte byte }
-{
-    matches!(byte, b'a'..=b'z' | b'0'..=b'9' | b'_' | b'.' | b'-')
-}
-
-/// Whether all bytes are such.
-fn are_name_bytes(text: &[u8]) -> bool
-    ensures { result ≡ list_all is_name_byte text.now }
-{
-    text.iter().all(|byte| is_name_byte(*byte))
-}
 
 /// The name that a text is, where it is one.
 fn name_of(text: &[u8]) -> Option<Name>
@@ -44,13 +31,6 @@ fn line_of(text: &[u8]) -> &[u8]
         Some(b'\n') => &text[..text.len() - 1],
         _ => text,
     }
-}
-
-/// Whether all bytes are digits.
-fn are_digits(bytes: &[u8]) -> bool
-    ensures { result ≡ list_all is_digit bytes.now }
-{
-    bytes.iter().all(|byte| byte.is_ascii_digit())
 }
 
 /// The timeout that digits spell, where it is one.

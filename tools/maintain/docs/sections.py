@@ -154,7 +154,7 @@ SECTIONS = [
         "sleep_base",
         "The outside",
         "`include/uapi/asm-generic/errno-base.h`, for errors; the rest is own",
-        ["Errno", "Faults", "Calls", "Streams", "Whole"],
+        ["Errno", "Digits", "Faults", "Calls", "Streams", "Whole"],
     ),
     (
         "machine_file",
@@ -179,12 +179,8 @@ SECTIONS = [
     ),
     ("wakeup_source", "What a call adds to a source", "`drivers/base/power/wakeup.c`", ["SourceStates", "Told"]),
     ("device_links", "Links as they stand", "`drivers/base/core.c`", ["Linked", "Kept"]),
-    (
-        "sleep_stats",
-        "What a log counts, and its longest chain",
-        "`include/linux/suspend.h`, `drivers/base/power/main.c`",
-        ["Counting", "Linked", "Chains"],
-    ),
+    ("device_chain", "The longest chain of devices", "`drivers/base/power/main.c`", ["Chains"]),
+    ("sleep_stats", "What a log counts, and the links at its end", "`include/linux/suspend.h`, `drivers/base/core.c`", ["Counting", "Linked"]),
     ("log_commands", "The command `stats`", "`kernel/power/main.c`", ["Input", "Taking", "Telling", "Stats"]),
     ("log_check", "The verdict on a log", "own", ["Verdicts"]),
     ("log_commands", "The command `check`", "own", ["Judging"]),

@@ -1,0 +1,3 @@
+mod Certifying
+mod Chaining
+mod Leveling

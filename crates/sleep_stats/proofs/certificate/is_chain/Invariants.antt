@@ -1,7 +1,0 @@
-use Rattle.std.proofs.Common.{◌≡◌, drop}
-use Rattle.sleep_stats.specs.Chains.{follow, is_chain}
-use Rattle.sleep_stats.proofs.certificate.is_chain.Given as goal
-
--- the devices are a chain where those that are left follow
-abbrev pub invariant-loop-device : goal.invariant-loop-device
-invariant-loop-device l = follow l.links l.before (drop l.device-index l.devices) ≡ is_chain l.links l.devices
