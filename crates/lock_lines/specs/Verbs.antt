@@ -2,7 +2,8 @@
 use Rattle.std.specs.Prelude.{ℕ, ◌≤◌, ◌==◌, ◌&&◌, Bool, false, not, is_some, List, [], ◌∷◌, length, codes, nat_le, if◌then◌else◌, Option, Some, None, option_map}
 use Rattle.std.specs.List.{list_all}
 use Rattle.std.specs.Str.{bytes_eq}
-use Rattle.wake_locks.specs.Texts.{is_digit, value_of}
+use Rattle.sleep_base.specs.Digits.{is_digit}
+use Rattle.wake_locks.specs.Texts.{value_of}
 use Rattle.lock_lines.specs.declared.verb.Verb.{Verb}
 use Rattle.lock_lines.specs.declared.verb.Verb.TheVariants.{Lock, Unlock, After, Active, Inactive}
 use Rattle.lock_lines.specs.Lines.{word, rest}

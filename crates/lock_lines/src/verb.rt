@@ -1,11 +1,10 @@
 ghost use Rattle.std.specs.Prelude.{◌≡◌, ◌≤◌, IfSome};
-ghost use Rattle.std.specs.List.{list_all};
 ghost use Rattle.std.specs.Str.{bytes_eq};
-ghost use Rattle.wake_locks.specs.Texts.{is_digit};
 ghost use Rattle.lock_lines.specs.Lines.{rest};
 ghost use Rattle.lock_lines.specs.Verbs.{IsShort, milliseconds, starts_right, verb_alone, verb_before, verb_of};
 
 use crate::cut::cut;
+use sleep_base::are_digits;
 
 /// The longest wait, a day in ms, and the most digits of one.
 const MOST_MS: u64 = 86_400_000;
@@ -32,13 +31,6 @@ fn is(word: &[u8], name: &str) -> bool
     ensures { result ≡ bytes_eq word.now name.now }
 {
     word == name.as_bytes()
-}
-
-/// Whether all bytes are digits.
-fn are_digits(bytes: &[u8]) -> bool
-    ensures { result ≡ list_all is_digit bytes.now }
-{
-    bytes.iter().all(|byte| byte.is_ascii_digit())
 }
 
 /// Whether there is a first byte that is no 0.
