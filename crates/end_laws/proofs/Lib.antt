@@ -2,6 +2,7 @@ pub mod Attempts
 pub mod Bounding
 pub mod Counting
 pub mod Dozing
+pub mod Exits
 pub mod Freezing
 pub mod Makers
 pub mod Moments

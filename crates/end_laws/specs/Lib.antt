@@ -1,5 +1,6 @@
 pub mod Attempts
 pub mod Bounds
+pub mod Exits
 pub mod Makers
 pub mod Moments
 pub mod Waking

@@ -1,9 +1,10 @@
-//! How logs end: no sleeping machine lets time pass over an event, time goes forward, each attempt ends, and a log has a
-//! bound. Each function here is a law of all legal logs, and does nothing.
+//! How logs end: no sleeping machine lets time pass over an event, time goes forward, each attempt ends, a log has a
+//! bound, and its end names whoever has not exited. Each function here is a law of all legal logs, and does nothing.
 #![tactic(auto)]
 
 ghost use Rattle.end_laws.specs.Attempts.{AttemptsAreShort, AttemptsEnd};
 ghost use Rattle.end_laws.specs.Bounds.{AllLogsAreBounded, JournalsAreBounded, LogsAreBounded};
+ghost use Rattle.end_laws.specs.Exits.{GoneHaveExited, NoneWaitStale, StuckNamesAll};
 ghost use Rattle.end_laws.specs.Makers.{MakersTellEntries, MakersTellLogs};
 ghost use Rattle.end_laws.specs.Moments.{JumpsWake, NextMomentsLieAhead};
 ghost use Rattle.end_laws.specs.Waking.{EventsWakeFirst, TimeGoesForward};
@@ -83,4 +84,23 @@ pub fn makers_tell_entries()
 #[tactic(auto, using(crate::proofs::Makers::tell_logs))]
 pub fn makers_tell_logs()
     ensures { MakersTellLogs }
+{}
+
+/// Nothing is due any more of just those scripts that have exited; of every other script, of the autosleep work and of each
+/// device an entry is due, or they wait (`kernel/exit.c`, `do_exit`).
+#[tactic(auto, using(crate::proofs::Exits::gone_exited))]
+pub fn gone_have_exited()
+    ensures { GoneHaveExited }
+{}
+
+/// What is due of an actor is never a wait for numbers that somebody keeps: `Stale` is told by a world alone, which
+/// compares them first (own).
+pub fn none_wait_stale()
+    ensures { NoneWaitStale }
+{}
+
+/// A log that goes no further names each script that has not exited (own).
+#[tactic(auto, using(crate::proofs::Exits::stuck_names))]
+pub fn stuck_logs_name_all()
+    ensures { StuckNamesAll }
 {}

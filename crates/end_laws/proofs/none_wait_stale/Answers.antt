@@ -1,0 +1,5 @@
+use Rattle.end_laws.proofs.Exits.{none_stale}
+use Rattle.end_laws.proofs.none_wait_stale.Goals as goal
+
+pub returns : goal.returns
+returns c = none_stale
