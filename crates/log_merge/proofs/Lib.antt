@@ -1,4 +1,3 @@
-mod Fields
 pub mod Orders
 pub mod Placing
 pub mod Reading

@@ -1,12 +1,10 @@
--- Reading the journal and the sources' entries in order gives the definition's log.
-use Rattle.std.proofs.Common.{◌≡◌, ℕ, ◌<◌, ◌≤◌, suc, zero, Bool, true, false, not, ◌&&◌, List, [], ◌∷◌, ◌++◌, length, get_or, take, drop, true≢false, refl, sym, ap, ◌∙◌, arith}
+-- The journal and the sources' entries in order give the definition's log.
+use Rattle.std.proofs.Common.{◌≡◌, ◌<◌, ◌≤◌, Bool, true, false, not, ◌&&◌, List, [], ◌∷◌, ◌++◌, true≢false, refl, sym, ap, ◌∙◌, arith}
 use Rattle.std.proofs.lemmas.Bool.Decides.{nat_tests}
-use Rattle.std.proofs.lemmas.List.Sums.{fails_before_first, prefix_len-le-length}
-use Rattle.sleep_model.specs.declared.entry.Entry.{Entry}
 use Rattle.sleep_model.specs.declared.entry.JournalEntry.{JournalEntry}
 use Rattle.sleep_model.specs.declared.entry.SourceEntry.{SourceEntry}
 use Rattle.sleep_model.specs.Merge.{in_order, merge, position_behind, put_in_order, rises, rises_behind, stands_before, step_number}
-use Rattle.log_merge.specs.Rests.{all_of, bare, is_first, is_in_order, is_journals_turn, leads, log_of, sources_entries, stretch_len}
+use Rattle.log_merge.specs.Rests.{bare, is_first, is_in_order, is_journals_turn, leads, sources_entries}
 use Rattle.log_merge.proofs.Orders.{log_order, rises_stands}
 use Rattle.log_merge.proofs.Sorts.{Low, Up, low_append, low_below, low_put_in_order, up_in_order}
 
@@ -77,14 +75,6 @@ pub rising_in_order : (journal : List JournalEntry) → rises journal ≡ true �
 rising_in_order [] h = refl
 rising_in_order (e ∷ rest) h = test_from (e ∷ rest) (behind_rises e rest h)
 
-order_dropped : (n : ℕ) (entries : List JournalEntry) → InOrder entries → InOrder (drop n entries)
-order_dropped zero entries h = h
-order_dropped (suc n) [] h = tt
-order_dropped (suc n) (x ∷ xs) h = order_dropped n xs h.1
-
-pub dropped_in_order : (n : ℕ) (entries : List JournalEntry) → is_in_order entries ≡ true → is_in_order (drop n entries) ≡ true
-dropped_in_order n entries h = test_from (drop n entries) (order_dropped n entries (in_order_from entries h))
-
 -- ---- the front of a list in order
 
 pub put_front : (x : JournalEntry) (ys : List JournalEntry) → Below x ys → put_in_order x ys ≡ x ∷ ys
@@ -146,7 +136,7 @@ pub other_first : (other : JournalEntry) (journal others : List JournalEntry) �
 other_first other journal others h u v =
     ap bare (passed_first other journal others (before_all other journal h (in_order_from journal u)) (in_order_from (other ∷ others) v).0)
 
--- ---- what a reader does
+-- ---- the next of the log
 
 no_other : (other : JournalEntry) (others : List JournalEntry) (e : JournalEntry) → stands_before other e ≡ false
     → is_in_order (other ∷ others) ≡ true → Below e (other ∷ others)
@@ -164,62 +154,7 @@ pub journal_first : (e : JournalEntry) (rest others : List JournalEntry) → is_
 journal_first e rest others h u v =
     ap bare (entry_first e rest others (in_order_from (e ∷ rest) u).0 (turn_below e rest others h v))
 
--- where it is the turn of a journal that has ended, the log has
-pub log_ends : (others : List JournalEntry) → is_journals_turn [] others ≡ true → bare (in_order others) ≡ []
-log_ends [] h = refl
-log_ends (other ∷ others) h = absurd (true≢false (sym h))
-
--- the first n of a journal stand behind none of these
-abbrev Free : ℕ → List JournalEntry → List JournalEntry → Type 0
-Free zero journal others = Unit {0}
-Free (suc n) [] others = Unit {0}
-Free (suc n) (e ∷ rest) others = Below e others × Free n rest others
-
-free_run : (n : ℕ) (journal others : List JournalEntry) → InOrder journal → Free n journal others
-    → in_order (journal ++ others) ≡ take n journal ++ in_order (drop n journal ++ others)
-free_run zero journal others u f = refl
-free_run (suc n) [] others u f = refl
-free_run (suc n) (e ∷ rest) others u f =
-    entry_first e rest others u.0 f.0 ∙ ap (λ (l : List JournalEntry). e ∷ l) (free_run n rest others u.1 f.1)
-
-free_alone : (n : ℕ) (journal : List JournalEntry) → Free n journal []
-free_alone zero journal = tt
-free_alone (suc n) [] = tt
-free_alone (suc n) (e ∷ rest) = (tt, free_alone n rest)
-
-free_before : (n : ℕ) (journal : List JournalEntry) (other : JournalEntry) (others : List JournalEntry)
-    → ((k : ℕ) (d : JournalEntry) → k < n → k < length journal → stands_before other (get_or journal k d) ≡ false)
-    → is_in_order (other ∷ others) ≡ true → Free n journal (other ∷ others)
-free_before zero journal other others h u = tt
-free_before (suc n) [] other others h u = tt
-free_before (suc n) (e ∷ rest) other others h u = (
-  no_other other others e (h 0 e (omega arith) (omega arith)) u,
-  free_before n rest other others (λ k d l m. h (suc k) d (omega arith) (omega arith)) u,
-)
-
-stretch_free : (journal others : List JournalEntry) → is_in_order others ≡ true → Free (stretch_len journal others) journal others
-stretch_free journal [] u = free_alone (length journal) journal
-stretch_free journal (other ∷ others) u =
-    free_before (stretch_len journal (other ∷ others)) journal other others
-    (λ k d l m. fails_before_first (λ e. stands_before other e) journal k d l) u
-
-pub stretch_within : (journal others : List JournalEntry) → stretch_len journal others ≤ length journal
-stretch_within journal [] = omega arith
-stretch_within journal (other ∷ others) = prefix_len-le-length (λ e. not (stands_before other e)) journal
-
-bare_append : (xs ys : List JournalEntry) → bare (xs ++ ys) ≡ bare xs ++ bare ys
-bare_append [] ys = refl
-bare_append (x ∷ xs) ys = ap (λ (l : List Entry). x.entry ∷ l) (bare_append xs ys)
-
--- a run of the journal, and then the log of what is left
-pub run_first : (journal others : List JournalEntry) → is_in_order journal ≡ true → is_in_order others ≡ true
-    → bare (in_order (journal ++ others))
-    ≡ bare (take (stretch_len journal others) journal) ++ bare (in_order (drop (stretch_len journal others) journal ++ others))
-run_first journal others u v =
-    ap bare (free_run (stretch_len journal others) journal others (in_order_from journal u) (stretch_free journal others v))
-    ∙ bare_append (take (stretch_len journal others) journal) (in_order (drop (stretch_len journal others) journal ++ others))
-
 -- the log of all is the definition's merge
 pub log_of_all : (journal : List JournalEntry) (histories : List (List SourceEntry))
-    → log_of (all_of journal histories) ≡ merge journal histories
+    → bare (in_order (journal ++ in_order (sources_entries histories))) ≡ merge journal histories
 log_of_all journal histories = ap bare (order_twice journal (sources_entries histories))

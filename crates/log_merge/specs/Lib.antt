@@ -1,5 +1,4 @@
 pub mod Journals
 pub mod Orders
 pub mod Placed
-pub mod ReaderFields
 pub mod Rests

@@ -1,4 +1,4 @@
-use log_merge::{LogReader, merge, merge_journal, rises};
+use log_merge::{merge, merge_journal, rises};
 use sleep_base::{Errno, Mem};
 use sleep_model::{
     Actor, Entry, EntryList, EventNow, Journal, JournalEntry, Kind, ListOf, SourceEntry,
@@ -175,6 +175,14 @@ const SOURCES: [Row; 2] = [
 /// A journal without histories.
 const JOURNAL: [Row; 2] = [Row(0, 0, (0, 1), TASK, POST), Row(0, 1, (4, 2), TASK, POST)];
 
+/// An expiry behind the journal's first two entries and before its last.
+const EXPIRED: [Row; 4] = [
+    Row(0, 0, (0, 1), TASK, POST),
+    Row(0, 1, (0, 2), TASK, POST),
+    Row(1, 2, (1, 1), Actor::Timer(0), Kind::Expire(0)),
+    Row(0, 3, (2, 3), TASK, POST),
+];
+
 /// Asserts that rows do.
 fn expect_order(rt: &impl Abort, alloc: Global, rows: &[Row]) -> Result<(), Fail> {
     assert!(rt; stand_in_order(alloc, rows)?);
@@ -191,6 +199,7 @@ fn entries_stand_in_order(rt: HostRuntime) -> Result<(), Fail> {
     expect_order(&rt, alloc, &EQUAL)?;
     expect_order(&rt, alloc, &SOURCES)?;
     expect_order(&rt, alloc, &JOURNAL)?;
+    expect_order(&rt, alloc, &EXPIRED)?;
     expect_order(&rt, alloc, &[])
 }
 
@@ -216,30 +225,6 @@ fn a_journal_is_merged_as_it_is_kept(rt: HostRuntime) -> Result<(), Fail> {
     let log = merge_journal(rt.alloc(), journal, &histories)?;
     assert!(rt; is_in_order(&log, 5));
     Ok(())
-}
-
-/// A log is read run by run, and how much is left is known.
-#[test]
-fn a_log_is_read_run_by_run(rt: HostRuntime) -> Result<(), Fail> {
-    let note = made(2, 1, 1, Actor::Timer(0), Kind::Expire(0));
-    let history: SourceList = ListOf::of_vec(Vec::from_array(rt.alloc(), [note])?);
-    let histories = Vec::from_array(rt.alloc(), [history])?;
-    let journal = [post(0, 0, 1), post(1, 0, 2), post(3, 2, 3)];
-    if !rises(&journal) {
-        return Err("a journal that does not rise".into());
-    }
-    let mut reader = LogReader::new(rt.alloc(), &journal, &histories)?;
-    assert_runs(&rt, &mut reader);
-    Ok(())
-}
-
-/// Two entries of the journal, then the one of the source, then the last of the journal.
-fn assert_runs(rt: &impl Abort, reader: &mut LogReader<'_>) {
-    assert!(rt; reader.remaining() == 4 && reader.run().len() == 2);
-    assert!(rt; reader.run().is_empty());
-    assert!(rt; reader.next().is_some_and(|entry| entry.time == 2));
-    assert!(rt; reader.run().len() == 1);
-    assert!(rt; reader.next().is_none() && reader.remaining() == 0);
 }
 
 /// A journal rises where its ticks do, and its positions do not fall, nor stay behind a step.
