@@ -1,5 +1,5 @@
-//! Where each device stands in the three pairs of phases, with cursors in the devices' order and
-//! counts of what each device waits for.
+//! Where each device stands in the three pairs of phases (`drivers/base/power/main.c`), with cursors in the devices' order and
+//! counts of what each device waits for. Its tests are in `part_cases`.
 #![tactic(auto)]
 
 mod board;

@@ -1,4 +1,5 @@
-//! Rows of device numbers that grow one by one, flags by number, and a stack.
+//! Rows of device numbers that grow one by one, flags by number, and a stack. The core, the checker and `sleep_stats` keep what
+//! they know of devices in them. Its tests are in `part_cases`.
 #![tactic(auto)]
 
 mod flags;

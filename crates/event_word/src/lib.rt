@@ -1,5 +1,5 @@
-//! The event word, as its holders look at it and move it (`drivers/base/power/wakeup.c`,
-//! `combined_event_count`): one plain counter, or a table that threads share.
+//! The event word, as its holders look at it and move it (`drivers/base/power/wakeup.c`, `combined_event_count`): one plain
+//! counter, or a table that threads share. Its tests are in `part_cases`, those with threads in `thread_trials`.
 #![tactic(auto)]
 
 mod closing;

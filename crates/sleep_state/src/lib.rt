@@ -1,4 +1,5 @@
-//! What the definitions read from the journal, kept up to date entry by entry.
+//! What the core reads from its journal, kept up to date entry by entry: where the attempt is, the tasks and the devices. Its
+//! tests are in `part_cases`.
 #![tactic(auto)]
 
 mod devices;

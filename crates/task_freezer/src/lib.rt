@@ -1,5 +1,5 @@
 //! The freezer of tasks: whom a freeze asks, who froze, for whom it still waits, and how it stands at a moment
-//! (`kernel/power/process.c`, `kernel/freezer.c`).
+//! (`kernel/power/process.c`, `kernel/freezer.c`). Its tests are in `part_cases`.
 #![tactic(auto)]
 
 mod asking;

@@ -1,4 +1,5 @@
-//! Named wakelocks: user space locks and unlocks names, each a wakeup source (`kernel/power/wakelock.c`).
+//! Named wakelocks: user space locks and unlocks names, each a wakeup source (`kernel/power/wakelock.c`). Its tests are in
+//! `part_cases`; `row_trials` runs the command `locks`.
 #![tactic(auto)]
 
 mod answer;
