@@ -38,8 +38,9 @@ class Machines(unittest.TestCase):
         made = [
             machines.tree(10, 1666), machines.tree(100, 20, "give-up", is_async=True, links=50), machines.tree(10, 200, "event"),
             machines.wide(500), machines.hard_events(), machines.timed_events(),
-            machines.in_step(), machines.one_waits(), machines.posts(), machines.events(20), machines.writers(254, 59),
-            machines.lines(64, 3_125), machines.set_states(machines.spread(40), ("dormant", "active"), 9, 10), machines.set_states(machines.star(40), (), 9, 10),
+            machines.in_step(), machines.one_waits(), machines.posts(), machines.waiters(1), machines.waiters(255),
+            machines.events(20), machines.writers(254, 59), machines.lines(64, 3_125), machines.short_turns(16, 595, 20),
+            machines.set_states(machines.spread(40), ("dormant", "active"), 9, 10), machines.set_states(machines.star(40), (), 9, 10),
         ]
         for number, tree in enumerate(made):
             self.assertIsNone(first_broken(tree), number)

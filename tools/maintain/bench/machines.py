@@ -159,6 +159,21 @@ def posts():
     return {"version": 1, "actors": [{"name": "p", "kind": "user", "script": script}, *others]}
 
 
+def waiters(marks):
+    """255 lines that wait 154 times each, for as many marks, beside one that raises them 39,270 times in all."""
+    wait = lambda number: [{"op": "wait", "mark": f"m{number % marks}"}]
+    lines = [{"name": f"w{i}", "kind": "irq", "repeat": 154, "script": wait(i)} for i in range(255)]
+    raised = [{"op": "post", "mark": f"m{i % marks}"} for i in range(255)]
+    return {"version": 1, "actors": [*lines, {"name": "p", "kind": "irq", "repeat": 154, "script": raised}]}
+
+
+def short_turns(lines, moments, posts):
+    """Lines that raise a mark each so many times at each of so many moments: turns of the machine, and no call on a source."""
+    script = lambda number: [{"op": "post", "mark": f"m{number}", "times": posts}, {"op": "sleep", "ms": 10}]
+    actors = [{"name": f"l{i}", "kind": "irq", "repeat": moments, "script": script(i)} for i in range(lines)]
+    return {"version": 1, "actors": actors}
+
+
 def events(readers):
     """A line that makes events on five sources while another source is awake, beside tasks that read the count."""
     sources = ["held", *(f"s{i}" for i in range(5))]

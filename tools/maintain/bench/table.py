@@ -99,6 +99,8 @@ def tasks():
         ("apart", entry(machines.apart), GROWS),
         ("one waits", entry(machines.one_waits), None),
         ("posts", entry(machines.posts), GROWS),
+        ("waiters, a mark each", entry(functools.partial(machines.waiters, 255)), GROWS),
+        ("waiters of one mark", entry(functools.partial(machines.waiters, 1)), GROWS),
         ("events", entry(functools.partial(machines.events, 0)), GROWS),
         ("readers", entry(functools.partial(machines.events, 254)), GROWS),
         ("a writer", entry(functools.partial(machines.writers, 1, 14_986)), GROWS),
@@ -234,9 +236,9 @@ def idle():
     return against(spents[0], [("1 waker", spents[0], None), ("16 wakers", spents[1], 3)])
 
 
-def workers_row(name, make, most):
-    """A run by four workers, divided by the same run by one, from start to end; and how many of five logs differ."""
-    many = ("run", "--workers", "4")
+def workers_row(name, make, most, count=4):
+    """A run by so many workers, divided by the same run by one, from start to end; and how many of five logs differ."""
+    many = ("run", "--workers", str(count))
     data = lambda clock: clock.file(make)
 
     def differing(clock):
@@ -260,6 +262,7 @@ def workers(files=()):
 
     The reports of interrupt lines are made under their sources' own locks, beside each other. A burst cuts the scripts,
     autosleep and the timers into four parts, so two of four workers make the reports. All else is done under the machine's lock.
+    Lines that raise marks make turns of the machine alone: with 4 and with 64 workers they show how soon bursts back off.
     """
     if files:
         return [workers_row(pathlib.Path(file).stem, functools.partial(read_tree, file), None) for file in files]
@@ -268,6 +271,10 @@ def workers(files=()):
     rows += [(f"{devices} devices", make, 1.3) for devices, make in trees]
     rows += [("1000 devices, 4000 links", functools.partial(machines.tree, 1000, 95, is_async=True, links=4000), 1.3)]
     rows += [("in step", machines.in_step, None), ("apart", machines.apart, None)]
+    for count, most in ((4, 1.5), (64, 3)):
+        for shape in ((16, 595, 20), (64, 75, 20), (4, 50, 200)):
+            name = "{} lines, {} moments, {} posts, {} workers".format(*shape, count)
+            rows.append((name, functools.partial(machines.short_turns, *shape), most, count))
     return [workers_row(*row) for row in rows]
 
 
