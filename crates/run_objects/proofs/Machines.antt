@@ -1,11 +1,14 @@
 -- A look, a turn and a jump leave each word of the journal one that the seat looked at.
-use Rattle.std.proofs.Common.{◌≡◌, ◌≤◌, List, ◌∷◌, Some, Result, Ok, Err, refl, sym, subst, arith}
+use Rattle.std.proofs.Common.{◌≡◌, ◌≤◌, ℕ, Bool, true, false, ◌==◌, ◌||◌, List, ◌∷◌, Some, Result, Ok, Err, refl, sym, subst, arith}
+use Rattle.std.specs.List.{list_any}
+use Rattle.std.proofs.lemmas.Bool.Decides.{nat_tests}
 use Rattle.sleep_model.specs.declared.entry.Actor.{Actor}
 use Rattle.sleep_model.specs.declared.entry.Actor.TheVariants as actor
 use Rattle.sleep_model.specs.declared.entry.JournalEntry.{JournalEntry}
 use Rattle.sleep_model.specs.declared.entry.Kind.TheVariants as kind
 use Rattle.sleep_model.specs.declared.word.EventNow.{EventNow}
 use Rattle.sleep_model.specs.declared.word.Stamp.{Stamp}
+use Rattle.sleep_model.specs.Merge.{is_word, is_word_step}
 use Rattle.sleep_model.specs.Word.{position}
 use Rattle.event_word.specs.Looks.{GrewTo}
 use Rattle.event_word.specs.Seats.{IsLook, IsUnused, floor_of, looked_of}
@@ -19,7 +22,7 @@ use Rattle.run_laws.specs.Laid.{is_placed}
 use Rattle.run_laws.specs.Seated.{AreSeen, sees}
 use Rattle.run_laws.proofs.Seated.{watch_keeps}
 use Rattle.run_objects.specs.Objects.{IsSeatedCore, SeatedCoreState}
-use Rattle.merge_laws.proofs.Lists.{all_tail}
+use Rattle.merge_laws.proofs.Lists.{all_more, all_tail}
 
 -- more looks leave each word of the journal looked at
 looked_on : (looked new : List EventNow) (journal : List JournalEntry) (word : EventNow) → AreSeen looked journal → GrewTo word (Some looked) (Some new) → AreSeen new journal
@@ -61,3 +64,38 @@ turned result old new who word floor kept look unused grew after low = record {
   seen = turn_seen result old.core new.core who word floor (looked_of old.seat) (looked_of new.seat) kept.seen grew after;
   low = low;
 }
+
+-- ---- a turn by the word that was looked at last
+
+right_of : (a b : Bool) → b ≡ true → (a || b) ≡ true
+right_of true b h = refl
+right_of false b h = h
+
+same_number : (a b : ℕ) → a ≡ b → (a == b) ≡ true
+same_number a b h = grind (arith, nat_tests)
+
+-- one more entry, whose word was looked at
+seen_more : (looked : List EventNow) (journal : List JournalEntry) (e : JournalEntry) → AreSeen looked journal → list_any (is_word e.entry.now) looked ≡ true → e.stamp.pos ≡ position e.entry.now → AreSeen looked (e ∷ journal)
+seen_more looked journal e h word at = (
+  all_more (sees looked) e journal (right_of (is_word_step e) (list_any (is_word e.entry.now) looked) word) h.0,
+  all_more is_placed e journal (same_number e.stamp.pos (position e.entry.now) at) h.1,
+)
+
+-- the machine after such a turn
+pub turned_by : (result : Result CoreTurn CoreFault) (old : SeatedCoreState) (new : CoreState) (who : Actor) (word : EventNow) (floor : Stamp) → IsSeatedCore old → list_any (is_word word) (looked_of old.seat) ≡ true
+    → position word ≡ floor_of old.seat → AfterTurn old.core new who word floor result → IsSeatedCore (record { core = new; seat = old.seat })
+turned_by result old new who word floor kept seen newest after = record { seat = kept.seat; unused = kept.unused; seen = (by result after).0; low = (by result after).1 }
+  where
+    stays : new ≡ old.core → AreSeen (looked_of old.seat) new.past × ((last_stamp new.past).pos ≤ floor_of old.seat)
+    stays same = (subst (λ (c : CoreState). AreSeen (looked_of old.seat) c.past) (sym same) kept.seen, subst (λ (c : CoreState). (last_stamp c.past).pos ≤ floor_of old.seat) (sym same) kept.low)
+
+    by : (result : Result CoreTurn CoreFault) → AfterTurn old.core new who word floor result → AreSeen (looked_of old.seat) new.past × ((last_stamp new.past).pos ≤ floor_of old.seat)
+    by (Ok (Did stamp k attempt)) t =
+        let e : JournalEntry = made_entry old.core.past who word floor k in
+        let high : position word ≤ floor_of old.seat = omega (arith, newest) in (
+          subst (λ (c : CoreState). AreSeen (looked_of old.seat) c.past) (sym t.1) (seen_more (looked_of old.seat) old.core.past e kept.seen seen refl),
+          subst (λ (c : CoreState). (last_stamp c.past).pos ≤ floor_of old.seat) (sym t.1) high,
+        )
+    by (Ok (NotYet why)) t = stays t.1
+    by (Ok Done) t = stays t.1
+    by (Err fault) t = stays t.2

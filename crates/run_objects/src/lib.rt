@@ -7,6 +7,7 @@
 mod closing;
 mod machine;
 mod opening;
+mod seen;
 mod source;
 
 pub use closing::close_table;

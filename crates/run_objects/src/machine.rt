@@ -16,6 +16,7 @@ ghost use Rattle.sleep_core.specs.Histories.{last_stamp};
 ghost use Rattle.sleep_core.specs.Turned.{AfterTurn};
 ghost use Rattle.run_objects.specs.Objects.{IsSeatedCore};
 
+use crate::seen::SeenWord;
 use event_word::{EventTable, LookSeat, look_from};
 use sleep_base::Mem;
 use sleep_core::{Core, CoreFault, CoreTurn};
@@ -120,6 +121,30 @@ impl<'m> SeatedCore<'m> {
         let answer = self.core.turn(rt, &mut events, who, calls, floor, now);
         self.seat = Some(events.off());
         answer
+    }
+
+    /// One turn of an actor, by the word that was looked at last: as that of the core alone. `NotYet`, `Done` and `Mem`
+    /// come where they come of the core, and nothing of it has changed then.
+    pub fn turn_by<R: Wait>(
+        &mut self,
+        rt: &R,
+        word: EventNow,
+        who: Actor,
+        calls: u32,
+        floor: Stamp,
+        now: u64,
+    ) -> Result<CoreTurn, CoreFault>
+        requires seen { list_any (is_word word) (looked_of self.old.seat) ≡ true }
+        requires newest { position word ≡ floor_of self.old.seat }
+        requires actor { IsActor self.old.core.machine who }
+        requires calls { calls ≡ calls_due self.old.core.machine who (entries self.old.core.past) }
+        requires now { now ≡ time_of (entries self.old.core.past) }
+        ensures turn { AfterTurn self.old.core self.new.core who word floor result }
+        ensures legal { JournalPart self.new.core.machine (entries self.new.core.past) }
+        ensures seat { self.new.seat ≡ self.old.seat }
+    {
+        let mut seen = SeenWord::new(word);
+        self.core.turn(rt, &mut seen, who, calls, floor, now)
     }
 
     /// Time jumps to `to` ms, later than now, as seen at the word that was looked at last. That the moment is the
