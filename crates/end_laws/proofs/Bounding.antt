@@ -197,7 +197,7 @@ logs_bounded m acc past h = omega (arith, list_bounded m acc past h, sources_few
 
 -- ---- one number
 
-few_in_journal : (m : Machine) → IsAccepted m → most_of_journal m ≤ 3432512
+pub few_in_journal : (m : Machine) → IsAccepted m → most_of_journal m ≤ 3432512
 few_in_journal m acc =
     let each : enough m ≤ (length m.devices + 50) * 20 = omega (arith, acc.syscore, acc.notifiers, acc.cpus_most) in
     let tries : most_attempts m * enough m ≤ most_attempts m * ((length m.devices + 50) * 20) = mul-le (most_attempts m) (enough m) (most_attempts m) ((length m.devices + 50) * 20) (omega arith) each in

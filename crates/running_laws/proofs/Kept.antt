@@ -29,7 +29,7 @@ use Rattle.run_laws.specs.Acts.{IsFree, Made, bare}
 use Rattle.run_laws.specs.Called.{knows}
 use Rattle.run_laws.specs.Held.{AllOf}
 use Rattle.run_laws.proofs.Jobs.{settled_is_free}
-use Rattle.running_laws.specs.Running.{IsGoing, IsRunning, calls_made, histories, made_so, of_sources}
+use Rattle.running_laws.specs.Running.{IsGoing, IsRunning, calls_made, histories, made_so}
 use Rattle.running_laws.proofs.Known.{all_by_own, few_made, made_is_notes}
 use Rattle.running_laws.proofs.Lists.{history_at, source_beyond}
 

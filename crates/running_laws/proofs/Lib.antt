@@ -6,3 +6,4 @@ pub mod Calls
 pub mod Firsts
 pub mod Ends
 pub mod Asked
+pub mod Few
