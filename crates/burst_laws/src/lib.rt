@@ -1,5 +1,5 @@
-//! A burst is serial: its acts have an order in which each finds the machine and the sources as those before it left
-//! them, and so a burst keeps what a run keeps (own: Linux keeps no such log).
+//! A burst is serial: its acts have an order in which each finds the machine and the sources as those before it left them, and
+//! so a burst keeps what a run keeps (own: Linux keeps no such log). It has no tests: `core_trials` runs bursts.
 #![tactic(auto)]
 
 mod laws;

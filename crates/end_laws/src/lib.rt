@@ -1,5 +1,6 @@
-//! How logs end: no sleeping machine lets time pass over an event, time goes forward, each attempt ends, a log has a
-//! bound, and its end names whoever has not exited. Each function here is a law of all legal logs, and does nothing.
+//! How logs end: no sleeping machine lets time pass over an event, time goes forward, each attempt ends, a log has a bound, and
+//! its end names whoever has not exited. Each function here is a law of all legal logs, and does nothing. `law_trials` tries
+//! the definitions on worked logs.
 #![tactic(auto)]
 
 ghost use Rattle.end_laws.specs.Attempts.{AttemptsAreShort, AttemptsEnd};

@@ -1,4 +1,5 @@
-//! The rules of a log, each by itself, and the law that they are what is due. No function here has code.
+//! The rules of a log, each by itself, and the law that they are what is due. No function here has code. `law_trials` tries
+//! each rule on worked logs.
 #![tactic(auto)]
 
 mod law;

@@ -1,7 +1,7 @@
-//! The world that the workers of a run share (own: Linux shares its variables bare): the machine and each wakeup
-//! source, each under a lock of its own, so that a report on a source waits for no turn of the machine. A call
-//! takes one lock, and its pass knows what it made there. What a worker does in this world is a task: the job of an
-//! actor, or the timer of a source. What its acts and a whole burst come to is defined here.
+//! The world that the workers of a run share (own: Linux shares its variables bare): the machine and each wakeup source, each
+//! under a lock of its own, so that a report on a source waits for no turn of the machine. A call takes one lock, and its pass
+//! knows what it made there. What a worker does in this world is a task: the job of an actor, or the timer of a source. What
+//! its acts and a whole burst come to is defined here. Its tests are in `core_trials`.
 #![tactic(auto)]
 
 mod closing;

@@ -1,4 +1,5 @@
-//! The laws of sleep: what holds of every legal log, whoever wrote it.
+//! The laws of sleep: what holds of every legal log, whoever wrote it. Each function here is a law, and does nothing.
+//! `law_trials` tries the definitions on worked logs.
 #![tactic(auto)]
 
 mod ends;

@@ -1,4 +1,4 @@
-//! Jobs that are lent to workers for a while: each job to one worker, in contiguous parts.
+//! Jobs that are lent to workers for a while: each job to one worker, in contiguous parts. Its tests are in `thread_trials`.
 #![tactic(auto)]
 
 mod lend;

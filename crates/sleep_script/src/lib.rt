@@ -1,5 +1,5 @@
-//! What each actor does next, call by call and turn by turn: the calls on sources that its steps and its callbacks
-//! make, and the turns of the core between them.
+//! What each actor does next, call by call and turn by turn: the calls on sources that its steps and its callbacks make, and
+//! the turns of the core between them. Its tests are in `part_cases`.
 #![tactic(auto)]
 
 mod draws;

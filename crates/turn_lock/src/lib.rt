@@ -1,5 +1,5 @@
 //! Locks in one table, one an object. A pass remembers each entry that it added to an object. Threads share the `desk` of a
-//! `LockTable`; the table's own seat stays with its owner, who needs it to close the table.
+//! `LockTable`; the table's own seat stays with its owner, who needs it to close the table. Its tests are in `thread_trials`.
 #![tactic(auto)]
 
 mod booked;
