@@ -9,9 +9,8 @@ ghost use Rattle.run_world.specs.declared.task.Task.TheVariants as variant;
 ghost use Rattle.run_world.specs.Acts.{actor_of};
 ghost use Rattle.world_workers.specs.Tries.{GoesIn, HasActed, IsRangedTurn, told_call, told_expiry, told_turn, turns_of};
 
-use run_world::Task;
 use fit_laws::{calls_are_ranged, kinds_are_ranged};
-use run_world::{Gate, World, WorldPass};
+use run_world::{Gate, Task, World, WorldPass};
 use sleep_core::{CoreFault, CoreTurn};
 use sleep_model::{Actor, DeviceFlags, Machine, SourceCall, Stamp, Want};
 use sleep_script::{Job, TimerJob};

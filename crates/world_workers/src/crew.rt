@@ -9,8 +9,7 @@ ghost use Rattle.world_workers.specs.Workers.{AreFresh, AreParts, AreWorkersOf};
 
 use crate::parts::{Stop, graver, stop_of};
 use crate::worker::Worker;
-use run_world::Task;
-use run_world::WorldPass;
+use run_world::{Task, WorldPass};
 use sleep_base::Mem;
 use sleep_model::Actor;
 use std::alloc::Global;

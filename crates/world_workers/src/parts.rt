@@ -1,9 +1,9 @@
 //! What goes into a burst, and comes out of it.
 
 use crate::acts::Tried;
-use run_world::Task;
 use event_word::EventTable;
 use run_objects::{SeatedCore, SeatedSource};
+use run_world::Task;
 use sleep_model::{Actor, Machine};
 
 /// What is the same in each burst of a run.

@@ -6,8 +6,7 @@ ghost use Rattle.world_workers.specs.Tries.{turns_of};
 
 use crate::acts::Tried;
 use crate::pause::Pause;
-use run_world::Task;
-use run_world::WorldPass;
+use run_world::{Task, WorldPass};
 use sleep_model::Actor;
 
 /// A worker's own in a burst: a task, and the pass by which it takes the locks of the world.
