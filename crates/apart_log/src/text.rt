@@ -53,7 +53,7 @@ fn lines_behind(
 }
 
 /// Writes these texts one behind the other. `Failed` at the first write that fails: a front of all was written.
-#[tactic(auto, using(log_text::proofs::Passed::one_failed, log_text::proofs::Passed::both_written))]
+#[tactic(auto, using(sleep_base::proofs::Written::one_failed, sleep_base::proofs::Written::both_written))]
 fn write_texts<K: ByteSink>(sink: &mut K, texts: &[Vec<u8>]) -> Result<(), Failed>
     ensures bytes { WriteAll (K.written sink.old) (K.written sink.new) (K.faults sink.old) (K.faults sink.new) (joined texts.now) result }
     ensures faults { K.faults sink.old ≤ K.faults sink.new }
@@ -90,7 +90,7 @@ impl SlicedText {
     }
 
     /// Writes the text. `Failed` at the first write that fails: a front of the text was written.
-    #[tactic(auto, using(log_text::proofs::Passed::one_failed, log_text::proofs::Passed::both_written))]
+    #[tactic(auto, using(sleep_base::proofs::Written::one_failed, sleep_base::proofs::Written::both_written))]
     pub fn write_to<K: ByteSink>(&self, sink: &mut K) -> Result<(), Failed>
         ensures bytes { WriteAll (K.written sink.old) (K.written sink.new) (K.faults sink.old) (K.faults sink.new) self.now result }
         ensures faults { K.faults sink.old ≤ K.faults sink.new }

@@ -26,3 +26,4 @@ pub mod Passed
 pub mod Lists
 pub mod Pieces
 pub mod OtherVerbs
+mod OtherKinds

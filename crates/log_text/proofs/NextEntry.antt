@@ -1,10 +1,10 @@
 -- An entry at the beginning of a text, its line and what stands behind.
-use Rattle.std.proofs.Common.{◌≡◌, ◌∙◌, ℕ, ◌+◌, ◌<◌, true, List, ◌∷◌, ◌++◌, length, refl, sym, ap, subst, arith, append_assoc}
+use Rattle.std.proofs.Common.{◌≡◌, ◌∙◌, ℕ, ◌+◌, ◌<◌, true, List, ◌∷◌, ◌++◌, length, refl, ap, arith, append_assoc}
 use Rattle.std.proofs.lemmas.List.{length-append}
 use Rattle.sleep_model.specs.declared.entry.Entry.{Entry}
 use Rattle.sleep_model.specs.declared.machine.Machine.{Machine}
 use Rattle.sleep_model.specs.Fits.{fits_entry}
-use Rattle.sleep_model.specs.Text.{actor_text, body, entry_line, newline, source_names, space}
+use Rattle.sleep_model.specs.Text.{body, entry_line, newline, source_names}
 use Rattle.log_text.specs.Front.{front_text, maker_text}
 use Rattle.log_text.specs.Grammar.{lines, IsBadEntry, IsBadSource, IsEntryLine}
 use Rattle.log_text.specs.Named.{AreNamed}

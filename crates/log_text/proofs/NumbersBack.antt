@@ -4,7 +4,8 @@ use Rattle.std.specs.Prelude.{option_and_then}
 use Rattle.std.proofs.lemmas.Bool.Decides.{nat_tests}
 use Rattle.std.proofs.lemmas.Fmt.{decimal_by_steps, decimal_nonempty}
 use Rattle.sleep_model.specs.Fits.{is_word32, is_word64}
-use Rattle.log_text.specs.Cutting.{is_digit, digit_after, number_after, word64, word32, short}
+use Rattle.sleep_base.specs.Digits.{is_digit}
+use Rattle.log_text.specs.Cutting.{digit_after, number_after, word64, word32, short}
 
 -- a digit more
 digit_back : (a d : ℕ) → d < 10 → a * 10 + d < 2 ^ 64 → digit_after a (48 + d) ≡ Some (a * 10 + d)

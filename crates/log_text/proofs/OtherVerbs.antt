@@ -1,5 +1,5 @@
 -- A verb that is none of a group's is read as the verbs behind that group are.
-use Rattle.std.proofs.Common.{◌≡◌, ◌≢◌, ℕ, List, refl}
+use Rattle.std.proofs.Common.{◌≡◌, ◌≢◌, ℕ, List, None, refl}
 use Rattle.sleep_model.specs.declared.machine.Machine.{Machine}
 use Rattle.log_text.specs.declared.spelling.verb.Verb.{Verb}
 use Rattle.log_text.specs.declared.spelling.verb.Verb.TheVariants as verb
@@ -52,3 +52,19 @@ no_source m verb.Finish t _ _ _ _ _ is _ _ = absurd (is refl)
 no_source m verb.Hard t _ _ _ _ _ _ is _ = absurd (is refl)
 no_source m verb.Jump t _ _ _ _ _ _ _ is = absurd (is refl)
 no_source m _ t _ _ _ _ _ _ _ _ = refl
+
+pub no_attempt : (m : Machine) (v : Verb) (t : List ℕ) → v ≢ verb.Attempt → v ≢ verb.Over → v ≢ verb.Notify → v ≢ verb.Freeze → v ≢ verb.Froze → v ≢ verb.Thaw → v ≢ verb.Platform → v ≢ verb.Cpu → v ≢ verb.Irqs → v ≢ verb.Syscore → v ≢ verb.Enter → v ≢ verb.Wake → v ≢ verb.Clear → None ≡ attempt_by m v t
+no_attempt m verb.Attempt t is _ _ _ _ _ _ _ _ _ _ _ _ = absurd (is refl)
+no_attempt m verb.Over t _ is _ _ _ _ _ _ _ _ _ _ _ = absurd (is refl)
+no_attempt m verb.Notify t _ _ is _ _ _ _ _ _ _ _ _ _ = absurd (is refl)
+no_attempt m verb.Freeze t _ _ _ is _ _ _ _ _ _ _ _ _ = absurd (is refl)
+no_attempt m verb.Froze t _ _ _ _ is _ _ _ _ _ _ _ _ = absurd (is refl)
+no_attempt m verb.Thaw t _ _ _ _ _ is _ _ _ _ _ _ _ = absurd (is refl)
+no_attempt m verb.Platform t _ _ _ _ _ _ is _ _ _ _ _ _ = absurd (is refl)
+no_attempt m verb.Cpu t _ _ _ _ _ _ _ is _ _ _ _ _ = absurd (is refl)
+no_attempt m verb.Irqs t _ _ _ _ _ _ _ _ is _ _ _ _ = absurd (is refl)
+no_attempt m verb.Syscore t _ _ _ _ _ _ _ _ _ is _ _ _ = absurd (is refl)
+no_attempt m verb.Enter t _ _ _ _ _ _ _ _ _ _ is _ _ = absurd (is refl)
+no_attempt m verb.Wake t _ _ _ _ _ _ _ _ _ _ _ is _ = absurd (is refl)
+no_attempt m verb.Clear t _ _ _ _ _ _ _ _ _ _ _ _ is = absurd (is refl)
+no_attempt m _ t _ _ _ _ _ _ _ _ _ _ _ _ _ = refl

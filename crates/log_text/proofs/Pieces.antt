@@ -1,5 +1,5 @@
 -- Pieces at the beginning of a text.
-use Rattle.std.proofs.Common.{◌≡◌, ◌∙◌, ℕ, true, List, ◌++◌, length, take, drop, decimal, codes, sym, ap, append_assoc, lit<}
+use Rattle.std.proofs.Common.{◌≡◌, ◌∙◌, ℕ, true, List, ◌++◌, length, take, drop, decimal, codes, sym, ap, lit<}
 use Rattle.std.specs.Prelude.{nat_eq}
 use Rattle.std.specs.Cmp.Lexicographic.{pointwise}
 use Rattle.std.proofs.lemmas.Fmt.{decimal_digit}

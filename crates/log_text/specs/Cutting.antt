@@ -1,6 +1,7 @@
 -- How a line is cut into words, and what numbers they spell.
-use Rattle.std.specs.Prelude.{ℕ, ◌==◌, ◌+◌, ◌-◌, ◌*◌, Bool, ◌&&◌, nat_le, List, [], ◌∷◌, length, take, Option, Some, None, option_and_then, position, if◌then◌else◌}
+use Rattle.std.specs.Prelude.{ℕ, ◌==◌, ◌+◌, ◌-◌, ◌*◌, ◌&&◌, List, [], ◌∷◌, length, take, Option, Some, None, option_and_then, position, if◌then◌else◌}
 use Rattle.std.specs.Str.{bytes_eq}
+use Rattle.sleep_base.specs.Digits.{is_digit}
 use Rattle.sleep_model.specs.Fits.{is_word32, is_word64}
 use Rattle.log_text.specs.Named.{is_name_long}
 
@@ -25,10 +26,6 @@ rest text = behind 32 text
 -- all but the last byte
 abbrev pub without_last : List ℕ → List ℕ
 without_last text = take (length text - 1) text
-
--- a digit
-abbrev pub is_digit : ℕ → Bool
-is_digit b = nat_le 48 b && nat_le b 57
 
 -- the number with one digit more, where it is one and the number stays in 64 bits
 abbrev pub digit_after : ℕ → ℕ → Option ℕ

@@ -1,5 +1,5 @@
 //! The text of a sleep log, written and read: a line for each entry, a line for each wakeup source, and how the run
-//! ended.
+//! ended. A log is read only from its own text; of other bytes the first bad line is named. Its tests are in `format_trials`.
 #![tactic(auto)]
 
 mod fault;

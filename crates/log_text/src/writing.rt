@@ -2,6 +2,7 @@
 
 pub(crate) mod body;
 pub(crate) mod device_words;
+pub(crate) mod gathered;
 pub(crate) mod line;
 pub(crate) mod log;
 pub(crate) mod ready;

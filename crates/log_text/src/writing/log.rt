@@ -1,40 +1,26 @@
 ghost use Rattle.std.specs.Prelude.{◌≡◌, ◌++◌, OnOk, IfOk, flat_map};
-ghost use Rattle.sleep_model.specs.Text.{entry_line, source_lines, source_names, end_text, waiting_line, text};
+ghost use Rattle.sleep_model.specs.Text.{source_lines, source_names, end_text, waiting_line, text};
 
-use crate::spelling::front::LineFront;
+use crate::writing::gathered::GatheredBytes;
 use crate::writing::ready::ReadyNames;
-use crate::writing::writer::{LineWriter, put_entry, put_finished, put_source, put_waiting};
-use sleep_base::Mem;
-use sleep_model::{AUTOSLEEP, EntryList, Log, LogEnd, Machine, Stats, Waiting};
+use crate::writing::stream::LogText;
+use crate::writing::writer::{LineWriter, put_finished, put_source, put_waiting};
+use sleep_base::{Failed, Mem, lost};
+use sleep_model::{AUTOSLEEP, Log, LogEnd, Machine, Stats, Waiting};
 use std::alloc::Global;
 
-/// How many bytes the line of an entry usually has, at most.
-pub(crate) const USUAL_LINE: usize = 48;
-
-/// The text of the log that this machine made.
+/// The text of the log that this machine made, as the stream writes it.
 pub fn write_log(alloc: Global, machine: &Machine, log: &Log) -> Result<Vec<u8>, Mem>
     ensures { IfOk result (λ v. v.items ≡ text machine.now log.now) }
 {
-    let room = log.entries.len().saturating_mul(USUAL_LINE);
-    let mut out = LineWriter::with_room(alloc, room)?;
-    let names = ReadyNames::new(alloc, machine)?;
-    put_entries(&mut out, &names, &log.entries)?;
-    put_sources(&mut out, machine, log.stats.as_slice())?;
-    put_end(&mut out, &names, &log.end)?;
-    out.into_vec()
-}
-
-/// Writes a line for each entry.
-fn put_entries(out: &mut LineWriter, names: &ReadyNames, entries: &EntryList) -> Result<(), Mem>
-    ensures { OnOk result (out.new ≡ out.old ++ flat_map (entry_line names.now) entries.now) }
-{
-    let mut front = LineFront::start();
-    let mut reader = entries.reader();
-    while let Some(entry) = reader.next() {
-        front.move_to(entry.time, entry.now);
-        put_entry(out, names, &front, entry)?;
+    let text = LogText::new(alloc, machine, log)?;
+    let mut bytes = GatheredBytes::new(alloc);
+    let written = text.write_to(&mut bytes);
+    drop(text);
+    match written {
+        Ok(()) => Ok(bytes.into_bytes()),
+        Err(Failed) => Err(lost(bytes)),
     }
-    Ok(())
 }
 
 /// Writes a line for each source, `autosleep` last.

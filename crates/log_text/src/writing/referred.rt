@@ -5,12 +5,14 @@ ghost use Rattle.sleep_model.specs.Text.{entry_line};
 ghost use Rattle.log_text.specs.Referred.{referred};
 
 use crate::spelling::front::LineFront;
-use crate::writing::log::USUAL_LINE;
 use crate::writing::ready::ReadyNames;
 use crate::writing::writer::{LineWriter, put_entry};
 use sleep_base::Mem;
 use sleep_model::{Machine, SourceEntry};
 use std::alloc::Global;
+
+// How many bytes the line of an entry usually has, at most.
+const USUAL_LINE: usize = 48;
 
 /// Writes a line for each of these entries.
 fn put_referred(

@@ -103,7 +103,7 @@ fn make_room<K: ByteSink>(sink: &mut K, held: &mut HeldBytes) -> Result<(), Fail
 }
 
 /// Writes what is held and the bytes behind it, in one piece where there is room for them.
-#[tactic(auto, using(crate::proofs::Passed::one_failed, crate::proofs::Passed::both_written))]
+#[tactic(auto, using(sleep_base::proofs::Written::one_failed, sleep_base::proofs::Written::both_written))]
 fn write_last<K: ByteSink>(sink: &mut K, held: &mut HeldBytes, behind: &[u8]) -> Result<(), Failed>
     ensures bytes { WriteAll (K.written sink.old) (K.written sink.new) (K.faults sink.old) (K.faults sink.new) (held.old ++ behind.now) result }
     ensures faults { K.faults sink.old ≤ K.faults sink.new }

@@ -2,7 +2,7 @@ use Rattle.std.proofs.Common.{◌≡◌, ◌++◌, ℕ, List, Err, ap, subst, sy
 use Rattle.std.proofs.lemmas.Result.{err_from_is_err_and}
 use Rattle.std.specs.Io.KnownBytes.{Appends}
 use Rattle.sleep_base.specs.Whole.{WriteAll}
-use Rattle.log_text.proofs.Passed.{both_written, one_failed}
+use Rattle.sleep_base.proofs.Written.{both_written, one_failed}
 use Rattle.apart_log.specs.Slices.{joined}
 use Rattle.apart_log.proofs.text.+write_texts.Goals as goal
 
