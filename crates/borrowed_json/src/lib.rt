@@ -2,7 +2,7 @@
 //!
 //! The tree is that of the library `json`, whose members stand in a list, in the order of the text. What a value says is
 //! told in the words of `serde_json`: the same texts are refused, of equal members the last one counts, and a number is
-//! an integer of 64 bits or else a float.
+//! an integer of 64 bits or else a float. Its tests are in `part_cases`.
 #![tactic(auto)]
 
 mod look;

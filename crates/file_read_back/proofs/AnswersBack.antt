@@ -20,7 +20,8 @@ use Rattle.machine_file.specs.Look.{is_some_and, is_none_or, is_number, is_text,
 use Rattle.machine_file.specs.Members.{must_have, may_have, has_text, list_in, items_of, number_at, word_at, answer_members}
 use Rattle.machine_file.specs.Form.{is_string, is_within, is_one_of, answerers, phases, is_ret_form, is_report_form, are_reports, is_answer_form}
 use Rattle.machine_file.specs.Names.{is_among_names, own_name, spells_name, devices_named, sources_named, texts_in, names_in}
-use Rattle.machine_file.specs.Rules.{is_name, name_of}
+use Rattle.machine_file.specs.Rules.{name_of}
+use Rattle.sleep_model.specs.NameBytes.{is_name}
 use Rattle.machine_file.specs.Spelled.{place_among}
 use Rattle.machine_file.specs.Operations.{names_source}
 use Rattle.machine_file.specs.Answering.{platform_steps, answering_phases, is_of_device, names_of_kind, has_its_phase, names_thing, is_of_prepare, common_errors, is_ret_allowed, may_report, phase_of, step_of, thing_of, ret_of, whole_report, whole_answer}

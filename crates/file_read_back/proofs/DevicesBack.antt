@@ -10,7 +10,8 @@ use Rattle.machine_file.specs.Look.{is_some_and, is_none_or, is_text}
 use Rattle.machine_file.specs.Members.{must_have, may_have, word_at, device_members}
 use Rattle.machine_file.specs.Form.{Named, is_string, is_truth, is_one_of, statuses, is_device_form}
 use Rattle.machine_file.specs.Names.{is_among_names, spells_name, names_of_device, devices_named}
-use Rattle.machine_file.specs.Rules.{name_of, is_name}
+use Rattle.machine_file.specs.Rules.{name_of}
+use Rattle.sleep_model.specs.NameBytes.{is_name}
 use Rattle.machine_file.specs.Devices.{bit, flags_of, whole_device}
 use Rattle.machine_file.specs.Whole.{whole_machine}
 use Rattle.machine_file.specs.Spelling.{device_rows, device_value}

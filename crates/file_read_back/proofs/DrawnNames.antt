@@ -9,7 +9,7 @@ use Rattle.std.proofs.lemmas.Fmt.{decimal_injective, decimal_is_IsNumeral, lengt
 use Rattle.std.proofs.lemmas.Str.Parse.{digit_from_value}
 use Rattle.machine_file.specs.Names.{is_among_names}
 use Rattle.machine_file.specs.Places.{first_not_after}
-use Rattle.machine_file.specs.Rules.{is_name, is_name_byte}
+use Rattle.sleep_model.specs.NameBytes.{is_name, is_name_byte}
 use Rattle.machine_file.specs.Spelled.{place_among}
 use Rattle.machine_file.proofs.Placing.{position_cons}
 

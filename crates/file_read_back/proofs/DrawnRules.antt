@@ -14,7 +14,8 @@ use Rattle.machine_file.specs.Members.{items_of, list_in}
 use Rattle.machine_file.specs.Places.{first_not_after, first_item, item_place}
 use Rattle.machine_file.specs.Form.{is_device_form, is_link_form, unformed_item}
 use Rattle.machine_file.specs.Names.{is_among_names, names_of_device, names_of_link, devices_named, sources_named, misspelled_item, repeated, repeated_device}
-use Rattle.machine_file.specs.Rules.{is_name, name_of}
+use Rattle.machine_file.specs.Rules.{name_of}
+use Rattle.sleep_model.specs.NameBytes.{is_name}
 use Rattle.machine_file.specs.Spelled.{link_of, place_among}
 use Rattle.machine_file.specs.Devices.{has_parent_before, has_ends, is_new_link, is_same_link, closes_no_cycle, orphan, loose_link, repeated_link, cyclic_link}
 use Rattle.machine_file.specs.Operations.{is_formed, names_source, unformed_operation, sourceless_operation}

@@ -8,7 +8,8 @@ use Rattle.machine_file.specs.Look.{is_some_and, is_none_or, is_text, has_only, 
 use Rattle.machine_file.specs.Members.{must_have, may_have, has_text, link_members, notifier_members}
 use Rattle.machine_file.specs.Form.{is_string, is_near, is_one_of, link_states, is_link_form, is_notifier_form}
 use Rattle.machine_file.specs.Names.{is_among_names, spells_name, names_of_link, own_name, devices_named}
-use Rattle.machine_file.specs.Rules.{name_of, is_name}
+use Rattle.machine_file.specs.Rules.{name_of}
+use Rattle.sleep_model.specs.NameBytes.{is_name}
 use Rattle.machine_file.specs.Spelled.{place_among, link_of}
 use Rattle.machine_file.specs.Devices.{has_ends}
 use Rattle.machine_file.specs.Whole.{whole_machine, whole_notifier, priority_of}

@@ -12,7 +12,8 @@ use Rattle.machine_file.specs.Members.{list_in, word_at, must_have, may_have, ha
 use Rattle.machine_file.specs.Places.{first_not_after, item_place}
 use Rattle.machine_file.specs.Form.{is_within}
 use Rattle.machine_file.specs.Names.{is_among_names, own_name, names_of_device, spells_name, names_in, texts_in, devices_named, sources_named, repeated}
-use Rattle.machine_file.specs.Rules.{is_name as is_spelled, name_of}
+use Rattle.machine_file.specs.Rules.{name_of}
+use Rattle.sleep_model.specs.NameBytes.{is_name as is_spelled}
 use Rattle.machine_file.specs.Devices.{whole_device}
 use Rattle.machine_file.specs.Operations.{Operation, operations, fits_row, has_mark, marks_of, first_places, whole_marks, known_of, whole_script}
 use Rattle.machine_file.specs.Tree.{tree}

@@ -11,7 +11,7 @@ use Rattle.machine_file.specs.Look.{is_some_and, is_none_or, is_text, has_only, 
 use Rattle.machine_file.specs.Members.{must_have, may_have, has_text, number_at, word_at}
 use Rattle.machine_file.specs.Form.{Named, is_string, is_truth, is_within, is_time, is_one_of, statuses, link_states}
 use Rattle.machine_file.specs.Names.{spells_name, is_among_names, devices_named, sources_named}
-use Rattle.machine_file.specs.Rules.{is_name}
+use Rattle.sleep_model.specs.NameBytes.{is_name}
 use Rattle.machine_file.specs.Spelled.{place_among}
 use Rattle.machine_file.specs.Limits.{times_of}
 use Rattle.machine_file.specs.Operations.{Operation, operation, operations, row_of, fits_row, names_source, names_device_at, names_device, has_count, is_state_form, has_short_text, has_length, has_mark, is_runtime_form, has_ends_named, is_link_state_form, has_source, is_event_form, plain, users, tasks, everyone, Known, known_of, thing_at, ms_of, says, spelled_op, whole_op, whole_step, whole_marks}

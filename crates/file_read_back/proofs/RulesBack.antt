@@ -12,7 +12,8 @@ use Rattle.machine_file.specs.Members.{may_have, has_text, list_in, number_at, f
 use Rattle.machine_file.specs.Places.{unless, first_not, first_not_after, first_item, first_operation_of, item_place}
 use Rattle.machine_file.specs.Form.{Named, first_row, member_forms, is_within, is_string, is_device_form, is_link_form, is_notifier_form, is_actor_form, is_answer_form, unformed_member, unformed_item}
 use Rattle.machine_file.specs.Names.{is_among_names, names_of_device, names_of_link, spells_name, own_name, devices_named, sources_named, repeated, misspelled_item}
-use Rattle.machine_file.specs.Rules.{name_of, has_version, is_second, is_name}
+use Rattle.machine_file.specs.Rules.{name_of, has_version, is_second}
+use Rattle.sleep_model.specs.NameBytes.{is_name}
 use Rattle.machine_file.specs.Spelled.{place_among, link_of}
 use Rattle.machine_file.specs.Devices.{has_parent_before, has_ends, is_same_link, is_new_link, closes_no_cycle, orphan, loose_link, repeated_link, cyclic_link}
 use Rattle.machine_file.specs.Operations.{is_formed, is_allowed, names_source, names_device, unformed_operation, forbidden_operation, sourceless_operation, deviceless_operation}

@@ -1,5 +1,6 @@
 //! What is written for a machine is read back as that machine, and the texts of its logs tell them apart. No program
-//! is mentioned here: the laws are about the definitions that readers and writers of files and logs meet.
+//! is mentioned here: the laws are about the definitions that readers and writers of files and logs meet. `format_trials` tries
+//! files and logs both ways.
 #![tactic(auto)]
 
 ghost use Rattle.machine_file.specs.Spelling.{AllReadBack};

@@ -11,7 +11,8 @@ use Rattle.machine_file.specs.Look.{has_only, are_named, is_some_and, is_none_or
 use Rattle.machine_file.specs.Members.{must_have, may_have, has_text, word_at}
 use Rattle.machine_file.specs.Form.{is_within, is_truth, is_time}
 use Rattle.machine_file.specs.Names.{spells_name}
-use Rattle.machine_file.specs.Rules.{is_name_byte, is_name, name_of}
+use Rattle.machine_file.specs.Rules.{name_of}
+use Rattle.sleep_model.specs.NameBytes.{is_name_byte, is_name}
 use Rattle.machine_file.specs.Limits.{times_of}
 use Rattle.machine_file.specs.Operations.{Operation, operations, fits_row, is_formed, plain, has_count, has_short_text, is_state_form, has_length, has_mark, is_runtime_form, has_ends_named, is_link_state_form, changes_links, row_of, has_source, is_event_form}
 use Rattle.machine_file.specs.Fitting.{IsShort, FitsAt, FitsStep}

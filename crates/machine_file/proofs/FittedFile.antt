@@ -14,7 +14,8 @@ use Rattle.machine_file.specs.Look.{has_only, is_some_and, is_none_or, is_list, 
 use Rattle.machine_file.specs.Members.{actor_members, answer_members, report_members, notifier_members, must_have, may_have, has_text, list_in, word_at}
 use Rattle.machine_file.specs.Form.{Named, is_string, is_truth, is_within, is_near, is_one_of, is_time, is_notifier_form, is_actor_form, kinds, answerers, phases, is_ret_form, is_plain_report, is_event_report, is_report_form, are_reports, is_answer_form, item_forms, member_forms}
 use Rattle.machine_file.specs.Names.{spells_name, names_of_device, own_name, item_names, is_among_names}
-use Rattle.machine_file.specs.Rules.{is_name, is_second}
+use Rattle.machine_file.specs.Rules.{is_second}
+use Rattle.sleep_model.specs.NameBytes.{is_name}
 use Rattle.machine_file.specs.Operations.{is_formed, marks_of, first_places, whole_marks}
 use Rattle.machine_file.specs.Limits.{times_of, repeat_of, times_if, script_steps}
 use Rattle.machine_file.specs.Whole.{rules, first_broken}

@@ -21,7 +21,8 @@ use Rattle.machine_file.specs.Members.{actor_members, must_have, may_have, has_t
 use Rattle.machine_file.specs.Places.{unless, first_not, first_item, first_operation_of, operation_place, item_place}
 use Rattle.machine_file.specs.Form.{Named, is_string, is_truth, is_within, is_one_of, is_time, is_actor_form, kinds, statuses, link_states, item_forms, first_in_lists, unformed_item}
 use Rattle.machine_file.specs.Names.{spells_name, is_among_names, devices_named, sources_named}
-use Rattle.machine_file.specs.Rules.{is_name, is_second, name_of}
+use Rattle.machine_file.specs.Rules.{is_second, name_of}
+use Rattle.sleep_model.specs.NameBytes.{is_name}
 use Rattle.machine_file.specs.Spelled.{place_among}
 use Rattle.machine_file.specs.Devices.{whole_device}
 use Rattle.machine_file.specs.Operations.{Operation, operations, row_of, has_ends_named, changes_links, is_event_form, has_short_text, has_length, has_mark, has_source, fits_row, is_formed, names_source, names_device, names_device_at, unformed_operation, sourceless_operation, deviceless_operation, marks_of, first_places, whole_marks, Known, known_of, ms_of, spelled_op, whole_op, whole_step, whole_script}

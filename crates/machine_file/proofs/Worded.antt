@@ -9,7 +9,7 @@ use Rattle.machine_file.specs.declared.rules.operations.Word.TheVariants as word
 use Rattle.machine_file.specs.Look.{is_some_and, is_text}
 use Rattle.machine_file.specs.Members.{has_text, word_at}
 use Rattle.machine_file.specs.Operations.{Known, Operation, operations, row_of, changes_links, spelled_op, whole_op}
-use Rattle.machine_file.specs.OperationRows.{op_row, word_changes_links, row_named, op_spelled}
+use Rattle.machine_file.specs.OperationRows.{op_row, words, word_changes_links, row_named, op_spelled}
 use Rattle.machine_file.proofs.ScriptsKept.{member_apart}
 
 -- the row of an operation is that of the text at its word
@@ -41,6 +41,10 @@ find_seen t f (x ∷ xs) = by (t (f x)) ∙ ap (cond (t (f x)) (Some (f x))) (fi
     by : (b : Bool) → option_map f (cond b (Some x) (find (λ y. t (f y)) xs)) ≡ cond b (Some (f x)) (option_map f (find (λ y. t (f y)) xs))
     by true = refl
     by false = refl
+
+-- the word that a text is has the row of that text
+pub named_word : (text : List ℕ) → option_map op_row (find (λ (w : Word). bytes_eq text (op_row w).word) words) ≡ row_named text
+named_word text = find_seen (λ (r : Operation). bytes_eq text r.word) op_row words
 
 -- a search by a test that is the same
 find_same : {X : Type 0} (p q : X → Bool) (xs : List X) → ((x : X) → p x ≡ q x) → find p xs ≡ find q xs

@@ -8,7 +8,8 @@ use Rattle.machine_file.specs.Look.{is_some_and, text_of}
 use Rattle.machine_file.specs.Members.{must_have, may_have, list_in}
 use Rattle.machine_file.specs.Places.{item_place, first_not_after}
 use Rattle.machine_file.specs.Form.{Named, row, first_in_lists}
-use Rattle.machine_file.specs.Rules.{is_name, name_of}
+use Rattle.machine_file.specs.Rules.{name_of}
+use Rattle.sleep_model.specs.NameBytes.{is_name}
 
 -- ---- how they are spelled
 

@@ -42,6 +42,11 @@ first_version _ = 1
 abbrev pub word_changes_links : Word → Bool
 word_changes_links w = not (first_version w == 1)
 
+-- the words, in the order of the table
+abbrev pub words : List Word
+words =
+    word.Read ∷ word.Save ∷ word.State ∷ word.Autosleep ∷ word.Sleep ∷ word.SleepD ∷ word.FreezePoint ∷ word.Post ∷ word.Wait ∷ word.Runtime ∷ word.Link ∷ word.LinkState ∷ word.Awake ∷ word.Relax ∷ word.Event ∷ []
+
 -- the row of the word that a text is, if it is of the table
 abbrev pub row_named : List ℕ → Option Operation
 row_named text = find (λ r. bytes_eq text r.word) operations

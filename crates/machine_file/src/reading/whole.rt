@@ -92,6 +92,65 @@ fn answers_in(alloc: Global, tree: &Value<'_>, known: &Known<'_>) -> Result<Vec<
     Ok(answers)
 }
 
+/// Devices, syscore callbacks and notifiers.
+type Things = (Vec<Device>, Vec<Name>, Vec<Notifier>);
+
+/// The devices of a file, its syscore callbacks and its notifiers.
+fn things_in(alloc: Global, tree: &Value<'_>, known: &Known<'_>) -> Result<Things, Mem>
+    requires knows { Knows known.now (view tree.now) }
+    requires few { AreFew known.now }
+    requires fits { FitsFile (view tree.now) }
+    ensures devices { IfOk result (λ t. t.0.items ≡ whole_devices (view tree.now)) }
+    ensures syscore { IfOk result (λ t. t.1.items ≡ texts_in (codes "syscore") (view tree.now)) }
+    ensures notifiers { IfOk result (λ t. t.2.items ≡ map whole_notifier (list_in (codes "notifiers") (view tree.now))) }
+{
+    let devices = devices_in(alloc, tree, known)?;
+    let Ok(syscore) = syscore_in(alloc, tree, known) else {
+        return Err(lost(devices));
+    };
+    let Ok(notifiers) = notifiers_in(alloc, tree) else {
+        return Err(lost((devices, syscore)));
+    };
+    Ok((devices, syscore, notifiers))
+}
+
+/// The sources of a file and the marks of its scripts.
+fn named_in(
+    alloc: Global,
+    tree: &Value<'_>,
+    known: &Known<'_>,
+) -> Result<(Vec<Name>, Vec<Name>), Mem>
+    requires knows { Knows known.now (view tree.now) }
+    requires fits { FitsFile (view tree.now) }
+    ensures sources { IfOk result (λ t. t.0.items ≡ sources_named (view tree.now)) }
+    ensures marks { IfOk result (λ t. t.1.items ≡ whole_marks (view tree.now)) }
+{
+    let sources = sources_in(alloc, tree, known)?;
+    let Ok(marks) = marks_of(alloc, tree, known) else {
+        return Err(lost(sources));
+    };
+    Ok((sources, marks))
+}
+
+/// The scripts and the answers of a file.
+fn acts_in(
+    alloc: Global,
+    tree: &Value<'_>,
+    known: &Known<'_>,
+) -> Result<(Vec<Script>, Vec<Answer>), Mem>
+    requires knows { Knows known.now (view tree.now) }
+    requires few { AreFew known.now }
+    requires fits { FitsFile (view tree.now) }
+    ensures actors { IfOk result (λ t. t.0.items ≡ whole_scripts (view tree.now)) }
+    ensures answers { IfOk result (λ t. t.1.items ≡ whole_answers (view tree.now)) }
+{
+    let actors = scripts_in(alloc, tree, known)?;
+    let Ok(answers) = answers_in(alloc, tree, known) else {
+        return Err(lost(actors));
+    };
+    Ok((actors, answers))
+}
+
 /// A file's machine, with its links.
 fn machine_of(
     alloc: Global,
@@ -105,13 +164,18 @@ fn machine_of(
     requires fits { FitsFile (view tree.now) }
     ensures { IfOk result (λ m. m ≡ whole_machine (view tree.now)) }
 {
-    let devices = devices_in(alloc, tree, known)?;
-    let syscore = syscore_in(alloc, tree, known)?;
-    let notifiers = notifiers_in(alloc, tree)?;
-    let sources = sources_in(alloc, tree, known)?;
-    let marks = marks_of(alloc, tree, known)?;
-    let actors = scripts_in(alloc, tree, known)?;
-    let answers = answers_in(alloc, tree, known)?;
+    let Ok(things) = things_in(alloc, tree, known) else {
+        return Err(lost(links));
+    };
+    let Ok(named) = named_in(alloc, tree, known) else {
+        return Err(lost((links, things)));
+    };
+    let Ok(acts) = acts_in(alloc, tree, known) else {
+        return Err(lost((links, things, named)));
+    };
+    let (devices, syscore, notifiers) = things;
+    let (sources, marks) = named;
+    let (actors, answers) = acts;
     Ok(Machine {
         alarm_ms: number_at(tree, "alarm_ms").unwrap_or(1000),
         cpus: small_or(tree, "cpus", 1),

@@ -7,7 +7,7 @@ ghost use Rattle.machine_file.specs.Places.{first_not, first_item};
 ghost use Rattle.machine_file.specs.Form.{is_link_form, unformed_item};
 ghost use Rattle.machine_file.specs.Names.{spells_name, names_of_device, names_of_link, own_name, misspelled_item};
 ghost use Rattle.machine_file.specs.Members.{must_have, may_have, list_in};
-ghost use Rattle.machine_file.specs.Rules.{is_name_byte, is_name, is_second};
+ghost use Rattle.machine_file.specs.Rules.{is_second};
 ghost use Rattle.machine_file.specs.Broken.{member_name, place_of};
 ghost use Rattle.machine_file.specs.Tests.{item_test};
 
@@ -17,6 +17,7 @@ use crate::rules::form::{
 use crate::value::look::{has_number, is_string};
 use crate::value::place::{Member, Place, items};
 use borrowed_json::{Value, as_str, get};
+use sleep_model::is_name;
 
 /// A test of an item of a list.
 #[derive(Clone, Copy)]
@@ -41,31 +42,12 @@ pub(crate) fn is_second(tree: &Value<'_>) -> bool
     has_number(tree, "version", 2)
 }
 
-fn is_name_byte(byte: u8) -> bool
-    ensures { result ≡ is_name_byte byte }
-{
-    matches!(byte, b'a'..=b'z' | b'0'..=b'9' | b'_' | b'.' | b'-')
-}
-
-fn are_name_bytes(bytes: &[u8]) -> bool
-    ensures { result ≡ list_all is_name_byte bytes.now }
-{
-    bytes.iter().all(|byte| is_name_byte(*byte))
-}
-
-/// Whether a text is spelled as names are.
-pub(crate) fn is_name(text: &str) -> bool
-    ensures { result ≡ is_name text.now }
-{
-    1 <= text.len() && text.len() <= 32 && are_name_bytes(text.as_bytes())
-}
-
 /// Whether it is a text that is spelled as names are.
 pub(crate) fn spells_name(value: &Value<'_>) -> bool
     ensures { result ≡ spells_name (view value.now) }
 {
     match as_str(value) {
-        Some(text) => is_name(text),
+        Some(text) => is_name(text.as_bytes()),
         None => false,
     }
 }

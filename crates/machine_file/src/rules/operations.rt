@@ -63,12 +63,12 @@ pub(crate) enum OperationTest {
 /// of the file that has it, who may make it, its members, the form of these, what an operation of it
 /// spells, and how that is written. The last three speak of the names that the column brings along.
 macro_rules! by_operation {
-    (@named $text:expr; $($word:ident $name:literal $version:literal $makers:ident $members:tt $form:block $spelled:block [$op:pat] $written:block)*) => {{
-        $(if is_same($text, $name) {
-            return Some(Word::$word);
-        })*
-        None
-    }};
+    (@name $from:expr; $($word:ident $name:literal $version:literal $makers:ident $members:tt $form:block $spelled:block [$op:pat] $written:block)*) => {
+        match $from { $(Word::$word => $name,)* }
+    };
+    (@named $text:expr; $($word:ident $name:literal $version:literal $makers:ident $members:tt $form:block $spelled:block [$op:pat] $written:block)*) => {
+        [$(Word::$word),*].iter().copied().find(|word| word.is($text))
+    };
     (@version $from:expr; $($word:ident $name:literal $version:literal $makers:ident $members:tt $form:block $spelled:block [$op:pat] $written:block)*) => {
         match $from { $(Word::$word => $version,)* }
     };
@@ -204,10 +204,30 @@ const EVERYONE: [TaskKind; 4] = [
     TaskKind::Irq,
 ];
 
-fn word_named(text: &str) -> Option<Word>
-    ensures { option_map op_row result ≡ row_named text.now }
-{
-    by_operation!(named of text)
+impl Word {
+    ghost use Rattle.std.specs.Prelude.{◌≡◌, bytes_eq, find};
+    ghost use Rattle.machine_file.specs.OperationRows.{op_row, words};
+
+    /// The word as a file spells it, such as `link_state`.
+    fn name(self) -> &'static str
+        ensures { result.now ≡ (op_row self).word }
+    {
+        by_operation!(name of self)
+    }
+
+    /// Whether a text is the word.
+    fn is(self, text: &str) -> bool
+        ensures { result ≡ bytes_eq text.now (op_row self).word }
+    {
+        is_same(text, self.name())
+    }
+
+    /// The word that a text is. None where it is none of the table.
+    fn of_text(text: &str) -> Option<Word>
+        ensures { result ≡ find (λ w. bytes_eq text.now (op_row w).word) words }
+    {
+        by_operation!(named of text)
+    }
 }
 
 /// The word of an operation, where it is of the table.
@@ -215,7 +235,7 @@ pub(crate) fn word_of(operation: &Value<'_>) -> Option<Word>
     ensures { option_map op_row result ≡ row_of (view operation.now) }
 {
     match word_at(operation, "op") {
-        Some(text) => word_named(text),
+        Some(text) => Word::of_text(text),
         None => None,
     }
 }
