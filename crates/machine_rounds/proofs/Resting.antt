@@ -34,15 +34,25 @@ use Rattle.sleep_state.specs.Places.{entries}
 use Rattle.sleep_laws.proofs.Closing.{ends_closed}
 use Rattle.sleep_laws.proofs.Held.{guarded_sleep}
 use Rattle.sleep_laws.proofs.Lawful.{laws_of_legal}
+use Rattle.end_laws.proofs.Attempts.{all_end}
+use Rattle.end_laws.proofs.Waking.{events_first, time_forward}
 use Rattle.fit_laws.specs.Ranged.{is_told}
 use Rattle.fit_laws.proofs.Fitted.{log_fits}
 use Rattle.wakeup_source.specs.SourceStates.{SourceState}
 use Rattle.machine_rounds.specs.declared.run.RunFault.{RunFault}
 use Rattle.machine_rounds.specs.declared.run.RunFault.TheVariants as fault
 use Rattle.running_laws.specs.Running.{histories, kept_histories, of_sources}
+use Rattle.running_laws.proofs.Few.{of_all}
 use Rattle.running_laws.proofs.Ends.{running_ends, running_keeps, stats_are, told_all}
 use Rattle.machine_rounds.specs.Waits.{all_stats, waits_of}
 use Rattle.machine_rounds.specs.Runs.{AfterTry, EndsSo, Fails, IsClosed, IsHalted, IsRefused, IsRun, IsSame, IsSeen, RunState, entries_in, entries_made, is_resting}
+
+-- ---- entries
+
+-- the entries of sources, as the laws count them
+pub made_is : (sources : List SourceState) → entries_in sources ≡ of_all sources
+made_is [] = refl
+made_is (s ∷ sources) = ap (λ n. length s.past + n) (made_is sources)
 
 -- ---- tries
 
@@ -93,6 +103,9 @@ run_of m log acc legal over told ranged = record {
   laws = laws_of_legal m (reverse log.entries) legal.legal;
   guarded = guarded_sleep m acc.sources (reverse log.entries) legal.legal;
   closed = ends_closed m acc log legal over;
+  wakes = events_first m (reverse log.entries) legal.legal;
+  forward = time_forward m (reverse log.entries) legal.legal;
+  ends = all_end m acc log legal over;
   fits = log_fits m acc log legal over told ranged;
 }
 

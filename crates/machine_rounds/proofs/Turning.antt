@@ -1,15 +1,23 @@
 -- A turn and a jump of a run.
-use Rattle.std.proofs.Common.{◌≡◌, ◌≤◌, ◌∙◌, suc, List, [], ◌∷◌, length, refl, sym, ap, subst, arith}
+use Rattle.std.proofs.Common.{◌≡◌, ◌≤◌, ◌∙◌, ◌&&◌, true, nat_le, suc, List, [], ◌∷◌, length, refl, sym, ap, subst, arith}
+use Rattle.std.specs.List.{list_all}
+use Rattle.std.proofs.lemmas.Bool.Decides.{nat_tests}
 use Rattle.sleep_model.specs.declared.entry.Actor.{Actor}
 use Rattle.sleep_model.specs.declared.entry.JournalEntry.{JournalEntry}
 use Rattle.sleep_model.specs.declared.machine.Machine.{Machine}
 use Rattle.sleep_model.specs.Legal.{JournalPart}
+use Rattle.sleep_model.specs.Merge.{position_behind}
 use Rattle.sleep_state.specs.Places.{entries}
 use Rattle.event_word.specs.Seats.{AreAll, sources_of}
 use Rattle.sleep_core.specs.Cores.{CoreState, IsActor, with_entry}
+use Rattle.sleep_core.specs.Histories.{last_stamp}
 use Rattle.sleep_script.proofs.Following.{turns_few}
 use Rattle.run_objects.specs.Objects.{SeatedCoreState, seats_of}
+use Rattle.sleep_laws.proofs.Ending.{and_right}
+use Rattle.merge_laws.proofs.Lists.{all_head}
+use Rattle.run_laws.specs.Called.{knows}
 use Rattle.running_laws.specs.Running.{IsRunning}
+use Rattle.running_laws.proofs.Kept.{all_known}
 use Rattle.machine_rounds.specs.declared.run.Run.TheInside.{Inside}
 use Rattle.machine_rounds.specs.JobsOf.{job_at}
 use Rattle.machine_rounds.specs.RunFields.{KeepsRun}
@@ -44,3 +52,15 @@ module _ (r : Inside) (k : KeepsRun r) where
   -- a job has ended no more turns than the journal has entries
   pub few_turns : (who : Actor) → IsActor r.machine.now who → (job_at r.jobs who).turns ≤ length r.seated.core.past
   few_turns who a = omega (arith, (k.running.jobs_are who a).turns_are, turns_few who (entries r.seated.core.past), counted r.seated.core.past)
+
+  -- no position of the journal is behind the last stamp's
+  pub last_low : (last_stamp r.seated.core.past).pos ≤ r.floor.pos
+  last_low = by r.seated.core.past (all_known r.machine.now r.seated.core.past (fields.sources_of r.sources.items) (job_at r.jobs) k.running).0
+    where
+      by : (l : List JournalEntry) → list_all (λ e. knows r.floor (e ∷ [])) l ≡ true → (last_stamp l).pos ≤ r.floor.pos
+      by [] h = omega arith
+      by (e ∷ l) h =
+          let here : nat_le e.stamp.tick r.floor.tick && nat_le (position_behind e) r.floor.pos ≡ true = all_head (λ (x : JournalEntry). knows r.floor (x ∷ [])) e l h in
+          let pos : nat_le (position_behind e) r.floor.pos ≡ true = and_right (nat_le e.stamp.tick r.floor.tick) (nat_le (position_behind e) r.floor.pos) here in
+          let low : position_behind e ≤ r.floor.pos = grind (arith, nat_tests) in
+          omega (arith, low)

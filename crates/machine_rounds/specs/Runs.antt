@@ -1,7 +1,8 @@
 -- A run of a machine, as far as it has come.
-use Rattle.std.specs.Prelude.{◌≡◌, ◌≤◌, ◌<◌, ◌+◌, ◌⊎◌, Bool, true, false, ℕ, List, [], ◌∷◌, length, reverse, Option, Some, None, Result, Ok, Err}
+use Rattle.std.specs.Prelude.{◌≡◌, ◌≤◌, ◌<◌, ◌+◌, ◌⊎◌, Bool, true, false, not, ◌&&◌, ℕ, List, [], ◌∷◌, length, reverse, Option, Some, None, Result, Ok, Err}
 use Rattle.std.specs.List.{list_any}
 use Rattle.sleep_model.specs.declared.entry.Actor.{Actor}
+use Rattle.sleep_model.specs.declared.entry.Actor.TheVariants as actor
 use Rattle.sleep_model.specs.declared.entry.JournalEntry.{JournalEntry}
 use Rattle.sleep_model.specs.declared.log.Log.{Log}
 use Rattle.sleep_model.specs.declared.log.LogEnd.{LogEnd}
@@ -13,7 +14,7 @@ use Rattle.sleep_model.specs.Calls.{calls_due}
 use Rattle.sleep_model.specs.Due.{all_gone}
 use Rattle.sleep_model.specs.Fits.{IsWritable}
 use Rattle.sleep_model.specs.Laws.{Laws, GuardedSleep}
-use Rattle.sleep_model.specs.Legal.{IsLegalLog, IsFinishedLog, IsStuckLog, is_finished, is_idle, next_time, waiting}
+use Rattle.sleep_model.specs.Legal.{IsLegalLog, IsFinishedLog, IsStuckLog, is_enabled, is_finished, is_idle, next_time, none_enabled, waiting}
 use Rattle.sleep_model.specs.Merge.{is_word}
 use Rattle.sleep_model.specs.Parts.{journal}
 use Rattle.sleep_model.specs.Path.{maker}
@@ -26,6 +27,8 @@ use Rattle.sleep_core.specs.Cores.{IsActor}
 use Rattle.wakeup_source.specs.SourceStates.{SourceState}
 use Rattle.sleep_script.specs.Jobs.{JobState}
 use Rattle.running_laws.specs.Running.{IsRunning, calls_made, histories, kept_histories, of_sources}
+use Rattle.end_laws.specs.Attempts.{attempts_end}
+use Rattle.end_laws.specs.Waking.{events_wake_first, time_goes_forward}
 use Rattle.run_objects.specs.Closed.{IsLaidTable}
 use Rattle.machine_rounds.specs.declared.rest.Rest.{Rest}
 use Rattle.machine_rounds.specs.declared.rest.Rest.TheVariants.{GoesOn, Finished, Stuck}
@@ -97,6 +100,18 @@ AfterTry old new (Err fault) = IsRefused new fault
 abbrev pub is_resting : RunState → EventNow → Bool
 is_resting run word = is_idle run.machine (entries run.journal) (histories run.sources) word
 
+-- no script can make anything that sees that word, nor the autosleep work, nor a device
+abbrev pub actors_rest : RunState → EventNow → Bool
+actors_rest run word =
+    none_enabled run.machine (entries run.journal) (histories run.sources) word actor.Script (length run.machine.actors)
+    && not (is_enabled run.machine (entries run.journal) (histories run.sources) word actor.Auto)
+    && none_enabled run.machine (entries run.journal) (histories run.sources) word actor.Dev (length run.machine.devices)
+
+-- an actor of the machine can make something that sees that word
+abbrev pub CanGoOn : RunState → EventNow → Actor → Type 0
+CanGoOn run word who =
+    IsActor run.machine who × (is_enabled run.machine (entries run.journal) (histories run.sources) word who ≡ true)
+
 -- the run is over, by that word
 abbrev pub is_over : RunState → EventNow → Bool
 is_over run word = is_finished run.machine (entries run.journal) (histories run.sources) word
@@ -113,14 +128,18 @@ pub record IsCalm (run : RunState) : Type 0 where
   pub made : (who : Actor) → IsActor run.machine who
       → calls_made run.machine run.sources who ≡ calls_due run.machine who (entries run.journal)
 
--- after a round that did nothing, time jumps, or somebody can go on after all; else the run is over
+-- after a round that did nothing, somebody who can go on does, or time jumps; else the run is over
 abbrev pub AfterRest : RunState → RunState → Result Rest RunFault → Type 0
-AfterRest old new (Ok GoesOn) =
-    (entries_made old < entries_made new)
-    ⊎ (IsSame old new × ((word : EventNow) × IsSeen new word × (is_resting new word ≡ false)))
+AfterRest old new (Ok GoesOn) = entries_made old < entries_made new
 AfterRest old new (Ok (Finished word)) = IsSame old new × IsSeen new word × (is_over new word ≡ true)
 AfterRest old new (Ok (Stuck word)) = IsSame old new × IsSeen new word × IsHalted new word
 AfterRest old new (Err fault) = IsRefused new fault
+
+-- after rounds for as long as each makes entries: the last one did, or there are no fewer entries
+abbrev pub AfterRounds : RunState → RunState → Result Bool RunFault → Type 0
+AfterRounds old new (Ok true) = entries_made old < entries_made new
+AfterRounds old new (Ok false) = entries_made old ≤ entries_made new
+AfterRounds old new (Err fault) = IsRefused new fault
 
 -- after all rounds the run is over
 abbrev pub AfterAll : RunState → Result Rest RunFault → Type 0
@@ -128,6 +147,12 @@ AfterAll run (Ok GoesOn) = ⊥
 AfterAll run (Ok (Finished word)) = IsSeen run word × (is_over run word ≡ true)
 AfterAll run (Ok (Stuck word)) = IsSeen run word × IsHalted run word
 AfterAll run (Err fault) = IsRefused run fault
+
+-- after rounds and what comes behind them entries were made, or the run is over
+abbrev pub AfterStretch : RunState → RunState → Result (Option Rest) RunFault → Type 0
+AfterStretch old new (Ok None) = entries_made old < entries_made new
+AfterStretch old new (Ok (Some rest)) = AfterAll new (Ok rest)
+AfterStretch old new (Err fault) = IsRefused new fault
 
 -- after rounds of the caller's own the run goes on, or is over
 abbrev pub AfterGoing : RunState → Result (Option Rest) RunFault → Type 0
@@ -141,11 +166,14 @@ EndsSo run end.Finished = (word : EventNow) × IsSeen run word × (is_over run w
 EndsSo run (end.Stuck those) =
     (word : EventNow) × IsSeen run word × IsHalted run word × (those ≡ waiting run.machine (entries run.journal) word)
 
--- the log of a whole run: it is legal, and over, and so the laws hold of it, and no attempt is open; it fits the machine, so that its text tells it, and where it is stuck names somebody
+-- the log of a whole run: it is legal, and over, and so the laws hold of it, and no attempt is open; an event wakes a sleeping machine before time passes, time goes forward, and each attempt ends; it fits the machine, so that its text tells it, and where it is stuck names somebody
 pub record IsRun (m : Machine) (log : Log) : Type 0 where
   pub legal : IsLegalLog m log
   pub over : (IsFinishedLog m log) ⊎ (IsStuckLog m log)
   pub laws : Laws m (journal (reverse log.entries))
   pub guarded : GuardedSleep (reverse log.entries)
   pub closed : maker (journal (reverse log.entries)) ≡ None
+  pub wakes : events_wake_first (reverse log.entries) ≡ true
+  pub forward : time_goes_forward (reverse log.entries) ≡ true
+  pub ends : attempts_end log.entries ≡ true
   pub fits : IsWritable m log

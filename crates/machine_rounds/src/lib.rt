@@ -4,6 +4,7 @@
 
 mod asks;
 mod bursts;
+mod going;
 mod jobs;
 mod looks;
 mod pace;

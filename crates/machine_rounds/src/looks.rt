@@ -5,7 +5,7 @@ use sleep_model::{Actor, EventNow};
 use sleep_state::sooner;
 
 impl<'m> Run<'m> {
-    ghost use Rattle.std.specs.Prelude.{◌≡◌, ◌≤◌, ◌<◌, ◌+◌, ◌^◌, ◌&&◌, true, None, is_none, length};
+    ghost use Rattle.std.specs.Prelude.{◌≡◌, ◌≤◌, ◌<◌, ◌+◌, ◌^◌, ◌&&◌, true, false, None, is_none, length, IfSome};
     ghost use Rattle.sleep_model.specs.Due.{all_gone};
     ghost use Rattle.sleep_model.specs.declared.word.EventNow.{EventNow};
     ghost use Rattle.sleep_model.specs.Legal.{is_enabled, next_time, next_expiry};
@@ -15,7 +15,7 @@ impl<'m> Run<'m> {
     ghost use Rattle.sleep_state.specs.Places.{entries};
     ghost use Rattle.sleep_core.specs.Cores.{IsActor};
     ghost use Rattle.running_laws.specs.Running.{histories};
-    ghost use Rattle.machine_rounds.specs.Runs.{is_resting};
+    ghost use Rattle.machine_rounds.specs.Runs.{is_over, is_resting};
 
     /// The time of the last jump in ms, else 0.
     pub(crate) fn time(&self) -> u64
@@ -86,6 +86,8 @@ impl<'m> Run<'m> {
         ensures is { result ≡ next_time self.now.machine (entries self.now.journal) (histories self.now.sources) }
         // Where nobody can make anything and no moment is pending no attempt is open.
         ensures closed { (word : EventNow) → result ≡ None → is_resting self.now word ≡ true → maker (entries self.now.journal) ≡ None }
+        // Where nobody can make anything and the run is not over it is later than now.
+        ensures ahead { (word : EventNow) → is_resting self.now word ≡ true → is_over self.now word ≡ false → IfSome result (λ at. time_of (entries self.now.journal) < at) }
     {
         sooner(self.core().next_time(), self.next_expiry())
     }

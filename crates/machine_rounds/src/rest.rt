@@ -7,7 +7,7 @@ ghost use Rattle.machine_rounds.specs.RunFields.{sources_of};
 ghost use Rattle.machine_rounds.specs.Waits.{waits_of, all_stats};
 ghost use Rattle.wakeup_source.specs.SourceStates.{bare, latest};
 
-use crate::run::{Run, RunFault, wait_unless};
+use crate::run::{Run, RunFault};
 use crate::waiters::Waiters;
 use apart_log::ApartLog;
 use fit_laws::{moments_are_ranged, stats_are_ranged};
@@ -18,7 +18,7 @@ use sleep_model::{Actor, Due, EventNow, Journal, ListOf, LogEnd, SourceList, Sta
 use std::alloc::{AllocError, Global};
 use std::sync::Wait;
 
-/// The greatest moment of a run, in ms. A run that comes past it waits for ever.
+/// The greatest moment of a run, in ms. A run that would come past it gives nothing.
 const LAST_MOMENT: u64 = 1 << 63;
 
 /// What comes after a round that did nothing.
@@ -172,8 +172,9 @@ impl<'m> Run<'m> {
         by_script & !works & by_device & by_timer
     }
 
-    /// Time jumps to the next pending moment, where nobody can make anything by the word that was looked at last.
-    fn jump<R: Wait>(&mut self, rt: &R, word: EventNow, to: u64) -> Result<(), RunFault>
+    /// Time jumps to the next pending moment, where nobody can make anything by the word that was looked at last. `Mem`
+    /// where there is no memory, and where the clock or the ticks of stamps come to their ends.
+    fn jump(&mut self, word: EventNow, to: u64) -> Result<(), RunFault>
         requires least { JumpStep self.old.machine (entries self.old.journal) (histories self.old.sources) word to }
         requires seen { IsSeen self.old word }
         requires later { time_of (entries self.old.journal) < to }
@@ -181,8 +182,12 @@ impl<'m> Run<'m> {
         ensures made { OnOk result (entries_made self.old < entries_made self.new) }
         ensures fault { IfErr result (IsRefused self.new) }
     {
-        wait_unless(rt, to <= LAST_MOMENT);
-        wait_unless(rt, self.floor.tick < u64::MAX);
+        if to > LAST_MOMENT {
+            return Err(RunFault::Mem);
+        }
+        if self.floor.tick == u64::MAX {
+            return Err(RunFault::Mem);
+        }
         moments_are_ranged(to);
         self.floor = self.seated.jump(word, to, self.floor)?;
         self.waiters.wake_for_time();
@@ -190,14 +195,15 @@ impl<'m> Run<'m> {
         Ok(())
     }
 
-    /// After a round that did nothing: time jumps where nobody can make anything, or the run is over.
+    /// After a round that did nothing: whoever can go on makes an entry by the word that is looked at; time jumps where
+    /// nobody can; or the run is over.
     pub(crate) fn rest<R: Wait>(&mut self, rt: &R) -> Result<Rest, RunFault>
         ensures machine { self.new.machine ≡ self.old.machine }
         ensures after { AfterRest self.old self.new result }
     {
         let word = self.look(rt);
         if !self.is_resting(word) {
-            self.waiters.wake_all();
+            self.go_by(rt, word)?;
             return Ok(Rest::GoesOn);
         }
         if self.is_whole() {
@@ -205,8 +211,7 @@ impl<'m> Run<'m> {
         }
         match self.next_time() {
             Some(to) => {
-                wait_unless(rt, to > self.time());
-                self.jump(rt, word, to)?;
+                self.jump(word, to)?;
                 Ok(Rest::GoesOn)
             }
             None => Ok(Rest::Stuck(word)),
@@ -241,7 +246,7 @@ impl<'m> Run<'m> {
     }
 
     /// The statistics of all sources now.
-    pub fn stats(&self, alloc: Global) -> Result<Vec<Stats>, AllocError>
+    fn stats(&self, alloc: Global) -> Result<Vec<Stats>, AllocError>
         ensures all { IfOk result (λ v. v.items ≡ all_stats self.now.sources (time_of (entries self.now.journal))) }
         ensures ranged { IfOk result (λ v. list_all fits_stats v.items ≡ true) }
     {

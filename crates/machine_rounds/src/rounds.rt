@@ -9,10 +9,13 @@ use std::alloc::Global;
 use std::sync::Wait;
 use std::thread::Threads;
 
+/// The most entries that a log has, whatever the accepted machine is.
+const MOST_LOG: u64 = 37_585_025;
+
 impl<'m> Run<'m> {
     ghost use Rattle.std.specs.Prelude.{◌≡◌, ◌≤◌, ◌<◌, length, IfSome, IfOk, IfErr};
     ghost use Rattle.sleep_core.specs.Cores.{IsActor};
-    ghost use Rattle.machine_rounds.specs.Runs.{Fails, IsRefused, IsRun, IsSame, AfterTry, AfterAll};
+    ghost use Rattle.machine_rounds.specs.Runs.{Fails, IsRefused, IsRun, IsSame, AfterTry, AfterAll, AfterRounds, AfterStretch, entries_made};
     ghost use Rattle.machine_rounds.specs.Tries.{AfterAsking};
 
     /// An actor's try in a round: its next call on a source, else its turn. What the core answers to a turn.
@@ -208,30 +211,52 @@ impl<'m> Run<'m> {
     /// Rounds, for as long as each makes entries. Whether the last one did.
     pub(crate) fn rounds<R: Wait>(&mut self, rt: &R) -> Result<bool, RunFault>
         ensures machine { self.new.machine ≡ self.old.machine }
-        ensures fault { IfErr result (IsRefused self.new) }
+        ensures after { AfterRounds self.old self.new result }
     {
+        let mut made = false;
         for _ in 0..u64::MAX {
             if !self.round(rt)? {
                 return Ok(false);
             }
+            made = true;
         }
-        Ok(true)
+        Ok(made)
     }
 
-    /// Rounds, and jumps of time between them, to the end.
+    /// A run has made no more entries than a log has at most. It does nothing.
+    fn entries_are_few(&self)
+        ensures { entries_made self.now ≤ 37585025 }
+    {
+        // A look at the field makes the invariant known here.
+        let _ = &self.machine;
+    }
+
+    /// Rounds for as long as each makes entries, and what comes behind the last: an entry, or the end of the run.
+    fn rounds_on<R: Wait>(&mut self, rt: &R) -> Result<Option<Rest>, RunFault>
+        ensures machine { self.new.machine ≡ self.old.machine }
+        ensures after { AfterStretch self.old self.new result }
+    {
+        if self.rounds(rt)? {
+            return Ok(None);
+        }
+        match self.rest(rt)? {
+            Rest::GoesOn => Ok(None),
+            end => Ok(Some(end)),
+        }
+    }
+
+    /// Rounds, and jumps of time between them, to the end. Each turn of the loop makes an entry or ends it, and no run has
+    /// more entries than a log has at most.
     fn all_rounds<R: Wait>(&mut self, rt: &R) -> Result<Rest, RunFault>
         ensures machine { self.new.machine ≡ self.old.machine }
         ensures after { AfterAll self.new result }
     {
-        for _ in rt.forever() {
-            if self.rounds(rt)? {
-                continue;
-            }
-            match self.rest(rt)? {
-                Rest::GoesOn => {}
-                end => return Ok(end),
+        for _turn in 0..MOST_LOG + 1 {
+            if let Some(end) = self.rounds_on(rt)? {
+                return Ok(end);
             }
         }
+        self.entries_are_few();
         unreachable!()
     }
 

@@ -95,17 +95,6 @@ impl<'m> Model for Run<'m> {
     ghost invariant = { KeepsRun };
 }
 
-/// Waits for ever unless that holds.
-pub(crate) fn wait_unless<R: Wait>(rt: &R, holds: bool)
-    ensures { holds ≡ true }
-{
-    if holds {
-        return;
-    }
-    for _ in rt.forever() {}
-    unreachable!()
-}
-
 /// Everybody is to be asked.
 fn all_waiters(alloc: Global, machine: &Machine) -> Result<Waiters, Mem>
     requires { IsAccepted machine.now }
@@ -311,7 +300,7 @@ impl<'m> Run<'m> {
 
     /// Wakes those that may have something to do by an actor's entry.
     #[inline(always)]
-    fn wake_after(&mut self, who: Actor, kind: Kind)
+    pub(crate) fn wake_after(&mut self, who: Actor, kind: Kind)
         ensures { self.new ≡ self.old }
     {
         match kind {

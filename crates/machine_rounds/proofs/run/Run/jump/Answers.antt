@@ -1,4 +1,4 @@
-use Rattle.std.proofs.Common.{◌≡◌, ◌∙◌, List, ◌∷◌, sym, ap, subst, arith, nat_lt, true}
+use Rattle.std.proofs.Common.{◌≡◌, ◌<◌, ◌∙◌, List, ◌∷◌, sym, ap, subst, arith, nat_lt, true}
 use Rattle.std.proofs.lemmas.Bool.Decides.{nat_tests}
 use Rattle.sleep_model.specs.declared.entry.JournalEntry.{JournalEntry}
 use Rattle.sleep_model.specs.Legal.{JumpStep}
@@ -16,7 +16,7 @@ use Rattle.machine_rounds.proofs.Turning.{legal_after}
 use Rattle.machine_rounds.proofs.run.Run.jump.Goals as goal
 
 pub invariant_of-self-2 : goal.invariant_of-self-2
-invariant_of-self-2 g c =
+invariant_of-self-2 c =
     let r = c.self.inside in
     let k = c.self.invariant in
     let m = r.machine.now in
@@ -40,8 +40,8 @@ invariant_of-self-2 g c =
     }
 
 pub jump-requires-clause-last_tick : goal.jump-requires-clause-last_tick
-jump-requires-clause-last_tick g c =
+jump-requires-clause-last_tick c =
     let r = c.self.inside in
     let known = last_known r.machine.now r.seated.core.past (sources_of r.sources.items) (job_at r.jobs) c.self.invariant.running in
-    let few : nat_lt r.floor.tick 18446744073709551615 ≡ true = c.wait_unless-2.ensures in
-    grind (arith, nat_tests)
+    let few : r.floor.tick < 18446744073709551615 = grind (arith, nat_tests, c.if-self.false) in
+    omega (arith, known, few)

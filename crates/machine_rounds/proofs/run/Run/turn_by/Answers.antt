@@ -1,0 +1,74 @@
+use Rattle.std.proofs.Common.{◌≡◌, ◌∙◌, List, ◌∷◌, length, true, Ok, sym, ap, subst, arith}
+use Rattle.sleep_model.specs.declared.entry.Actor.{Actor}
+use Rattle.sleep_model.specs.declared.entry.JournalEntry.{JournalEntry}
+use Rattle.sleep_model.specs.Calls.{calls_due}
+use Rattle.sleep_model.specs.Fits.{is_word64}
+use Rattle.sleep_model.specs.Numbers.{time_of}
+use Rattle.sleep_model.specs.Path.{attempts}
+use Rattle.sleep_state.specs.Places.{entries}
+use Rattle.event_word.specs.Seats.{AreAll, Token}
+use Rattle.sleep_core.specs.declared.turns.CoreTurn.{CoreTurn}
+use Rattle.sleep_core.specs.Cores.{CoreState, IsActor, made_entry}
+use Rattle.sleep_core.specs.Turned.{AfterTurn}
+use Rattle.sleep_script.specs.Jobs.{after_turn}
+use Rattle.run_objects.specs.Objects.{seats_of}
+use Rattle.running_laws.specs.Running.{IsRunning, calls_made}
+use Rattle.running_laws.proofs.Turns.{running_turn}
+use Rattle.machine_rounds.specs.declared.run.Run.TheInside.{Inside}
+use Rattle.machine_rounds.specs.JobsOf.{AreAllJobs, JobsState, job_at, with_job}
+use Rattle.machine_rounds.specs.RunFields.{sources_of, state}
+use Rattle.machine_rounds.specs.Runs.{IsSeen, RunState}
+use Rattle.machine_rounds.proofs.JobsKept.{all_jobs_with, jobs_with}
+use Rattle.machine_rounds.proofs.Turning.{few_turns, legal_after, last_low}
+use Rattle.machine_rounds.proofs.run.Run.turn_by.Goals as goal
+
+actor : (r : Inside) (s : RunState) → state r ≡ s → (who : Actor) → IsActor s.machine who → IsActor r.machine.now who
+actor r s same who h = subst (λ (x : RunState). IsActor x.machine who) (sym same) h
+
+own : (r : Inside) (s : RunState) → state r ≡ s → (who : Actor) → calls_made s.machine s.sources who ≡ calls_due s.machine who (entries s.journal)
+    → calls_made r.machine.now (sources_of r.sources.items) who ≡ calls_due r.machine.now who (entries r.seated.core.past)
+own r s same who h = subst (λ (x : RunState). calls_made x.machine x.sources who ≡ calls_due x.machine who (entries x.journal)) (sym same) h
+
+pub told_turn-requires-clause-few : goal.told_turn-requires-clause-few
+told_turn-requires-clause-few g c =
+    let r = c.self.inside in
+    omega (
+      arith,
+      few_turns r c.self.invariant c.args.who (actor r c.args.self.now c.self.view_is c.args.who c.requires.actor),
+      c.len-made.ensures.small,
+      ap (λ (x : CoreState). length x.past) c.core.ensures.is,
+      ap (λ (x : RunState). length x.journal) c.self.view_is,
+    )
+
+pub invariant_of-self-in-Did : goal.invariant_of-self-in-Did
+invariant_of-self-in-Did g c =
+    let r = c.self.inside in
+    let k = c.self.invariant in
+    let m = r.machine.now in
+    let journal = r.seated.core.past in
+    let sources = sources_of r.sources.items in
+    let who = c.args.who in
+    let word = c.args.word in
+    let high = (subst (λ (x : RunState). IsSeen x word) (sym c.self.view_is) c.requires.seen).high in
+    let kind = c.in-Did.kind in
+    let new = c.turn_by.new.self in
+    let did = subst (λ (x : CoreTurn). AfterTurn r.seated.core new.core who word r.floor (Ok x)) c.in-Did.is c.in_ok-turn.ensures.turn in
+    let e : JournalEntry = made_entry journal who word r.floor kind in
+    let a = actor r c.args.self.now c.self.view_is who c.requires.actor in
+    let made = own r c.args.self.now c.self.view_is who c.requires.calls in
+    let past : new.core.past ≡ e ∷ journal = ap (λ (x : CoreState). x.past) did.1 in
+    let job = after_turn c.in-Did.stamp kind c.in-Did.attempt (job_at r.jobs who) in
+    let timed : is_word64 (time_of (entries journal)) ≡ true =
+    ap is_word64 (ap (λ (x : RunState). time_of (entries x.journal)) c.self.view_is ∙ (sym (ap (λ (x : CoreState). time_of (entries x.past)) c.core-2.ensures.is) ∙ sym c.time-time.ensures.time)) ∙ c.moments_are_ranged.ensures in
+    record {
+      machine_is = ap (λ (x : CoreState). x.machine) did.1 ∙ k.machine_is;
+      running =
+          subst (λ (p : List JournalEntry). IsRunning m p sources (job_at c.told_turn.new.self) c.in-Did.stamp) (sym past)
+          (subst (λ (j : JobsState). IsRunning m (e ∷ journal) sources (job_at j) c.in-Did.stamp) (sym c.told_turn.ensures)
+          (running_turn m journal sources (job_at r.jobs) k.running who word kind a made high (omega (arith, high, last_low r k)) (legal_after r k new.core e did.1 c.in_ok-turn.ensures.legal)
+          (job_at (with_job r.jobs who job)) c.in-Did.stamp c.in-Did.attempt did.2 (did.3 ∙ ap (λ (p : List JournalEntry). attempts (entries p)) past)
+          (jobs_with m r.jobs who job k.all_jobs a) timed c.kinds_are_ranged.ensures));
+      all_jobs = subst (AreAllJobs m) (sym c.told_turn.ensures) (all_jobs_with m r.jobs who job k.all_jobs);
+      table = ap (λ (t : Token). t.table_id) c.in_ok-turn.ensures.seat ∙ k.table;
+      seats = subst (λ (t : Token). AreAll t (seats_of r.sources.items)) (sym c.in_ok-turn.ensures.seat) k.seats;
+    }

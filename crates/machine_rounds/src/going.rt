@@ -1,0 +1,140 @@
+//! Who can go on where a round did nothing: its next entry is made by the word that was looked at.
+
+use crate::run::{Run, RunFault};
+use fit_laws::{kinds_are_ranged, moments_are_ranged};
+use sleep_core::CoreTurn;
+use sleep_model::{Actor, EventNow, Want};
+use std::sync::Wait;
+
+impl<'m> Run<'m> {
+    ghost use Rattle.std.specs.Prelude.{◌≡◌, ◌≤◌, ◌<◌, ◌+◌, true, false, length, IfSome, IfNone, OnOk, IfErr};
+    ghost use Rattle.sleep_model.specs.declared.entry.Actor.TheVariants.{Script, Dev};
+    ghost use Rattle.sleep_model.specs.Calls.{calls_due};
+    ghost use Rattle.sleep_model.specs.Due.{due};
+    ghost use Rattle.sleep_model.specs.Legal.{is_enabled, is_made, none_enabled, none_expires};
+    ghost use Rattle.sleep_model.specs.Numbers.{time_of};
+    ghost use Rattle.sleep_model.specs.Sources.{expiry, has_expired};
+    ghost use Rattle.sleep_state.specs.Places.{entries};
+    ghost use Rattle.sleep_core.specs.Cores.{IsActor};
+    ghost use Rattle.running_laws.specs.Running.{calls_made, histories};
+    ghost use Rattle.machine_rounds.specs.Runs.{CanGoOn, IsRefused, IsSeen, actors_rest, entries_made, is_resting};
+
+    /// The first script that can make something that sees this word.
+    fn enabled_script(&self, word: EventNow) -> Option<Actor>
+        ensures one { IfSome result (CanGoOn self.now word) }
+        ensures none { IfNone result (none_enabled self.now.machine (entries self.now.journal) (histories self.now.sources) word Script (length self.now.machine.actors) ≡ true) }
+    {
+        for script in 0..self.machine.actors.len() as u32 {
+            if self.is_enabled(Actor::Script(script), word) {
+                return Some(Actor::Script(script));
+            }
+        }
+        None
+    }
+
+    /// The first device that can.
+    fn enabled_device(&self, word: EventNow) -> Option<Actor>
+        ensures one { IfSome result (CanGoOn self.now word) }
+        ensures none { IfNone result (none_enabled self.now.machine (entries self.now.journal) (histories self.now.sources) word Dev (length self.now.machine.devices) ≡ true) }
+    {
+        for device in 0..self.machine.devices.len() as u32 {
+            if self.is_enabled(Actor::Dev(device), word) {
+                return Some(Actor::Dev(device));
+            }
+        }
+        None
+    }
+
+    /// The first of the scripts, the autosleep work and the devices that can.
+    fn enabled_actor(&self, word: EventNow) -> Option<Actor>
+        ensures one { IfSome result (CanGoOn self.now word) }
+        ensures none { IfNone result (actors_rest self.now word ≡ true) }
+    {
+        match self.enabled_script(word) {
+            Some(who) => Some(who),
+            None if self.is_enabled(Actor::Auto, word) => Some(Actor::Auto),
+            None => self.enabled_device(word),
+        }
+    }
+
+    /// The first source whose event in progress is to end now.
+    fn expired_source(&self) -> Option<u32>
+        ensures there { IfSome result (λ s. s ≤ length self.now.machine.sources) }
+        ensures due { IfSome result (λ s. has_expired (expiry (histories self.now.sources s)) (time_of (entries self.now.journal)) ≡ true) }
+        ensures none { IfNone result (none_expires (length self.now.machine.sources + 1) (histories self.now.sources) (time_of (entries self.now.journal)) ≡ true) }
+    {
+        for source in 0..self.sources() {
+            if self.has_expired(source) {
+                return Some(source);
+            }
+        }
+        None
+    }
+
+    /// A turn of an actor that has made its calls and of which something is due, by the word that was looked at last.
+    /// What it made stands behind all entries.
+    fn turn_by<R: Wait>(&mut self, rt: &R, who: Actor, word: EventNow) -> Result<(), RunFault>
+        requires actor { IsActor self.old.machine who }
+        requires calls { calls_made self.old.machine self.old.sources who ≡ calls_due self.old.machine who (entries self.old.journal) }
+        requires seen { IsSeen self.old word }
+        requires due { is_made (due self.old.machine (entries self.old.journal) who word) ≡ true }
+        ensures machine { self.new.machine ≡ self.old.machine }
+        ensures made { OnOk result (entries_made self.old < entries_made self.new) }
+        ensures fault { IfErr result (IsRefused self.new) }
+    {
+        // A journal is shorter than 2^63, so the job's number of turns stays in its range.
+        let _made = self.core().len();
+        let calls = self.jobs.calls(who);
+        let time = self.core().time();
+        let turn = self.seated.turn_by(rt, word, who, calls, self.floor, time)?;
+        match turn {
+            CoreTurn::Did {
+                stamp,
+                kind,
+                attempt,
+            } => {
+                // What the fields are makes known here that their numbers are in range.
+                moments_are_ranged(time);
+                kinds_are_ranged(kind);
+                self.floor = stamp;
+                self.jobs.told_turn(who, stamp, kind, attempt);
+                self.wake_after(who, kind);
+                Ok(())
+            }
+            CoreTurn::NotYet(_) | CoreTurn::Done => unreachable!(),
+        }
+    }
+
+    /// The next entry of an actor that can go on: its next call on a source, else its turn by that word.
+    fn act_by<R: Wait>(&mut self, rt: &R, who: Actor, word: EventNow) -> Result<(), RunFault>
+        requires can { CanGoOn self.old word who }
+        requires seen { IsSeen self.old word }
+        ensures machine { self.new.machine ≡ self.old.machine }
+        ensures made { OnOk result (entries_made self.old < entries_made self.new) }
+        ensures fault { IfErr result (IsRefused self.new) }
+    {
+        match self.jobs.next(who) {
+            Want::Source(source, call) => self.call(rt, who, source, call),
+            Want::Core | Want::Nothing => self.turn_by(rt, who, word),
+        }
+    }
+
+    /// The next entry of somebody who can go on, by the word that was looked at last, where not all rest. All actors are
+    /// asked again behind it.
+    pub(crate) fn go_by<R: Wait>(&mut self, rt: &R, word: EventNow) -> Result<(), RunFault>
+        requires seen { IsSeen self.old word }
+        requires some { is_resting self.old word ≡ false }
+        ensures machine { self.new.machine ≡ self.old.machine }
+        ensures made { OnOk result (entries_made self.old < entries_made self.new) }
+        ensures fault { IfErr result (IsRefused self.new) }
+    {
+        self.waiters.wake_all();
+        if let Some(who) = self.enabled_actor(word) {
+            return self.act_by(rt, who, word);
+        }
+        match self.expired_source() {
+            Some(source) => self.expire(rt, source),
+            None => unreachable!(),
+        }
+    }
+}
