@@ -1,5 +1,7 @@
 //! When a run makes bursts, and by how many workers.
 
+ghost use Rattle.std.specs.Prelude.{◌≤◌};
+
 /// The fewest calls on sources beside the busiest task's that make a burst worth each thread that is made for it.
 const WORTH: u64 = 256;
 
