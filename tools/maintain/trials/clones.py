@@ -1,24 +1,55 @@
-"""Laws that the prover has to close: a clone of this repository, in which a crate's own laws are replaced."""
+"""Laws that the prover has to close: a clone of this repository, which gets a crate for them."""
 
 import pathlib
 import re
+import shutil
 import subprocess
 
 from julampok.errors import CannotError
-from maintain.places import TOP
+from maintain.places import CRATES, TOP
+
+LAWS = CRATES / "law_trials"
 
 
-def crate_in(folder, name):
-    """A crate of a clone of this repository, which is made where it is not there."""
+def clone_in(folder):
+    """A clone of this repository, which is made where it is not there."""
     folder = pathlib.Path(folder).resolve()
     if not folder.exists():
         done = subprocess.run(["git", "clone", "--quiet", TOP, folder], capture_output=True, text=True)
         if done.returncode:
             raise CannotError(f"cannot be cloned: {done.stderr.strip()}", TOP)
-    crate = folder / "crates" / name
-    if not crate.is_dir() or folder == TOP:
+    if not (folder / "crates.txt").is_file() or folder == TOP:
         raise CannotError("is no clone of this repository apart from it", folder)
+    return folder
+
+
+def crate_in(folder, name, libraries, files):
+    """A new crate of a clone of this repository, over these libraries and with these files."""
+    clone = clone_in(folder)
+    crate, listed = clone / "crates" / name, clone / "crates.txt"
+    for part in ("src", "specs", "proofs"):
+        shutil.rmtree(crate / part, ignore_errors=True)
+    for path, text in ({"specs/Lib.antt": "", "proofs/Lib.antt": ""} | files).items():
+        (crate / path).parent.mkdir(parents=True, exist_ok=True)
+        (crate / path).write_text(text)
+    lines = [line for line in listed.read_text().splitlines(keepends=True) if not line.startswith(f"{name}:")]
+    listed.write_text("".join([*lines, f"{name}: {' '.join(libraries)}\n"]))
     return crate
+
+
+def specs_of(*names):
+    """The files of specs/ of law_trials with these names, by their paths in a crate."""
+    return {f"specs/{name}.antt": (LAWS / "specs" / f"{name}.antt").read_text() for name in names}
+
+
+def listing(names):
+    """The list of a crate's modules of definitions or of proofs."""
+    return "".join(f"pub mod {name}\n" for name in names)
+
+
+def renamed(files, name):
+    """The files with another name in place of law_trials."""
+    return {path: text.replace("Rattle.law_trials.", f"Rattle.{name}.") for path, text in files.items()}
 
 
 def check(crate, *words):

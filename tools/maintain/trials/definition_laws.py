@@ -3,7 +3,7 @@
 For each machine the log that `julampok.second.run` writes has to be what the definitions alone make, with the same statistics
 and the same end, and each source has to have as many places: each is a law that the prover has to close. With --interleaved
 the log is a merged one of `julampok.second.merged`: it has to be legal, to have its end, and to be what the journal and the
-histories are merged to. The laws take the place of the clone's crate log_trials. Sixty machines take about a minute, once its
+histories are merged to. The laws stand in a crate of the clone, definition_laws. Sixty machines take about a minute, once its
 libraries are checked.
 """
 
@@ -145,31 +145,27 @@ ghost use Rattle.std.specs.List.{range_with_len};
 ghost use Rattle.std.specs.Prelude.{[], ◌∷◌, ◌≡◌, map, reverse};
 ghost use Rattle.sleep_model.specs.Legal.{IsLegalLog, IsFinishedLog, IsStuckLog, stats_of};
 ghost use Rattle.sleep_model.specs.Places.{places};
-ghost use Rattle.log_trials.specs.Merging.{Merges};
-ghost use Rattle.log_trials.specs.Rounds.{one_worker};
+ghost use Rattle.law_trials.specs.Merging.{Merges};
+ghost use Rattle.law_trials.specs.Rounds.{one_worker};
 """
-KEPT = ["Merging", "Rounds", "Terms"]
+NAME, LIBRARIES, KEPT = "definition_laws", ["sleep_base", "phase_table", "sleep_model"], ["Merging", "Rounds", "Terms"]
 STAMPED = """\
 use Rattle.sleep_model.specs.declared.entry.JournalEntry.{JournalEntry}
-use Rattle.log_trials.specs.Merging.{ticked}
+use Rattle.law_trials.specs.Merging.{ticked}
 """
 
 
-def write_crate(crate, batch):
-    """The laws in place of the crate's own."""
-    for path in [*crate.rglob("*.rt"), *crate.rglob("*.antt")]:
-        if path.stem not in KEPT and "out" not in path.relative_to(crate).parts:
-            path.unlink()
-    names = sorted({log.module for log in batch.logs})
+def files_of(batch):
+    """The files of the crate, by their paths in it."""
+    files, names = clones.specs_of(*KEPT), sorted({log.module for log in batch.logs})
     for name in names:
         own = [log for log in batch.logs if log.module == name]
         texts = [text for log in own for text in [*modules.pieces(log), *([stamped(log)] if batch.is_merged else [])]]
-        text = modules.module_text("Random machines and their logs.", texts, STAMPED if batch.is_merged else "")
-        (crate / "specs" / f"{name}.antt").write_text(text)
-    (crate / "specs" / "Lib.antt").write_text("".join(f"pub mod {name}\n" for name in [*KEPT, *names]))
+        files[f"specs/{name}.antt"] = modules.module_text("Random machines and their logs.", texts, STAMPED if batch.is_merged else "")
+    files["specs/Lib.antt"] = clones.listing([*KEPT, *names])
     endings = ["_machine", "", "_entries", *(["_stamped"] if batch.is_merged else [])]
     texts = [LAWS_HEAD, *ghost_uses(batch.logs, *endings), *map(merged_law if batch.is_merged else law, batch.logs)]
-    (crate / "src" / "lib.rt").write_text("".join(texts))
+    return clones.renamed(files | {"src/lib.rt": "".join(texts)}, NAME)
 
 
 def wanted(batch, given):
@@ -179,8 +175,7 @@ def wanted(batch, given):
 
 def open_laws(batch, given):
     """The laws that stay open, or what the check says."""
-    crate = clones.crate_in(given.folder, "log_trials")
-    write_crate(crate, batch)
+    crate = clones.crate_in(given.folder, NAME, LIBRARIES, files_of(batch))
     return clones.told(*clones.open_laws(crate, r"(machine_\d+)_is_made"))
 
 

@@ -1,7 +1,7 @@
 """The whole definitions of machine files against a second writing of them, on random files that are nearly right.
 
 Where the second writing refuses a file, the definitions have to name the same rule and the same place. Where it accepts it, the
-machine that they read has to be written as the second writing does. The files become laws of the clone's crate file_trials,
+machine that they read has to be written as the second writing does. The files become laws of a crate of the clone, file_laws,
 which the prover computes. The second writing shares nothing with the definitions but what they are to say.
 """
 
@@ -24,14 +24,51 @@ def clause(place, file):
 
 
 A_LAW = 20  # Files of a law.
+NAME = "file_laws"
+LIBRARIES = "phase_table sleep_model machine_file serde_json json".split()
+
+FILES = """-- How laws speak of files. A file's text is written with ' in place of ".
+use Prim.Native.String.{String}
+use Rattle.std.specs.Prelude.{◌≡◌, ℕ, ◌==◌, List, codes, map, Some, if◌then◌else◌}
+use Rattle.machine_file.specs.Whole.{broken_in, broken_at}
+
+-- the bytes of a text, with " in place of '
+abbrev pub file : String → List ℕ
+file text = map (λ b. if b == 39 then 34 else b) (codes text)
+
+-- the file breaks this rule, and none before it, and this is the first place that breaks it
+abbrev pub Breaks : String → ℕ → String → Type 0
+Breaks text rule place = broken_in (file text) ≡ Some (broken_at rule (codes place))
+"""
+
+READING = """-- Opens what texts are read and written by, so that both compute for known ones.
+use Rattle.std.specs.Prelude.{ℕ, List, Option}
+use Rattle.std.specs.Char.{encode_utf8}
+use Rattle.std.specs.Fmt.{digits}
+use Rattle.std.specs.Float.Numeral.{scan_numeral}
+use Rattle.std.specs.Str.{is_utf8, chars}
+use Rattle.json.specs.Json.{items, members, value}
+use Rattle.json.specs.Lex.{lex, punctuate}
+use Rattle.json.specs.Print.{escape_byte}
+use Rattle.json.specs.Text.{content, code_unit, short_escape}
+use Rattle.json.specs.Word.{word, after_number}
+use Rattle.serde_json.specs.Data.{Data}
+use Rattle.serde_json.specs.Read.{number_of}
+use Rattle.machine_file.specs.Tree.{tree}
+
+unfoldable pub reading : List ℕ → Option Data
+unfolding escape_byte digits is_utf8 chars encode_utf8 scan_numeral lex punctuate content code_unit short_escape word after_number items members value number_of
+reading bytes = tree bytes
+"""
 
 HEAD = """//! Random files.
+#![tactic(auto)]
 
 ghost use Rattle.std.specs.Prelude.{◌≡◌, ◌++◌, Some, option_map};
 ghost use Rattle.sleep_model.specs.Text.{newline};
 ghost use Rattle.machine_file.specs.Whole.{machine_in};
 ghost use Rattle.machine_file.specs.Spelling.{spelling};
-ghost use Rattle.file_trials.specs.Files.{Breaks, file};
+ghost use Rattle.file_laws.specs.Files.{Breaks, file};
 """
 
 
@@ -48,13 +85,12 @@ def batches(given):
     yield shared(random.Random(given.seed), given.count)
 
 
-def write_crate(crate, files):
-    """The laws beside the crate's own."""
-    root = crate / "src" / "lib.rt"
-    (crate / "src" / "tried.rt").write_text(HEAD + "".join(laws(files)))
-    names = ", ".join(f"files_{start}" for start in range(0, len(files), A_LAW))
-    own = [line for line in root.read_text().splitlines(keepends=True) if not line.startswith(("mod tried;", "pub use tried::"))]
-    root.write_text("".join(own).replace("mod words;", "mod tried;\nmod words;") + f"pub use tried::{{{names}}};\n")
+def files_of(files):
+    """The files of the crate, by their paths in it."""
+    return {
+        "src/lib.rt": HEAD + "".join(laws(files)), "specs/Files.antt": FILES, "specs/Lib.antt": clones.listing(["Files"]),
+        "proofs/Reading.antt": READING, "proofs/Lib.antt": clones.listing(["Reading"]),
+    }
 
 
 def wanted(files, given):
@@ -64,10 +100,9 @@ def wanted(files, given):
 
 def open_laws(files, given):
     """The laws that stay open, or what the check says."""
-    crate = clones.crate_in(given.folder, "file_trials")
-    write_crate(crate, files)
+    crate = clones.crate_in(given.folder, NAME, LIBRARIES, files_of(files))
     status, said = clones.check(crate, "--allow-holes")
-    failed = [line for line in said.splitlines() if "tried" in line and ("no proof" in line or "not proved" in line)]
+    failed = [line for line in said.splitlines() if "files_" in line and ("no proof" in line or "not proved" in line)]
     return clones.told(failed, said if status or "holes=0" not in said else None)
 
 

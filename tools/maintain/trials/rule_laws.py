@@ -1,8 +1,8 @@
 """The rules of a log on random logs and broken copies, against their second writing in Python.
 
-Of each copy the first line that breaks a rule, and of each log some lines that break none, have to break in crates/log_rules
+Of each copy the first line that breaks a rule, and of each log some lines that break none, have to break in crates/rule_definitions
 just the rules that `julampok.second.rules_kept` names there: each is a law that the prover has to close. A step of the word is
-left out, since one rule of it asks for every source. The laws take the place of the clone's crate rule_trials.
+left out, since one rule of it asks for every source. The laws stand in a crate of the clone, rule_laws.
 """
 
 import json
@@ -21,14 +21,15 @@ from maintain.worked.machine import Machine
 
 LEAST, MOST = 8, 70  # How many entries a log has.
 A_MODULE = 25  # Logs in a module of specs/.
-KEPT = 2  # How many lines of a log that break no rule are asked for.
+GOOD = 2  # How many lines of a log that break no rule are asked for.
+NAME, LIBRARIES, KEPT = "rule_laws", ["sleep_base", "phase_table", "sleep_model", "rule_definitions"], ["Rules", "Terms"]
 
 HEAD = """\
 //! The rules of a log tried on random lines.
 #![tactic(auto)]
 
 ghost use Rattle.std.specs.Prelude.{[], ◌∷◌};
-ghost use Rattle.rule_trials.specs.Rules.{HoldsAt, BreaksJust};
+ghost use Rattle.law_trials.specs.Rules.{HoldsAt, BreaksJust};
 """
 
 
@@ -58,7 +59,7 @@ pub fn {self.name}_is_judged()
 
 def fronts(dice, tree, lines):
     """Fronts of a log and of broken copies, each with the rules that its last line breaks."""
-    yield from ((lines[: at + 1], []) for at in dice.sample(range(len(lines)), KEPT))
+    yield from ((lines[: at + 1], []) for at in dice.sample(range(len(lines)), GOOD))
     for _, _, copy in broken_copies(dice, tree, lines):
         at, rules = first_broken(tree, copy)
         if rules:
@@ -78,22 +79,18 @@ def batches(given):
         yield found
 
 
-def write_crate(crate, found):
-    """The laws in place of the crate's own."""
-    for path in [*crate.rglob("*.rt"), *crate.rglob("*.antt")]:
-        if path.stem != "Rules" and "out" not in path.relative_to(crate).parts:
-            path.unlink()
-    (crate / "proofs" / "Lib.antt").write_text("")
-    names, uses = ["Rules"], []
+def files_of(found):
+    """The files of the crate, by their paths in it."""
+    files, names, uses = clones.specs_of(*KEPT), list(KEPT), []
     for first in range(0, len(found), A_MODULE):
         own, name = found[first : first + A_MODULE], f"Tried{first // A_MODULE}"
         text = modules.module_text("Random machines and lines.", [text for one in own for text in one.pieces()])
-        (crate / "specs" / f"{name}.antt").write_text(text)
+        files[f"specs/{name}.antt"] = text
         used = ", ".join(f"{one.name}_machine, {one.name}_entries" for one in own)
-        uses.append(f"ghost use Rattle.rule_trials.specs.{name}.{{{used}}};\n")
+        uses.append(f"ghost use Rattle.law_trials.specs.{name}.{{{used}}};\n")
         names.append(name)
-    (crate / "specs" / "Lib.antt").write_text("".join(f"pub mod {name}\n" for name in names))
-    (crate / "src" / "lib.rt").write_text("".join([HEAD, *uses, *(one.law() for one in found)]))
+    files["specs/Lib.antt"] = clones.listing(names)
+    return clones.renamed(files | {"src/lib.rt": "".join([HEAD, *uses, *(one.law() for one in found)])}, NAME)
 
 
 def wanted(found, given):
@@ -103,8 +100,7 @@ def wanted(found, given):
 
 def open_laws(found, given):
     """The laws that stay open, or what the check says."""
-    crate = clones.crate_in(given.folder, "rule_trials")
-    write_crate(crate, found)
+    crate = clones.crate_in(given.folder, NAME, LIBRARIES, files_of(found))
     return clones.told(*clones.open_laws(crate, r"(line_\d+)_is_judged"))
 
 

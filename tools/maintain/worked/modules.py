@@ -3,7 +3,6 @@
 import re
 
 from julampok.limits import ERRORS
-from maintain.worked.table import HALVES
 
 # What a module may use: a word by which it is known in the text, and the line.
 MODEL = "Rattle.sleep_model.specs.declared"
@@ -34,15 +33,16 @@ def list_text(name, comment, items):
     return f"-- {comment}\nabbrev pub {name} : List Entry\n{name} =\n{body}"
 
 
+def machine_piece(log):
+    """The definition of a log's machine."""
+    machine = f"{log.name}_machine"
+    return f"-- {log.comment}: its machine\nabbrev pub {machine} : Machine\n{machine} = {log.machine.term()}\n"
+
+
 def pieces(log):
     """The definitions of a log, a text each."""
-    machine = f"{log.name}_machine"
-    yield f"-- {log.comment}: its machine\nabbrev pub {machine} : Machine\n{machine} = {log.machine.term()}\n"
-    if log.name in HALVES:
-        halves = " ++ ".join(name for _, name, _ in HALVES[log.name])
-        yield f"-- its entries\nabbrev pub {log.name}_entries : List Entry\n{log.name}_entries = {halves}\n"
-    else:
-        yield list_text(f"{log.name}_entries", "its entries", log.entries())
+    yield machine_piece(log)
+    yield list_text(f"{log.name}_entries", "its entries", log.entries())
     yield f"-- its log\nabbrev pub {log.name} : Log\n{log.name} = {log.end()}\n"
 
 
@@ -63,10 +63,7 @@ def uses_of(text):
         if is_used(name, text):
             yield f"use {MODEL}.{place}.{{{name}}}"
     yield from (line for word, line in USES if re.search(rf"(?<![\w.]){word}\.", text))
-    yield f"use Rattle.log_trials.specs.Terms.{{{', '.join(name for name in TERMS if is_used(name, text))}}}"
-    for module, name, _ in (half for both in HALVES.values() for half in both):
-        if is_used(name, text) and f"pub {name} " not in text:
-            yield f"use Rattle.log_trials.specs.{module}.{{{name}}}"
+    yield f"use Rattle.law_trials.specs.Terms.{{{', '.join(name for name in TERMS if is_used(name, text))}}}"
 
 
 def module_text(says, texts, more=""):
@@ -74,11 +71,3 @@ def module_text(says, texts, more=""):
     body = "\n".join(texts)
     uses = "\n".join(uses_of(re.sub(r"^--.*$", "", body, flags=re.M)))
     return f"-- {says}\n{uses}\n{more}\n{body}"
-
-
-def halves(log):
-    """The modules of a long log's entries, each with its text."""
-    entries = log.entries()
-    entering = 1 + next(at for at, line in enumerate(log.lines) if line.endswith(" enter"))
-    for (module, name, comment), items in zip(HALVES[log.name], (entries[:entering], entries[entering:])):
-        yield module, module_text(f"{comment[0].upper()}{comment[1:]}.", [list_text(name, comment, items)])

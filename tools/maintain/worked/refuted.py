@@ -1,4 +1,4 @@
-"""The broken logs that a law of sleep refuses, in the crate log_trials."""
+"""The broken logs that a law of sleep refuses, in the crate law_trials."""
 
 from maintain.places import WORKED
 from maintain.worked.logs import Worked, machine_of, text_of
@@ -43,9 +43,9 @@ def uses(modules):
     machines = dict.fromkeys(machine for _, machine, _, _, _ in REFUTED)
     for module in dict.fromkeys(modules[machine] for machine in machines):
         names = [f"{machine}_machine" for machine in machines if modules[machine] == module]
-        yield f"ghost use Rattle.log_trials.specs.{module}.{{{', '.join(names)}}};\n"
-    yield "ghost use Rattle.log_trials.specs.Broken.{FailsAt};\n"
-    yield f"ghost use Rattle.log_trials.specs.Refuted.{{{', '.join(f'{row[0]}_entries' for row in REFUTED)}}};\n"
+        yield f"ghost use Rattle.law_trials.specs.{module}.{{{', '.join(names)}}};\n"
+    yield "ghost use Rattle.law_trials.specs.Breaking.{FailsAt};\n"
+    yield f"ghost use Rattle.law_trials.specs.Refuted.{{{', '.join(f'{row[0]}_entries' for row in REFUTED)}}};\n"
 
 
 def laws(logs, modules):

@@ -1,6 +1,6 @@
 """The worked logs: which there are, in which module each stands, and what it shows."""
 
-# The subjects: each a module of specs/, and what it says at its head.
+# The subjects: each a module of specs/ of law_trials where laws take a log of it, and what it says at its head.
 MODULES = {
     "Attempts": "Whole logs of attempts that sleep, and of attempts that a wakeup ends.",
     "Failures": "Whole logs of attempts in which a callback, a notifier or the platform fails.",
@@ -67,36 +67,6 @@ LOGS = [
     ("Laptop", "laptop", "A laptop with its links, four processors and five scripts sleeps once and is woken by its lid."),
 ]
 
-# Those whose text is taken too: they have lines of nearly every form.
-TEXTS = [
-    "event_stops_a_processor",
-    "hard_event",
-    "prepare_fails",
-    "asynchronous_callback_fails",
-    "syscore_step_fails",
-    "notifier_fails",
-    "asynchronous_child",
-    "direct_complete",
-    "runtime_requests",
-    "link_added",
-    "links_in_an_attempt",
-    "freeze_times_out",
-    "kernel_freeze_times_out",
-    "read_interrupted",
-    "save_interrupted",
-    "event_before_save",
-    "stuck_read",
-    "stuck_mark",
-    "state_texts",
-    "state_unsaved",
-    "event_expires",
-    "autosleep",
-]
-
-# Long logs of one attempt stand in two modules: up to the entering, and from there on.
-HALVES = {
-    "laptop": (
-        ("LaptopDown", "laptop_down", "the entries of a laptop that sleeps once, up to its entering"),
-        ("LaptopUp", "laptop_up", "the entries of a laptop that sleeps once, from its entering on"),
-    ),
-}
+# The logs by which laws are tried, in the crate law_trials; and those of which the laws take the machine alone.
+LAWS = ["event_stops_a_device", "hard_event", "callback_reports", "read_waits", "calls_of_a_line", "event_expires", "autosleep"]
+MACHINES = ["smallest_attempt", "parent_and_child", "asynchronous_callback_fails", "first_link", "two_links"]

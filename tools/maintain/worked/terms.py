@@ -1,4 +1,4 @@
-"""Values as terms of the crate log_trials."""
+"""Values as terms of the crate law_trials."""
 
 import json
 

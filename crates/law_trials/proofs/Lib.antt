@@ -1,0 +1,4 @@
+pub mod MergeTelling
+pub mod Passed
+pub mod RunTelling
+pub mod Tabled

@@ -1,0 +1,14 @@
+//! Laws tried by worked logs, computed in the prover: what no program can show. Seven logs and one of two workers meet the
+//! premises of the laws of the merge and of a run; entries, lists and tables with one thing broken do not. Broken logs break
+//! the laws of sleep that they should. All worked logs and their broken copies are tried by the checker, in `row_trials`. No
+//! program stands on this crate.
+#![tactic(auto)]
+
+pub mod merged;
+pub mod merging;
+pub mod orders;
+pub mod refuted;
+pub mod rounds;
+pub mod rules;
+pub mod running;
+pub mod whole;

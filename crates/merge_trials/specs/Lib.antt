@@ -1,4 +1,0 @@
-pub mod Broken
-pub mod Inside
-pub mod Tests
-pub mod Worked

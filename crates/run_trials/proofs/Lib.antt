@@ -1,3 +1,0 @@
-pub mod Passed
-pub mod Tabled
-pub mod Telling

@@ -1,5 +1,0 @@
-use Rattle.std.proofs.Common.{◌≡◌, true, false}
-use Rattle.run_trials.proofs.calls_and_turns_are_ready_or_not.Goals as goal
-
-pub returns-clause-short : goal.returns-clause-short
-returns-clause-short c = λ leap. absurd (let bad : false ≡ true = leap.all.1 0 in cc)
