@@ -8,11 +8,11 @@ import unittest.mock
 
 from dev_tests import ROOT, WORKED, dev
 from maintain.commands import worked
+from maintain.trials.files import expected
+from maintain.worked import files, judged, reader
 from maintain.worked.entries import entry_term
-from maintain.worked import files
 from maintain.worked.machine import Machine
-from maintain.worked.proofs import cuts
-from maintain.worked.table import LOGS, MODULES, TEXTS
+from maintain.worked.table import ENTRIES, LAWS, LOGS, MACHINES, MODULES
 from maintain.worked.terms import whole
 
 
@@ -27,13 +27,37 @@ class Files(unittest.TestCase):
     def test_each_worked_log_is_in_the_table(self):
         self.assertEqual({name for _, name, _ in LOGS}, {path.stem for path in WORKED.glob("*.log")})
         self.assertLessEqual({module for module, _, _ in LOGS}, set(MODULES))
-        self.assertLessEqual(set(TEXTS), {name for _, name, _ in LOGS})
+        self.assertLessEqual({*LAWS, *ENTRIES, *MACHINES}, {name for _, name, _ in LOGS})
 
     def test_texts_stand_on_one_line(self):
         rows = {path: text for path, text in all_files().items() if "/rows/" in path}
         texts = sum(line.strip().startswith('"') or '_LOG: &str = "' in line for text in rows.values() for line in text.splitlines())
         self.assertGreater(texts, 40)
         self.assertFalse([path for path, text in rows.items() if '"\\\n' in text])
+
+
+class Cases(unittest.TestCase):
+    def test_verdicts_on_copies(self):
+        """The second writing says of each broken copy what stands beside it."""
+        for copy in judged.copies():
+            self.assertEqual(judged.verdict_of(copy.log, copy.text()), copy.verdict, copy)
+
+    def test_cases_of_the_checker(self):
+        cases = list(judged.cases())
+        self.assertEqual(len(cases), len(set(cases)))
+        self.assertEqual(sum(case.out == b"legal\n" for case in cases), len(LOGS) - sum(b"stuck" in case.data for case in cases[:len(LOGS)]))
+        rules = {case.out.split()[-1] for case in cases if case.status == 1}
+        self.assertEqual(rules, {b"%d" % rule for rule in (2, 4, 7, 8, 9, 10, 11, 12, 13, 14, 15, 17, 18, 20, 22)})
+
+    def test_cases_of_the_reader(self):
+        """A refused text breaks the rule that stands beside it, by the second writing too, but for what Python reads as JSON."""
+        cases = [case for case in reader.cases() if case.status == 3]
+        texts = [case for case in cases if case.err != b"machine: rule 1: json\n"]
+        self.assertGreater(len(texts), 150)
+        for case in texts:
+            self.assertEqual(expected(case.data), (case.status, case.out, case.err), case.pieces[:2])
+        rules = {int(case.err.split()[2][:-1]) for case in cases}
+        self.assertEqual(rules, set(range(1, 25)))
 
 
 class Command(unittest.TestCase):
@@ -54,9 +78,9 @@ class Command(unittest.TestCase):
         self.assertEqual((self.crates / "sleep_main/src/rows/links.rt").read_text(), all_files()["sleep_main/src/rows/links.rt"])
         done = dev("worked", "--check")
         self.assertEqual((done.status, done.out.split(" ")[0]), (0, "0"))
-        (self.crates / "log_trials/src/whole.rt").write_text("something else\n")
+        (self.crates / "law_trials/src/whole.rt").write_text("something else\n")
         done = dev("worked", "--check")
-        self.assertEqual((done.status, done.out.splitlines()[0]), (1, "crates/log_trials/src/whole.rt is old"))
+        self.assertEqual((done.status, done.out.splitlines()[0]), (1, "crates/law_trials/src/whole.rt is old"))
 
 
 class Terms(unittest.TestCase):
@@ -84,7 +108,6 @@ class Terms(unittest.TestCase):
 
     def test_numbers(self):
         self.assertEqual((whole(0), whole(7), whole(-1), whole(-5)), ("(pos 0)", "(pos 7)", "(negsuc 0)", "(negsuc 4)"))
-        self.assertEqual(list(cuts(200)), [150, 75, 0])
 
 
 if __name__ == "__main__":

@@ -106,7 +106,7 @@ fn links_that_change(rt: HostRuntime) {
 }
 
 /// Files with defaults and empty lists, and what is written for them. By hand.
-const DEFAULTS: [(&str, &str); 8] = [
+const DEFAULTS: [(&str, &str); 10] = [
     (r#"{"version":1}"#, r#"{"version":2}"#),
     (
         r#"{"version":1,"alarm_ms":1000,"cpus":1,"auto_cycles":16,"devices":[],"links":[],"syscore":[],"notifiers":[],"sources":[],"actors":[],"answers":[]}"#,
@@ -137,10 +137,20 @@ const DEFAULTS: [(&str, &str); 8] = [
         r#"{"version":1,"actors":[{"name":"a","kind":"user","script":[{"op":"state","text":"\"\\\/\n\u0001\u001f\u00e4"}]}]}"#,
         r#"{"actors":[{"kind":"user","name":"a","script":[{"op":"state","text":"\"\\/\n\u0001\u001fä"}]}],"version":2}"#,
     ),
+    // Something of each.
+    (
+        r#"{"version":1,"alarm_ms":500,"cpus":2,"auto_cycles":3,"devices":[{"name":"pci","async":true},{"name":"nic","parent":"pci","wakeup":true,"runtime":"suspended"}],"links":[{"supplier":"pci","consumer":"nic"}],"syscore":["t1","t2"],"notifiers":[{"name":"n","priority":-5},{"name":"o"}],"sources":["lan","lid"],"actors":[{"name":"w","kind":"user","repeat":2,"script":[{"op":"read"},{"op":"save","count":7},{"op":"save"},{"op":"state","text":"mem","if_saved":true,"times":3},{"op":"autosleep","text":"off"},{"op":"wait","mark":"b"}]},{"name":"k","kind":"kthread","script":[{"op":"sleep_d","ms":10},{"op":"freeze_point","times":2},{"op":"runtime","device":"nic","to":"active"},{"op":"runtime","device":"pci","to":"suspended"}]},{"name":"f","kind":"nofreeze","script":[{"op":"post","mark":"a"},{"op":"post","mark":"b"}]},{"name":"i","kind":"irq","script":[{"op":"sleep","ms":20},{"op":"awake","source":"lid"},{"op":"relax","source":"lid"},{"op":"event","source":"lan","ms":50,"hard":true}]}],"answers":[{"what":"device","name":"nic","phase":"late","attempt":2,"ret":"EBUSY","reports":[{"call":"event","source":"lid","ms":9},{"call":"relax","source":"lan"}]},{"what":"device","name":"pci","phase":"prepare","ret":1},{"what":"syscore","name":"t2","ret":"EIO"},{"what":"notifier","name":"n","ret":"ENODEV"},{"what":"platform","name":"prepare_late","attempt":1,"ret":"EAGAIN"}]}"#,
+        r#"{"actors":[{"kind":"user","name":"w","repeat":2,"script":[{"op":"read"},{"count":7,"op":"save"},{"op":"save"},{"if_saved":true,"op":"state","text":"mem","times":3},{"op":"autosleep","text":"off"},{"mark":"b","op":"wait"}]},{"kind":"kthread","name":"k","script":[{"ms":10,"op":"sleep_d"},{"op":"freeze_point","times":2},{"device":"nic","op":"runtime","to":"active"},{"device":"pci","op":"runtime","to":"suspended"}]},{"kind":"nofreeze","name":"f","script":[{"mark":"a","op":"post"},{"mark":"b","op":"post"}]},{"kind":"irq","name":"i","script":[{"ms":20,"op":"sleep"},{"op":"awake","source":"lid"},{"op":"relax","source":"lid"},{"hard":true,"ms":50,"op":"event","source":"lan"}]}],"alarm_ms":500,"answers":[{"attempt":2,"name":"nic","phase":"late","reports":[{"call":"event","ms":9,"source":"lid"},{"call":"relax","source":"lan"}],"ret":"EBUSY","what":"device"},{"name":"pci","phase":"prepare","ret":1,"what":"device"},{"name":"t2","ret":"EIO","what":"syscore"},{"name":"n","ret":"ENODEV","what":"notifier"},{"attempt":1,"name":"prepare_late","ret":"EAGAIN","what":"platform"}],"auto_cycles":3,"cpus":2,"devices":[{"async":true,"name":"pci"},{"name":"nic","parent":"pci","runtime":"suspended","wakeup":true}],"links":[{"consumer":"nic","supplier":"pci"}],"notifiers":[{"name":"n","priority":-5},{"name":"o"}],"sources":["lan","lid"],"syscore":["t1","t2"],"version":2}"#,
+    ),
+    // The generated machine of seed 1 with eight devices.
+    (
+        r#"{"actors":[{"kind":"user","name":"sleeper","repeat":4,"script":[{"op":"read"},{"op":"save"},{"if_saved":true,"op":"state","text":"mem"}]},{"kind":"irq","name":"line","script":[{"ms":909,"op":"sleep"},{"op":"event","source":"s1"},{"ms":505,"op":"sleep"},{"op":"event","source":"s2"},{"ms":119,"op":"sleep"},{"op":"event","source":"s0"},{"ms":472,"op":"sleep"},{"op":"event","source":"s1"}]}],"devices":[{"async":true,"name":"d0"},{"name":"d1"},{"async":true,"name":"d2","parent":"d1"},{"async":true,"name":"d3","parent":"d2"},{"name":"d4","parent":"d2"},{"async":true,"name":"d5","parent":"d2"},{"async":true,"name":"d6","parent":"d5"},{"name":"d7"}],"links":[{"consumer":"d7","supplier":"d0"},{"consumer":"d4","supplier":"d0"}],"sources":["s0","s1","s2"],"version":2}"#,
+        r#"{"actors":[{"kind":"user","name":"sleeper","repeat":4,"script":[{"op":"read"},{"op":"save"},{"if_saved":true,"op":"state","text":"mem"}]},{"kind":"irq","name":"line","script":[{"ms":909,"op":"sleep"},{"op":"event","source":"s1"},{"ms":505,"op":"sleep"},{"op":"event","source":"s2"},{"ms":119,"op":"sleep"},{"op":"event","source":"s0"},{"ms":472,"op":"sleep"},{"op":"event","source":"s1"}]}],"devices":[{"async":true,"name":"d0"},{"name":"d1"},{"async":true,"name":"d2","parent":"d1"},{"async":true,"name":"d3","parent":"d2"},{"name":"d4","parent":"d2"},{"async":true,"name":"d5","parent":"d2"},{"async":true,"name":"d6","parent":"d5"},{"name":"d7"}],"links":[{"consumer":"d7","supplier":"d0"},{"consumer":"d4","supplier":"d0"}],"sources":["s0","s1","s2"],"version":2}"#,
+    ),
 ];
 
-/// Files of version 2: those of tools/worked, as Python's json writes them, and one by hand.
-const CHANGES: [(&str, &str); 6] = [
+/// Files of version 2: those of tools/worked, as Python's json writes them, and two by hand.
+const CHANGES: [(&str, &str); 7] = [
     (
         r#"{"version":2,"devices":[{"name":"a","async":true},{"name":"b"}],"links":[{"supplier":"b","consumer":"a"}],"actors":[{"name":"w","kind":"user","script":[{"op":"state","text":"mem"}]}]}"#,
         r#"{"actors":[{"kind":"user","name":"w","script":[{"op":"state","text":"mem"}]}],"devices":[{"async":true,"name":"a"},{"name":"b"}],"links":[{"consumer":"a","supplier":"b"}],"version":2}"#,
@@ -164,6 +174,10 @@ const CHANGES: [(&str, &str); 6] = [
     (
         r#"{"version":2,"devices":[{"name":"a"},{"name":"b"}],"links":[{"supplier":"a","consumer":"b","state":"active"}],"actors":[{"name":"k","kind":"kthread","script":[{"op":"link_state","supplier":"a","consumer":"b","to":"active","times":1},{"op":"link","supplier":"a","consumer":"b","times":2}]}]}"#,
         r#"{"actors":[{"kind":"kthread","name":"k","script":[{"consumer":"b","op":"link_state","supplier":"a","to":"active"},{"consumer":"b","op":"link","supplier":"a","times":2}]}],"devices":[{"name":"a"},{"name":"b"}],"links":[{"consumer":"b","supplier":"a"}],"version":2}"#,
+    ),
+    (
+        r#"{"version":2,"devices":[{"name":"a"},{"name":"b"},{"name":"c"}],"links":[{"supplier":"b","consumer":"a","state":"dormant"},{"supplier":"b","consumer":"c","state":"active"}],"actors":[{"name":"w","kind":"kthread","script":[{"op":"link_state","supplier":"b","consumer":"a","to":"active"},{"op":"link_state","supplier":"b","consumer":"c","to":"dormant","times":2},{"op":"link","supplier":"a","consumer":"c","times":3}]}]}"#,
+        r#"{"actors":[{"kind":"kthread","name":"w","script":[{"consumer":"a","op":"link_state","supplier":"b","to":"active"},{"consumer":"c","op":"link_state","supplier":"b","times":2,"to":"dormant"},{"consumer":"c","op":"link","supplier":"a","times":3}]}],"devices":[{"name":"a"},{"name":"b"},{"name":"c"}],"links":[{"consumer":"a","state":"dormant","supplier":"b"},{"consumer":"c","supplier":"b"}],"version":2}"#,
     ),
 ];
 

@@ -1,18 +1,41 @@
 -- A log with one thing changed, and a law that fails at one entry.
-use Rattle.std.specs.Prelude.{ℕ, List, [], ◌∷◌, ◌++◌, take, drop, reverse}
+use Rattle.std.specs.Prelude.{ℕ, ◌+◌, List, [], ◌∷◌, ◌++◌, take, drop, reverse}
+use Rattle.sleep_model.specs.declared.entry.Actor.{Actor}
 use Rattle.sleep_model.specs.declared.entry.Entry.{Entry}
 use Rattle.sleep_model.specs.declared.entry.JournalEntry.{JournalEntry}
 use Rattle.sleep_model.specs.declared.entry.Kind.{Kind}
 use Rattle.sleep_model.specs.declared.machine.Machine.{Machine}
+
+-- the entry with that place, from 0, is left out
+abbrev pub left_out : ℕ → List Entry → List Entry
+left_out k entries = take k entries ++ drop (k + 1) entries
 
 -- the first says something else
 abbrev pub first_says : Kind → List Entry → List Entry
 first_says kind [] = []
 first_says kind (e ∷ entries) = record e { kind = kind } ∷ entries
 
--- the entry with that place, from 0, says something else
+-- it says something else
 abbrev pub says : ℕ → Kind → List Entry → List Entry
 says k kind entries = take k entries ++ first_says kind (drop k entries)
+
+-- the first is by another
+abbrev pub first_by : Actor → List Entry → List Entry
+first_by who [] = []
+first_by who (e ∷ entries) = record e { actor = who } ∷ entries
+
+-- it is by another
+abbrev pub by : ℕ → Actor → List Entry → List Entry
+by k who entries = take k entries ++ first_by who (drop k entries)
+
+-- the first is made at another time
+abbrev pub first_at_time : ℕ → List Entry → List Entry
+first_at_time time [] = []
+first_at_time time (e ∷ entries) = record e { time = time } ∷ entries
+
+-- it is made at another time
+abbrev pub at_time : ℕ → ℕ → List Entry → List Entry
+at_time k time entries = take k entries ++ first_at_time time (drop k entries)
 
 -- the first has another stamp
 abbrev pub first_stamped : ℕ → ℕ → List JournalEntry → List JournalEntry

@@ -8,6 +8,7 @@ pub mod Devices
 pub mod Failures
 pub mod Inside
 pub mod KeptApart
+pub mod Links
 pub mod MergeTests
 pub mod Merging
 pub mod Passing

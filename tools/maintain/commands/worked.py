@@ -2,9 +2,9 @@
 
 tools/worked/ has for each log its machine file NAME.json and its text NAME.log, worked out apart from the program; the table
 in tools/maintain/worked/table.py says what each shows. A machine becomes the value that its file spells, an entry a line. What
-is written: in crates/log_trials the values, a module a subject, the laws that each log is legal, is what one worker writes
-and has its text, and the logs of tools/worked/broken with the laws that refuse them; in crates/sleep_main the same machines
-and logs as tests of the program.
+is written: in crates/law_trials the values of the logs by which laws are tried, a module a subject, the laws that each is legal
+and is what one worker writes, and the logs of tools/worked/broken with the laws that refuse them; in crates/sleep_main the same
+machines and logs as tests of the program.
 """
 
 from julampok.files import write_all

@@ -2,8 +2,8 @@
 
 from maintain.worked import laws, refuted, rows
 from maintain.worked.logs import Worked
-from maintain.worked.modules import machine_piece, module_text, pieces
-from maintain.worked.table import LAWS, LOGS, MACHINES, MODULES
+from maintain.worked.modules import entries_piece, machine_piece, module_text, pieces
+from maintain.worked.table import ENTRIES, LAWS, LOGS, MACHINES, MODULES
 
 
 def definitions(logs):
@@ -11,6 +11,8 @@ def definitions(logs):
     for log in logs:
         if log.name in LAWS:
             yield from pieces(log)
+        elif log.name in ENTRIES:
+            yield from (machine_piece(log), entries_piece(log))
         elif log.name in MACHINES:
             yield machine_piece(log)
 

@@ -39,10 +39,15 @@ def machine_piece(log):
     return f"-- {log.comment}: its machine\nabbrev pub {machine} : Machine\n{machine} = {log.machine.term()}\n"
 
 
+def entries_piece(log):
+    """The definition of a log's entries."""
+    return list_text(f"{log.name}_entries", "its entries", log.entries())
+
+
 def pieces(log):
     """The definitions of a log, a text each."""
     yield machine_piece(log)
-    yield list_text(f"{log.name}_entries", "its entries", log.entries())
+    yield entries_piece(log)
     yield f"-- its log\nabbrev pub {log.name} : Log\n{log.name} = {log.end()}\n"
 
 

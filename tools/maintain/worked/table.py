@@ -67,6 +67,8 @@ LOGS = [
     ("Laptop", "laptop", "A laptop with its links, four processors and five scripts sleeps once and is woken by its lid."),
 ]
 
-# The logs by which laws are tried, in the crate law_trials; and those of which the laws take the machine alone.
+# The logs by which laws are tried, in the crate law_trials; those of which they take no more than the machine and the entries;
+# and those of which they take the machine alone.
 LAWS = ["event_stops_a_device", "hard_event", "callback_reports", "read_waits", "calls_of_a_line", "event_expires", "autosleep"]
+ENTRIES = ["link_added", "runtime_requests"]
 MACHINES = ["smallest_attempt", "parent_and_child", "asynchronous_callback_fails", "first_link", "two_links"]
