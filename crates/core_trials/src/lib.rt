@@ -1,10 +1,15 @@
-//! The core over an event word that others move: no program stands on it.
+//! Tests of the core and of what a run makes of it: the core over an event word that others move, a source's calls through its
+//! seat, and bursts of workers on threads. What may be sent to a thread is said here, too. No program stands on this crate.
 #![tactic(auto)]
 
+#[cfg(test)]
+mod burst_tests;
+#[cfg(test)]
+mod core_tests;
 mod moving;
 #[cfg(test)]
-mod tests;
+mod object_tests;
 mod threads;
 
 pub use moving::MovingWord;
-pub use threads::sent_core;
+pub use threads::{sent_core, sent_seated_core, sent_source, sent_worker};

@@ -1,6 +1,10 @@
+//! What threads may be given.
+
 ghost use Rattle.std.specs.Prelude.{◌≡◌};
 
+use run_objects::{SeatedCore, SeatedSource};
 use sleep_core::Core;
+use world_workers::Worker;
 
 /// What may be sent to a thread, and nothing else, goes through.
 fn sent<T: Send + Drop>(value: T) -> T
@@ -14,4 +18,25 @@ pub fn sent_core(core: Core<'_>) -> Core<'_>
     ensures { result ≡ core.entry }
 {
     sent(core)
+}
+
+/// The machine with its seat may be sent to a thread.
+pub fn sent_seated_core(machine: SeatedCore<'_>) -> SeatedCore<'_>
+    ensures { result ≡ machine.entry }
+{
+    sent(machine)
+}
+
+/// A source with its seat may be sent to a thread.
+pub fn sent_source(source: SeatedSource) -> SeatedSource
+    ensures { result ≡ source }
+{
+    sent(source)
+}
+
+/// A worker may be sent to a thread.
+pub fn sent_worker(worker: Worker<'_>) -> Worker<'_>
+    ensures { result ≡ worker.entry }
+{
+    sent(worker)
 }

@@ -1,6 +1,6 @@
 use Rattle.std.proofs.Common.{◌≡◌, length, arith}
-use Rattle.object_trials.proofs.Ones.{first}
-use Rattle.object_trials.proofs.tests.one_source.Goals as goal
+use Rattle.core_trials.proofs.Ones.{first}
+use Rattle.core_trials.proofs.object_tests.one_source.Goals as goal
 
 pub returns-clause-source : goal.returns-clause-source
 returns-clause-source c =

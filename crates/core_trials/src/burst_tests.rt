@@ -7,20 +7,18 @@ ghost use Rattle.run_world.specs.Held.{AreTimely};
 ghost use Rattle.run_world.specs.Acts.{actor_of};
 ghost use Rattle.world_workers.specs.Bursts.{AreReady, AreTasksIn, HaveTurns};
 
-use run_world::Task;
 use device_links::Links;
 use event_word::EventTable;
 use machine_file::{ReadMachine, read_machine};
 use machine_plans::MachinePlans;
 use run_objects::{SeatedCore, seated_sources};
-use run_world::OpenGate;
+use run_world::{OpenGate, Task};
 use sleep_base::Mem;
 use sleep_core::Core;
 use sleep_model::{Actor, Machine};
 use sleep_script::{Job, TimerJob};
 use std::alloc::Global;
 use std::sync::Wait;
-use std::test::Fail;
 use std::thread::Threads;
 use world_workers::{BurstParts, BurstPlan, make_burst};
 
@@ -131,8 +129,8 @@ fn first_burst<'m, R: Threads + Sync + Wait>(
     Ok(make_burst(rt, alloc, &plan, parts)?.did)
 }
 
-/// How many turns did something in the first burst over the plans of a machine of one script and no source.
-fn few_over<R: Threads + Sync + Wait>(
+/// How many turns did something in the first burst over the plans of a machine of one script and at most one source.
+fn burst_over<R: Threads + Sync + Wait>(
     rt: &R,
     alloc: Global,
     plans: &MachinePlans<'_>,
@@ -142,27 +140,16 @@ fn few_over<R: Threads + Sync + Wait>(
     requires links { links ≡ record { parents = parents_of plans.now.devices; links = reverse plans.now.links } }
     requires one { length plans.now.actors ≡ 1 }
 {
+    if plans.machine().sources.len() == 1 {
+        let tasks = more_tasks(alloc, plans)?;
+        return first_burst(rt, alloc, plans, links, tasks, &MORE);
+    }
     let tasks = few_tasks(alloc, plans)?;
     first_burst(rt, alloc, plans, links, tasks, &FEW)
 }
 
-/// How many turns did something in the first burst over the plans of a machine of one script and one source.
-fn more_over<R: Threads + Sync + Wait>(
-    rt: &R,
-    alloc: Global,
-    plans: &MachinePlans<'_>,
-    links: Links,
-) -> Result<u64, Mem>
-    requires accepted { IsAccepted plans.now }
-    requires links { links ≡ record { parents = parents_of plans.now.devices; links = reverse plans.now.links } }
-    requires one { (length plans.now.actors ≡ 1) × (length plans.now.sources ≡ 1) }
-{
-    let tasks = more_tasks(alloc, plans)?;
-    first_burst(rt, alloc, plans, links, tasks, &MORE)
-}
-
-/// How many turns did something in the first burst of a machine of one script and no source.
-fn few_burst<R: Threads + Sync + Wait>(
+/// How many turns did something in the first burst of a machine of one script and at most one source.
+fn burst_of<R: Threads + Sync + Wait>(
     rt: &R,
     alloc: Global,
     machine: &Machine,
@@ -170,53 +157,34 @@ fn few_burst<R: Threads + Sync + Wait>(
 ) -> Result<u64, Mem>
     requires accepted { IsAccepted machine.now }
     requires links { links ≡ record { parents = parents_of machine.now.devices; links = reverse machine.now.links } }
-    requires one { length machine.now.actors ≡ 1 }
 {
+    if machine.actors.len() != 1 {
+        return Err(Mem);
+    }
     let plans = MachinePlans::new(alloc, machine)?;
-    few_over(rt, alloc, &plans, links)
+    let did = burst_over(rt, alloc, &plans, links);
+    drop(plans);
+    did
 }
 
-/// How many turns did something in the first burst of a machine of one script and one source.
-fn more_burst<R: Threads + Sync + Wait>(
-    rt: &R,
-    alloc: Global,
-    machine: &Machine,
-    links: Links,
-) -> Result<u64, Mem>
-    requires accepted { IsAccepted machine.now }
-    requires links { links ≡ record { parents = parents_of machine.now.devices; links = reverse machine.now.links } }
-    requires one { (length machine.now.actors ≡ 1) × (length machine.now.sources ≡ 1) }
-{
-    let plans = MachinePlans::new(alloc, machine)?;
-    more_over(rt, alloc, &plans, links)
+/// Whether so many turns did something in the first burst of a file's machine.
+fn does<R: Threads + Sync + Wait>(rt: &R, alloc: Global, file: &str, turns: u64) -> bool {
+    let Ok(ReadMachine { machine, links }) = read_machine(alloc, file.as_bytes()) else {
+        return false;
+    };
+    let did = burst_of(rt, alloc, &machine, links);
+    drop(machine);
+    did == Ok(turns)
 }
 
 /// A task makes its whole attempt up to the sleep: seventeen entries.
 #[test]
-fn an_attempt_in_a_burst(rt: HostRuntime) -> Result<(), Fail> {
-    let alloc = rt.alloc();
-    let Ok(ReadMachine { machine, links }) = read_machine(alloc, ATTEMPT.as_bytes()) else {
-        return Err("no machine".into());
-    };
-    if machine.actors.len() != 1 {
-        return Err("another machine".into());
-    }
-    let did = few_burst(&rt, alloc, &machine, links)?;
-    assert_eq!(rt; did, 17);
-    Ok(())
+fn an_attempt_in_a_burst(rt: HostRuntime) {
+    assert!(rt; does(&rt, rt.alloc(), ATTEMPT, 17));
 }
 
 /// An interrupt makes its two calls, and its exit.
 #[test]
-fn two_calls_in_a_burst(rt: HostRuntime) -> Result<(), Fail> {
-    let alloc = rt.alloc();
-    let Ok(ReadMachine { machine, links }) = read_machine(alloc, LID.as_bytes()) else {
-        return Err("no machine".into());
-    };
-    if machine.actors.len() != 1 || machine.sources.len() != 1 {
-        return Err("another machine".into());
-    }
-    let did = more_burst(&rt, alloc, &machine, links)?;
-    assert_eq!(rt; did, 3);
-    Ok(())
+fn two_calls_in_a_burst(rt: HostRuntime) {
+    assert!(rt; does(&rt, rt.alloc(), LID, 3));
 }
