@@ -5,7 +5,6 @@ use Rattle.sleep_model.specs.declared.machine.Machine.{Machine}
 use Rattle.sleep_model.specs.Order.{is_among}
 use Rattle.sleep_model.specs.Parts.{part_of}
 use Rattle.rule_definitions.specs.Entry.{Rule, Links, Numbers, Attempts, Reads, Walk, Skip, Runtime, Owed, Freezer, Path, Answers, Restored, Steps, Enabled, Source, KeepsRule}
-use Rattle.rule_definitions.specs.Verdict.{number_of}
 
 -- what may be asked of an entry, by the entries before it
 abbrev pub Question : Type 1

