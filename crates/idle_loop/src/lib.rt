@@ -1,7 +1,7 @@
 //! Suspend-to-idle (`kernel/power/suspend.c`, `s2idle_loop`): wakers race with the idler, which looks for hard events and
 //! then enters. Each waker and the idler is a worker of a burst. A waker's hard event takes no lock; every other step takes
 //! the one of the idler's gate, which keeps a journal. Journal and hard events merge to one legal log. `run_idle` is the run.
-//! Its tests stand in `part_trials`.
+//! Its tests stand in `part_cases` and `thread_trials`.
 #![tactic(auto)]
 
 mod book;
