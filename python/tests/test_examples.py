@@ -1,4 +1,4 @@
-"""Tries docs/EXAMPLES.md: each example stands there, with three lines of its log in their order.
+"""Tries examples/README.md: each example stands there, with three lines of its log in their order.
 
 The logs are those of the second writing, and those that are kept beside a machine, which have to be logs of it. The files of
 a real machine are made anew of its trace.
@@ -15,7 +15,7 @@ from julampok.second.follow import Follower
 from julampok.second.rules import first_broken
 from julampok.second.run import Run
 
-PAGE = (ROOT / "docs" / "EXAMPLES.md").read_text()
+PAGE = (ROOT / "examples" / "README.md").read_text()
 TOLD = re.findall(r"^`(\w+/[\w-]+\.(?:json|log))`:[^`]*(?:`[^`\n]+`[^`]*)*?```\n(.*?)```", PAGE, re.M | re.S)
 REFUSED = {"order/parent-too-late.json": (9, "devices[0]"), "order/link-closes-a-cycle.json": (12, "links[1]")}
 LINKS = "--links", SAMPLES / "s3.links"

@@ -159,9 +159,9 @@ class Recordings(unittest.TestCase):
 
 
 class Samples(unittest.TestCase):
-    """The samples in examples/real: docs/EXAMPLES.md has what replay says of each."""
+    """The samples in examples/real: examples/README.md has what replay says of each."""
 
-    TOLD = re.findall(r"```sh\n../../julampok (replay [^\n]*)\n```\n\n```\n(.*?)```", (ROOT / "docs" / "EXAMPLES.md").read_text(), re.S)
+    TOLD = re.findall(r"```sh\n../../julampok (replay [^\n]*)\n```\n\n```\n(.*?)```", (ROOT / "examples" / "README.md").read_text(), re.S)
 
     def test_all_are_told(self):
         traces = {path.name for path in (EXAMPLES / "real").glob("*.trace")}
@@ -193,7 +193,7 @@ def write_page():
 
 def write_samples():
     """Writes anew what replay says of the samples in EXAMPLES.md."""
-    page = ROOT / "docs" / "EXAMPLES.md"
+    page = ROOT / "examples" / "README.md"
     text = page.read_text()
     for words, told in Samples.TOLD:
         with inside(EXAMPLES / "real"):

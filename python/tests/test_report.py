@@ -193,7 +193,7 @@ class Recordings(unittest.TestCase):
 class Example(unittest.TestCase):
     def test_the_pair(self):
         """The page says what the second recording of the pair shows: gpu made asynchronous saves 445 - 324 and 349 - 279 ms."""
-        told, folder = (ROOT / "docs" / "EXAMPLES.md").read_text(), EXAMPLES / "real"
+        told, folder = (ROOT / "examples" / "README.md").read_text(), EXAMPLES / "real"
         one, two = (folder / f"whatif-gpu-{kind}.trace" for kind in ("sync", "async"))
         words = ("--devices", one.with_suffix(".devices"), "--dmesg", one.with_suffix(".dmesg"))
         drawn = html.unescape(julampok("report", one, *words).out)
