@@ -6,7 +6,8 @@ import unittest
 import unittest.mock
 
 from dev_tests import ROOT, dev
-from maintain.docs import names
+from julampok.errors import CannotError
+from maintain.docs import heads, names, prose
 from maintain.docs.definitions import kernel_of, pages, sentence
 from maintain.docs.reached import reached
 
@@ -16,8 +17,11 @@ class Pages(unittest.TestCase):
         self.assertEqual(names.all_broken(), [])
 
     def test_pages_of_definitions(self):
-        for path, text in pages():
+        for path, text in [*pages(), heads.page()]:
             self.assertEqual(path.read_text(), text, f"{path.name} is old: `tools/dev docs` writes it")
+
+    def test_no_sentence_is_too_long(self):
+        self.assertEqual(prose.all_long(), [])
 
     def test_the_command(self):
         with unittest.mock.patch("maintain.commands.docs.pages", lambda: [(ROOT / "docs" / "DEFINITIONS.md", "another text\n")]):
@@ -83,3 +87,54 @@ class Definitions(unittest.TestCase):
 
 if __name__ == "__main__":
     unittest.main()
+
+
+class Crates(unittest.TestCase):
+    """The page of crates."""
+
+    def test_groups(self):
+        told = [(comment, [name for name, _ in crates]) for comment, crates in heads.groups()]
+        self.assertEqual([name for _, crates in told for name in crates], names.order_of_crates())
+        self.assertTrue(all(comment for comment, _ in told))
+
+    def test_heading(self):
+        for comment, lines in (
+            ("The model: plain types.", ["## The model", "\nPlain types."]),
+            ("A library. No program stands on it.", ["## A library", "\nNo program stands on it."]),
+            ("What a log says beyond itself.", ["## What a log says beyond itself"]),
+        ):
+            self.assertEqual([*heads.heading(comment)], lines)
+
+    def test_a_crate_without_a_head(self):
+        with tempfile.TemporaryDirectory() as folder:
+            source = pathlib.Path(folder, "bare", "src", "lib.rt")
+            source.parent.mkdir(parents=True)
+            source.write_text("#![tactic(auto)]\n")
+            with unittest.mock.patch("maintain.docs.heads.CRATES", pathlib.Path(folder)):
+                with self.assertRaisesRegex(CannotError, "no head says what the crate is for"):
+                    heads.head("bare")
+
+
+class Prose(unittest.TestCase):
+    """What counts as a sentence, and as a word."""
+
+    def counted(self, text):
+        return [(number, words) for number, words, _ in prose.sentences(text)]
+
+    def test_sentences(self):
+        for text, counted in (
+            ("One two. Three four\nfive.\n\nSix.", [(1, 2), (1, 3), (4, 1)]),
+            ("# A heading\n\nOne.\n| a | table |\n\n```\nOne two\n```\n\nTwo words.", [(3, 1), (10, 2)]),
+            ("- One two\n  three\n- four\n1. five", [(1, 3), (3, 1), (4, 1)]),
+            ("`a b c` and [two words](a/path.md#x).", [(1, 4)]),
+            ("It has 4.5 parts, e.g. two - or so.", [(1, 8)]),
+        ):
+            with self.subTest(text):
+                self.assertEqual(self.counted(text), counted)
+
+    def test_too_long(self):
+        with tempfile.TemporaryDirectory(dir=ROOT / "docs", prefix="test-") as folder:
+            page = pathlib.Path(folder, "PAGE.md")
+            page.write_text(" ".join(["word"] * 30) + ".\n\n" + " ".join(["word"] * 31) + ".\n")
+            (told,) = prose.too_long(page)
+            self.assertTrue(told.endswith("PAGE.md:3: a sentence of 31 words: word word word word word word .."), told)

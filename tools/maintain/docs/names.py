@@ -11,7 +11,7 @@ import re
 from julampok.cli import command_names
 from maintain.places import CRATES, DOCS, TOP
 
-PAGES = [TOP / "README.md", *sorted(DOCS.glob("*.md"))]
+PAGES = [TOP / "README.md", TOP / "examples" / "README.md", *sorted(DOCS.glob("*.md"))]
 BUILT = ("out", "__pycache__", ".git")  # Folders whose files are in no page.
 
 LINK = re.compile(r"\]\(([^)\s]+)\)")
