@@ -6,6 +6,7 @@ pub mod BrokenRuns
 pub mod Counts
 pub mod Devices
 pub mod Failures
+pub mod Ending
 pub mod Inside
 pub mod KeptApart
 pub mod Links
