@@ -1,7 +1,7 @@
 -- The words behind idle.
 use Rattle.std.proofs.Common.{ℕ, ◌≡◌, ◌≢◌, ◌∙◌, ◌++◌, Bool, cond, true, false, List, [], ◌∷◌, length, map, get_or, ◌<◌, ◌≤◌, take, drop, Option, Some, None, refl, sym, ap, subst, codes, take-append-drop, arith}
 use Rattle.std.specs.Str.{bytes_eq}
-use Rattle.command_line.specs.Words.{command_in, command_of, idle_of, number_in, parsed_of, workers_number, workers_prefix}
+use Rattle.command_line.specs.Words.{command_in, command_of, idle_of, idle_sizes, number_in, parsed_of, workers_number, workers_prefix}
 use Rattle.command_line.proofs.Named.{other_text, same_text}
 
 if_true : (b : Bool) (a c : Option ℕ) → b ≡ true → cond b a c ≡ a
@@ -23,12 +23,13 @@ no_number word lacks = go (bytes_eq (take (length workers_prefix) word) workers_
     go true e = absurd (lacks (drop (length workers_prefix) word) (sym (take-append-drop (length workers_prefix) word) ∙ ap (λ (l : List ℕ). l ++ drop (length workers_prefix) word) (same_text (take (length workers_prefix) word) workers_prefix e)))
 
 module _ {S : Type 0} (f : S → List ℕ) where
-  -- fewer than three words are no sizes
-  pub few_sizes : (words : List S) → length words < 3 → None ≡ idle_of (map f words)
-  few_sizes [] low = refl
-  few_sizes (w ∷ []) low = refl
-  few_sizes (w ∷ e ∷ []) low = refl
-  few_sizes (w ∷ e ∷ s ∷ words) low = absurd (omega (arith, low))
+  -- more than three words are no sizes
+  pub many_sizes : (words : List S) (behind : List (List ℕ)) (workers : ℕ) → 4 ≤ length words → None ≡ idle_sizes (map f words ++ behind) workers
+  many_sizes [] behind workers high = absurd (omega (arith, high))
+  many_sizes (w ∷ []) behind workers high = absurd (omega (arith, high))
+  many_sizes (w ∷ e ∷ []) behind workers high = absurd (omega (arith, high))
+  many_sizes (w ∷ e ∷ s ∷ []) behind workers high = absurd (omega (arith, high))
+  many_sizes (w ∷ e ∷ s ∷ more ∷ words) behind workers high = refl
 
   -- words that begin with another than idle
   pub few_words : (words : List S) → length words < 2 → parsed_of (map f words) ≡ command_of (map f words)

@@ -1,11 +1,11 @@
 -- What words ask for has its numbers in their ranges.
-use Rattle.std.proofs.Common.{ℕ, ◌≡◌, ◌≤◌, ◌-◌, ◌^◌, ◌&&◌, Bool, cond, true, false, List, [], ◌∷◌, Option, Some, None, option_map, length, codes, refl, sym, subst, leb-true}
+use Rattle.std.proofs.Common.{ℕ, ◌≡◌, ◌≤◌, ◌-◌, ◌^◌, ◌&&◌, ◌++◌, Bool, cond, true, false, List, [], ◌∷◌, Option, Some, None, option_map, length, codes, refl, sym, subst, leb-true}
 use Rattle.std.specs.Prelude.{IfSome, nat_le, option_and_then, bytes_eq, take, drop}
 use Rattle.std.specs.List.{list_all}
 use Rattle.clap.proofs.WalkLemmas.{both}
 use Rattle.command_line.specs.declared.command.Command.{Command}
 use Rattle.command_line.specs.declared.command.Command.TheVariants.{Run, Gen, Soak, Check, Locks, Stats, Idle}
-use Rattle.command_line.specs.Words.{IsInRange, alone_of, command_in, command_of, idle_of, idle_sized, workers_behind, workers_number, has_no_zero_before, is_digit, number_in, run_of, seeded_of, value_of, workers_of, workers_prefix}
+use Rattle.command_line.specs.Words.{IsInRange, alone_of, command_in, command_of, behind_option, idle_of, idle_sizes, option_place, workers_named, workers_number, has_no_zero_before, is_digit, number_in, run_of, seeded_of, value_of, workers_of, workers_prefix}
 
 if_so : (b : Bool) (n : ℕ) (P : ℕ → Type 0) → (b ≡ true → P n) → IfSome (cond b (Some n) None) P
 if_so true n P h = h refl
@@ -62,15 +62,19 @@ number_word word = so (bytes_eq (take (length workers_prefix) word) workers_pref
     so true = number_range 1 64 (drop (length workers_prefix) word)
     so false = tt
 
-behind_range : (words : List (List ℕ)) → IfSome (workers_behind words) (λ n. (1 ≤ n) × (n ≤ 64))
-behind_range [] = (leb-true 1 4 refl, leb-true 4 64 refl)
-behind_range (word ∷ []) = number_word word
-behind_range (word ∷ n ∷ []) = so (bytes_eq word (codes "--workers"))
+-- how many workers are named is in range
+named_range : (words : List (List ℕ)) → IfSome (workers_named words) (λ n. (1 ≤ n) × (n ≤ 64))
+named_range [] = (leb-true 1 4 refl, leb-true 4 64 refl)
+named_range (word ∷ []) = number_word word
+named_range (word ∷ n ∷ words) = so (bytes_eq word (codes "--workers"))
   where
-    so : (b : Bool) → IfSome (cond b (number_in 1 64 n) None) (λ n. (1 ≤ n) × (n ≤ 64))
+    so : (b : Bool) → IfSome (cond b (number_in 1 64 n) (workers_number word)) (λ n. (1 ≤ n) × (n ≤ 64))
     so true = number_range 1 64 n
-    so false = tt
-behind_range (word ∷ n ∷ more ∷ words) = tt
+    so false = number_word word
+
+-- so it is few
+pub named_few : (words : List (List ℕ)) (n : ℕ) → Some n ≡ workers_named words → n ≤ 64
+named_few words n e = (subst (λ (o : Option ℕ). IfSome o (λ m. (1 ≤ m) × (m ≤ 64))) (sym e) (named_range words)).1
 
 sized_range : (wakers events sessions : Option ℕ) (n : ℕ) → (1 ≤ n) × (n ≤ 64) → IfSome wakers (λ w. (1 ≤ w) × (w ≤ 16)) → IfSome events (λ e. (1 ≤ e) × (e ≤ 1000)) → IfSome sessions (λ s. (1 ≤ s) × (s ≤ 1000))
     → IfSome (option_and_then (λ w. option_and_then (λ e. option_map (λ s. Idle w e s n) sessions) events) wakers) IsInRange
@@ -79,15 +83,22 @@ sized_range (Some w) None sessions n h a b c = tt
 sized_range (Some w) (Some e) None n h a b c = tt
 sized_range (Some w) (Some e) (Some s) n h a b c = (a, b, c, h)
 
+sizes_range : (words : List (List ℕ)) (n : ℕ) → (1 ≤ n) × (n ≤ 64) → IfSome (idle_sizes words n) IsInRange
+sizes_range [] n h = tt
+sizes_range (w ∷ []) n h = tt
+sizes_range (w ∷ e ∷ []) n h = tt
+sizes_range (w ∷ e ∷ s ∷ []) n h = sized_range (number_in 1 16 w) (number_in 1 1000 e) (number_in 1 1000 s) n h (number_range 1 16 w) (number_range 1 1000 e) (number_range 1 1000 s)
+sizes_range (w ∷ e ∷ s ∷ more ∷ words) n h = tt
+
 idle_range : (words : List (List ℕ)) → IfSome (idle_of words) IsInRange
-idle_range [] = tt
-idle_range (w ∷ []) = tt
-idle_range (w ∷ e ∷ []) = tt
-idle_range (w ∷ e ∷ s ∷ words) = go (workers_behind words) (behind_range words)
+idle_range words = go (workers_named (drop (option_place words) words)) (named_range (drop (option_place words) words))
   where
-    go : (o : Option ℕ) → IfSome o (λ n. (1 ≤ n) × (n ≤ 64)) → IfSome (option_and_then (λ n. idle_sized w e s n) o) IsInRange
+    sizes : List (List ℕ)
+    sizes = take (option_place words) words ++ behind_option (drop (option_place words) words)
+
+    go : (o : Option ℕ) → IfSome o (λ n. (1 ≤ n) × (n ≤ 64)) → IfSome (option_and_then (λ n. idle_sizes sizes n) o) IsInRange
     go None h = tt
-    go (Some n) h = sized_range (number_in 1 16 w) (number_in 1 1000 e) (number_in 1 1000 s) n h (number_range 1 16 w) (number_range 1 1000 e) (number_range 1 1000 s)
+    go (Some n) h = sizes_range sizes n h
 
 -- what words ask for is in range
 in_range : (words : List (List ℕ)) → IfSome (command_of words) IsInRange

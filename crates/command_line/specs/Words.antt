@@ -1,6 +1,6 @@
 -- What the words of the command line ask for.
-use Rattle.std.specs.Prelude.{ℕ, ◌≤◌, ◌+◌, ◌-◌, ◌*◌, ◌^◌, List, [], ◌∷◌, length, codes, Bool, true, false, ◌&&◌, take, drop, bytes_eq, nat_le, nat_lt, fold, Option, Some, None, option_map, option_and_then, if◌then◌else◌}
-use Rattle.std.specs.List.{list_all}
+use Rattle.std.specs.Prelude.{ℕ, ◌≤◌, ◌+◌, ◌-◌, ◌*◌, ◌^◌, List, [], ◌∷◌, length, codes, Bool, true, false, ◌&&◌, ◌||◌, ◌++◌, take, drop, bytes_eq, nat_le, nat_lt, fold, Option, Some, None, option_map, option_and_then, if◌then◌else◌}
+use Rattle.std.specs.List.{list_all, position_or_len}
 use Rattle.command_line.specs.declared.command.Command.{Command}
 use Rattle.command_line.specs.declared.command.Command.TheVariants.{Run, Gen, Soak, Check, Locks, Stats, Idle}
 
@@ -76,22 +76,41 @@ workers_number word =
     if bytes_eq (take (length workers_prefix) word) workers_prefix then number_in 1 64 (drop (length workers_prefix) word)
     else None
 
--- how many workers the words behind the sizes ask for
-abbrev pub workers_behind : List (List ℕ) → Option ℕ
-workers_behind [] = Some 4
-workers_behind (word ∷ []) = workers_number word
-workers_behind (word ∷ n ∷ []) = if bytes_eq word (codes "--workers") then number_in 1 64 n else None
-workers_behind _ = None
+-- the option begins with this word: alone, or in one word with its number
+abbrev pub begins_option : List ℕ → Bool
+begins_option word = bytes_eq word (codes "--workers") || bytes_eq (take (length workers_prefix) word) workers_prefix
+
+-- how many words stand before the option; all, where it does not stand
+abbrev pub option_place : List (List ℕ) → ℕ
+option_place words = position_or_len begins_option words
+
+-- how many workers the option asks for that stands first of these words; four, where no word is left
+abbrev pub workers_named : List (List ℕ) → Option ℕ
+workers_named [] = Some 4
+workers_named (word ∷ []) = workers_number word
+workers_named (word ∷ n ∷ words) = if bytes_eq word (codes "--workers") then number_in 1 64 n else workers_number word
+
+-- the words behind the option that stands first of these
+abbrev pub behind_option : List (List ℕ) → List (List ℕ)
+behind_option [] = []
+behind_option (word ∷ []) = []
+behind_option (word ∷ n ∷ words) = if bytes_eq word (codes "--workers") then words else n ∷ words
 
 -- a run of the sizes that three words spell
 abbrev pub idle_sized : List ℕ → List ℕ → List ℕ → ℕ → Option Command
 idle_sized wakers events sessions workers =
     option_and_then (λ w. option_and_then (λ e. option_map (λ s. Idle w e s workers) (number_in 1 1000 sessions)) (number_in 1 1000 events)) (number_in 1 16 wakers)
 
--- the words after idle
+-- a run of the sizes that words spell, which are three
+abbrev pub idle_sizes : List (List ℕ) → ℕ → Option Command
+idle_sizes (wakers ∷ events ∷ sessions ∷ []) workers = idle_sized wakers events sessions workers
+idle_sizes _ workers = None
+
+-- the words after idle: the sizes, and the option before them, between them or behind them. Where it stands twice, the second one is no size.
 abbrev pub idle_of : List (List ℕ) → Option Command
-idle_of (wakers ∷ events ∷ sessions ∷ words) = option_and_then (λ n. idle_sized wakers events sessions n) (workers_behind words)
-idle_of _ = None
+idle_of words =
+    let place = option_place words in
+    option_and_then (λ n. idle_sizes (take place words ++ behind_option (drop place words)) n) (workers_named (drop place words))
 
 -- what these words ask for, where they are of a form; the first is the program's name
 abbrev pub command_of : List (List ℕ) → Option Command

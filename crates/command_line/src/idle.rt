@@ -1,7 +1,7 @@
 //! The words behind `idle`.
 
-ghost use Rattle.std.specs.Prelude.{◌≡◌, ◌≤◌, map, string_bytes};
-ghost use Rattle.command_line.specs.Words.{idle_of, idle_sized, workers_behind, workers_number};
+ghost use Rattle.std.specs.Prelude.{◌≡◌, ◌≤◌, ◌++◌, ◌∷◌, length, map, string_bytes};
+ghost use Rattle.command_line.specs.Words.{begins_option, behind_option, idle_of, idle_sized, idle_sizes, option_place, workers_named, workers_number};
 
 use crate::command::Command;
 use crate::number::number_in;
@@ -16,15 +16,45 @@ fn workers_word(word: &str) -> Option<u64>
     }
 }
 
-/// How many workers the words behind the sizes ask for.
-fn workers_behind(words: &[String]) -> Option<u64>
-    ensures { result ≡ workers_behind (map string_bytes words.now) }
+/// Whether the option begins with this word: alone, or in one word with its number.
+fn begins_option(word: &str) -> bool
+    ensures { result ≡ begins_option word.now }
+{
+    word == "--workers" || word.starts_with("--workers=")
+}
+
+/// How many words stand before the option; all, where it does not stand.
+fn option_place(words: &[String]) -> usize
+    ensures place { result ≡ option_place (map string_bytes words.now) }
+    ensures most { result ≤ length words.now }
+{
+    for (place, word) in words.iter().enumerate() {
+        if begins_option(word.as_str()) {
+            return place;
+        }
+    }
+    words.len()
+}
+
+/// How many workers the option asks for that stands first of these words; four, where no word is left.
+fn workers_named(words: &[String]) -> Option<u64>
+    ensures { result ≡ workers_named (map string_bytes words.now) }
 {
     match words {
         [] => Some(4),
-        [word] => workers_word(word.as_str()),
-        [option, number] if option.as_str() == "--workers" => number_in(1, 64, number.as_str()),
-        _ => None,
+        [option, number, ..] if option.as_str() == "--workers" => number_in(1, 64, number.as_str()),
+        [word, ..] => workers_word(word.as_str()),
+    }
+}
+
+/// The words behind the option that stands first of these.
+fn behind_option(words: &[String]) -> &[String]
+    ensures { map string_bytes result.now ≡ behind_option (map string_bytes words.now) }
+{
+    match words {
+        [] => words,
+        [option, _, behind @ ..] if option.as_str() == "--workers" => behind,
+        [_, behind @ ..] => behind,
     }
 }
 
@@ -43,13 +73,64 @@ fn sized(wakers: &str, events: &str, sessions: &str, workers: u32) -> Option<Com
     })
 }
 
+/// A run of the sizes that these words spell, which are three.
+fn sizes_of(words: &[String], workers: u32) -> Option<Command>
+    ensures { result ≡ idle_sizes (map string_bytes words.now) workers }
+{
+    match words {
+        [wakers, events, sessions] => sized(
+            wakers.as_str(),
+            events.as_str(),
+            sessions.as_str(),
+            workers,
+        ),
+        _ => None,
+    }
+}
+
+/// A run of the sizes of which one stands before the option.
+fn after_one(wakers: &str, behind: &[String], workers: u32) -> Option<Command>
+    ensures { result ≡ idle_sizes (wakers.now ∷ map string_bytes behind.now) workers }
+{
+    match behind {
+        [events, sessions] => sized(wakers, events.as_str(), sessions.as_str(), workers),
+        _ => None,
+    }
+}
+
+/// A run of the sizes of which two stand before the option.
+fn after_two(wakers: &str, events: &str, behind: &[String], workers: u32) -> Option<Command>
+    ensures { result ≡ idle_sizes (wakers.now ∷ events.now ∷ map string_bytes behind.now) workers }
+{
+    match behind {
+        [sessions] => sized(wakers, events, sessions.as_str(), workers),
+        _ => None,
+    }
+}
+
+/// A run of the sizes that stand before the option and behind it.
+fn sizes_around(before: &[String], behind: &[String], workers: u32) -> Option<Command>
+    ensures { result ≡ idle_sizes (map string_bytes before.now ++ map string_bytes behind.now) workers }
+{
+    match before {
+        [] => sizes_of(behind, workers),
+        [wakers] => after_one(wakers.as_str(), behind, workers),
+        [wakers, events] => after_two(wakers.as_str(), events.as_str(), behind, workers),
+        [wakers, events, sessions] if behind.is_empty() => sized(
+            wakers.as_str(),
+            events.as_str(),
+            sessions.as_str(),
+            workers,
+        ),
+        _ => None,
+    }
+}
+
 /// What the words behind `idle` ask for.
 pub(crate) fn idle_in(words: &[String]) -> Option<Command>
     ensures { result ≡ idle_of (map string_bytes words.now) }
 {
-    let [wakers, events, sessions, rest @ ..] = words else {
-        return None;
-    };
-    let workers = workers_behind(rest)? as u32;
-    sized(wakers.as_str(), events.as_str(), sessions.as_str(), workers)
+    let (before, option) = words.split_at(option_place(words));
+    let workers = workers_named(option)? as u32;
+    sizes_around(before, behind_option(option), workers)
 }

@@ -1,4 +1,6 @@
 //! The words of the command line, and what they ask for.
+//!
+//! Its tests are those of the whole program, `row_trials`.
 #![tactic(auto)]
 
 mod command;
