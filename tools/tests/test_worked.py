@@ -7,9 +7,12 @@ import unittest
 import unittest.mock
 
 from dev_tests import ROOT, WORKED, dev
+from julampok.second import idle, locks
+from julampok.second.words import command_of
 from maintain.commands import worked
 from maintain.trials.files import expected
-from maintain.worked import files, judged, reader
+from maintain.worked import files, judged, reader, rows, tellings
+from maintain.worked.case import Case
 from maintain.worked.entries import entry_term
 from maintain.worked.machine import Machine
 from maintain.worked.table import ENTRIES, LAWS, LOGS, MACHINES, MODULES
@@ -22,18 +25,12 @@ all_files = functools.cache(files.all_files)
 class Files(unittest.TestCase):
     def test_the_crates_have_them(self):
         for path, text in all_files().items():
-            self.assertEqual((ROOT / "crates" / path).read_text(), text, f"{path} is old: `tools/dev worked` writes it")
+            self.assertTrue((ROOT / "crates" / path).read_bytes() == text, f"{path} is old: `tools/dev worked` writes it")
 
     def test_each_worked_log_is_in_the_table(self):
         self.assertEqual({name for _, name, _ in LOGS}, {path.stem for path in WORKED.glob("*.log")})
         self.assertLessEqual({module for module, _, _ in LOGS}, set(MODULES))
         self.assertLessEqual({*LAWS, *ENTRIES, *MACHINES}, {name for _, name, _ in LOGS})
-
-    def test_texts_stand_on_one_line(self):
-        rows = {path: text for path, text in all_files().items() if "/rows/" in path}
-        texts = sum(line.strip().startswith('"') or '_LOG: &str = "' in line for text in rows.values() for line in text.splitlines())
-        self.assertGreater(texts, 40)
-        self.assertFalse([path for path, text in rows.items() if '"\\\n' in text])
 
 
 class Cases(unittest.TestCase):
@@ -41,6 +38,24 @@ class Cases(unittest.TestCase):
         """The second writing says of each broken copy what stands beside it."""
         for copy in judged.copies():
             self.assertEqual(judged.verdict_of(copy.log, copy.text()), copy.verdict, copy)
+
+    def test_words(self):
+        """Words are refused exactly where the second reading knows no form of them."""
+        for case in rows.cases():
+            self.assertEqual(case.status == 2, case.words is None or command_of(case.words) is None, case.words)
+
+    def test_a_row(self):
+        case = Case(("run", "--workers=1"), ((b"{}", 1), (b"\n", 3)), 4, b"", b"read fault\n", (("read fails", 2), ("chunk", 4)))
+        wanted = b"words 3\nsleep\nrun\n--workers=1\nread fails 2\nchunk 4\ninput 2\n{}\nrepeat 3\ninput 1\n\n\nrow 7\n"
+        self.assertEqual(b"".join(rows.row(case, 7)), wanted)
+        self.assertEqual(rows.said(case, 7), b"row 7 status 4 left 1 out 0 err 11\nread fault\n\n")
+
+    def test_cases_of_one_worker(self):
+        """The worked texts of suspend-to-idle and of named locks are those of the second writings."""
+        for words, said in tellings.IDLE:
+            self.assertEqual(idle.text_by_rounds(*command_of(words.split())[1:-1]).encode(), said)
+        for lines, times, *said in tellings.NAMED[:2]:
+            self.assertEqual(locks.run(lines * times), tuple(said))
 
     def test_cases_of_the_checker(self):
         cases = list(judged.cases())
@@ -73,9 +88,9 @@ class Command(unittest.TestCase):
     def test_writing_and_checking(self):
         done = dev("worked", "--check")
         self.assertEqual((done.status, list(self.crates.iterdir())), (1, []))
-        self.assertIn("crates/sleep_main/src/rows/links.rt is old", done.out)
+        self.assertIn("crates/row_trials/stdin is old", done.out)
         self.assertEqual(dev("worked").status, 0)
-        self.assertEqual((self.crates / "sleep_main/src/rows/links.rt").read_text(), all_files()["sleep_main/src/rows/links.rt"])
+        self.assertEqual((self.crates / "row_trials/stdin").read_bytes(), all_files()["row_trials/stdin"])
         done = dev("worked", "--check")
         self.assertEqual((done.status, done.out.split(" ")[0]), (0, "0"))
         (self.crates / "law_trials/src/whole.rt").write_text("something else\n")

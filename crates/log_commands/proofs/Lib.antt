@@ -1,3 +1,4 @@
+mod Checking
 pub mod Fitting
 pub mod Judging
 pub mod Rows

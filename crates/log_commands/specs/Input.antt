@@ -9,10 +9,7 @@ use Rattle.machine_file.specs.Whole.{machine_in, broken_at, broken_in}
 use Rattle.log_text.specs.Grammar.{IsFirstBad}
 use Rattle.program_ending.specs.declared.refusal.Refusal.{Refusal}
 use Rattle.program_ending.specs.declared.refusal.Refusal.TheVariants.{LongMachine, Broken, BadLine}
-
--- how many bytes a machine's file has at most (own)
-abbrev pub most_machine : ℕ
-most_machine = 16777216
+use Rattle.program_ending.specs.Streams.{most_machine}
 
 -- how many bytes stand before the first newline; all where there is none
 abbrev pub line_length : List ℕ → ℕ

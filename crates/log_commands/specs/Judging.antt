@@ -11,7 +11,8 @@ use Rattle.log_check.specs.declared.ending.Verdict.{Verdict}
 use Rattle.log_check.specs.declared.ending.Verdict.TheVariants.{Good, Bad}
 use Rattle.log_check.specs.Verdicts.{IsVerdict}
 use Rattle.program_ending.specs.declared.refusal.Refusal.{Refusal}
-use Rattle.log_commands.specs.Input.{most_machine, IsBadMachine, file_in, text_in}
+use Rattle.program_ending.specs.Streams.{most_machine}
+use Rattle.log_commands.specs.Input.{IsBadMachine, file_in, text_in}
 use Rattle.log_commands.specs.Telling.{count_row, counted}
 
 -- a text has that verdict: that on the log whose text it is; where it is none's, its first line that the grammar has not is the first bad one

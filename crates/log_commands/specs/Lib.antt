@@ -1,3 +1,4 @@
+pub mod Endings
 pub mod Input
 pub mod Judging
 pub mod Stats

@@ -6,18 +6,16 @@ ghost use Rattle.sleep_model.specs.Fits.{IsWritable};
 ghost use Rattle.sleep_model.specs.Text.{text};
 ghost use Rattle.machine_file.specs.Reading.{links_among};
 ghost use Rattle.machine_file.specs.Whole.{IsSpelled, machine_in};
+ghost use Rattle.program_ending.specs.Streams.{most_machine};
 ghost use Rattle.program_ending.specs.Telling.{Refuses};
-ghost use Rattle.log_commands.specs.Input.{IsBadInput, IsBadLog, IsBadMachine, IsLogIn, file_in, line_length, most_machine, text_in};
+ghost use Rattle.log_commands.specs.Input.{IsBadInput, IsBadLog, IsBadMachine, IsLogIn, file_in, line_length, text_in};
 
 use device_links::Links;
 use log_text::{LogFault, read_log};
 use machine_file::{MachineFault, ReadMachine, read_machine};
-use program_ending::{Ending, Refusal};
+use program_ending::{Ending, MOST_MACHINE, Refusal};
 use sleep_model::{Log, Machine};
 use std::alloc::Global;
-
-/// The most bytes that a machine file has.
-pub const MOST_MACHINE: u32 = 16_777_216;
 
 /// A machine with its links, and a log of it.
 #[derive(Drop)]

@@ -1,4 +1,4 @@
-use lock_lines::{LinesFault, MOST_BYTES, answer_lines};
+use lock_commands::{LinesFault, MOST_BYTES, answer_lines};
 use sleep_base::Mem;
 use sleep_model::Name;
 use std::alloc::Global;

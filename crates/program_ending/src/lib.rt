@@ -1,8 +1,17 @@
-//! How the program ends: its status, and what it says on standard error.
+//! How the program ends: what a command has read and written by then, the status, and what is said on standard error.
+//!
+//! Each command stands in a crate above, and reads its input and writes its text by the calls of this one. Its tests are those of
+//! the whole program, `row_trials`.
 #![tactic(auto)]
 
 mod ending;
+mod input;
 mod refusal;
+mod said;
+mod standard_error;
 
 pub use ending::Ending;
+pub use input::{MOST_MACHINE, read_input};
 pub use refusal::Refusal;
+pub use said::{Said, write_said, write_told};
+pub use standard_error::say;

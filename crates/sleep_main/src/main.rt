@@ -1,38 +1,17 @@
 //! Runs the machine of a machine file through system sleep and prints the log of every step. Its other commands write and
 //! run machines that are made of a seed, lock names, count what a log says, and run suspend-to-idle.
+//!
+//! All but `main` and the reading of the words stands in `sleep_commands`. The stored run tries `main`, `row_trials` the rest.
 #![tactic(auto)]
 
-#[cfg(test)]
-mod check_tests;
-mod counts;
-mod generated;
-#[cfg(test)]
-mod generated_tests;
-#[cfg(test)]
-mod idle_tests;
-mod input;
-#[cfg(test)]
-mod locks_tests;
-#[cfg(test)]
-mod rows;
-mod said;
-#[cfg(test)]
-mod stats_tests;
-#[cfg(test)]
-mod tests;
-mod told;
-mod top;
-#[cfg(test)]
-mod workers_tests;
-
-use program_ending::Ending;
+use program_ending::{Ending, say};
 use sleep_base::{StdSink, StdSource};
+use sleep_commands::run_words;
 use sleep_run::OpenGate;
 use std::alloc::{AllocError, Global};
 use std::env;
 use std::io::ErrorKind;
 use std::process::ExitCode;
-use top::{run_words, say};
 
 /// The words of the command line. Words that are no text count as none; an error is want of memory.
 fn words_of(rt: &HostRuntime, alloc: Global) -> Result<Vec<String>, AllocError> {

@@ -1,17 +1,18 @@
-"""Writes the worked logs as the crates have them.
+"""Writes the worked logs, and the other worked data, as the crates have them.
 
 tools/worked/ has for each log its machine file NAME.json and its text NAME.log, worked out apart from the program; the table
 in tools/maintain/worked/table.py says what each shows. A machine becomes the value that its file spells, an entry a line. What
 is written: in crates/law_trials the values of the logs by which laws are tried, a module a subject, the laws that each is legal
-and is what one worker writes, and the logs of tools/worked/broken with the laws that refuse them; in crates/sleep_main the same
-machines and logs as tests of the program.
+and is what one worker writes, and the logs of tools/worked/broken with the laws that refuse them; in crates/row_trials every case
+of the whole program, and what the program has to say of each. What a case has to come to stands in tools/worked and in the
+tables of tools/maintain/worked, or is told by the second writing in Python; it is never taken from the program.
 """
 
 from julampok.files import write_all
 from maintain.places import CRATES
 from maintain.worked.files import all_files
 
-HELP = "writes the worked logs as terms, laws and tests of the crates"
+HELP = "writes the worked logs and cases as terms, laws and rows of the crates"
 EXAMPLE = "tools/dev worked --check"
 
 
@@ -23,7 +24,7 @@ def add_arguments(parser):
 def run(given):
     """Writes each file that is not as it has to be, or names it."""
     found = {CRATES / path: text for path, text in all_files().items()}
-    old = {path: text for path, text in found.items() if not path.is_file() or path.read_text(encoding="utf-8") != text}
+    old = {path: text for path, text in found.items() if not path.is_file() or path.read_bytes() != text}
     if not given.check:
         for path in old:
             path.parent.mkdir(parents=True, exist_ok=True)

@@ -31,7 +31,9 @@ READING = [
     (
         "What does a status of the program mean?",
         [
-            ("sleep_main", "Endings", ["Ended", "RunEnded", "RanFile", "Completes"]),
+            ("sleep_commands", "Endings", ["Ended"]),
+            ("run_commands", "Endings", ["RunEnded", "RanFile"]),
+            ("sleep_commands", "Endings", ["Completes"]),
             ("program_ending", "Endings", ["status_of", "text_of"]),
         ],
     ),
@@ -173,10 +175,10 @@ SECTIONS = [
     ("machine_rounds", "A whole run", "own", ["Runs"]),
     ("wake_locks", "Named locks", "`kernel/power/wakelock.c`", ["Standings", "Texts", "Locks", "Writes", "Expiries", "Counted"]),
     (
-        "lock_lines",
+        "lock_commands",
         "The command `locks`",
         "`kernel/power/wakelock.c`",
-        ["Lines", "Verbs", "Steps", "Answers", "Told", "Command"],
+        ["Lines", "Verbs", "Steps", "Answers", "Told", "Command", "Endings"],
     ),
     ("wakeup_source", "What a call adds to a source", "`drivers/base/power/wakeup.c`", ["SourceStates", "Told"]),
     ("device_links", "Links as they stand", "`drivers/base/core.c`", ["Linked", "Kept"]),
@@ -184,12 +186,13 @@ SECTIONS = [
     ("sleep_stats", "What a log counts, and the links at its end", "`include/linux/suspend.h`, `drivers/base/core.c`", ["Counting", "Linked"]),
     ("log_commands", "The command `stats`", "`kernel/power/main.c`", ["Input", "Taking", "Telling", "Stats"]),
     ("log_check", "The verdict on a log", "own", ["Verdicts"]),
-    ("log_commands", "The command `check`", "own", ["Judging"]),
-    ("program_ending", "Statuses and their texts", "own", ["Endings", "Telling"]),
+    ("log_commands", "The command `check`", "own", ["Judging", "Endings"]),
+    ("program_ending", "Statuses and their texts, and what was read and written", "own", ["Endings", "Streams", "Telling"]),
     ("idle_gate", "The idler's gate", "`kernel/power/suspend.c`", ["Gates"]),
     ("idle_loop", "Suspend-to-idle", "`kernel/power/suspend.c`", ["IdleLogs", "Laws", "Merging"]),
-    ("idle_lines", "The command `idle`", "own", ["Lines"]),
-    ("sleep_main", "How the program ends", "own", ["Endings", "Counting"]),
+    ("idle_commands", "The command `idle`", "own", ["Lines", "Endings"]),
+    ("run_commands", "The commands `run`, `gen` and `soak`", "own", ["Endings", "Counting"]),
+    ("sleep_commands", "How the program ends", "own", ["Endings"]),
     ("sleep_pool", "Jobs that are lent to workers", "own", ["Turns"]),
     ("turn_lock", "Locks in one table", "own", ["Books", "Passes"]),
     ("run_laws", "What the passes of a burst made", "own", ["Passes"]),
@@ -200,7 +203,8 @@ SECTIONS = [
 
 # What the two clauses of the program name.
 PROGRAM = [
-    ("sleep_main", "Endings", ["Ended", "Completes", "Says", "stream", "streams"]),
+    ("sleep_commands", "Endings", ["Ended", "Completes"]),
+    ("program_ending", "Streams", ["Says", "stream", "streams"]),
     ("program_ending", "Endings", ["status_of", "text_of"]),
     ("command_line", "Words", ["command_of"]),
 ]
@@ -222,7 +226,7 @@ PROMISED = [
     ("sleep_model", "Accepted", ["IsAccepted"]),
     ("sleep_model", "Merge", ["merge", "rises", "IsFit"]),
     ("machine_file", "Spelling", ["AllReadBack"]),
-    ("lock_lines", "Told", ["AgreeAfter"]),
+    ("lock_commands", "Told", ["AgreeAfter"]),
     ("idle_loop", "Laws", ["LosesNone", "SleepsOverNone"]),
     ("idle_loop", "Merging", ["Merges", "MergesToLegal"]),
     ("sleep_pool", "Turns", ["AllWent", "Went", "FirstsWent", "PartsEnded", "OfParts", "GoesRound", "part_size"]),

@@ -1,22 +1,39 @@
-"""A case of the program: its words, what it reads, and how it ends."""
+"""A case of the program: its words, what it reads, how its streams behave, and how it ends."""
 
 from dataclasses import dataclass
+
+CHUNK = 4096  # How many bytes a read or a write takes at most, where a case says nothing else.
 
 
 @dataclass(frozen=True)
 class Case:
-    """The words behind the program's name, the pieces of its input, each with how often it stands, and its end."""
+    """The words behind the program's name, the pieces of its input, each with how often it stands, and its end.
+
+    `words` is None where there is no word at all, not even the program's name. `streams` has pairs of words and a number, as the
+    lines of a row of row_trials: how many bytes a call takes at most, how many standard output takes, which calls fail.
+    """
 
     words: tuple
     pieces: tuple
     status: int
     out: bytes = b""
     err: bytes = b""
+    streams: tuple = ()
 
     @property
     def data(self):
         """The whole input."""
         return b"".join(piece * times for piece, times in self.pieces)
+
+    @property
+    def left(self):
+        """How many bytes of the input are not read: none where it is read to its end, all where the words ask for none of it."""
+        size, streams = sum(len(piece) * times for piece, times in self.pieces), dict(self.streams)
+        if self.status == 2 or self.words[0] in ("gen", "soak", "idle"):
+            return size
+        if self.status == 4:
+            return max(0, size - (streams["read fails"] - 1) * streams.get("chunk", CHUNK))
+        return 0
 
 
 def judged_case(tree, text, verdict):

@@ -1,4 +1,4 @@
-"""Each file of the crates that is made of the worked logs."""
+"""Each file of the crates that is made of the worked logs and the other worked data."""
 
 from maintain.worked import laws, refuted, rows
 from maintain.worked.logs import Worked
@@ -28,7 +28,7 @@ def of_trials(logs):
 
 
 def all_files():
-    """The text of each file, by its path from the folder crates/."""
+    """The bytes of each file, by its path from the folder crates/."""
     logs = [Worked.read(*row) for row in LOGS]
-    trials = {f"law_trials/{path}": text for path, text in of_trials(logs)}
-    return trials | {f"sleep_main/{path}": text for path, text in rows.files(logs)}
+    trials = {f"law_trials/{path}": text.encode() for path, text in of_trials(logs)}
+    return trials | {f"row_trials/{path}": data for path, data in rows.files()}

@@ -1,80 +1,46 @@
-"""The worked logs as tests of the program, in the crate sleep_main.
+"""The cases of the program as the crate row_trials reads them, and what it has to say of them.
 
-Each text is one literal on a line of its own, however long, since the gate plans memory by the lines of a crate.
+A row has its words, a line each, how its streams behave, the pieces of its input and its number. Of each the program says the
+number, the status, how many bytes of the input are left and how long both texts are, and then the texts.
 """
 
-import json
+from maintain.worked import generated, judged, reader, runs, tellings
 
-# Each file of rows: the module of worked logs that it has, and what it says at its head.
-ROWS = {
-    "attempts": ("Attempts", "Attempts that sleep, and attempts that a wakeup ends."),
-    "failures": ("Failures", "Attempts in which a callback, a notifier, a syscore step or the platform fails."),
-    "devices": ("Devices", "Devices with suppliers, asynchronous ones, and runtime status."),
-    "links": ("Links", "Links that are dormant, and links that tasks add or set between attempts."),
-    "freezing": ("Freezing", "Tasks that are asked to freeze."),
-    "counts": ("Counts", "Reads and saves of the count, writes to the state, and tasks that wait."),
-    "timers": ("Timers", "Events with a length."),
-    "autosleep": ("Autosleep", "Writes to autosleep, and its work."),
-}
-
-# The width of a line, and of a tuple on one line, as rt fmt lays them out.
-WIDTH = 100
-TUPLE = 60
-
-HEAD = """//! {says}
-//!
-//! `tools/dev worked` writes this file from `tools/worked/`.
-
-/// The machines, the status that each gives, and its log.
-pub(crate) const MACHINES: [(&str, u8, &str); {count}] = [
-{rows}];
-"""
-
-ROW = """
-/// {says}
-{file}
-
-/// What the program writes for it.
-{text}
-"""
+NAME = "sleep"  # The word before the others: the program's own.
 
 
-def status_of(log):
-    """The status that the program ends with: 6 where somebody waits for ever."""
-    return 6 if log.stuck else 0
+def cases():
+    """Every case."""
+    for module in (runs, tellings, judged, reader, generated):
+        yield from module.cases()
 
 
-def table_row(log):
-    """A row of the table of a file."""
-    parts = [log.name.upper(), str(status_of(log)), f"{log.name.upper()}_LOG"]
-    if len(", ".join(parts)) > TUPLE:
-        return "    (\n" + "".join(f"        {part},\n" for part in parts) + "    ),\n"
-    return f"    ({', '.join(parts)}),\n"
+def words_of(case):
+    """All words of a case, with the program's own name."""
+    return () if case.words is None else (NAME, *case.words)
 
 
-def literal(text):
-    """A text of several lines as a literal on one line."""
-    escaped = text.replace("\\", "\\\\").replace('"', '\\"').replace("\n", "\\n")
-    return f'"{escaped}"'
+def row(case, number):
+    """A case as it is read."""
+    words = words_of(case)
+    yield f"words {len(words)}\n".encode()
+    yield from (f"{word}\n".encode() for word in words)
+    yield from (f"{what} {count}\n".encode() for what, count in case.streams)
+    for piece, times in case.pieces:
+        if times != 1:
+            yield b"repeat %d\n" % times
+        yield b"input %d\n%s\n" % (len(piece), piece)
+    yield b"row %d\n" % number
 
 
-def constant(name, value):
-    """A text's constant, with its value on the next line where it is too long for the first."""
-    line = f"pub(crate) const {name}: &str = {value};"
-    return line if len(line) <= WIDTH else line.replace("&str = ", "&str =\n    ", 1)
+def said(case, number):
+    """What the program says of it."""
+    numbers = (number, case.status, case.left, len(case.out), len(case.err))
+    return b"row %d status %d left %d out %d err %d\n" % numbers + case.out + case.err + b"\n"
 
 
-def row(log):
-    """A machine and its log as constants."""
-    name, file = log.name.upper(), json.dumps(log.machine.tree, separators=(",", ":"))
-    return ROW.format(
-        says=log.says, file=constant(name, f'r#"{file}"#'), text=constant(f"{name}_LOG", literal(log.text))
-    )
-
-
-def files(logs):
-    """A file for each subject, by its path in the crate."""
-    for name, (module, says) in ROWS.items():
-        own = [log for log in logs if log.module == module]
-        table = "".join(map(table_row, own))
-        yield f"src/rows/{name}.rt", HEAD.format(says=says, count=len(own), rows=table) + "".join(map(row, own))
+def files():
+    """The two files of the crate, by their paths in it."""
+    every = list(enumerate(cases(), 1))
+    yield "stdin", b"".join(piece for number, case in every for piece in row(case, number))
+    yield "stdout", b"".join(said(case, number) for number, case in every)

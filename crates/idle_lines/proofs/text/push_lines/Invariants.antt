@@ -1,6 +1,0 @@
-use Rattle.std.proofs.Common.{◌≡◌, ◌++◌, take, flat_map}
-use Rattle.idle_lines.specs.Lines.{line}
-use Rattle.idle_lines.proofs.text.push_lines.Given as goal
-
-abbrev pub invariant-loop-entry : goal.invariant-loop-entry
-invariant-loop-entry l = l.out.items ≡ l.initial.out.items ++ flat_map (line l.wakers) (take l.entry-index l.entries)

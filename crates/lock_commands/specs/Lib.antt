@@ -1,0 +1,7 @@
+pub mod Answers
+pub mod Command
+pub mod Endings
+pub mod Lines
+pub mod Steps
+pub mod Told
+pub mod Verbs

@@ -1,7 +1,0 @@
-use Rattle.std.proofs.Common.{◌≡◌, ◌++◌, take, drop}
-use Rattle.lock_lines.specs.Lines.{before, behind}
-use Rattle.lock_lines.proofs.cut.cut.Given as goal
-
--- the first byte of that value is not among those so far
-abbrev pub invariant-loop-i : goal.invariant-loop-i
-invariant-loop-i l = (before l.mark l.text ≡ take l.i l.text ++ before l.mark (drop l.i l.text)) × (behind l.mark l.text ≡ behind l.mark (drop l.i l.text))

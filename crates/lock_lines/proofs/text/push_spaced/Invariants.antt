@@ -1,6 +1,0 @@
-use Rattle.std.proofs.Common.{◌≡◌, ◌++◌, take, flat_map}
-use Rattle.lock_lines.specs.Answers.{spaced}
-use Rattle.lock_lines.proofs.text.push_spaced.Given as goal
-
-abbrev pub invariant-loop-name : goal.invariant-loop-name
-invariant-loop-name l = l.out.items ≡ l.initial.out.items ++ flat_map spaced (take l.name-index l.names)

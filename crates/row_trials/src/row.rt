@@ -1,0 +1,115 @@
+//! A row: its words, its input, and how the streams behave.
+
+use crate::fault::RowsFault;
+use crate::line::{Line, Verb, cut_piece, cut_text};
+use std::alloc::Global;
+
+/// How the streams behave. A call whose number is 0 is none.
+#[derive(Clone, Copy, Debug)]
+pub(crate) struct Streams {
+    /// The most bytes that a read or a write takes.
+    pub(crate) chunk: usize,
+    /// The most bytes that standard output takes in all.
+    pub(crate) room: usize,
+    /// The read that fails.
+    pub(crate) read_fails: usize,
+    /// The write of standard output that fails.
+    pub(crate) write_fails: usize,
+    /// The write of standard error that fails.
+    pub(crate) error_fails: usize,
+}
+
+/// Streams that take 4,096 bytes a call, and of which no call fails.
+const GOOD: Streams = Streams {
+    chunk: 4_096,
+    room: 1 << 23,
+    read_fails: 0,
+    write_fails: 0,
+    error_fails: 0,
+};
+
+/// A row that is read.
+#[derive(Drop)]
+pub(crate) struct Row {
+    pub(crate) words: Vec<String>,
+    pub(crate) input: Vec<u8>,
+    pub(crate) streams: Streams,
+    /// How often the next piece of the input stands.
+    repeat: usize,
+}
+
+impl Row {
+    /// A row of these words over that input, over good streams.
+    pub(crate) fn over(words: Vec<String>, input: Vec<u8>) -> Self {
+        Row {
+            words,
+            input,
+            streams: GOOD,
+            repeat: 1,
+        }
+    }
+
+    /// A row without words and input.
+    pub(crate) fn new(alloc: Global) -> Self {
+        Self::over(Vec::new(alloc), Vec::new(alloc))
+    }
+
+    /// Takes the word of the next line off `left`. What is left then.
+    fn take_word<'a>(&mut self, alloc: Global, left: &'a [u8]) -> Result<&'a [u8], RowsFault> {
+        let (text, behind) = cut_text(left).ok_or(RowsFault::Form)?;
+        let word = String::from_str(alloc, text)?;
+        self.words.push(word)?;
+        Ok(behind)
+    }
+
+    /// Takes the words of that many lines off `left`. What is left then.
+    fn take_words<'a>(
+        &mut self,
+        alloc: Global,
+        count: usize,
+        left: &'a [u8],
+    ) -> Result<&'a [u8], RowsFault> {
+        let mut left = left;
+        for _ in 0..count {
+            left = self.take_word(alloc, left)?;
+        }
+        Ok(left)
+    }
+
+    /// Adds a piece to the input, as often as it stands.
+    fn add_piece(&mut self, piece: &[u8]) -> Result<(), RowsFault> {
+        for _ in 0..self.repeat {
+            self.input.extend_from_slice(piece)?;
+        }
+        self.repeat = 1;
+        Ok(())
+    }
+
+    /// Takes a piece of that many bytes off `left`. What is left then.
+    fn take_piece<'a>(&mut self, count: usize, left: &'a [u8]) -> Result<&'a [u8], RowsFault> {
+        let (piece, behind) = cut_piece(left, count).ok_or(RowsFault::Form)?;
+        self.add_piece(piece)?;
+        Ok(behind)
+    }
+
+    /// Takes a line, and off `left` what belongs to it. What is left then.
+    pub(crate) fn take<'a>(
+        &mut self,
+        alloc: Global,
+        line: Line,
+        left: &'a [u8],
+    ) -> Result<&'a [u8], RowsFault> {
+        match line.verb {
+            Verb::Words => return self.take_words(alloc, line.number, left),
+            Verb::Input => return self.take_piece(line.number, left),
+            Verb::Repeat => self.repeat = line.number,
+            Verb::Chunk => self.streams.chunk = line.number,
+            Verb::WriteRoom => self.streams.room = line.number,
+            Verb::ReadFails => self.streams.read_fails = line.number,
+            Verb::WriteFails => self.streams.write_fails = line.number,
+            Verb::ErrorFails => self.streams.error_fails = line.number,
+            Verb::Row => {}
+        }
+        Ok(left)
+    }
+}
