@@ -35,7 +35,7 @@ use Rattle.rule_definitions.specs.Freezer.{FreezesActor, FreezesNot}
 use Rattle.rule_definitions.specs.Law.{IsDue, OneForDevices}
 use Rattle.rule_definitions.specs.Path.{PathOf}
 use Rattle.rule_definitions.specs.Questions.{is_maker, row_now, turn_of}
-use Rattle.rule_definitions.specs.Reads.{ReadsActor}
+use Rattle.rule_definitions.specs.Reads.{ReadsActor, ReadsElse}
 use Rattle.rule_definitions.specs.Skip.{KeepsSkip, IsTurn, IsScheduledDown}
 use Rattle.rule_definitions.specs.Steps.{IsDeviceStep, StepsOf}
 use Rattle.rule_definitions.specs.Walk.{KeepsWalk, BeginsAsync, BeginsBy, EndsBy, EndsAsync}
@@ -153,12 +153,12 @@ IsTime actor.Time = Unit {0}
 IsTime _ = ⊥
 
 -- the rules that say nothing of what a device makes are kept
-fill : (m : Machine) (past : List Entry) (now : EventNow) (d : ℕ) (k : Kind) → is_maker past (actor.Dev d) ≡ false → KeepsLinks m past k → KeepsAttempts past k → KeepsRuntime m past k → KeepsAnswers past k → KeepsRestored m past k → FreezesNot k → NoFroze k → NoWake k → Own m past now d k → KeepsOwed m past k → KeepsAll m past now (actor.Dev d) k
-fill m past now d k e l a u n s z f w o x = record {
+fill : (m : Machine) (past : List Entry) (now : EventNow) (d : ℕ) (k : Kind) → is_maker past (actor.Dev d) ≡ false → KeepsLinks m past k → KeepsAttempts past k → KeepsRuntime m past k → KeepsAnswers past k → KeepsRestored m past k → FreezesNot k → NoFroze k → NoWake k → ReadsElse past now (actor.Dev d) k → Own m past now d k → KeepsOwed m past k → KeepsAll m past now (actor.Dev d) k
+fill m past now d k e l a u n s z f w r o x = record {
   most = record {
     links = l;
     attempts = a;
-    reads = subst (λ (b : Bool). ReadsActor m past now (actor.Dev d) b k) (sym e) tt;
+    reads = subst (λ (b : Bool). ReadsActor m past now (actor.Dev d) b k) (sym e) r;
     walk = o.0;
     skip = o.1;
     runtime = u;
@@ -174,9 +174,9 @@ fill m past now d k e l a u n s z f w o x = record {
 
 -- of a device's entry the other rules ask nothing, but that what it undoes is owed
 rest_keeps : (m : Machine) (past : List Entry) (now : EventNow) (d : ℕ) (k : Kind) → is_maker past (actor.Dev d) ≡ false → JournalPart m past → IsDue m past now (actor.Dev d) k → Own m past now d k → KeepsAll m past now (actor.Dev d) k
-rest_keeps m past now d (kind.Begin p c) e j x o = fill m past now d (kind.Begin p c) e tt tt tt tt tt tt tt tt o (all_owed m past (placed past now (actor.Dev d) (kind.Begin p c)) ((x, refl), j))
-rest_keeps m past now d (kind.End p c r) e j x o = fill m past now d (kind.End p c r) e tt tt tt tt tt tt tt tt o (all_owed m past (placed past now (actor.Dev d) (kind.End p c r)) ((x, refl), j))
-rest_keeps m past now d (kind.Skip p c cause) e j x o = fill m past now d (kind.Skip p c cause) e tt tt tt tt tt tt tt tt o tt
+rest_keeps m past now d (kind.Begin p c) e j x o = fill m past now d (kind.Begin p c) e tt tt tt tt tt tt tt tt tt o (all_owed m past (placed past now (actor.Dev d) (kind.Begin p c)) ((x, refl), j))
+rest_keeps m past now d (kind.End p c r) e j x o = fill m past now d (kind.End p c r) e tt tt tt tt tt tt tt tt tt o (all_owed m past (placed past now (actor.Dev d) (kind.End p c r)) ((x, refl), j))
+rest_keeps m past now d (kind.Skip p c cause) e j x o = fill m past now d (kind.Skip p c cause) e tt tt tt tt tt tt tt tt tt o tt
 rest_keeps m past now d _ e j x o = absurd o.3
 
 -- a device that makes no attempt makes what is due of it as a device

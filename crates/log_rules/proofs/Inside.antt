@@ -43,7 +43,7 @@ pub time_journal : (past : List Entry) → time_of (journal past) ≡ time_of pa
 time_journal [] = refl
 time_journal (e ∷ past) = time_further past e.time e.now e.actor e.kind (time_journal past)
 
-same_number : (s t : ℕ) → (s == t) ≡ true → s ≡ t
+pub same_number : (s t : ℕ) → (s == t) ≡ true → s ≡ t
 same_number s t e = grind (arith, nat_tests)
 
 -- a part is of one source
@@ -199,7 +199,7 @@ within m OfJournal s e f = never e
 within m OfTime s e f = never e
 
 -- a source that owes something has an entry, so it is there
-owes_there : (m : Machine) (past : List Entry) (s : ℕ) → list_all (λ e. is_there m (part_of e.kind)) past ≡ true → is_left (owed (history s past)) ≡ true → s < length m.sources + 1
+pub owes_there : (m : Machine) (past : List Entry) (s : ℕ) → list_all (λ e. is_there m (part_of e.kind)) past ≡ true → is_left (owed (history s past)) ≡ true → s < length m.sources + 1
 owes_there m [] s f l = never l
 owes_there m (e ∷ past) s f l = by_source (is_of s (part_of e.kind)) refl (owes_there m past s (and_right (is_there m (part_of e.kind)) _ f)) l
   where
@@ -207,7 +207,7 @@ owes_there m (e ∷ past) s f l = by_source (is_of s (part_of e.kind)) refl (owe
     by_source true q h l = within m (part_of e.kind) s q (and_left (is_there m (part_of e.kind)) _ f)
     by_source false q h l = h l
 
-outside_all : (n : ℕ) (of : ℕ → List Entry) (who : Actor) (s : ℕ) → is_calling n of who ≡ false → s < n → is_inside (of s) who ≡ true → ⊥
+pub outside_all : (n : ℕ) (of : ℕ → List Entry) (who : Actor) (s : ℕ) → is_calling n of who ≡ false → s < n → is_inside (of s) who ≡ true → ⊥
 outside_all zero of who s c l i = absurd (omega (arith, l))
 outside_all (suc n) of who s c l i = by_number (s == n) refl (outside_all n of who s (or_right (is_inside (of n) who) (is_calling n of who) c))
   where

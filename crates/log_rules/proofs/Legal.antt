@@ -1,5 +1,5 @@
 -- Legal lists of entries: one more is legal exactly where it keeps all rules.
-use Rattle.std.proofs.Common.{◌≡◌, ◌<◌, ◌+◌, ◌∙◌, ℕ, suc, arith, nat_le, Bool, true, false, ◌&&◌, List, [], ◌∷◌, length, Some, cond, refl, sym, subst}
+use Rattle.std.proofs.Common.{◌≡◌, ◌<◌, ◌+◌, ◌∙◌, ℕ, suc, arith, nat_le, Bool, true, false, ◌&&◌, List, [], ◌∷◌, length, Option, Some, None, cond, refl, sym, ap, subst}
 use Rattle.std.proofs.lemmas.Bool.Decides.{nat_tests}
 use Rattle.std.specs.List.{list_all, range_with_len}
 use Rattle.sleep_model.specs.declared.entry.Actor.{Actor}
@@ -13,7 +13,7 @@ use Rattle.sleep_model.specs.Calls.{is_left}
 use Rattle.sleep_model.specs.Legal.{IsLegal, is_short, IsOwnTurn, IsOnTime, HistoriesFit, JournalPart, JournalStep, JointStep, OwnStep}
 use Rattle.sleep_model.specs.Numbers.{numbers}
 use Rattle.sleep_model.specs.Parts.{Part, OfJournal, Notes, Moves, OfTime, part_of, is_kept, journal}
-use Rattle.sleep_model.specs.Path.{maker}
+use Rattle.sleep_model.specs.Path.{maker, is_actor}
 use Rattle.sleep_model.specs.Sources.{history, is_of, most_entries, owed, caller, IsNext, SourceStep}
 use Rattle.sleep_model.specs.Table.{stage_of}
 use Rattle.sleep_laws.proofs.Holding.{held}
@@ -22,10 +22,15 @@ use Rattle.rule_definitions.specs.Entry.{KeepsPart, KeepsEach, OneForEntries, On
 use Rattle.rule_definitions.specs.Law.{IsDue}
 use Rattle.rule_definitions.specs.Path.{PathOf}
 use Rattle.rule_definitions.specs.Questions.{is_maker}
-use Rattle.rule_definitions.specs.Walk.{ReportsMade}
-use Rattle.log_rules.proofs.Inside.{JournalIf, grown, earlier, and_left, and_right, newest, inside_behind, behind_one, time_journal, time_makes_none, same_actor}
+use Rattle.rule_definitions.specs.Freezer.{GoesOnEntry}
+use Rattle.rule_definitions.specs.Steps.{is_inside}
+use Rattle.rule_definitions.specs.Walk.{ReportsMade, is_in_callback}
+use Rattle.log_rules.proofs.Callbacks.{ends_own}
+use Rattle.log_rules.proofs.Facts.{never}
+use Rattle.log_rules.proofs.Inside.{JournalIf, grown, earlier, and_left, and_right, newest, inside_behind, time_journal, time_makes_none, actor_same, same_actor}
 use Rattle.log_rules.proofs.Makers.{all}
 use Rattle.log_rules.proofs.Quiet.{note_reports, note_thawed, step_thawed_actor}
+use Rattle.log_rules.proofs.Turns.{at_turn, freezes_back, freezes_then, goes_on, inside_turn, note_turn}
 
 -- ---- legality of one entry, by its part
 
@@ -70,6 +75,14 @@ module _ (m : Machine) (past : List Entry) (e : Entry) where
   reports_made (kind.End p d r) h = h
   reports_made _ h = tt
 
+  left_next : (x : WordKind) (steps : List WordKind) → IsNext x steps → is_left steps ≡ true
+  left_next x [] h = absurd h
+  left_next x (y ∷ ys) h = refl
+
+  -- who makes the step that its source owes is inside the call
+  own_inside : (x : WordKind) (s : ℕ) → IsNext x (owed (history s past)) × (caller (history s past) ≡ Some e.actor) → is_inside (history s past) e.actor ≡ true
+  own_inside x s h = rw (left_next x (owed (history s past)) h.0) (rw h.1 (same_actor e.actor))
+
   keeps : IsLegal m past → (p : Part) → Pieces m past e p → KeepsPart m past e p
   keeps l OfJournal h =
       let k : KeepsAll m (journal past) (numbers past) e.actor e.kind = subst (λ (w : EventNow). KeepsAll m (journal past) w e.actor e.kind) h.now ((all m (journal past) e.now e.actor e.kind).keeps l.journal h.in_journal.0) in
@@ -78,11 +91,11 @@ module _ (m : Machine) (past : List Entry) (e : Entry) where
         numbers = (h.now, h.time);
         attempts = k.most.attempts;
         reads = k.most.reads;
-        walk = (k.most.walk, reports_made e.kind h.joint.0);
+        walk = (k.most.walk, reports_made e.kind h.joint.0, ends_own m (journal past) (numbers past) e.actor e.kind l.journal k.most);
         skip = k.most.skip;
         runtime = k.most.runtime;
         owed = k.owed;
-        freezer = k.most.freezer;
+        freezer = (freezes_then m past e.actor (is_maker (journal past) e.actor) e.kind (at_turn m past e.actor h.joint.0 h.joint.1) k.most.freezer.0, k.most.freezer.1);
         path = k.most.path;
         answers = k.most.answers;
         restored = k.restored;
@@ -99,7 +112,7 @@ module _ (m : Machine) (past : List Entry) (e : Entry) where
     skip = tt;
     runtime = tt;
     owed = tt;
-    freezer = note_thawed m past (grown m past l) e.actor e.kind h.joint.0 (is_maker (journal past) e.actor) refl;
+    freezer = goes_on m past e.actor (is_maker (journal past) e.actor) (note_thawed m past (grown m past l) e.actor e.kind h.joint.0 (is_maker (journal past) e.actor) refl) (note_turn m past e.actor e.kind h.joint.0);
     path = note_reports m past (grown m past l) e.actor e.kind h.joint.0 (is_maker (journal past) e.actor) refl;
     answers = tt;
     restored = tt;
@@ -112,20 +125,15 @@ module _ (m : Machine) (past : List Entry) (e : Entry) where
     numbers = (h.now, h.time);
     attempts = tt;
     reads = tt;
-    walk = tt;
+    walk = λ i. own_inside x s h.own;
     skip = tt;
     runtime = tt;
     owed = tt;
-    freezer = step_thawed_actor m past (grown m past l) e.actor s h.joint (is_maker (journal past) e.actor) refl;
+    freezer = goes_on m past e.actor (is_maker (journal past) e.actor) (step_thawed_actor m past (grown m past l) e.actor s h.joint (is_maker (journal past) e.actor) refl) (inside_turn m past (grown m past l) e.actor s (own_inside x s h.own));
     path = tt;
     answers = tt;
     restored = tt;
-    steps = (
-      λ t i.
-          let same : t ≡ s = behind_one past e.actor t s (inside_behind m past l t e.actor i) h.joint in
-          (same, subst (λ (u : ℕ). IsNext x (owed (history u past))) (sym same) h.own.0),
-      λ i. h.own.1,
-    );
+    steps = (own_inside x s h.own, h.own.0);
     enabled = tt;
     source = (h.own.0, h.fits);
   }
@@ -134,11 +142,11 @@ module _ (m : Machine) (past : List Entry) (e : Entry) where
     numbers = (h.now, h.time);
     attempts = tt;
     reads = tt;
-    walk = tt;
+    walk = subst (λ (x : Actor). is_in_callback m (journal past) x ≡ false) (sym h.in_journal.0) (rw (time_makes_none (maker (journal past)) (stage_of (journal past)) (held m (journal past) l.journal).2) refl);
     skip = tt;
     runtime = tt;
     owed = tt;
-    freezer = tt;
+    freezer = subst (λ (x : Actor). GoesOnEntry m past x (is_maker (journal past) x)) (sym h.in_journal.0) tt;
     path = subst (λ (x : Actor). PathOf m (journal past) (numbers past) (is_maker (journal past) x) e.kind) (sym h.in_journal.0) (subst (λ (b : Bool). PathOf m (journal past) (numbers past) b e.kind) (sym (time_makes_none (maker (journal past)) (stage_of (journal past)) (held m (journal past) l.journal).2)) tt);
     answers = tt;
     restored = tt;
@@ -149,9 +157,9 @@ module _ (m : Machine) (past : List Entry) (e : Entry) where
 
   -- ---- what keeps all rules is legal
 
-  left_next : (x : WordKind) (steps : List WordKind) → IsNext x steps → is_left steps ≡ true
-  left_next x [] h = absurd h
-  left_next x (y ∷ ys) h = refl
+  is_caller : (who : Actor) (o : Option Actor) → is_actor who o ≡ true → o ≡ Some who
+  is_caller who None i = never i
+  is_caller who (Some x) i = ap Some (actor_same x who i)
 
   makes : IsLegal m past → (p : Part) → KeepsPart m past e p → Pieces m past e p
   makes l OfJournal k =
@@ -162,7 +170,7 @@ module _ (m : Machine) (past : List Entry) (e : Entry) where
         walk = k.walk.0;
         skip = k.skip;
         runtime = k.runtime;
-        freezer = k.freezer;
+        freezer = (freezes_back m past e.actor (is_maker (journal past) e.actor) e.kind (at_turn m past e.actor k.steps.1 k.steps.2) k.freezer.0, k.freezer.1);
         path = k.path;
         answers = k.answers;
         steps = k.steps.0;
@@ -184,17 +192,14 @@ module _ (m : Machine) (past : List Entry) (e : Entry) where
     time = k.numbers.1;
     joint = (k.steps.0, k.steps.1);
   }
-  makes l (Moves s x) k =
-      let left : is_left (owed (history s past)) ≡ true = left_next x (owed (history s past)) k.source.0 in
-      let calls : caller (history s past) ≡ Some e.actor = k.steps.1 left in
-      record {
-        in_journal = tt;
-        own = (k.source.0, calls);
-        fits = k.source.1;
-        now = k.numbers.0;
-        time = k.numbers.1;
-        joint = inside_behind m past l s e.actor (rw left (rw calls (same_actor e.actor)));
-      }
+  makes l (Moves s x) k = record {
+    in_journal = tt;
+    own = (k.source.0, is_caller e.actor (caller (history s past)) (and_right (is_left (owed (history s past))) _ k.steps.0));
+    fits = k.source.1;
+    now = k.numbers.0;
+    time = k.numbers.1;
+    joint = inside_behind m past l s e.actor k.steps.0;
+  }
   makes l OfTime k = record {
     in_journal = (k.steps, subst (λ (t : ℕ). t < e.time) (sym (time_journal past)) k.enabled.1);
     own = tt;

@@ -1,3 +1,4 @@
+pub mod Callbacks
 pub mod Devices
 pub mod Facts
 pub mod Inside
@@ -9,4 +10,5 @@ pub mod Making
 pub mod Quiet
 pub mod Rows
 pub mod Scripts
+pub mod Turns
 pub mod Work

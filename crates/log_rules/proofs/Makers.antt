@@ -32,7 +32,7 @@ use Rattle.rule_definitions.specs.Freezer.{FreezesActor, FreezesNot}
 use Rattle.rule_definitions.specs.Law.{IsDue, AreOne, OneForMakers, OneForAll, OwedFollows}
 use Rattle.rule_definitions.specs.Path.{IsOfRow, IsOfRowIf, PathOf}
 use Rattle.rule_definitions.specs.Questions.{is_maker, row_at, row_now}
-use Rattle.rule_definitions.specs.Reads.{ReadsActor}
+use Rattle.rule_definitions.specs.Reads.{ReadsActor, ReadsElse}
 use Rattle.rule_definitions.specs.Steps.{IsMakerStep, StepsOf}
 use Rattle.log_rules.proofs.Devices.{the_devices}
 use Rattle.log_rules.proofs.Facts.{never, only_is, gone, owed_kept}
@@ -92,10 +92,24 @@ is_step m past now who (kind.Hard s) h e = absurd h
 is_step m past now who kind.Jump h e = absurd h
 is_step m past now who _ h e = (e, refl)
 
--- of who makes the attempt the rules of tasks and of the work ask nothing
-no_reads : (m : Machine) (past : List Entry) (now : EventNow) (who : Actor) (k : Kind) → ReadsActor m past now who true k
-no_reads m past now (actor.Script i) k = tt
-no_reads m past now _ k = tt
+-- an attempt reads, saves and writes nothing
+reads_else : (m : Machine) (past : List Entry) (now : EventNow) (who : Actor) (k : Kind) → IsMakerStep m k → ReadsElse past now who k
+reads_else m past now who kind.ReadWait s = absurd s
+reads_else m past now who (kind.Read c) s = absurd s
+reads_else m past now who kind.ReadIntr s = absurd s
+reads_else m past now who (kind.SaveWait c) s = absurd s
+reads_else m past now who (kind.Saved c) s = absurd s
+reads_else m past now who (kind.SaveErr c r) s = absurd s
+reads_else m past now who kind.StateWait s = absurd s
+reads_else m past now who (kind.StateErr r) s = absurd s
+reads_else m past now who kind.StateUnsaved s = absurd s
+reads_else m past now who (kind.AutoSaved c) s = absurd s
+reads_else m past now who (kind.AutoUnsaved c) s = absurd s
+reads_else m past now who _ s = tt
+
+no_reads : (m : Machine) (past : List Entry) (now : EventNow) (who : Actor) (k : Kind) → IsMakerStep m k → ReadsActor m past now who true k
+no_reads m past now (actor.Script i) k s = reads_else m past now (actor.Script i) k s
+no_reads m past now who k s = reads_else m past now who k s
 
 row_freezes_not : (m : Machine) (past : List Entry) (now : EventNow) (s : Stage) (k : Kind) → IsOfRow m past now s k → FreezesNot k
 row_freezes_not m past now stage.Ends kind.Frozen o = o
@@ -124,7 +138,7 @@ maker_there who None e = never e
 maker_there who (Some x) e = refl
 
 -- the callback that the maker runs is one of the row's
-call_row : (m : Machine) (past : List Entry) → JournalPart m past → CallIf m (row_now m past) (callback past) (three m past)
+pub call_row : (m : Machine) (past : List Entry) → JournalPart m past → CallIf m (row_now m past) (callback past) (three m past)
 call_row m past j = by_stage (stage_of past) refl
   where
     by_stage : (o : Option Stage) → stage_of past ≡ o → CallIf m (row_at m past o) (callback past) (three m past)
@@ -141,7 +155,7 @@ forth m past now who k e j x = by_row (row_now m past) refl (row_proper m past) 
           most = record {
             links = r.links;
             attempts = r.attempts;
-            reads = subst (λ (b : Bool). ReadsActor m past now who b k) (sym e) (no_reads m past now who k);
+            reads = subst (λ (b : Bool). ReadsActor m past now who b k) (sym e) (no_reads m past now who k r.beside);
             walk = r.walk;
             skip = r.skip;
             runtime = r.runtime;

@@ -36,7 +36,6 @@ use Rattle.sleep_laws.proofs.Made.{Made, StepMade, TaskMade, WorkMade, DeviceMad
 use Rattle.sleep_laws.proofs.MakingOwn.{entry_made}
 use Rattle.sleep_laws.proofs.Telling.{none≢some, some≢none}
 use Rattle.rule_definitions.specs.Attempts.{KeepsAttempts}
-use Rattle.rule_definitions.specs.Freezer.{ThawedActor}
 use Rattle.rule_definitions.specs.Path.{ReportsOf}
 use Rattle.rule_definitions.specs.Questions.{is_maker}
 use Rattle.log_rules.proofs.Facts.{never, journal_no_time}
@@ -53,7 +52,7 @@ past_none : {A : Type 0} (xs : List A) → slice_get xs (length xs) ≡ None
 past_none [] = refl
 past_none (x ∷ xs) = past_none xs
 
-past_end : {A : Type 0} (xs : List A) (n : ℕ) (x : A) → n ≡ length xs → slice_get xs n ≡ Some x → ⊥
+pub past_end : {A : Type 0} (xs : List A) (n : ℕ) (x : A) → n ≡ length xs → slice_get xs n ≡ Some x → ⊥
 past_end xs n x e f = none≢some x (sym (past_none xs) ∙ subst (λ (k : ℕ). slice_get xs k ≡ Some x) e f)
 
 notes_other : (e : Entry) (past : List Entry) (who : Actor) (s : ℕ) → is_note_of who e (part_of e.kind) ≡ false → notes_of who (history s (e ∷ past)) ≡ notes_of who (history s past)
@@ -379,6 +378,11 @@ note_reports m past g who k c true e = by_callback (callback (journal past)) ref
     by_callback : (o : Option Callback) → callback (journal past) ≡ o → is_some o ≡ true
     by_callback (Some x) f = refl
     by_callback None f = absurd (no_next m (journal past) (λ t. history t past) who k e (held m (journal past) g.in_journal).2 (maker_even m past g who e f) c)
+
+-- a task outside attempts of its own is not frozen
+abbrev pub ThawedActor : Machine → List Entry → Actor → Bool → Type 0
+ThawedActor m past (actor.Script i) false = (freezing m i past).frozen ≡ false
+ThawedActor m past _ _ = Unit {0}
 
 -- a frozen task makes no note
 pub note_thawed : (m : Machine) (past : List Entry) → Grown m past → (who : Actor) (k : Kind) → IsOwnCall m (journal past) (λ t. history t past) who k → (b : Bool) → is_maker (journal past) who ≡ b → ThawedActor m (journal past) who b

@@ -171,13 +171,11 @@ KeepsSteps m past now who k = StepsOf m past now who (is_maker past who) k
 abbrev pub is_inside : List Entry → Actor → Bool
 is_inside own who = is_left (owed own) && is_actor who (caller own)
 
--- an actor inside a call makes the step of it that is owed, and no other's (wakeup_source_report_event)
+-- a step of the word is of a call that its actor is inside, on that source, and is the one that is owed next (wakeup_source_report_event)
 abbrev pub IsOfCall : List Entry → Actor → ℕ → WordKind → Type 0
-IsOfCall past who s step =
-    ((t : ℕ) → is_inside (history t past) who ≡ true → (t ≡ s) × IsNext step (owed (history t past)))
-    × (is_left (owed (history s past)) ≡ true → caller (history s past) ≡ Some who)
+IsOfCall past who s step = (is_inside (history s past) who ≡ true) × IsNext step (owed (history s past))
 
--- an entry of the journal is its actor's next step, once the calls before it are made whole; a note is its actor's next call; a step of the word is none of another's call, and within a call of its actor the one that is owed; time makes the jumps (own)
+-- an entry of the journal is its actor's next step, once the calls before it are made whole; a note is its actor's next call; a step of the word is owed by its actor; time makes the jumps (own)
 abbrev pub StepsEntry : Machine → List Entry → Entry → Part → Type 0
 StepsEntry m past e OfJournal =
     KeepsSteps m (journal past) (numbers past) e.actor e.kind × IsOwnTurn m (journal past) (λ s. history s past) e.actor

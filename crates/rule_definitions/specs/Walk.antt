@@ -25,9 +25,10 @@ use Rattle.sleep_model.specs.declared.place.AsyncWork.{AsyncWork}
 use Rattle.sleep_model.specs.declared.place.AsyncWork.TheVariants.{Inside}
 use Rattle.sleep_model.specs.Legal.{IsOwnTurn, IsOwnCall}
 use Rattle.sleep_model.specs.Numbers.{numbers}
-use Rattle.sleep_model.specs.Parts.{Part, OfJournal, Notes, journal}
+use Rattle.sleep_model.specs.Parts.{Part, OfJournal, Notes, Moves, OfTime, journal}
 use Rattle.sleep_model.specs.Sources.{history}
 use Rattle.rule_definitions.specs.Questions.{is_maker}
+use Rattle.rule_definitions.specs.Steps.{is_inside}
 
 -- ---- prepare and complete
 
@@ -156,9 +157,18 @@ abbrev pub ReportsMade : Machine → List Entry → Actor → Kind → Type 0
 ReportsMade m past who (kind.End p d r) = IsOwnTurn m (journal past) (λ s. history s past) who
 ReportsMade m past who _ = Unit {0}
 
--- devices are taken in order and answer what the machine answers, and a callback makes its reports in order, and nothing else (drivers/base/power/main.c)
+-- the end of that callback: an asynchronous device's of its own, anybody else's of the one that the walk is inside (dpm_run_callback)
+abbrev pub EndsOwn : List Entry → Actor → Kind → Type 0
+EndsOwn past (actor.Dev d) (kind.End p e r) = e ≡ d
+EndsOwn past who (kind.End p e r) = IsInside e (callback past)
+EndsOwn past who _ = ⊥
+
+-- devices are taken in order and answer what the machine answers; inside a callback its maker makes its reports in order, with their steps, then its end, and nothing else (drivers/base/power/main.c)
 abbrev pub WalkEntry : Machine → List Entry → Entry → Part → Type 0
-WalkEntry m past e OfJournal = KeepsWalk m (journal past) (numbers past) e.kind × ReportsMade m past e.actor e.kind
+WalkEntry m past e OfJournal =
+    KeepsWalk m (journal past) (numbers past) e.kind × ReportsMade m past e.actor e.kind
+    × (is_in_callback m (journal past) e.actor ≡ true → EndsOwn (journal past) e.actor e.kind)
 WalkEntry m past e (Notes s call) =
     is_in_callback m (journal past) e.actor ≡ true → IsOwnCall m (journal past) (λ t. history t past) e.actor e.kind
-WalkEntry m past e _ = Unit {0}
+WalkEntry m past e (Moves s step) = is_in_callback m (journal past) e.actor ≡ true → is_inside (history s past) e.actor ≡ true
+WalkEntry m past e OfTime = is_in_callback m (journal past) e.actor ≡ false
