@@ -6,7 +6,7 @@ ghost use Rattle.rule_definitions.specs.Questions.{has_more, row_now};
 ghost use Rattle.check_past.specs.Passing.{journal_of};
 
 use check_account::behind;
-use check_calls::answered_error;
+use check_sources::answered_error;
 use check_past::Passed;
 use sleep_base::Errno;
 use sleep_model::{Stage, What};

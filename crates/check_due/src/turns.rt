@@ -5,7 +5,7 @@ ghost use Rattle.sleep_model.specs.Devices.{async_work, device_error, is_direct,
 ghost use Rattle.rule_definitions.specs.Questions.{turn_of};
 ghost use Rattle.check_past.specs.Passing.{journal_of};
 
-use check_calls::answered_error;
+use check_sources::answered_error;
 use check_past::{Passed, is_direct_complete};
 use phase_table::Phase;
 use sleep_base::Errno;

@@ -5,7 +5,7 @@ ghost use Rattle.sleep_model.specs.Devices.{after_device, callback, close_down, 
 ghost use Rattle.check_past.specs.Passing.{journal_of};
 
 use crate::turns::{async_work, device_error, taken, turn_of};
-use check_calls::answered_number;
+use check_sources::answered_number;
 use check_past::Passed;
 use phase_table::Phase;
 use sleep_base::Errno;

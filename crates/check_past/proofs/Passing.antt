@@ -6,7 +6,7 @@ use Rattle.sleep_model.specs.declared.machine.Machine.{Machine}
 use Rattle.sleep_model.specs.declared.word.EventNow.{EventNow}
 use Rattle.sleep_model.specs.Numbers.{after_step, word_step, time_after}
 use Rattle.sleep_model.specs.Parts.{is_kept, part_of, journal}
-use Rattle.check_calls.specs.Calling.{CallsOf, callers_after, callers_of}
+use Rattle.check_sources.specs.Calling.{CallsOf, callers_after, callers_of}
 use Rattle.check_past.specs.declared.journal.JournalParts.{JournalParts}
 use Rattle.check_past.specs.Parts.{journal_if, state_of}
 use Rattle.check_past.specs.declared.kept.Kept.{Kept}

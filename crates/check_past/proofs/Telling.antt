@@ -13,8 +13,8 @@ use Rattle.sleep_model.specs.Calls.{calls_of, made}
 use Rattle.sleep_model.specs.Fits.{fits_actor, fits_entry, fits_kind, fits_word, is_word32, is_word64}
 use Rattle.sleep_model.specs.Parts.{journal, part_of}
 use Rattle.sleep_model.specs.Sources.{history, is_of}
-use Rattle.check_calls.specs.Calling.{CallsOf, calls_by, callers_of, made_at}
-use Rattle.check_calls.proofs.Calling as calling
+use Rattle.check_sources.specs.Calling.{CallsOf, calls_by, callers_of, made_at}
+use Rattle.check_sources.proofs.Calling as calling
 use Rattle.check_sources.specs.declared.source.Source.{Source}
 use Rattle.check_sources.specs.Kept.{source_of, sources}
 use Rattle.check_sources.proofs.Telling as telling

@@ -7,7 +7,7 @@ use Rattle.sleep_model.specs.Accepted.{IsAccepted}
 use Rattle.sleep_model.specs.Fits.{fits_entry}
 use Rattle.sleep_model.specs.Numbers.{after_step, numbers, time_after, time_of, word_step}
 use Rattle.sleep_model.specs.Parts.{is_kept, journal, part_of}
-use Rattle.check_calls.specs.Calling.{callers_after, callers_of}
+use Rattle.check_sources.specs.Calling.{callers_after, callers_of}
 use Rattle.check_past.specs.declared.kept.Kept.{Kept}
 use Rattle.check_past.specs.Parts.{journal_if, state_of}
 use Rattle.check_sources.specs.Kept.{sources, sources_after}

@@ -2,11 +2,11 @@
 
 ghost use Rattle.std.specs.Prelude.{◌≡◌, OnOk};
 ghost use Rattle.sleep_model.specs.Parts.{part_of};
-ghost use Rattle.check_calls.specs.Calling.{callers_after};
+ghost use Rattle.check_sources.specs.Calling.{callers_after};
 
 use crate::journal::JournalParts;
 use check_account::{time_after, word_after};
-use check_calls::Callers;
+use check_sources::Callers;
 use check_sources::SourceAccounts;
 use sleep_base::Mem;
 use sleep_model::{Entry, EventNow, Kind, Machine};

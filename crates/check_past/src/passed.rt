@@ -4,7 +4,7 @@ use crate::journal::JournalParts;
 use crate::kept::Kept;
 use crate::order::call_order;
 use crate::walks::any_async;
-use check_calls::Callers;
+use check_sources::Callers;
 use check_sources::SourceAccounts;
 use sleep_base::Mem;
 use sleep_model::{Entry, EntryList, EventNow, Machine};

@@ -9,7 +9,7 @@ ghost use Rattle.check_past.specs.Passing.{journal_of};
 use crate::kinds::is_kind;
 use crate::same::{is_answer, is_number, is_phase};
 use crate::skip::{is_next_down, is_scheduled_down};
-use check_calls::answered_number;
+use check_sources::answered_number;
 use check_due::{device_error, row_now, turn_of};
 use check_past::Passed;
 use phase_table::Phase;

@@ -1,1 +1,5 @@
+pub mod Answering
+pub mod Calling
+pub mod Nexting
+pub mod Owing
 pub mod Telling

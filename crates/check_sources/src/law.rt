@@ -1,5 +1,6 @@
-//! Laws of what is kept of sources.
+//! Laws of what is kept of sources and of the calls on them.
 
+ghost use Rattle.check_sources.specs.Calling.{CallersTell};
 ghost use Rattle.check_sources.specs.Kept.{SourcesTell};
 ghost use Rattle.check_sources.specs.Owing.{FlagsAreSteps};
 
@@ -13,4 +14,10 @@ pub fn sources_tell()
 #[tactic(auto, using(crate::proofs::Telling::flags))]
 pub fn flags_are_steps()
     ensures { FlagsAreSteps }
+{}
+
+/// For every machine and all entries that name what it has, the numbers and the calls of each actor are those that the
+/// definitions read.
+pub fn callers_tell()
+    ensures { CallersTell }
 {}

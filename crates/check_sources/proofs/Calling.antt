@@ -14,8 +14,8 @@ use Rattle.sleep_model.specs.Fits.{fits_actor, fits_entry, fits_kind, fits_word,
 use Rattle.sleep_model.specs.Parts.{Part, OfJournal, OfTime, Notes, Moves, part_of, journal}
 use Rattle.sleep_model.specs.Path.{attempts, is_same}
 use Rattle.sleep_model.specs.Sources.{history}
-use Rattle.check_calls.specs.Places.{place_of, places_of}
-use Rattle.check_calls.specs.Calling.{CallState, TellsOf, CallersTell, calls_by, callers_of, callers_after, made_at, turns_at, noted_by, entered_by}
+use Rattle.check_sources.specs.Places.{place_of, places_of}
+use Rattle.check_sources.specs.Calling.{CallState, TellsOf, CallersTell, calls_by, callers_of, callers_after, made_at, turns_at, noted_by, entered_by}
 use Rattle.std.specs.Prelude.{nat_lt, nat_le}
 use Rattle.std.proofs.lemmas.Bool.Decides.{nat_tests}
 

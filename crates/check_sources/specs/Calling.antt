@@ -10,7 +10,7 @@ use Rattle.sleep_model.specs.Fits.{fits_actor, fits_entry}
 use Rattle.sleep_model.specs.Parts.{Part, OfJournal, OfTime, Notes, Moves, part_of, journal}
 use Rattle.sleep_model.specs.Path.{attempts}
 use Rattle.sleep_model.specs.Sources.{history}
-use Rattle.check_calls.specs.Places.{place_of, places_of}
+use Rattle.check_sources.specs.Places.{place_of, places_of}
 
 -- for each place of the row: how many calls were made, how many turns were ended, which calls are owed behind those before the first turn (own)
 pub record CallState : Type 0 where

@@ -1,16 +1,18 @@
-//! The steps of a machine's scripts, counted once.
+//! The steps of a machine's scripts, counted once, with what its callbacks answer.
 
+use crate::answers::AnswerIndex;
 use script_plan::{Plan, plans_of};
 use sleep_base::Mem;
 use sleep_model::{Machine, Op, Report};
 use std::alloc::Global;
 use std::marker::Model;
 
-/// The operations and the calls of each script of a machine. Contracts see the machine.
+/// The operations and the calls of each script of a machine, and its answers. Contracts see the machine.
 #[derive(Drop)]
 pub struct Plans<'m> {
     machine: &'m Machine,
     scripts: Vec<Plan<'m>>,
+    answers: AnswerIndex<'m>,
 }
 
 impl<'m> Model for Plans<'m> {
@@ -18,7 +20,7 @@ impl<'m> Model for Plans<'m> {
 
     ghost Value = { Machine };
 
-    ghost use Rattle.check_calls.specs.PlanFields.{planned, keeps};
+    ghost use Rattle.check_sources.specs.PlanFields.{planned, keeps};
 
     ghost view = { planned };
 
@@ -38,11 +40,13 @@ impl<'m> Plans<'m> {
         requires sources { length machine.now.sources < 2 ^ 32 }
         ensures { IfOk result (λ p. p ≡ machine.now) }
     {
+        let answers = AnswerIndex::new(alloc, machine)?;
         let scripts = machine.actors.as_slice();
         let source = machine.sources.len() as u32;
         Ok(Plans {
             machine,
             scripts: plans_of(alloc, scripts, source)?,
+            answers,
         })
     }
 
@@ -51,6 +55,13 @@ impl<'m> Plans<'m> {
         ensures { result.now ≡ self.now }
     {
         self.machine
+    }
+
+    /// What the machine's callbacks answer.
+    pub fn answers(&self) -> &AnswerIndex<'m>
+        ensures { result.now ≡ self.now }
+    {
+        &self.answers
     }
 
     /// The operation that makes a script's entries with that number, from 0. None where it has none left, or where

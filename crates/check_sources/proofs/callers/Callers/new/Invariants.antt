@@ -1,5 +1,5 @@
 use Rattle.std.proofs.Common.{◌≡◌, replicate, []}
-use Rattle.check_calls.proofs.callers.Callers.new.Given as goal
+use Rattle.check_sources.proofs.callers.Callers.new.Given as goal
 
 abbrev pub invariant-loop-i : goal.invariant-loop-i
 invariant-loop-i l = l.later.items ≡ replicate l.i []

@@ -1,8 +1,8 @@
 use Rattle.std.proofs.Common.{◌∙◌, ap, sym, slice_get}
 use Rattle.sleep_model.specs.Calls.{calls_of_turn}
-use Rattle.check_calls.specs.Calling.{CallsOf, later_at, calls_by}
-use Rattle.check_calls.proofs.Nexting.{after_first}
-use Rattle.check_calls.proofs.callers.Callers.next.Goals as goal
+use Rattle.check_sources.specs.Calling.{CallsOf, later_at, calls_by}
+use Rattle.check_sources.proofs.Nexting.{after_first}
+use Rattle.check_sources.proofs.callers.Callers.next.Goals as goal
 
 pub returns-else-made-first : goal.returns-else-made-first
 returns-else-made-first c =

@@ -1,7 +1,7 @@
 //! The actors of a machine in one row: autosleep's work, time, the scripts, the devices, the timers.
 
 ghost use Rattle.std.specs.Prelude.{◌≡◌, ◌<◌, ◌^◌, length};
-ghost use Rattle.check_calls.specs.Places.{place_of, places_of};
+ghost use Rattle.check_sources.specs.Places.{place_of, places_of};
 
 use sleep_model::{Actor, Machine};
 

@@ -2,7 +2,7 @@ ghost use Rattle.std.specs.Prelude.{◌≡◌, ◌++◌, [], map, slice_index_or
 ghost use Rattle.sleep_model.specs.Calls.{calls_behind, calls_of_turn, ends_turn, report_calls};
 ghost use Rattle.script_plan.specs.CallPlans.{noted};
 
-use crate::answers::answered_reports;
+use crate::answers::AnswerIndex;
 use crate::calls::{Calls, noted};
 use crate::places::{place_of, places_of};
 use crate::plans::Plans;
@@ -23,11 +23,11 @@ pub struct Callers<'m> {
 }
 
 impl<'m> Model for Callers<'m> {
-    ghost use Rattle.check_calls.specs.Calling.{CallsOf};
+    ghost use Rattle.check_sources.specs.Calling.{CallsOf};
 
     ghost Value = { CallsOf };
 
-    ghost use Rattle.check_calls.specs.CallerFields.{IsSmall};
+    ghost use Rattle.check_sources.specs.CallerFields.{IsSmall};
 
     ghost view = { λ c. record {
       machine = c.plans;
@@ -92,13 +92,11 @@ fn owe_at(
 }
 
 // What the callback that an entry begins reports, where `attempts` attempts were begun.
-fn reports_of<'m>(machine: &'m Machine, kind: Kind, attempts: u32) -> &'m [Report]
-    ensures { map noted result.now ≡ report_calls machine.now attempts kind }
+fn reports_of<'m>(answers: &AnswerIndex<'m>, kind: Kind, attempts: u32) -> &'m [Report]
+    ensures { map noted result.now ≡ report_calls answers.now attempts kind }
 {
     match kind {
-        Kind::Begin(phase, device) => {
-            answered_reports(machine, What::Device(device, phase), attempts)
-        }
+        Kind::Begin(phase, device) => answers.reports(What::Device(device, phase), attempts),
         _ => &[],
     }
 }
@@ -138,7 +136,7 @@ impl<'m> Callers<'m> {
     ghost use Rattle.std.specs.Prelude.{◌≡◌, ◌≤◌, [], length, slice_get, option_copied, IfOk, OnOk};
     ghost use Rattle.sleep_model.specs.Accepted.{IsAccepted};
     ghost use Rattle.sleep_model.specs.Laws.{steps_of};
-    ghost use Rattle.check_calls.specs.Calling.{callers_of, entered_by, noted_by, made_at, later_at, calls_by};
+    ghost use Rattle.check_sources.specs.Calling.{callers_of, entered_by, noted_by, made_at, later_at, calls_by};
 
     /// Before the first entry, on a machine as files spell it. `Mem` if there is no memory for it.
     pub fn new(alloc: Global, machine: &'m Machine) -> Result<Self, Mem>
@@ -165,6 +163,13 @@ impl<'m> Callers<'m> {
         self.plans.operation(script, number)
     }
 
+    /// What the machine's callbacks answer.
+    pub fn answers(&self) -> &AnswerIndex<'m>
+        ensures { result.now ≡ self.now.machine }
+    {
+        self.plans.answers()
+    }
+
     /// Passes a note of that actor. `Mem` where a counter has no room.
     pub fn note(&mut self, who: Actor) -> Result<(), Mem>
         ensures { OnOk result (self.new ≡ record self.old { state = noted_by self.old.machine who self.old.state }) }
@@ -184,7 +189,7 @@ impl<'m> Callers<'m> {
         let place = place_of(machine, e.actor);
         let ended = ends_turn(e.kind);
         let turn = one_further(number_at(&self.turns, place))?;
-        let reports = reports_of(machine, e.kind, attempts);
+        let reports = reports_of(self.plans.answers(), e.kind, attempts);
         let behind = calls_behind(&self.plans, e.actor, ended, turn);
         owe_at(&mut self.later, place, reports, behind)?;
         if ended {

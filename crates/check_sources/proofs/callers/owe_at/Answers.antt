@@ -1,7 +1,7 @@
 use Rattle.std.proofs.Common.{◌≡◌, length, arith}
 use Rattle.std.proofs.lemmas.Bool.Decides.{nat_tests}
-use Rattle.check_calls.proofs.Owing.{none_owed}
-use Rattle.check_calls.proofs.callers.owe_at.Goals as goal
+use Rattle.check_sources.proofs.Owing.{none_owed}
+use Rattle.check_sources.proofs.callers.owe_at.Goals as goal
 
 pub returns-then-is_empty-2 : goal.returns-then-is_empty-2
 returns-then-is_empty-2 c =

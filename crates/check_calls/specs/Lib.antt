@@ -1,4 +1,0 @@
-pub mod CallerFields
-pub mod Calling
-pub mod Places
-pub mod PlanFields

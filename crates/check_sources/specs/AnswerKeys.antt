@@ -1,0 +1,37 @@
+-- By what a machine's answers are found.
+use Rattle.std.specs.Prelude.{ℕ, Option}
+use Rattle.phase_table.specs.Phases as table
+use Rattle.phase_table.specs.declared.phase.Phase.{Phase}
+use Rattle.sleep_model.specs.declared.machine.Answer.{Answer}
+use Rattle.sleep_model.specs.declared.machine.PlatDo.{PlatDo}
+use Rattle.sleep_model.specs.declared.machine.PlatDo.TheVariants as down
+use Rattle.sleep_model.specs.declared.machine.What.{What}
+use Rattle.sleep_model.specs.declared.machine.What.TheVariants as what
+use Rattle.check_sources.specs.declared.answers.AnswerKey.{AnswerKey}
+use Rattle.check_sources.specs.declared.answers.Thing.{Thing}
+use Rattle.check_sources.specs.declared.answers.Thing.TheVariants as thing
+
+-- the place of a phase in an attempt (enter_state)
+abbrev pub phase_place : Phase → ℕ
+phase_place p = table.phase_place p
+
+-- the place of a step of the platform in an attempt (struct platform_suspend_ops)
+abbrev pub step_place : PlatDo → ℕ
+step_place down.Begin = 0
+step_place down.Prepare = 1
+step_place down.PrepareLate = 2
+
+-- the thing, with places (own)
+abbrev pub thing_of : What → Thing
+thing_of (what.Device d p) = thing.Device d (phase_place p)
+thing_of (what.Syscore x) = thing.Syscore x
+thing_of (what.Notifier x) = thing.Notifier x
+thing_of (what.Platform step) = thing.Platform (step_place step)
+
+-- by what an answer of a thing for that attempt, or for any, is found (own)
+abbrev pub key_for : What → Option ℕ → AnswerKey
+key_for what attempt = record { thing = thing_of what; attempt = attempt }
+
+-- by what that answer is found (own)
+abbrev pub answer_key : Answer → AnswerKey
+answer_key a = key_for a.what a.attempt
