@@ -1,5 +1,5 @@
 -- By what a machine's answers are found.
-use Rattle.std.specs.Prelude.{ℕ, Option}
+use Rattle.std.specs.Prelude.{◌≡◌, ℕ, List, Option, slice_get, option_and_then}
 use Rattle.phase_table.specs.Phases as table
 use Rattle.phase_table.specs.declared.phase.Phase.{Phase}
 use Rattle.sleep_model.specs.declared.machine.Answer.{Answer}
@@ -7,6 +7,7 @@ use Rattle.sleep_model.specs.declared.machine.PlatDo.{PlatDo}
 use Rattle.sleep_model.specs.declared.machine.PlatDo.TheVariants as down
 use Rattle.sleep_model.specs.declared.machine.What.{What}
 use Rattle.sleep_model.specs.declared.machine.What.TheVariants as what
+use Rattle.sleep_model.specs.Answers.{answer_for}
 use Rattle.check_sources.specs.declared.answers.AnswerKey.{AnswerKey}
 use Rattle.check_sources.specs.declared.answers.Thing.{Thing}
 use Rattle.check_sources.specs.declared.answers.Thing.TheVariants as thing
@@ -35,3 +36,8 @@ key_for what attempt = record { thing = thing_of what; attempt = attempt }
 -- by what that answer is found (own)
 abbrev pub answer_key : Answer → AnswerKey
 answer_key a = key_for a.what a.attempt
+
+-- where each key is found is the first of its answers (own)
+abbrev pub IsIndexed : List Answer → (AnswerKey → Option ℕ) → Type 0
+IsIndexed answers at = (what : What) (attempt : Option ℕ) →
+    option_and_then (slice_get answers) (at (key_for what attempt)) ≡ answer_for what attempt answers

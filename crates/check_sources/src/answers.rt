@@ -96,15 +96,15 @@ pub struct AnswerIndex<'m> {
 }
 
 impl<'m> Model for AnswerIndex<'m> {
-    ghost use Rattle.std.specs.Prelude.{◌≡◌, map};
+    ghost use Rattle.std.specs.Prelude.{position};
     ghost use Rattle.sleep_model.specs.declared.machine.Machine.{Machine};
-    ghost use Rattle.check_sources.specs.AnswerKeys.{answer_key};
+    ghost use Rattle.check_sources.specs.AnswerKeys.{IsIndexed};
 
     ghost Value = { Machine };
 
     ghost view = { λ a. a.machine.now };
 
-    ghost invariant = { λ a. a.places ≡ map answer_key a.machine.now.answers };
+    ghost invariant = { λ a. IsIndexed a.machine.now.answers (λ k. position (⟦<AnswerKey as PartialEq>⟧.eq k) a.places) };
 }
 
 impl<'m> AnswerIndex<'m> {
@@ -121,7 +121,6 @@ impl<'m> AnswerIndex<'m> {
     }
 
     // The answer of a thing for that attempt, or for any.
-    #[tactic(auto, using(crate::proofs::Answering::found))]
     fn given(&self, what: What, attempt: Option<u32>) -> Option<&'m Answer>
         ensures { option_copied result ≡ answer_for what attempt self.now.answers }
     {
