@@ -6,7 +6,6 @@ ghost use Rattle.rule_definitions.specs.Questions.{has_more, row_now};
 ghost use Rattle.check_past.specs.Passing.{journal_of};
 
 use check_account::behind;
-use check_sources::answered_error;
 use check_past::Passed;
 use sleep_base::Errno;
 use sleep_model::{Stage, What};
@@ -46,7 +45,7 @@ pub fn row_now(past: &Passed<'_>) -> Option<Stage>
 pub fn answered(past: &Passed<'_>, what: What) -> Option<Errno>
     ensures { result ≡ answered past.now.machine (journal_of past.now) what }
 {
-    answered_error(past.machine(), what, past.attempts())
+    past.answered_error(what)
 }
 
 /// The error of a test that found a wakeup (`syscore_suspend`).

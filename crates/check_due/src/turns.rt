@@ -5,7 +5,6 @@ ghost use Rattle.sleep_model.specs.Devices.{async_work, device_error, is_direct,
 ghost use Rattle.rule_definitions.specs.Questions.{turn_of};
 ghost use Rattle.check_past.specs.Passing.{journal_of};
 
-use check_sources::answered_error;
 use check_past::{Passed, is_direct_complete};
 use phase_table::Phase;
 use sleep_base::Errno;
@@ -59,7 +58,7 @@ pub fn turn_of(past: &Passed<'_>, now: EventNow, phase: Phase, device: u32) -> K
 pub fn device_error(past: &Passed<'_>, phase: Phase, device: u32) -> Option<Errno>
     ensures { result ≡ device_error past.now.machine (journal_of past.now) phase device }
 {
-    answered_error(past.machine(), What::Device(device, phase), past.attempts())
+    past.answered_error(What::Device(device, phase))
 }
 
 // The work of a device that stands so in a phase or its mirror, else the other.

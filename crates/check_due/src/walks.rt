@@ -5,7 +5,6 @@ ghost use Rattle.sleep_model.specs.Devices.{after_device, callback, close_down, 
 ghost use Rattle.check_past.specs.Passing.{journal_of};
 
 use crate::turns::{async_work, device_error, taken, turn_of};
-use check_sources::answered_number;
 use check_past::Passed;
 use phase_table::Phase;
 use sleep_base::Errno;
@@ -29,7 +28,7 @@ pub(crate) fn prepare_due(past: &Passed<'_>) -> Due
     match (past.phase_failed(), past.next_prepared()) {
         (None, Some(device)) => {
             let what = What::Device(device, Phase::Prepare);
-            let r = answered_number(past.machine(), what, past.attempts());
+            let r = past.answered_number(what);
             Due::Makes(Kind::Prepare { device, r })
         }
         (error, _) => Due::Makes(Kind::Done(Phase::Prepare, error)),

@@ -1,6 +1,6 @@
 //! A list of links: whether one stands there, and their states.
 
-ghost use Rattle.std.specs.Prelude.{◌≡◌, IfOk, map, reverse};
+ghost use Rattle.std.specs.Prelude.{◌≡◌, true, IfOk, map, reverse};
 ghost use Rattle.sleep_model.specs.Order.{is_link, with_state};
 ghost use Rattle.sleep_model.specs.Links.{is_linked};
 
@@ -40,6 +40,25 @@ pub(crate) fn stands(links: &[Link], supplier: u32, consumer: u32) -> bool
         }
     }
     false
+}
+
+// Whether a link is not between these two, or has that state.
+fn has_state(link: Link, supplier: u32, consumer: u32, active: bool) -> bool
+    ensures { result ≡ true → with_state supplier consumer active link ≡ link }
+{
+    !is_link(link, supplier, consumer) || link.active == active
+}
+
+/// Whether each link between these two has that state already.
+pub(crate) fn have_state(links: &[Link], supplier: u32, consumer: u32, active: bool) -> bool
+    ensures { result ≡ true → map (with_state supplier consumer active) links.now ≡ links.now }
+{
+    for link in links {
+        if !has_state(*link, supplier, consumer, active) {
+            return false;
+        }
+    }
+    true
 }
 
 /// The links, with that state of each between these two.

@@ -4,7 +4,7 @@ ghost use Rattle.std.specs.Prelude.{◌≡◌, IfOk, reverse};
 ghost use Rattle.sleep_model.specs.Order.{order_by};
 ghost use Rattle.check_order.specs.Kept.{AreTies, Ties};
 
-use crate::links::{set_states, stands};
+use crate::links::{have_state, set_states, stands};
 use crate::order::{move_behind, order_of};
 use crate::tables::{active_links, rows_above, rows_below};
 use crate::walk::visit_below;
@@ -21,6 +21,8 @@ use std::marker::Model;
 pub struct DeviceTies {
     parents: Vec<Option<u32>>,
     links: Vec<Link>,
+    // What hangs below each device by all links, dormant ones too.
+    hanging: Rows,
     below: Rows,
     above: Rows,
     order: Vec<u32>,
@@ -35,7 +37,7 @@ impl Model for DeviceTies {
     ghost view = { λ t. record { parents = t.parents.items; links = reverse t.links.items } };
 
     ghost invariant = { λ t. IsMade (record { parents = t.parents.items; links = reverse t.links.items })
-        t.below.rows t.above.rows t.order.items };
+        t.hanging.rows t.below.rows t.above.rows t.order.items };
 }
 
 impl DeviceTies {
@@ -103,9 +105,7 @@ impl DeviceTies {
         requires supplier { supplier < length self.now.parents }
         ensures { IfOk result (λ b. b ≡ is_dependent self.now.parents self.now.links consumer supplier) }
     {
-        let alloc = *self.order.allocator();
-        let table = rows_below(alloc, &self.parents, &self.links)?;
-        let visits = visit_below(alloc, &table, consumer)?;
+        let visits = visit_below(*self.order.allocator(), &self.hanging, consumer)?;
         Ok(visits.marks.is_set(supplier))
     }
 
@@ -121,6 +121,14 @@ impl DeviceTies {
         let table = rows_below(alloc, &self.parents, &links)?;
         let order = move_behind(alloc, &table, link.consumer, &self.order)?;
         made(Vec::from_slice(alloc, &self.parents)?, links, order)
+    }
+
+    /// Whether the link between these two has that state already, or there is none: then a change of its state changes
+    /// nothing.
+    pub fn has_state(&self, supplier: u32, consumer: u32, active: bool) -> bool
+        ensures { result ≡ true → map (with_state supplier consumer active) self.now.links ≡ self.now.links }
+    {
+        have_state(&self.links, supplier, consumer, active)
     }
 
     /// The same devices with that state of the link between these two, if there is one
@@ -145,12 +153,14 @@ fn made(parents: Vec<Option<u32>>, links: Vec<Link>, order: Vec<u32>) -> Result<
     ensures { IfOk result (λ t. t ≡ record { parents = parents.items; links = reverse links.items }) }
 {
     let alloc = *order.allocator();
+    let hanging = rows_below(alloc, &parents, &links)?;
     let active = active_links(alloc, &links)?;
     let below = rows_below(alloc, &parents, &active)?;
     let above = rows_above(alloc, &parents, &active)?;
     Ok(DeviceTies {
         parents,
         links,
+        hanging,
         below,
         above,
         order,

@@ -3,10 +3,11 @@
 use crate::passed::Passed;
 use check_account::is_actor;
 use sleep_base::Errno;
-use sleep_model::{Actor, Callback, EventNow, Machine, PlatDo, Sleep, Stage};
+use sleep_model::{Actor, Callback, EventNow, Machine, PlatDo, Sleep, Stage, What};
 
 impl<'m> Passed<'m> {
     ghost use Rattle.std.specs.Prelude.{◌≡◌, ◌+◌, length};
+    ghost use Rattle.sleep_model.specs.Answers.{answer, answer_error, answer_number};
     ghost use Rattle.sleep_model.specs.Attempt.{failed, freeze_since, sleep_of, sleeps_now};
     ghost use Rattle.sleep_model.specs.Devices.{callback, own_error, phase_failed};
     ghost use Rattle.sleep_model.specs.Guard.{in_force, pending};
@@ -45,6 +46,20 @@ impl<'m> Passed<'m> {
         ensures { result ≡ length self.now.machine.sources + 1 }
     {
         self.machine.sources.len() as u32 + 1
+    }
+
+    /// The error that a thing answers in the attempt that was begun last, if it answers one.
+    pub fn answered_error(&self, what: What) -> Option<Errno>
+        ensures { result ≡ answer_error (answer self.now.machine what (attempts (journal_of self.now))) }
+    {
+        self.kept.calls.answers().error(what, self.attempts())
+    }
+
+    /// The number that a thing answers in the attempt that was begun last: 0 where the machine gives no answer.
+    pub fn answered_number(&self, what: What) -> i32
+        ensures { result ≡ answer_number (answer self.now.machine what (attempts (journal_of self.now))) }
+    {
+        self.kept.calls.answers().number(what, self.attempts())
     }
 
     /// How many entries were passed.

@@ -9,7 +9,6 @@ ghost use Rattle.check_past.specs.Passing.{journal_of};
 use crate::kinds::is_kind;
 use crate::same::{is_answer, is_number, is_phase};
 use crate::skip::{is_next_down, is_scheduled_down};
-use check_sources::answered_number;
 use check_due::{device_error, row_now, turn_of};
 use check_past::Passed;
 use phase_table::Phase;
@@ -23,11 +22,7 @@ fn prepares_at(past: &Passed<'_>, device: u32, r: i32, row: Option<Stage>) -> bo
         Some(Stage::Prepares) => {
             past.phase_failed().is_none()
                 && is_number(past.next_prepared(), device)
-                && r == answered_number(
-                    past.machine(),
-                    What::Device(device, Phase::Prepare),
-                    past.attempts(),
-                )
+                && r == past.answered_number(What::Device(device, Phase::Prepare))
         }
         _ => false,
     }
