@@ -40,7 +40,7 @@ BROKEN = {
         (32, "0 0/1/0 task:w frozen", [13, 14, 17]),
         (27, "0 0/0/0 irq:k hard lid", [17, 22]),
         (27, "0 0/0/0 task:w start lid", [17]),
-        (26, None, [22]),
+        (26, None, [17, 22]),
     ],
     "autosleep": [
         (8, "0 0/1/0 task:w save 0 ok", [8]),

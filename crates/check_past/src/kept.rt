@@ -6,8 +6,7 @@ ghost use Rattle.check_sources.specs.Calling.{callers_after};
 
 use crate::journal::JournalParts;
 use check_account::{time_after, word_after};
-use check_sources::Callers;
-use check_sources::SourceAccounts;
+use check_sources::{Callers, SourceAccounts};
 use sleep_base::Mem;
 use sleep_model::{Entry, EventNow, Kind, Machine};
 use std::alloc::Global;

@@ -1,4 +1,5 @@
 pub mod Counting
+pub mod Freezing
 pub mod Judging
 pub mod Jumping
 pub mod Owning

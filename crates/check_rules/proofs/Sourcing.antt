@@ -15,14 +15,13 @@ use Rattle.sleep_model.specs.Legal.{HistoriesFit, is_short, is_there}
 use Rattle.sleep_model.specs.Parts.{Part, OfJournal, Notes, Moves, OfTime, part_of}
 use Rattle.sleep_model.specs.Path.{is_actor, is_same}
 use Rattle.rule_definitions.specs.Source.{CallEntry}
-use Rattle.rule_definitions.specs.Steps.{IsOfCall, is_inside}
+use Rattle.rule_definitions.specs.Steps.{is_inside}
 use Rattle.sleep_model.specs.Sources.{IsNext, caller, history, is_of, most_entries, owed}
 use Rattle.check_past.proofs.Telling.{no_history}
 use Rattle.check_sources.proofs.Telling.{flags}
 use Rattle.check_sources.specs.declared.source.Source.{Source}
 use Rattle.check_sources.specs.Kept.{source_in, source_of}
 use Rattle.check_sources.specs.Owing.{steps_of}
-use Rattle.check_rules.specs.Calling.{OwesStep, is_elsewhere}
 use Rattle.check_rules.specs.Places.{are_short, with_own}
 
 -- ---- what a source owes
@@ -47,120 +46,16 @@ inside_is own x who e =
     ap (λ (y : Source). is_left (steps_of y.owes) && is_actor who y.caller) e
     ∙ ap (λ (steps : List WordKind). is_left steps && is_actor who (caller own)) (flags own)
 
-owed_is : (own : List Entry) (x : Source) (who : Actor) (step : WordKind) (b : Bool) → x ≡ source_of own → (IsTrue b ↔ OwesStep (steps_of x.owes) x.caller who step) → IsTrue b ↔ OwesStep (owed own) (caller own) who step
-owed_is own x who step b e h =
-    subst (λ (steps : List WordKind). IsTrue b ↔ OwesStep steps (caller own) who step) (flags own)
-    (subst (λ (y : Source). IsTrue b ↔ OwesStep (steps_of y.owes) y.caller who step) e h)
-
 -- ---- one source more
 
 pub calling_next : (of : ℕ → List Entry) (who : Actor) (n : ℕ) (here before : Bool) → here ≡ is_inside (of n) who → before ≡ is_calling n of who → (here || before) ≡ is_calling (n + 1) of who
 calling_next of who n here before e f = rw (add-one, e, f) refl
 
-pub elsewhere_next : (of : ℕ → List Entry) (who : Actor) (s n : ℕ) (here before : Bool) → here ≡ (not (n == s) && is_inside (of n) who) → before ≡ is_elsewhere n of who s → (here || before) ≡ is_elsewhere (n + 1) of who s
-elsewhere_next of who s n here before e f = rw (add-one, e, f) refl
-
--- ---- a call on one source alone
-
-differs : (t s : ℕ) → (t == s) ≡ false → t ≡ s → ⊥
-differs t s h e = grind (arith)
-
-same_number : (t s : ℕ) → (t == s) ≡ true → t ≡ s
-same_number t s h = grind (arith)
-
-equal : (t : ℕ) → (t == t) ≡ true
-equal t = grind (arith)
-
-self_same : (who : Actor) → is_same who who ≡ true
-self_same (actor.Script i) = equal i
-self_same actor.Auto = refl
-self_same (actor.Dev d) = equal d
-self_same (actor.Timer s) = equal s
-self_same actor.Time = refl
-
-or_left : (a b : Bool) → a ≡ true → (a || b) ≡ true
-or_left true b h = refl
-or_left false b h = absurd (cc)
-
-or_right : (a b : Bool) → b ≡ true → (a || b) ≡ true
-or_right true b h = refl
-or_right false b h = h
+-- ---- the places of histories
 
 both_true : (a b : Bool) → a ≡ true → b ≡ true → (a && b) ≡ true
 both_true true b h g = g
 both_true false b h g = absurd (cc)
-
--- a call on another source shows
-shows : (of : ℕ → List Entry) (who : Actor) (s n t : ℕ) → t < n → (t == s) ≡ false → is_inside (of t) who ≡ true → is_elsewhere n of who s ≡ true
-shows of who s zero t l h i = absurd (omega (arith, l))
-shows of who s (suc n) t l h i = ⊎_elim
-    (λ below. or_right (not (n == s) && is_inside (of n) who) (is_elsewhere n of who s) (shows of who s n t below h i))
-    (λ above.
-    let same : t ≡ n = omega (arith, l, above) in
-    or_left (not (n == s) && is_inside (of n) who) (is_elsewhere n of who s)
-    (subst (λ k. (not (k == s) && is_inside (of k) who) ≡ true) same (both_true (not (t == s)) (is_inside (of t) who) (ap not h) i)))
-    (cases_lt t n)
-
-not_here : (n s : ℕ) (inside test : Bool) → test ≡ (n == s) → (inside ≡ true → n ≡ s) → (not test && inside) ≡ false
-not_here n s inside true e h = refl
-not_here n s false false e h = refl
-not_here n s true false e h = absurd (differs n s (sym e) (h refl))
-
-or_none : (a b : Bool) → a ≡ false → b ≡ false → (a || b) ≡ false
-or_none false b h g = g
-or_none true b h g = absurd (cc)
-
-nowhere : (of : ℕ → List Entry) (who : Actor) (s n : ℕ) → ((t : ℕ) → is_inside (of t) who ≡ true → t ≡ s) → is_elsewhere n of who s ≡ false
-nowhere of who s zero h = refl
-nowhere of who s (suc n) h =
-    or_none (not (n == s) && is_inside (of n) who) (is_elsewhere n of who s)
-    (not_here n s (is_inside (of n) who) (n == s) refl (h n)) (nowhere of who s n h)
-
-outside_none : (own : List Entry) (who : Actor) → own ≡ [] → is_inside own who ≡ true → ⊥
-outside_none own who e h = let no : is_inside [] who ≡ true = subst (λ (xs : List Entry). is_inside xs who ≡ true) e h in absurd (cc)
-
--- an actor inside no call but on that source
-at_own : (m : Machine) (past : List Entry) (who : Actor) (s t : ℕ) (test : Bool) → test ≡ (t == s) → list_all (fits_entry m) past ≡ true
-    → is_elsewhere (length m.sources + 1) (λ k. history k past) who s ≡ false → is_inside (history t past) who ≡ true → t ≡ s
-at_own m past who s t true e fits none i = same_number t s (sym e)
-at_own m past who s t false e fits none i = ⊎_elim
-    (λ near. let shown = shows (λ k. history k past) who s (length m.sources + 1) t near (sym e) i in absurd (cc))
-    (λ far. absurd (outside_none (history t past) who (no_history m past t far fits) i))
-    (cases_lt t (length m.sources + 1))
-
-not_true : (b : Bool) → not b ≡ true → b ≡ false
-not_true true h = absurd (cc)
-not_true false h = refl
-
-pub of_call : (m : Machine) (past : List Entry) (who : Actor) (s : ℕ) (step : WordKind) (x : Source) (elsewhere owes : Bool)
-    → list_all (fits_entry m) past ≡ true → x ≡ source_of (history s past)
-    → elsewhere ≡ is_elsewhere (length m.sources + 1) (λ t. history t past) who s
-    → (IsTrue owes ↔ OwesStep (steps_of x.owes) x.caller who step)
-    → IsTrue (not elsewhere && owes) ↔ IsOfCall past who s step
-of_call m past who s step x elsewhere owes fits is e h =
-    let own = owed_is (history s past) x who step owes is h in (
-      λ (both : (not elsewhere && owes) ≡ true).
-          let p = and_parts (not elsewhere) owes both in
-          let none : is_elsewhere (length m.sources + 1) (λ t. history t past) who s ≡ false = sym e ∙ not_true elsewhere p.0 in
-          let step_is = own.0 p.1 in (
-            λ (t : ℕ) (i : is_inside (history t past) who ≡ true).
-                let same : t ≡ s = at_own m past who s t (t == s) refl fits none i in
-                let here : is_inside (history s past) who ≡ true = subst (λ k. is_inside (history k past) who ≡ true) same i in
-                let left = (and_parts (is_left (owed (history s past))) (is_actor who (caller (history s past))) here).0 in
-                (same, subst (λ k. IsNext step (owed (history k past))) (sym same) (step_is left).1),
-            λ left. (step_is left).0,
-          ),
-      λ (c : IsOfCall past who s step).
-          let none : elsewhere ≡ false = e ∙ nowhere (λ t. history t past) who s (length m.sources + 1) (λ t i. (c.0 t i).0) in
-          both_true (not elsewhere) owes (ap not none)
-          (own.1
-          (λ left.
-          let made : caller (history s past) ≡ Some who = c.1 left in
-          let mine : is_actor who (caller (history s past)) ≡ true = ap (is_actor who) made ∙ self_same who in
-          (made, (c.0 s (both_true (is_left (owed (history s past))) (is_actor who (caller (history s past))) left mine)).1))),
-    )
-
--- ---- the places of histories
 
 and_swap : (a b c : Bool) → (a && (b && c)) ≡ (b && (a && c))
 and_swap true b c = refl

@@ -1,4 +1,3 @@
-pub mod Calling
 pub mod Judging
 pub mod Next
 pub mod Owing

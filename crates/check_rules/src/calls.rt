@@ -1,7 +1,6 @@
 //! The calls of an actor: whether its turn has come, whether a note is its next call, whether it is inside one.
 
-ghost use Rattle.std.specs.Prelude.{◌≡◌, ◌↔◌, ◌+◌, ◌==◌, ◌&&◌, not, true, IsTrue, IfOk, Some, length, slice_get};
-ghost use Rattle.check_rules.specs.Calling.{OwesStep, is_elsewhere};
+ghost use Rattle.std.specs.Prelude.{◌≡◌, ◌↔◌, ◌+◌, ◌&&◌, true, IsTrue, IfOk, Some, length, slice_get};
 ghost use Rattle.check_sources.specs.Owing.{steps_of};
 ghost use Rattle.sleep_model.specs.Calls.{calls_of, is_calling, is_left, made};
 ghost use Rattle.sleep_model.specs.Fits.{fits_actor};
@@ -13,7 +12,8 @@ ghost use Rattle.sleep_model.specs.Sources.{history};
 ghost use Rattle.check_past.specs.Passing.{journal_of, past_of};
 
 use crate::kinds::is_kind;
-use crate::same::{either, is_caller, without};
+use crate::same::either;
+use crate::source::is_next;
 use check_account::is_actor;
 use check_due::async_work;
 use check_past::Passed;
@@ -80,42 +80,11 @@ pub(crate) fn is_calling(past: &Passed<'_>, who: Actor) -> bool
     calling
 }
 
-// Whether it is another source, on which an actor is inside a call.
-fn is_inside_other(past: &Passed<'_>, t: u32, s: u32, who: Actor) -> bool
-    ensures { result ≡ (not (t == s) && is_inside (history t (past_of past.now)) who) }
-{
-    without(t == s, is_inside(past, t, who))
-}
-
-// Whether an actor is inside a call on another source.
-fn is_elsewhere(past: &Passed<'_>, who: Actor, s: u32) -> bool
-    ensures { result ≡ is_elsewhere (length past.now.machine.sources + 1) (λ t. history t (past_of past.now)) who s }
-{
-    let mut elsewhere = false;
-    for t in 0..past.source_count() {
-        elsewhere = either(is_inside_other(past, t, s, who), elsewhere);
-    }
-    elsewhere
-}
-
-// Whether a step is the one that a source owes to that actor, if it owes any.
-fn is_owed(source: Source, who: Actor, step: WordKind) -> bool
-    ensures { IsTrue result ↔ OwesStep (steps_of source.owes) source.caller who step }
-{
-    if source.owes.is_left() {
-        is_caller(source.caller, who) && source.owes.is_next(step)
-    } else {
-        true
-    }
-}
-
-/// Whether a step of the word is none of another's call, and within a call of its actor the one that is owed.
+/// Whether a step of the word is one that its actor owes: of a call on that source that it is inside, and the next.
 pub(crate) fn is_of_call(past: &Passed<'_>, who: Actor, s: u32, step: WordKind) -> bool
     ensures { IsTrue result ↔ IsOfCall (past_of past.now) who s step }
 {
-    past.all_fit();
-    let own = past.source(s);
-    without(is_elsewhere(past, who, s), is_owed(own, who, step))
+    is_inside(past, s, who) && is_next(past, s, step)
 }
 
 /// Whether an actor is inside a device's callback (`dpm_run_callback`).

@@ -6,17 +6,18 @@ ghost use Rattle.sleep_model.specs.Parts.{part_of};
 ghost use Rattle.rule_definitions.specs.Enabled.{EnabledEntry};
 ghost use Rattle.rule_definitions.specs.Freezer.{FreezerEntry};
 ghost use Rattle.rule_definitions.specs.Path.{PathEntry};
-ghost use Rattle.rule_definitions.specs.Steps.{StepsEntry};
-ghost use Rattle.rule_definitions.specs.Walk.{ReportsMade, WalkEntry};
-ghost use Rattle.check_past.specs.Passing.{past_of};
+ghost use Rattle.rule_definitions.specs.Steps.{StepsEntry, is_inside};
+ghost use Rattle.rule_definitions.specs.Walk.{EndsOwn, ReportsMade, WalkEntry, is_in_callback};
+ghost use Rattle.sleep_model.specs.Sources.{history};
+ghost use Rattle.check_past.specs.Passing.{journal_of, past_of};
 
-use crate::calls::{is_calling, is_in_callback, is_of_call, is_own_call, is_own_turn};
+use crate::calls::{is_calling, is_in_callback, is_inside, is_of_call, is_own_call, is_own_turn};
 use crate::enabled::keeps_enabled;
-use crate::freezer::{is_thawed, keeps_freezer};
+use crate::freezer::{freeze_ends, freezes_entry, goes_on_entry};
 use crate::jump::keeps_jump;
 use crate::path::{keeps_path, keeps_reports};
 use crate::steps::keeps_steps;
-use crate::walk::keeps_walk;
+use crate::walk::{ends_own, keeps_walk};
 use check_past::Passed;
 use sleep_base::Mem;
 use sleep_model::{Actor, Entry, Kind, WordKind};
@@ -32,8 +33,22 @@ fn are_reports_made(past: &Passed<'_>, e: Entry) -> Result<bool, Mem>
     }
 }
 
-/// Whether devices are taken in order and answer what the machine answers, and a callback makes its reports in order, and
-/// nothing else (`drivers/base/power/main.c`). `Mem` where the number of reports has no room.
+// Whether an entry of the journal that its actor makes inside a callback is the end of that.
+fn ends_callback(past: &Passed<'_>, e: Entry) -> bool
+    ensures { IsTrue result ↔ (is_in_callback past.now.machine (journal_of past.now) e.actor ≡ true → EndsOwn (journal_of past.now) e.actor e.kind) }
+{
+    !is_in_callback(past, e.actor) || ends_own(past, e.actor, e.kind)
+}
+
+// Whether a step of the word that its actor makes inside a callback is of a call that it is inside, on that source.
+fn steps_callback(past: &Passed<'_>, who: Actor, s: u32) -> bool
+    ensures { IsTrue result ↔ (is_in_callback past.now.machine (journal_of past.now) who ≡ true → is_inside (history s (past_of past.now)) who ≡ true) }
+{
+    !is_in_callback(past, who) || is_inside(past, s, who)
+}
+
+/// Whether devices are taken in order and answer what the machine answers, and a callback makes its reports in order, then
+/// its end, and nothing else (`drivers/base/power/main.c`). `Mem` where the number of reports has no room.
 #[inline(always)]
 pub fn walk_entry(past: &Passed<'_>, e: Entry) -> Result<bool, Mem>
     requires { fits_entry past.now.machine e ≡ true }
@@ -43,18 +58,20 @@ pub fn walk_entry(past: &Passed<'_>, e: Entry) -> Result<bool, Mem>
         Kind::Awake(_) | Kind::Relax(_) | Kind::Event { .. } | Kind::Expire(_) => {
             Ok(!is_in_callback(past, e.actor) || is_own_call(past, e.actor, e.kind))
         }
-        Kind::Start(_) | Kind::Finish(_) | Kind::Hard(_) | Kind::Jump => Ok(true),
+        Kind::Start(s) | Kind::Finish(s) | Kind::Hard(s) => Ok(steps_callback(past, e.actor, s)),
+        Kind::Jump => Ok(!is_in_callback(past, e.actor)),
         _ => {
             let made = are_reports_made(past, e)?;
-            Ok(keeps_walk(past, past.word(), e.kind) && made)
+            Ok(keeps_walk(past, past.word(), e.kind) && made && ends_callback(past, e))
         }
     }
 }
 
-/// Whether tasks freeze where they are asked to, frozen ones make nothing, and a freeze ends rightly (`try_to_freeze`,
-/// `try_to_freeze_tasks`). `Mem` where its end is beyond all time.
+/// Whether tasks freeze where they are asked to and come to it, frozen ones make nothing, and a freeze ends rightly
+/// (`try_to_freeze`, `try_to_freeze_tasks`). `Mem` where its end is beyond all time, or a number has no room.
 #[inline(always)]
 pub fn freezer_entry(past: &Passed<'_>, e: Entry) -> Result<bool, Mem>
+    requires { fits_entry past.now.machine e ≡ true }
     ensures { IfOk result (λ b. IsTrue b ↔ FreezerEntry past.now.machine (past_of past.now) e (part_of e.kind)) }
 {
     match e.kind {
@@ -64,11 +81,12 @@ pub fn freezer_entry(past: &Passed<'_>, e: Entry) -> Result<bool, Mem>
         | Kind::Expire(_)
         | Kind::Start(_)
         | Kind::Finish(_)
-        | Kind::Hard(_) => Ok(is_thawed(past, e.actor)),
-        Kind::Jump => Ok(true),
+        | Kind::Hard(_)
+        | Kind::Jump => goes_on_entry(past, e.actor),
         _ => {
-            let keeps = keeps_freezer(past, past.word(), e.actor, e.kind)?;
-            Ok(keeps)
+            let ends = freeze_ends(past, past.word(), e.kind)?;
+            let freezes = freezes_entry(past, e.actor, e.kind)?;
+            Ok(freezes && ends)
         }
     }
 }
@@ -89,7 +107,7 @@ pub fn path_entry(past: &Passed<'_>, e: Entry) -> bool
 }
 
 /// Whether an entry is its actor's next, once the calls before it are made whole; a note its actor's next call; a step of
-/// the word none of another's call; and time makes the jumps. `Mem` where a moment is beyond all time, or a number has no
+/// the word owed by its actor; and time makes the jumps. `Mem` where a moment is beyond all time, or a number has no
 /// room.
 #[inline(always)]
 pub fn steps_entry(past: &Passed<'_>, e: Entry) -> Result<bool, Mem>

@@ -1,18 +1,71 @@
 //! Reads and saves of the count, and writes to the state and to autosleep (`kernel/power/main.c`).
 
-ghost use Rattle.std.specs.Prelude.{◌↔◌, IsTrue, IfOk, option_copied};
-ghost use Rattle.rule_definitions.specs.Reads.{IsBadText, IsFree, IsRead, IsSave, IsWrite, KeepsReads, ReadsTask, ReadsWork};
+ghost use Rattle.std.specs.Prelude.{◌≡◌, ◌↔◌, IsTrue, IfOk, is_some, option_copied};
+ghost use Rattle.rule_definitions.specs.Reads.{IsAutoSave, IsBadText, IsFree, IsGoodWrite, IsRead, IsReadElse, IsSave, IsSaveElse, IsWrite, IsWriteElse, KeepsReads, ReadsElse, ReadsTask, ReadsWork};
+ghost use Rattle.sleep_model.specs.Lock.{holder, is_on};
+ghost use Rattle.sleep_model.specs.Steps.{state_due, unless_unsaved};
+ghost use Rattle.sleep_model.specs.Tasks.{is_mem};
 ghost use Rattle.check_past.specs.Passing.{journal_of};
 
 use crate::kinds::is_kind;
 use crate::same::makes;
+use check_account::is_actor;
 use check_due::{
     auto_save, count_due, is_mem, is_off, next_attempt, read_due, saved_number, state_due,
     unless_unsaved,
 };
 use check_past::Passed;
 use sleep_base::Mem;
-use sleep_model::{Actor, EventNow, Kind, Op, Seat, Work, visible};
+use sleep_model::{Actor, Due, EventNow, Kind, Op, Seat, Work, visible};
+
+// Whether an entry is right as a read of somebody whose own step is another.
+fn is_read_else(now: EventNow, kind: Kind) -> bool
+    ensures { IsTrue result ↔ IsReadElse now kind }
+{
+    makes(read_due(now, false, false), kind)
+}
+
+// Whether an entry is right as a save of that number by somebody whose own step is another.
+fn is_save_else(past: &Passed<'_>, now: EventNow, who: Actor, c: u32, kind: Kind) -> bool
+    ensures { IsTrue result ↔ IsSaveElse (journal_of past.now) now who c kind }
+{
+    let held = past.holder().is_some();
+    let due = count_due(held, past.is_on(), false, false, now, c);
+    !is_actor(who, past.holder()) && makes(due, kind)
+}
+
+// Whether an entry is right as a write to the state by somebody whose own step is another. `Mem` where the next attempt has
+// no number.
+fn is_write_else(past: &Passed<'_>, who: Actor, kind: Kind) -> Result<bool, Mem>
+    ensures { IfOk result (λ b. IsTrue b ↔ IsWriteElse (journal_of past.now) who kind) }
+{
+    let attempt = next_attempt(past)?;
+    let held = past.holder().is_some();
+    let due = state_due(held, past.is_on(), false, false, true, attempt);
+    Ok(!is_actor(who, past.holder()) && makes(due, kind))
+}
+
+// Whether an entry is right as a save of the work.
+fn is_auto_save(past: &Passed<'_>, now: EventNow, c: u32, kind: Kind) -> bool
+    ensures { IsTrue result ↔ IsAutoSave (journal_of past.now) now c kind }
+{
+    past.holder().is_none() && is_kind(auto_save(now, c), kind)
+}
+
+// Reads, saves and writes to the state of somebody whose own step is another. `Mem` where the next attempt has no number.
+fn reads_else(past: &Passed<'_>, now: EventNow, who: Actor, kind: Kind) -> Result<bool, Mem>
+    ensures { IfOk result (λ b. IsTrue b ↔ ReadsElse (journal_of past.now) now who kind) }
+{
+    match kind {
+        Kind::ReadWait | Kind::Read(_) | Kind::ReadIntr => Ok(is_read_else(now, kind)),
+        Kind::SaveWait(c) | Kind::Saved(c) | Kind::SaveErr(c, _) => {
+            Ok(is_save_else(past, now, who, c, kind))
+        }
+        Kind::StateWait | Kind::StateErr(_) | Kind::StateUnsaved => is_write_else(past, who, kind),
+        Kind::AutoSaved(c) | Kind::AutoUnsaved(c) => Ok(is_auto_save(past, now, c, kind)),
+        _ => Ok(true),
+    }
+}
 
 // Whether an entry is right at a read.
 fn is_read(now: EventNow, seat: Seat, asked: bool, op: Option<&Op>, kind: Kind) -> bool
@@ -20,7 +73,7 @@ fn is_read(now: EventNow, seat: Seat, asked: bool, op: Option<&Op>, kind: Kind) 
 {
     match op {
         Some(Op::Read) => makes(read_due(now, seat.waits, asked), kind),
-        _ => true,
+        _ => is_read_else(now, kind),
     }
 }
 
@@ -28,12 +81,14 @@ fn is_read(now: EventNow, seat: Seat, asked: bool, op: Option<&Op>, kind: Kind) 
 fn is_save(
     past: &Passed<'_>,
     now: EventNow,
+    who: Actor,
     seat: Seat,
     asked: bool,
     op: Option<&Op>,
+    c: u32,
     kind: Kind,
 ) -> bool
-    ensures { IsTrue result ↔ IsSave (journal_of past.now) now seat asked (option_copied op.entry) kind }
+    ensures { IsTrue result ↔ IsSave (journal_of past.now) now who seat asked (option_copied op.entry) c kind }
 {
     match op {
         Some(Op::Save { count }) => {
@@ -44,27 +99,58 @@ fn is_save(
                 kind,
             )
         }
-        _ => true,
+        _ => is_save_else(past, now, who, c, kind),
     }
 }
 
-// Whether an entry is right at a write to the state, whose attempt would be that.
-fn is_write(
+// What is due at a write of that text to the state, whose attempt would be that.
+fn written(
     past: &Passed<'_>,
     seat: Seat,
     asked: bool,
-    op: Option<&Op>,
+    text: &[u8],
+    if_saved: bool,
     attempt: Kind,
+) -> Due
+    ensures { result ≡ unless_unsaved if_saved seat.saved
+        (state_due (is_some (holder (journal_of past.now))) (is_on (journal_of past.now)) seat.waits asked (is_mem text.now) attempt) }
+{
+    let held = past.holder().is_some();
+    let due = state_due(held, past.is_on(), seat.waits, asked, is_mem(text), attempt);
+    unless_unsaved(if_saved, seat.saved, due)
+}
+
+// Whether an entry is right at a write to the state. `Mem` where the next attempt has no number.
+fn is_write(
+    past: &Passed<'_>,
+    who: Actor,
+    seat: Seat,
+    asked: bool,
+    op: Option<&Op>,
     kind: Kind,
-) -> bool
-    ensures { IsTrue result ↔ IsWrite (journal_of past.now) seat asked (option_copied op.entry) attempt kind }
+) -> Result<bool, Mem>
+    ensures { IfOk result (λ b. IsTrue b ↔ IsWrite (journal_of past.now) who seat asked (option_copied op.entry) kind) }
+{
+    let attempt = next_attempt(past)?;
+    match op {
+        Some(Op::State { text, if_saved }) => {
+            let due = written(past, seat, asked, text.as_slice(), *if_saved, attempt);
+            Ok(makes(due, kind))
+        }
+        _ => is_write_else(past, who, kind),
+    }
+}
+
+// Whether an attempt is right at a write to the state.
+fn is_good_write(past: &Passed<'_>, seat: Seat, asked: bool, op: Option<&Op>, kind: Kind) -> bool
+    ensures { IsTrue result ↔ IsGoodWrite (journal_of past.now) seat asked (option_copied op.entry) kind }
 {
     match op {
         Some(Op::State { text, if_saved }) => {
-            let held = past.holder().is_some();
-            let mem = is_mem(text.as_slice());
-            let due = state_due(held, past.is_on(), seat.waits, asked, mem, attempt);
-            makes(unless_unsaved(*if_saved, seat.saved, due), kind)
+            makes(
+                written(past, seat, asked, text.as_slice(), *if_saved, kind),
+                kind,
+            )
         }
         _ => true,
     }
@@ -97,54 +183,54 @@ fn is_free(past: &Passed<'_>, op: Option<&Op>) -> bool
 fn reads_task(
     past: &Passed<'_>,
     now: EventNow,
+    who: Actor,
     seat: Seat,
     asked: bool,
     op: Option<&Op>,
     kind: Kind,
 ) -> Result<bool, Mem>
-    ensures { IfOk result (λ b. IsTrue b ↔ ReadsTask (journal_of past.now) now seat asked (option_copied op.entry) kind) }
+    ensures { IfOk result (λ b. IsTrue b ↔ ReadsTask (journal_of past.now) now who seat asked (option_copied op.entry) kind) }
 {
     match kind {
         Kind::ReadWait | Kind::Read(_) | Kind::ReadIntr => Ok(is_read(now, seat, asked, op, kind)),
-        Kind::SaveWait(_) | Kind::Saved(_) | Kind::SaveErr(..) => {
-            Ok(is_save(past, now, seat, asked, op, kind))
+        Kind::SaveWait(c) | Kind::Saved(c) | Kind::SaveErr(c, _) => {
+            Ok(is_save(past, now, who, seat, asked, op, c, kind))
         }
         Kind::StateWait | Kind::StateErr(_) | Kind::StateUnsaved => {
-            Ok(is_write(past, seat, asked, op, next_attempt(past)?, kind))
+            is_write(past, who, seat, asked, op, kind)
         }
-        Kind::Attempt { .. } => Ok(is_write(past, seat, asked, op, kind, kind)),
+        Kind::Attempt { .. } => Ok(is_good_write(past, seat, asked, op, kind)),
         Kind::AutoBad => Ok(is_bad_text(op)),
         Kind::AutoSet(_) => Ok(is_free(past, op)),
-        _ => Ok(true),
+        _ => reads_else(past, now, who, kind),
     }
 }
 
-// An entry of autosleep's work.
-fn reads_work(past: &Passed<'_>, now: EventNow, work: Work, kind: Kind) -> bool
-    ensures { IsTrue result ↔ ReadsWork (journal_of past.now) now work kind }
+// An entry of autosleep's work. `Mem` where the next attempt has no number.
+fn reads_work(past: &Passed<'_>, now: EventNow, work: Work, kind: Kind) -> Result<bool, Mem>
+    ensures { IfOk result (λ b. IsTrue b ↔ ReadsWork (journal_of past.now) now work kind) }
 {
     match (work, kind) {
-        (Work::Reading, Kind::Read(c)) => now.inpr == 0 && c == visible(now),
+        (Work::Reading, Kind::Read(c)) => Ok(now.inpr == 0 && c == visible(now)),
         (Work::Saving(c), Kind::AutoSaved(_)) | (Work::Saving(c), Kind::AutoUnsaved(_)) => {
-            past.holder().is_none() && is_kind(auto_save(now, c), kind)
+            Ok(is_auto_save(past, now, c, kind))
         }
-        (Work::Attempting(_), Kind::Attempt { .. }) => past.is_on(),
-        _ => true,
+        (Work::Attempting(_), Kind::Attempt { .. }) => Ok(past.is_on()),
+        _ => reads_else(past, now, Actor::Auto, kind),
     }
 }
 
-/// Whether reads, saves and writes are answered by the word, the lock, autosleep, their number and their text
-/// (`kernel/power/main.c`, `drivers/base/power/wakeup.c`). `Mem` where the next attempt has no number.
+/// Whether reads, saves and writes are answered by the word, the lock, autosleep, their number and their text, whoever
+/// makes them (`kernel/power/main.c`, `drivers/base/power/wakeup.c`). `Mem` where the next attempt has no number.
 pub fn keeps_reads(past: &Passed<'_>, now: EventNow, who: Actor, kind: Kind) -> Result<bool, Mem>
     ensures { IfOk result (λ b. IsTrue b ↔ KeepsReads past.now.machine (journal_of past.now) now who kind) }
 {
     match who {
         Actor::Script(i) if !past.is_maker(who) => {
             let asked = past.freezing(i).asked;
-            let keeps = reads_task(past, now, past.seat(i), asked, past.operation(i), kind)?;
-            Ok(keeps)
+            reads_task(past, now, who, past.seat(i), asked, past.operation(i), kind)
         }
-        Actor::Auto if !past.is_maker(who) => Ok(reads_work(past, now, past.work(), kind)),
-        _ => Ok(true),
+        Actor::Auto if !past.is_maker(who) => reads_work(past, now, past.work(), kind),
+        _ => reads_else(past, now, who, kind),
     }
 }

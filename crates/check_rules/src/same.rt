@@ -6,7 +6,7 @@ ghost use Rattle.sleep_model.specs.declared.place.Due.TheVariants.{Makes};
 use crate::kinds::is_kind;
 use phase_table::Phase;
 use sleep_base::Errno;
-use sleep_model::{Actor, Due, Kind};
+use sleep_model::{Due, Kind};
 
 /// Whether that entry is due.
 pub(crate) fn makes(due: Due, kind: Kind) -> bool
@@ -60,16 +60,6 @@ pub(crate) fn is_time(moment: Option<u64>, wanted: u64) -> bool
     match moment {
         None => false,
         Some(moment) => moment == wanted,
-    }
-}
-
-/// Whether it is that actor.
-pub(crate) fn is_caller(caller: Option<Actor>, wanted: Actor) -> bool
-    ensures { IsTrue result ↔ (caller ≡ Some wanted) }
-{
-    match caller {
-        None => false,
-        Some(caller) => caller == wanted,
     }
 }
 

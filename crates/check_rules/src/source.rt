@@ -21,8 +21,8 @@ fn is_free(past: &Passed<'_>, s: u32) -> bool
     !past.source(s).owes.is_left()
 }
 
-// Whether that step is the one that a source owes next.
-fn is_next(past: &Passed<'_>, s: u32, step: WordKind) -> bool
+/// Whether that step is the one that a source owes next.
+pub(crate) fn is_next(past: &Passed<'_>, s: u32, step: WordKind) -> bool
     ensures { IsTrue result ↔ IsNext step (owed (history s (past_of past.now))) }
 {
     past.source(s).owes.is_next(step)

@@ -2,7 +2,7 @@
 
 ghost use Rattle.std.specs.Prelude.{◌≡◌, ◌↔◌, true, IsTrue};
 ghost use Rattle.sleep_model.specs.Devices.{is_async_device};
-ghost use Rattle.rule_definitions.specs.Walk.{BeginsAt, BeginsAsync, BeginsBy, CompletesAt, DoneAt, EndsAt, EndsAsync, EndsBy, IsDownDone, IsInside, IsNextUp, IsUpDone, KeepsWalk, PreparesAt, SchedulesAt};
+ghost use Rattle.rule_definitions.specs.Walk.{BeginsAt, BeginsAsync, BeginsBy, CompletesAt, DoneAt, EndsAt, EndsAsync, EndsBy, EndsOwn, IsDownDone, IsInside, IsNextUp, IsOwnCallback, IsUpDone, KeepsWalk, PreparesAt, SchedulesAt};
 ghost use Rattle.phase_table.specs.Phases.{is_down};
 ghost use Rattle.check_past.specs.Passing.{journal_of};
 
@@ -12,7 +12,7 @@ use crate::skip::{is_next_down, is_scheduled_down};
 use check_due::{device_error, row_now, turn_of};
 use check_past::Passed;
 use phase_table::Phase;
-use sleep_model::{Callback, EventNow, Kind, Stage, Stand, What};
+use sleep_model::{Actor, Callback, EventNow, Kind, Stage, Stand, What};
 
 // Whether a device may be prepared now, and answers so.
 fn prepares_at(past: &Passed<'_>, device: u32, r: i32, row: Option<Stage>) -> bool
@@ -142,6 +142,26 @@ fn is_inside(device: u32, callback: Option<Callback>) -> bool
     match callback {
         None => false,
         Some(callback) => device == callback.device,
+    }
+}
+
+// Whether it is the device whose callback an actor is inside.
+fn is_own_callback(past: &Passed<'_>, who: Actor, device: u32) -> bool
+    ensures { IsTrue result ↔ IsOwnCallback (journal_of past.now) who device }
+{
+    match who {
+        Actor::Dev(own) => device == own,
+        _ => is_inside(device, past.callback()),
+    }
+}
+
+/// Whether an entry of the journal is the end of the callback that its maker is inside (`dpm_run_callback`).
+pub(crate) fn ends_own(past: &Passed<'_>, who: Actor, kind: Kind) -> bool
+    ensures { IsTrue result ↔ EndsOwn (journal_of past.now) who kind }
+{
+    match kind {
+        Kind::End(_, device, _) => is_own_callback(past, who, device),
+        _ => false,
     }
 }
 

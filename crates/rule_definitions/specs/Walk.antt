@@ -157,10 +157,14 @@ abbrev pub ReportsMade : Machine → List Entry → Actor → Kind → Type 0
 ReportsMade m past who (kind.End p d r) = IsOwnTurn m (journal past) (λ s. history s past) who
 ReportsMade m past who _ = Unit {0}
 
--- the end of that callback: an asynchronous device's of its own, anybody else's of the one that the walk is inside (dpm_run_callback)
+-- it is the device whose callback the actor is inside: an asynchronous device itself, for anybody else the one that the walk is inside (dpm_run_callback)
+abbrev pub IsOwnCallback : List Entry → Actor → ℕ → Type 0
+IsOwnCallback past (actor.Dev d) e = e ≡ d
+IsOwnCallback past who e = IsInside e (callback past)
+
+-- the end of that callback (dpm_run_callback)
 abbrev pub EndsOwn : List Entry → Actor → Kind → Type 0
-EndsOwn past (actor.Dev d) (kind.End p e r) = e ≡ d
-EndsOwn past who (kind.End p e r) = IsInside e (callback past)
+EndsOwn past who (kind.End p e r) = IsOwnCallback past who e
 EndsOwn past who _ = ⊥
 
 -- devices are taken in order and answer what the machine answers; inside a callback its maker makes its reports in order, with their steps, then its end, and nothing else (drivers/base/power/main.c)

@@ -51,20 +51,34 @@ class Kept(Place):
         return e.verb != "over" or (e.words[1] == str(self.attempts) and self.maker is not None)
 
     def reads(self, e):
-        if self.is_maker(e):
-            return True
-        if e.who == "auto":
+        """Reads, saves and writes to the state, whoever makes them; else what a task or the work asks at its own step."""
+        own = {"read": self.due_read, "save": self.due_save, "state": self.due_state}.get(e.verb)
+        if e.who == "auto" and not self.is_maker(e) and self.is_of_work(e):
             return self.work_reads(e)
-        rules = {"read": ("read", self.due_read), "save": ("save", self.due_save), "state": ("state", self.due_state)}
-        rules |= {"attempt": ("state", self.due_state)}
-        if e.verb in rules:
-            name, due = rules[e.verb]
-            op = self.own_op(e, name)
-            return op is None or due(self.seats[e.who], op, e) == e.words
+        if own is not None:
+            op = self.own_op(e, e.verb)
+            return (own(self.seats[e.who], op, e) if op else self.due_else(e)) == e.words
+        if e.verb in ("saved", "unsaved"):
+            return self.is_auto_save(e)
+        if e.verb == "attempt":
+            op = self.own_op(e, "state")
+            return op is None or self.due_state(self.seats[e.who], op, e) == e.words
         op = self.own_op(e, "autosleep")
         if op is None or e.verb != "autosleep":
             return True
         return {"EINVAL": not is_good(op["text"]), "set": self.holder is None}.get(e.words[1], True)
+
+    def due_else(self, e):
+        """What such an entry says of an actor whose own step is another: it waits in none, and has no text and no number."""
+        if e.verb == "read":
+            return ["read", str(self.visible()) if self.inpr == 0 else "wait"]
+        if self.holder == e.who:
+            return None
+        if e.verb == "state":
+            return ["state", "wait" if self.holder is not None else "EBUSY"] if self.holder is not None or self.on else None
+        count = int(e.words[1])
+        good = "ok" if self.visible() == count and self.inpr == 0 else "EINVAL"
+        return ["save", e.words[1], "wait" if self.holder is not None else "EBUSY" if self.on else good]
 
     def due_read(self, seat, op, e):
         if self.inpr == 0:
@@ -92,14 +106,20 @@ class Kept(Place):
             return ["state", "EINVAL"]
         return e.words if e.verb == "attempt" else ["attempt"]
 
+    def is_auto_save(self, e):
+        right = "saved" if e.words[1] == str(self.visible()) and self.inpr == 0 else "unsaved"
+        return self.holder is None and e.verb == right
+
+    def is_of_work(self, e):
+        """The entry is read, saved or begun by the work in its turn."""
+        verbs = {"reading": ("read",), "saving": ("saved", "unsaved"), "attempting": ("attempt",)}
+        return e.verb in verbs.get(self.work[0], ())
+
     def work_reads(self, e):
         at = self.work
-        if at[0] == "reading" and e.verb == "read":
+        if at[0] == "reading":
             return self.inpr == 0 and e.words[1] == str(self.visible())
-        if at[0] == "saving" and e.verb in ("saved", "unsaved"):
-            right = "saved" if self.visible() == at[1] and self.inpr == 0 else "unsaved"
-            return self.holder is None and e.words == [right, str(at[1])]
-        return not (at[0] == "attempting" and e.verb == "attempt") or self.on
+        return self.on if at[0] == "attempting" else self.is_auto_save(e) and e.words[1] == str(at[1])
 
     def kept_links(self, e):
         w = e.words
@@ -172,11 +192,21 @@ class Kept(Place):
         return next((d for d in self.order if self.stands[p][d] == "suspended" and not self.is_async(d)), None)
 
     def walk(self, e):
-        if e.part == "note":
-            return not self.is_in_callback(e.who) or self.is_next_call(e)
+        if self.is_in_callback(e.who) and not self.is_of_callback(e):
+            return False
         rules = {"prepare": self.prepares, "complete": self.completes, "schedule": self.schedules}
         rules |= {"begin": self.begins, "end": self.ends, "done": self.is_done}
         return e.part != "journal" or e.verb not in rules or rules[e.verb](e, *e.words[1:])
+
+    def is_of_callback(self, e):
+        """Inside a callback its maker makes the next report, a step of it, or the end."""
+        if e.part == "note":
+            return self.is_own_call(e)
+        if e.part == "step":
+            source = self.sources[e.words[1]]
+            return bool(source.owed) and source.caller == e.who
+        own = e.who[4:] if e.who.startswith("dev:") else self.callback[1]
+        return e.verb == "end" and e.words[2] == own
 
     def is_row(self, *row):
         return self.maker is not None and self.row() == row
@@ -275,12 +305,14 @@ class Kept(Place):
         good = op["op"] == "autosleep" and is_good(op["text"])
         return user and not seat.waits and not good
 
+    def is_at_turn(self, who):
+        """The actor's next step is an entry of the journal: no call comes first, and none is half made."""
+        return not self.left.get(who) and not self.is_inside(who)
+
     def freezer(self, e):
         seat = self.seat_of(e)
-        if e.part != "journal":
-            return seat is None or not seat.frozen
         if seat is not None:
-            point = seat.asked and self.freezes_at(seat)
+            point = seat.asked and self.freezes_at(seat) and self.is_at_turn(e.who)
             if seat.frozen or point != (e.verb == "frozen"):
                 return False
         elif e.verb == "frozen":
@@ -342,7 +374,9 @@ class Kept(Place):
             return self.work_of(who[4:])[0] == "inside"
         return who == self.maker and self.callback is not None
 
-    def is_next_call(self, e):
+    def is_own_call(self, e):
+        if e.who.startswith("timer:"):
+            return e.words == ["expire", e.who[6:]]
         return (self.left.get(e.who) or [None])[0] == " ".join(e.words)
 
     def steps(self, e):
@@ -350,13 +384,11 @@ class Kept(Place):
             return e.who == "time"
         if e.part == "step":
             source = self.sources[e.words[1]]
-            inside = [s for s in self.sources.values() if s.owed and s.caller == e.who]
-            own = all(s is source and s.owed[0] == e.verb for s in inside)
-            return own and (not source.owed or source.caller == e.who)
+            return source.owed[:1] == [e.verb] and source.caller == e.who
         if self.is_inside(e.who):
             return False
         if e.part == "note":
-            return e.words == ["expire", e.who[6:]] if e.who.startswith("timer:") else self.is_next_call(e)
+            return self.is_own_call(e)
         if self.left.get(e.who):
             return False
         if self.is_maker(e):
