@@ -1,4 +1,5 @@
-//! What the checker of logs knows of the entries that it has passed.
+//! What the checker of logs knows of the entries that it has passed. Its tests are in `row_trials`, by the
+//! command `check`.
 #![tactic(auto)]
 
 mod attempt;

@@ -1,4 +1,5 @@
-//! The rules of a log as code: whether an entry keeps each of them, behind the entries that were passed.
+//! The rules of a log as code: whether an entry keeps each of them behind the entries that were passed, and the number of the
+//! least that it breaks. Its tests are in `row_trials`, by the command `check`.
 #![tactic(auto)]
 
 mod answers;

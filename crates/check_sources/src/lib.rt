@@ -1,6 +1,6 @@
 //! What the checker of logs keeps of wakeup sources: what each one's history leaves, and which calls on sources each actor
 //! owes and has made. The calls come from the machine's scripts and from what its callbacks answer; each answer is found at
-//! once, by an index of the checker's own. Tests: `tools/dev try` and the worked logs, through the command `check`.
+//! once, by an index of the checker's own. Its tests are in `row_trials`, by the command `check`.
 #![tactic(auto)]
 
 mod answers;

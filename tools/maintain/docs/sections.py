@@ -251,6 +251,6 @@ ASIDE = [
         ["Accounts", "Boards"],
     ),
     ("check_sources", "What the checker keeps of wakeup sources", "`drivers/base/power/wakeup.c`", ["Kept", "Owing"]),
-    ("check_calls", "What the checker keeps of the calls on sources", "own", ["Places", "Calling"]),
+    ("check_sources", "What the checker keeps of the calls on sources, and of answers", "own", ["Places", "Calling", "AnswerKeys"]),
     ("device_tree", "Devices by name", "`drivers/base/core.c`, `drivers/base/power/runtime.c`", ["Refusal", "Requests"]),
 ]
