@@ -1,6 +1,5 @@
 //! The account that the checker of logs keeps of the entries of the journal that it has passed: each field is what a
-//! definition reads from them. Its tests are in `row_trials`, by the
-//! command `check`.
+//! definition reads from them. Its tests are in `row_trials`, by the command `check`.
 #![tactic(auto)]
 
 mod attempt;

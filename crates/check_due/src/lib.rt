@@ -1,5 +1,5 @@
-//! What is due of an actor behind the entries that were passed, as the checker of logs tells it. Its tests are in `row_trials`, by the
-//! command `check`.
+//! What is due of an actor behind the entries that were passed, as the checker of logs tells it. Its tests are in
+//! `row_trials`, by the command `check`.
 #![tactic(auto)]
 
 mod attempt;

@@ -1,5 +1,4 @@
-//! What the checker of logs knows of the entries that it has passed. Its tests are in `row_trials`, by the
-//! command `check`.
+//! What the checker of logs knows of the entries that it has passed. Its tests are in `row_trials`, by the command `check`.
 #![tactic(auto)]
 
 mod attempt;

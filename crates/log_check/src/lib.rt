@@ -1,6 +1,5 @@
 //! The checker of logs: yes exactly where a log is legal and finished, else its first bad line and the least rule that
-//! this breaks. Its tests are in `row_trials`, by the
-//! command `check`.
+//! this breaks. Its tests are in `row_trials`, by the command `check`.
 #![tactic(auto)]
 
 mod ending;
