@@ -4,13 +4,13 @@ use Rattle.std.proofs.lemmas.List.{reverse-append}
 use Rattle.std.proofs.lemmas.Bool.{or_left, or_right}
 use Rattle.std.proofs.Math.Bool.{or_assoc}
 use Rattle.sleep_model.specs.declared.machine.Link.{Link}
-use Rattle.sleep_model.specs.Order.{is_among, is_link, dependents, superiors, moved, EachAfterParent}
+use Rattle.sleep_model.specs.Order.{active_of, is_among, is_link, dependents, superiors, moved, EachAfterParent}
 use Rattle.sleep_model.specs.Links.{AreLinks, is_linked, is_dependent}
 use Rattle.sleep_model.proofs.Acyclic.{among_last}
 use Rattle.device_rows.specs.Table.{Table, row_at}
 use Rattle.check_order.specs.declared.walk.Visits.{Visits}
 use Rattle.check_order.specs.Visited.{visited, Leaves}
-use Rattle.check_order.specs.Kept.{IsTableOf, AreWithin, Ties}
+use Rattle.check_order.specs.Kept.{AreActive, IsTableOf, AreWithin, Ties}
 use Rattle.check_order.proofs.Ordering.{table_walk}
 
 -- ---- the same parents and links
@@ -30,6 +30,9 @@ below_as {qs = qs} {ls = ls} rows p l h = subst (λ (xs : List Link). IsTableOf 
 
 pub above_as : {ps qs : List (Option ℕ)} {ls ms : List Link} (rows : List (List ℕ)) → ps ≡ qs → ls ≡ ms → IsTableOf (length ps) (superiors ps ls) rows → IsTableOf (length qs) (superiors qs ms) rows
 above_as {qs = qs} {ls = ls} rows p l h = subst (λ (xs : List Link). IsTableOf (length qs) (superiors qs xs) rows) l (subst (λ (xs : List (Option ℕ)). IsTableOf (length xs) (superiors xs ls) rows) p h)
+
+pub active_as : {ps qs : List (Option ℕ)} {ls ms : List Link} (rows_below rows_above : List (List ℕ)) → ps ≡ qs → ls ≡ ms → AreActive ps ls rows_below rows_above → AreActive qs ms rows_below rows_above
+active_as rows_below rows_above p l h = record { below = below_as rows_below p (ap active_of l) h.below; above = above_as rows_above p (ap active_of l) h.above }
 
 -- ---- lists of links
 

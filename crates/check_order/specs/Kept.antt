@@ -38,10 +38,14 @@ pub record AreTies (t : Ties) : Type 0 where
   pub after : EachAfterParent 0 t.parents
   pub linked : AreLinks t.parents t.links
 
+-- what hangs below and above each device by the links that are active (dpm_wait_for_subordinate, dpm_wait_for_superior)
+pub record AreActive (parents : List (Option ℕ)) (links : List Link) (rows_below rows_above : List (List ℕ)) : Type 0 where
+  pub below : IsTableOf (length parents) (dependents parents (active_of links)) rows_below
+  pub above : IsTableOf (length parents) (superiors parents (active_of links)) rows_above
+
 -- what is made of them: what hangs below each device by all links, below and above it by the active ones, and the order (dpm_list)
 pub record IsMade (t : Ties) (rows_hanging rows_below rows_above : List (List ℕ)) (devices : List ℕ) : Type 0 where
   pub ties : AreTies t
   pub hanging : IsTableOf (length t.parents) (dependents t.parents t.links) rows_hanging
-  pub below : IsTableOf (length t.parents) (dependents t.parents (active_of t.links)) rows_below
-  pub above : IsTableOf (length t.parents) (superiors t.parents (active_of t.links)) rows_above
+  pub active : AreActive t.parents t.links rows_below rows_above
   pub order : devices ≡ order_by t.parents t.links

@@ -2,7 +2,7 @@
 
 ghost use Rattle.std.specs.Prelude.{◌≡◌, IfOk, reverse};
 ghost use Rattle.sleep_model.specs.Order.{order_by};
-ghost use Rattle.check_order.specs.Kept.{AreTies, Ties};
+ghost use Rattle.check_order.specs.Kept.{AreActive, AreTies, Ties};
 
 use crate::links::{have_state, set_states, stands};
 use crate::order::{move_behind, order_of};
@@ -41,7 +41,7 @@ impl Model for DeviceTies {
 }
 
 impl DeviceTies {
-    ghost use Rattle.std.specs.Prelude.{◌≡◌, ◌∷◌, ◌<◌, true, IfOk, length, map};
+    ghost use Rattle.std.specs.Prelude.{◌≡◌, ◌∷◌, ◌<◌, IfOk, OnOk, length, map};
     ghost use Rattle.sleep_model.specs.Order.{active_of, dependents, superiors, order_by, with_state};
     ghost use Rattle.sleep_model.specs.Links.{AreLinks, is_dependent, is_linked};
     ghost use Rattle.check_order.specs.Kept.{AreTies, with_links};
@@ -123,27 +123,41 @@ impl DeviceTies {
         made(Vec::from_slice(alloc, &self.parents)?, links, order)
     }
 
-    /// Whether the link between these two has that state already, or there is none: then a change of its state changes
-    /// nothing.
-    pub fn has_state(&self, supplier: u32, consumer: u32, active: bool) -> bool
-        ensures { result ≡ true → map (with_state supplier consumer active) self.now.links ≡ self.now.links }
+    /// Gives the link between these two that state, if there is one (`device_links_driver_bound`). Where it has that state
+    /// already nothing is made anew, and the order stays in any case. `Mem` if there is no memory for what hangs below and
+    /// above each device then.
+    pub fn set_state(&mut self, supplier: u32, consumer: u32, active: bool) -> Result<(), Mem>
+        ensures { OnOk result (self.new ≡ with_links self.old (map (with_state supplier consumer active) self.old.links)) }
     {
-        have_state(&self.links, supplier, consumer, active)
-    }
-
-    /// The same devices with that state of the link between these two, if there is one
-    /// (`device_links_driver_bound`). `Mem` if there is no memory for them.
-    pub fn with_state(&self, supplier: u32, consumer: u32, active: bool) -> Result<DeviceTies, Mem>
-        ensures { IfOk result (λ t. t ≡ with_links self.now (map (with_state supplier consumer active) self.now.links)) }
-    {
+        if have_state(&self.links, supplier, consumer, active) {
+            return Ok(());
+        }
         let alloc = *self.order.allocator();
         let links = set_states(alloc, &self.links, supplier, consumer, active)?;
-        made(
-            Vec::from_slice(alloc, &self.parents)?,
-            links,
-            Vec::from_slice(alloc, &self.order)?,
-        )
+        let ActiveRows { below, above } = active_rows(alloc, &self.parents, &links)?;
+        self.links = links;
+        self.below = below;
+        self.above = above;
+        Ok(())
     }
+}
+
+// What hangs right below and above each device by the links that are active.
+#[derive(Drop)]
+struct ActiveRows {
+    below: Rows,
+    above: Rows,
+}
+
+// The same of these links.
+fn active_rows(alloc: Global, parents: &[Option<u32>], links: &[Link]) -> Result<ActiveRows, Mem>
+    requires { AreTies (record { parents = parents.now; links = reverse links.now }) }
+    ensures { IfOk result (λ t. AreActive parents.now (reverse links.now) t.below.rows t.above.rows) }
+{
+    let active = active_links(alloc, links)?;
+    let below = rows_below(alloc, parents, &active)?;
+    let above = rows_above(alloc, parents, &active)?;
+    Ok(ActiveRows { below, above })
 }
 
 // The devices with these links, whose order is this.
@@ -154,9 +168,7 @@ fn made(parents: Vec<Option<u32>>, links: Vec<Link>, order: Vec<u32>) -> Result<
 {
     let alloc = *order.allocator();
     let hanging = rows_below(alloc, &parents, &links)?;
-    let active = active_links(alloc, &links)?;
-    let below = rows_below(alloc, &parents, &active)?;
-    let above = rows_above(alloc, &parents, &active)?;
+    let ActiveRows { below, above } = active_rows(alloc, &parents, &links)?;
     Ok(DeviceTies {
         parents,
         links,

@@ -34,16 +34,13 @@ fn add_link(ties: &mut DeviceTies, link: Link) -> Result<(), Mem>
     Ok(())
 }
 
-// Gives the link between these two that state, where it has another, which few entries do. `Mem` if there is no memory for
-// it.
+// Gives the link between these two that state, which few entries do. `Mem` if there is no memory for it.
 #[cold]
 #[inline(never)]
 fn set_link(ties: &mut DeviceTies, supplier: u32, consumer: u32, active: bool) -> Result<(), Mem>
     ensures { OnOk result (ties.new ≡ with_links ties.old (map (with_state supplier consumer active) ties.old.links)) }
 {
-    if !ties.has_state(supplier, consumer, active) {
-        *ties = ties.with_state(supplier, consumer, active)?;
-    }
+    ties.set_state(supplier, consumer, active)?;
     Ok(())
 }
 
