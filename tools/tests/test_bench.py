@@ -40,7 +40,7 @@ class Machines(unittest.TestCase):
             machines.wide(500), machines.hard_events(), machines.timed_events(),
             machines.in_step(), machines.one_waits(), machines.posts(), machines.waiters(1), machines.waiters(255),
             machines.events(20), machines.writers(254, 59), machines.lines(64, 3_125), machines.short_turns(16, 595, 20),
-            machines.set_states(machines.spread(40), ("dormant", "active"), 9, 10), machines.set_states(machines.star(40), (), 9, 10),
+            machines.answered(100, 20, 1000), machines.set_states(machines.spread(40), ("dormant", "active"), 9, 10), machines.set_states(machines.star(40), (), 9, 10),
         ]
         for number, tree in enumerate(made):
             self.assertIsNone(first_broken(tree), number)

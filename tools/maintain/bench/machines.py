@@ -45,6 +45,13 @@ def tree(devices, times, piece="sleep", is_async=False, links=0):
     }
 
 
+def answered(devices, times, answers):
+    """The tree, whose devices have so many answers in turn: each for an attempt of its own that nobody makes."""
+    turns = (divmod(number, devices) for number in range(answers))
+    given = [{"what": "device", "name": f"d{device}", "phase": "suspend", "attempt": 1000 - turn} for turn, device in turns]
+    return tree(devices, times) | {"answers": given}
+
+
 # ---- links
 
 

@@ -151,17 +151,27 @@ def link_states():
 # ---- logs that are read
 
 
+def checked(make):
+    """The time of the checker over a machine and its log."""
+    return Spent(("check",), lambda clock: clock.file(make) + b"\n" + clock.log(make))
+
+
 def checks():
-    """The checker over a machine and its log, divided by the run that wrote it."""
+    """The checker over a machine and its log, divided by the run that wrote it; more links divided by fewer."""
     rows = [
         ("10 devices", functools.partial(machines.tree, 10, 1600), 2),
         ("1000 devices", functools.partial(machines.tree, 1000, 95), 5),
+        ("1000 devices, 10000 answers", functools.partial(machines.answered, 1000, 95, 10_000), 5),
         ("in step", machines.in_step, 5),
         ("apart", machines.apart, 5),
         ("events", machines.hard_events, 5),
     ]
-    data = lambda make: lambda clock: clock.file(make) + b"\n" + clock.log(make)
-    return [Row(name, Spent(("check",), data(make)), (run_of(make),), most) for name, make, most in rows]
+    told = [Row(name, checked(make), (run_of(make),), most) for name, make, most in rows]
+    few, many = (
+        checked(functools.partial(machines.set_states, machines.spread(count), STATES["stays"], STATES_TAKEN, STATES_TIMES))
+        for count in (40, 4000)
+    )
+    return told + against(few, [("states that stay, 40 links", few, GROWS), ("states that stay, 4000 links", many, GROWS)])
 
 
 STATS_ENTRIES = 2_000_000
