@@ -1,12 +1,12 @@
--- What a task is asked at its turn, and whether it is at a freeze point.
-use Rattle.std.proofs.Common.{◌≡◌, ℕ, Bool, true, false, ◌&&◌, IsTrue, ◌↔◌, Option, Some, None, refl, sym, subst, ap}
+-- Whether a script is at a freeze point.
+use Rattle.std.proofs.Common.{◌≡◌, ℕ, Bool, true, false, ◌&&◌, IsTrue, ◌↔◌, Option, Some, None, refl, sym, subst}
 use Rattle.std.specs.Prelude.{option_map}
 use Rattle.sleep_model.specs.declared.entry.Kind.{Kind}
 use Rattle.sleep_model.specs.declared.machine.Op.{Op}
 use Rattle.sleep_model.specs.declared.machine.Script.{Script}
 use Rattle.sleep_model.specs.declared.place.Freezing.{Freezing}
 use Rattle.sleep_model.specs.Tasks.{freezes_at, is_user}
-use Rattle.rule_definitions.specs.Freezer.{FreezesBy, FreezesNot, FreezesTask, GoesOn, asked_at}
+use Rattle.rule_definitions.specs.Freezer.{FreezesBy, FreezesNot, FreezesTask, GoesOn}
 
 -- ---- something is not nothing
 
@@ -17,30 +17,9 @@ IsThere (Some x) = Unit {0}
 some≢none : {A : Type 0} (x : A) → Some x ≡ None → ⊥
 some≢none x e = subst IsThere e tt
 
--- ---- what is asked
-
-nothing : (turn b : Bool) → b ≡ false → b ≡ (turn && b)
-nothing true b e = refl
-nothing false b e = e
-
-all : (turn b : Bool) → b ≡ true → turn ≡ (turn && b)
-all true b e = sym e
-all false b e = refl
-
--- who is not asked is asked nothing at whatever turn
-pub not_asked : (turn : Bool) (f : Freezing) → f.asked ≡ false → f ≡ asked_at turn f
-not_asked turn f e = λ i. record f { asked = nothing turn f.asked e i }
-
--- who is asked is asked at its turn
-pub asked : (turn : Bool) (f : Freezing) → f.asked ≡ true → record f { asked = turn } ≡ asked_at turn f
-asked turn f e = λ i. record f { asked = all turn f.asked e i }
-
 -- ---- the point
 
 module _ (begun : Bool) (o : Option Op) where
-  point : Script → Bool
-  point s = freezes_at (is_user s.kind) begun o
-
   -- a script that is not there does not say that it freezes
   pub freezes_none : (f : Freezing) (s : Option Script) (k : Kind) (b : Bool) → None ≡ option_map (λ (x : Script). freezes_at (is_user x.kind) begun o) s → (IsTrue b ↔ FreezesNot k) → IsTrue b ↔ FreezesTask f begun o s k
   freezes_none f None k b e h = h

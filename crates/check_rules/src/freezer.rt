@@ -6,7 +6,7 @@ ghost use Rattle.sleep_model.specs.declared.machine.Script.{Script};
 ghost use Rattle.sleep_model.specs.Attempt.{freeze_since};
 ghost use Rattle.sleep_model.specs.Fits.{fits_actor};
 ghost use Rattle.sleep_model.specs.Tasks.{freezes_at, is_user};
-ghost use Rattle.rule_definitions.specs.Freezer.{FreezeEnds, FreezesBy, FreezesEntry, FreezesNot, GoesOnEntry, asked_now, is_at_turn};
+ghost use Rattle.rule_definitions.specs.Freezer.{FreezeEnds, FreezesBy, FreezesEntry, FreezesNot, GoesOnEntry, asked_at, asked_now, is_at_turn};
 ghost use Rattle.rule_definitions.specs.Questions.{is_maker, op_of, seat_of};
 ghost use Rattle.check_past.specs.Passing.{journal_of, past_of};
 
@@ -56,17 +56,23 @@ fn is_at_turn(past: &Passed<'_>, who: Actor) -> Result<bool, Mem>
     Ok(past.made(who) == due && !is_calling(past, who))
 }
 
-// What script i is asked, as far as a freeze point may be its next step. `Mem` where a number has no room.
+// What a task is asked as far as a freeze point may be its next step.
+fn asked_at(turn: bool, freezing: Freezing) -> Freezing
+    ensures { result ≡ asked_at turn freezing }
+{
+    Freezing {
+        asked: turn && freezing.asked,
+        frozen: freezing.frozen,
+    }
+}
+
+// So for script i. `Mem` where a number has no room.
 fn asked_now(past: &Passed<'_>, i: u32) -> Result<Freezing, Mem>
     requires { fits_actor past.now.machine (actor.Script i) ≡ true }
     ensures { IfOk result (λ f. f ≡ asked_now past.now.machine (past_of past.now) i) }
 {
-    let freezing = past.freezing(i);
-    if !freezing.asked {
-        return Ok(freezing);
-    }
-    let asked = is_at_turn(past, Actor::Script(i))?;
-    Ok(Freezing { asked, ..freezing })
+    let turn = is_at_turn(past, Actor::Script(i))?;
+    Ok(asked_at(turn, past.freezing(i)))
 }
 
 // Whether script i freezes where it is asked to and comes to it, and makes nothing where it is frozen. `Mem` where a number
