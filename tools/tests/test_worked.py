@@ -11,7 +11,7 @@ from julampok.second import idle, locks
 from julampok.second.words import command_of
 from maintain.commands import worked
 from maintain.trials.files import expected
-from maintain.worked import files, judged, reader, rows, tellings
+from maintain.worked import files, idle_cases, judged, link_cases, part_cases, reader, rows, tellings
 from maintain.worked.case import Case
 from maintain.worked.entries import entry_term
 from maintain.worked.machine import Machine
@@ -73,6 +73,29 @@ class Cases(unittest.TestCase):
             self.assertEqual(expected(case.data), (case.status, case.out, case.err), case.pieces[:2])
         rules = {int(case.err.split()[2][:-1]) for case in cases}
         self.assertEqual(rules, set(range(1, 25)))
+
+
+class CasesOfParts(unittest.TestCase):
+    def test_a_line_is_a_call_and_its_answer(self):
+        self.assertEqual(part_cases.cut("order => 0 1"), ("order", "0 1"))
+        self.assertEqual(part_cases.cut("words sleep run  => -"), ("words sleep run ", "-"))
+        self.assertEqual(part_cases.cut("note clear"), ("note clear", ""))
+        self.assertEqual(part_cases.cut(" => 2"), ("", "2"))
+
+    def test_each_part_has_a_head_and_calls(self):
+        for head, *lines in part_cases.told_parts():
+            self.assertTrue(head and " => " not in head and lines, head)
+            self.assertFalse([line for line in lines if not line.strip()], head)
+
+    def test_links_by_the_plain_definition(self):
+        self.assertEqual(link_cases.moved([None, 0, 1], [(2, 3)], 0), [0, 1, 2, 3])
+        self.assertEqual(link_cases.at_last_places([0, 1, 2, 3, 1, 2]), [0, 3, 1, 2])
+        self.assertEqual((len(link_cases.deep()), len(link_cases.four_thousand())), (4000, 4000))
+
+    def test_suspend_to_idle_in_rounds(self):
+        entries, is_idle = idle_cases.told((1, 1, 1))
+        self.assertEqual((entries, is_idle), ([(0, 0, 0), (1, 1, 1), (1, 0, 2), (1, 1, 3)], True))
+        self.assertEqual(idle_cases.sum_of([(0, 0, 0), (1, 1, 1)]), 256 + 8 + 1)
 
 
 class Command(unittest.TestCase):

@@ -6,6 +6,9 @@ is written: in crates/law_trials the values of the logs by which laws are tried,
 and is what one worker writes, and the logs of tools/worked/broken with the laws that refuse them; in crates/row_trials every case
 of the whole program, and what the program has to say of each. What a case has to come to stands in tools/worked and in the
 tables of tools/maintain/worked, or is told by the second writing in Python; it is never taken from the program.
+
+tools/worked/parts has cases of parts, a call a line with what it answers. With those that are made by a second writing they
+become what crates/part_cases reads, and what it has to write.
 """
 
 from julampok.files import write_all

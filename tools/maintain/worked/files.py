@@ -1,6 +1,6 @@
 """Each file of the crates that is made of the worked logs and the other worked data."""
 
-from maintain.worked import laws, refuted, rows
+from maintain.worked import laws, part_cases, refuted, rows
 from maintain.worked.logs import Worked
 from maintain.worked.modules import entries_piece, machine_piece, module_text, pieces
 from maintain.worked.table import ENTRIES, LAWS, LOGS, MACHINES, MODULES
@@ -31,4 +31,5 @@ def all_files():
     """The bytes of each file, by its path from the folder crates/."""
     logs = [Worked.read(*row) for row in LOGS]
     trials = {f"law_trials/{path}": text.encode() for path, text in of_trials(logs)}
-    return trials | {f"row_trials/{path}": data for path, data in rows.files()}
+    parts = {f"part_cases/{path}": text.encode() for path, text in part_cases.files().items()}
+    return trials | parts | {f"row_trials/{path}": data for path, data in rows.files()}

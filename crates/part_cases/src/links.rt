@@ -1,0 +1,149 @@
+//! Links between devices: `links PARENT ..` with the parent of each device, or `-`.
+
+ghost use Rattle.std.specs.Prelude.{◌<◌, IfOk, IfSome};
+ghost use Rattle.sleep_model.specs.Order.{EachAfterParent};
+
+use crate::asked::{Word, Words, cut, found};
+use crate::parts::{Tried, answer_lines};
+use crate::said::{NO_CALL, Out, Said, one};
+use device_links::{LinkFault, Links};
+use sleep_base::Mem;
+use std::alloc::Global;
+
+/// A call on links, or a question.
+#[derive(Clone, Copy)]
+enum Verb {
+    Add,
+    Try,
+    Tell,
+    Set,
+    Depends,
+    Order,
+    Below,
+    Above,
+}
+
+const VERBS: [(&str, Verb); 8] = [
+    ("add", Verb::Add),
+    ("try", Verb::Try),
+    ("tell", Verb::Tell),
+    ("set", Verb::Set),
+    ("depends", Verb::Depends),
+    ("order", Verb::Order),
+    ("below", Verb::Below),
+    ("above", Verb::Above),
+];
+
+/// A parent that is one of the devices so far, else none.
+fn known(parent: Option<u32>, count: usize) -> Option<u32>
+    ensures { IfSome result (λ p. p < count) }
+{
+    match parent {
+        Some(parent) if (parent as usize) < count => Some(parent),
+        _ => None,
+    }
+}
+
+/// The parents of devices, which words tell.
+pub fn told_parents(alloc: Global, text: &str) -> Result<Vec<Option<u32>>, Mem>
+    ensures { IfOk result (λ v. EachAfterParent 0 v.items) }
+{
+    let mut parents = Vec::new(alloc);
+    for word in text.split(' ') {
+        let parent = known(word.parse::<u32>().ok(), parents.len());
+        parents.push(parent)?;
+    }
+    Ok(parents)
+}
+
+/// Says why a link is refused; of a cycle its path, too.
+fn say_fault(fault: LinkFault, out: &mut Out) {
+    match fault {
+        LinkFault::Cycle(path) => {
+            out.put(b"cycle ");
+            out.list(path.as_slice());
+        }
+        LinkFault::NoDevice => out.put(b"no device\n"),
+        LinkFault::NoLink => out.put(b"no link\n"),
+        LinkFault::TooMany => out.put(b"too many\n"),
+        LinkFault::Twice => out.put(b"twice\n"),
+        LinkFault::Mem => out.lack(),
+    }
+}
+
+/// Says what a call was answered.
+fn say_done(done: Result<(), LinkFault>, out: &mut Out) {
+    match done {
+        Ok(()) => out.put(b"0\n"),
+        Err(fault) => say_fault(fault, out),
+    }
+}
+
+/// Adds a link. Whether it is added, or would close a cycle whose path is not told.
+fn tried(links: &mut Links, words: Words) -> Said {
+    match links.add(words.number(0), words.number(1)) {
+        Ok(()) => one(Word::Number(0)),
+        Err(LinkFault::Cycle(_)) => one(Word::Text("cycle")),
+        Err(LinkFault::Twice) => one(Word::Text("twice")),
+        Err(_) => NO_CALL,
+    }
+}
+
+/// Whether a link that is added may have moved its consumer; `-` if it is refused.
+fn told(links: &mut Links, words: Words) -> Said {
+    let found = links.add_telling(words.number(0), words.number(1), words.flag(2));
+    one(match found {
+        Ok(moves) => Word::Flag(moves),
+        Err(_) => Word::Nothing,
+    })
+}
+
+/// Whether a device depends on another.
+fn depends(links: &Links, words: Words) -> Said {
+    if links.order().len() > 1024 {
+        return NO_CALL;
+    }
+    one(Word::Flag(links.is_dependent(words.number(0), words.number(1))))
+}
+
+/// Makes a call, and says what it answers.
+fn say_call(links: &mut Links, verb: Verb, words: Words, out: &mut Out) {
+    let (first, second, flag) = (words.number(0), words.number(1), words.flag(2));
+    match verb {
+        Verb::Add => say_done(links.add_as(first, second, flag), out),
+        Verb::Set => say_done(links.set_active(first, second, flag), out),
+        Verb::Try => out.say(tried(links, words)),
+        Verb::Tell => out.say(told(links, words)),
+        Verb::Depends => out.say(depends(links, words)),
+        Verb::Order => out.list(links.order()),
+        Verb::Below => out.list(links.below(first)),
+        Verb::Above => out.list(links.above(first)),
+    }
+}
+
+impl Tried for Links {
+    fn answer(&mut self, line: &str, out: &mut Out) {
+        let (word, rest) = cut(line, ' ');
+        match found(&VERBS, word) {
+            Some(verb) => say_call(self, verb, Words::of(rest), out),
+            None => out.say(NO_CALL),
+        }
+    }
+}
+
+/// Links of devices with these parents, of which none is made yet.
+fn unlinked(alloc: Global, text: &str) -> Result<Links, Mem> {
+    let parents = told_parents(alloc, text)?;
+    Links::new(alloc, &parents)
+}
+
+/// Answers the lines of links.
+pub fn links(alloc: Global, text: &str, lines: &str, out: &mut Out) {
+    match unlinked(alloc, text) {
+        Ok(mut links) => {
+            answer_lines(&mut links, lines, out);
+            drop(links);
+        }
+        Err(_) => out.lack(),
+    }
+}

@@ -1,0 +1,98 @@
+//! The plan of a script: `plan TEXT`. The script is made twice; it has two calls on a source, a write of the text to autosleep,
+//! three writes to the state, and an event.
+
+ghost use Rattle.std.specs.Prelude.{◌≡◌, length, IfOk};
+ghost use Rattle.sleep_model.specs.Scripts.{operations};
+
+use crate::asked::{Word, cut};
+use crate::parts::{Tried, answer_lines};
+use crate::said::{NO_CALL, Out, Said, number, one};
+use script_plan::Plan;
+use sleep_base::Mem;
+use sleep_model::{ListOf, Name, Op, Script, Step, TaskKind, Text};
+use std::alloc::Global;
+
+/// A step that does the operation `times` times.
+fn step(op: Op, times: u32) -> Step
+    ensures { result ≡ record { op = op; times = times } }
+{
+    Step { op, times }
+}
+
+/// These bytes as a text.
+fn text_of(alloc: Global, bytes: &[u8]) -> Result<Text, Mem> {
+    Ok(ListOf::of_vec(bytes.to_vec(alloc)?))
+}
+
+/// The script, which writes that text to autosleep.
+fn script(alloc: Global, autosleep: &[u8]) -> Result<Script, Mem>
+    ensures { IfOk result (λ s. length (operations s) ≡ 14) }
+{
+    let (source, ms, hard) = (0, 50, false);
+    let name = Name::of_bytes(b"w").ok_or(Mem)?;
+    let autosleep = text_of(alloc, autosleep)?;
+    let state = text_of(alloc, b"mem")?;
+    let steps = vec![in alloc;
+        step(Op::Awake { source }, 2),
+        step(Op::Autosleep { text: autosleep }, 1),
+        step(
+            Op::State {
+                text: state,
+                if_saved: false
+            },
+            3
+        ),
+        step(Op::Event { source, ms, hard }, 1),
+    ]?;
+    Ok(Script {
+        name,
+        kind: TaskKind::User,
+        repeat: 2,
+        steps: ListOf::of_vec(steps),
+    })
+}
+
+/// What an operation is.
+fn said_operation(op: Option<&Op>) -> Said {
+    one(match op {
+        Some(Op::Autosleep { .. }) => Word::Text("autosleep"),
+        Some(Op::State { .. }) => Word::Text("state"),
+        Some(_) => Word::Text("another"),
+        None => Word::Nothing,
+    })
+}
+
+impl Tried for Plan<'_> {
+    fn answer(&mut self, line: &str, out: &mut Out) {
+        let (word, rest) = cut(line, ' ');
+        let place = rest.parse::<u32>().unwrap_or(0) as usize;
+        out.say(match word {
+            "calls_before" => one(number(self.calls_before(place))),
+            "operation" => said_operation(self.operation(place)),
+            _ => NO_CALL,
+        });
+    }
+}
+
+/// Answers the lines of the plan of a script.
+fn answer_plan(alloc: Global, script: &Script, lines: &str, out: &mut Out) -> Result<(), Mem>
+    requires { length (operations script.now) ≡ 14 }
+{
+    let mut plan = Plan::new(alloc, script, 0)?;
+    answer_lines(&mut plan, lines, out);
+    drop(plan);
+    Ok(())
+}
+
+/// Answers the lines of a plan.
+pub fn plans(alloc: Global, text: &str, lines: &str, out: &mut Out) {
+    match script(alloc, text.as_bytes()) {
+        Ok(script) => {
+            if answer_plan(alloc, &script, lines, out).is_err() {
+                out.lack();
+            }
+            drop(script);
+        }
+        Err(_) => out.lack(),
+    }
+}

@@ -1,0 +1,95 @@
+//! Devices by name: `tree`, and requests for a runtime status: `requests`.
+
+use crate::asked::{Word, Words, cut};
+use crate::parts::{Tried, answer_lines};
+use crate::said::{NO_CALL, Out, Said, answer, five, maybe, number, one};
+use device_tree::{Tree, TreeFault, request};
+use sleep_model::{Device, DeviceFlags, Name, Runtime};
+use std::alloc::Global;
+
+/// The number of a device that is registered, or why it is not.
+fn said_registered(answer: Result<u32, TreeFault>) -> Word {
+    match answer {
+        Ok(device) => number(device),
+        Err(TreeFault::NoParent) => Word::Text("no parent"),
+        Err(TreeFault::NameTaken) => Word::Text("name taken"),
+        Err(TreeFault::TooMany) => Word::Text("too many"),
+        Err(TreeFault::Mem) => Word::Text("out of memory"),
+    }
+}
+
+/// Registers a device of that name below a parent.
+fn registered(tree: &mut Tree, name: Name, parent: Option<u32>) -> Word {
+    said_registered(tree.register(Device {
+        name,
+        parent,
+        flags: DeviceFlags::ASYNC,
+    }))
+}
+
+/// The answer of a call with a name.
+fn named(tree: &mut Tree, word: &str, name: Name, parent: Option<u32>) -> Word {
+    match word {
+        "register" => registered(tree, name, parent),
+        _ => maybe(tree.find(&name)),
+    }
+}
+
+/// The answer of a call without a name.
+fn numbered(tree: &Tree, word: &str, device: u32, out: &mut Out) {
+    match word {
+        "children" => out.list(tree.children(device)),
+        "parent" => out.say(one(maybe(tree.parent(device)))),
+        "len" => out.say(one(number(tree.len()))),
+        _ => out.say(NO_CALL),
+    }
+}
+
+impl Tried for Tree {
+    fn answer(&mut self, line: &str, out: &mut Out) {
+        let (word, rest) = cut(line, ' ');
+        let (name, parent) = cut(rest, ' ');
+        match Name::of_bytes(name.as_bytes()) {
+            Some(name) if matches!(word, "register" | "find") => {
+                let parent = parent.parse::<u32>().ok();
+                out.say(one(named(self, word, name, parent)));
+            }
+            _ => numbered(self, word, name.parse::<u32>().unwrap_or(0), out),
+        }
+    }
+}
+
+/// Answers the lines of a tree, and says how many devices it has then.
+pub fn trees(alloc: Global, lines: &str, out: &mut Out) {
+    let mut tree = Tree::new(alloc);
+    answer_lines(&mut tree, lines, out);
+    let devices = tree.into_devices();
+    out.say(one(Word::Number(devices.len() as i128)));
+}
+
+/// The answer to a request, and what is kept of the device then: whether it is suspended, whether it is prepared, and whether
+/// runtime PM is disabled by direct-complete and by late.
+fn requested(words: Words) -> Said {
+    let to_suspended = words.flag(3);
+    let mut kept = Runtime {
+        suspended: !to_suspended,
+        prepared: words.flag(0),
+        off_direct: words.flag(1),
+        off_late: words.flag(2),
+    };
+    let given = request(&mut kept, to_suspended);
+    five(
+        answer(given),
+        Word::Flag(kept.suspended),
+        Word::Flag(kept.prepared),
+        Word::Flag(kept.off_direct),
+        Word::Flag(kept.off_late),
+    )
+}
+
+/// Answers requests.
+pub fn requests(lines: &str, out: &mut Out) {
+    for line in lines.split('\n') {
+        out.say(requested(Words::of(line)));
+    }
+}

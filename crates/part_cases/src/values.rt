@@ -1,0 +1,171 @@
+//! JSON values: `json` with texts and whether they are read, and `value TEXT` with questions about what a text spells.
+
+use crate::asked::{Word, Words, cut, found};
+use crate::said::{NO_CALL, Out, Said, maybe_long, one, two};
+use borrowed_json::{
+    Scratch, Value, as_array, as_bool, as_i64, as_object, as_str, as_u64, get, read_value,
+};
+use sleep_base::Mem;
+use std::alloc::Global;
+
+/// Whether these bytes are read, by this reader and by serde_json's own.
+fn said_read(alloc: Global, bytes: &[u8]) -> Result<Said, Mem> {
+    let mut scratch = Scratch::new(alloc);
+    let is_read = read_value(alloc, bytes, &mut scratch)?.is_some();
+    let is_known = serde_json::Value::from_slice(alloc, bytes).is_ok();
+    Ok(two(Word::Flag(is_read), Word::Flag(is_known)))
+}
+
+/// A list in a list, to that depth.
+fn nested(alloc: Global, depth: u32) -> Result<Vec<u8>, Mem> {
+    let mut text = vec![in alloc; b'['; depth as usize]?;
+    for _ in 0..depth {
+        text.push(b']')?;
+    }
+    Ok(text)
+}
+
+/// Bytes that numbers tell.
+fn told_bytes(alloc: Global, text: &str) -> Result<Vec<u8>, Mem> {
+    let mut bytes = Vec::new(alloc);
+    for word in text.split(' ') {
+        bytes.push(word.parse::<u8>().unwrap_or(0))?;
+    }
+    Ok(bytes)
+}
+
+/// A whole number with a sign.
+fn signed(number: Option<i64>) -> Word {
+    match number {
+        Some(number) => Word::Number(i128::from(number)),
+        None => Word::Nothing,
+    }
+}
+
+/// What a text is as a whole number, without and with a sign.
+fn said_number(alloc: Global, text: &str) -> Result<Said, Mem> {
+    let mut scratch = Scratch::new(alloc);
+    match read_value(alloc, text.as_bytes(), &mut scratch)? {
+        Some(value) => Ok(two(maybe_long(as_u64(&value)), signed(as_i64(&value)))),
+        None => Ok(NO_CALL),
+    }
+}
+
+/// `read TEXT`, `bytes NUMBER ..`, `nested DEPTH`: whether they are read; `number TEXT`: which numbers it is.
+fn said_text(alloc: Global, line: &str) -> Result<Said, Mem> {
+    let (word, text) = cut(line, ' ');
+    match word {
+        "read" => said_read(alloc, text.as_bytes()),
+        "bytes" => said_read(alloc, &told_bytes(alloc, text)?),
+        "nested" => said_read(alloc, &nested(alloc, Words::of(text).number(0))?),
+        "number" => said_number(alloc, text),
+        _ => Ok(NO_CALL),
+    }
+}
+
+/// Says of each text whether it is read.
+pub fn json(alloc: Global, lines: &str, out: &mut Out) {
+    for line in lines.split('\n') {
+        match said_text(alloc, line) {
+            Ok(said) => out.say(said),
+            Err(_) => out.lack(),
+        }
+    }
+}
+
+/// What a value is asked.
+#[derive(Clone, Copy)]
+enum Asks {
+    Object,
+    Array,
+    Bool,
+    Number,
+    Text,
+}
+
+const ASKS: [(&str, Asks); 5] = [
+    ("object", Asks::Object),
+    ("array", Asks::Array),
+    ("bool", Asks::Bool),
+    ("number", Asks::Number),
+    ("text", Asks::Text),
+];
+
+/// A count as a word, or `-`.
+fn counted(count: Option<usize>) -> Word {
+    match count {
+        Some(count) => Word::Number(count as i128),
+        None => Word::Nothing,
+    }
+}
+
+/// Says a text between bars, where a bar stands for each newline; `-` if there is none.
+fn say_text(text: Option<&str>, out: &mut Out) {
+    let Some(text) = text else {
+        return out.line(b"-");
+    };
+    for part in text.split('\n') {
+        out.put(b"|");
+        out.put(part.as_bytes());
+    }
+    out.line(b"|");
+}
+
+/// Says what a value is.
+fn say_value(value: &Value<'_>, asks: Asks, out: &mut Out) {
+    match asks {
+        Asks::Object => out.say(one(counted(as_object(value).map(|members| members.len())))),
+        Asks::Array => out.say(one(counted(as_array(value).map(|items| items.len())))),
+        Asks::Bool => out.say(one(match as_bool(value) {
+            Some(flag) => Word::Flag(flag),
+            None => Word::Nothing,
+        })),
+        Asks::Number => out.say(one(maybe_long(as_u64(value)))),
+        Asks::Text => say_text(as_str(value), out),
+    }
+}
+
+/// The item of a list at a place.
+fn item<'v, 'a>(value: &'v Value<'a>, place: u32) -> Option<&'v Value<'a>> {
+    as_array(value)?.get(place as usize)
+}
+
+/// The value right below a value, by a name or a place; itself where there is no step.
+fn below<'v, 'a>(value: &'v Value<'a>, step: &str) -> Option<&'v Value<'a>> {
+    if step.is_empty() {
+        return Some(value);
+    }
+    match step.parse::<u32>().ok() {
+        Some(place) => item(value, place),
+        None => get(value, step),
+    }
+}
+
+/// The value at a path of three names and places at most.
+fn at<'v, 'a>(value: &'v Value<'a>, path: &str) -> Option<&'v Value<'a>> {
+    let (first, rest) = cut(path, ' ');
+    let (second, third) = cut(rest, ' ');
+    below(below(below(value, first)?, second)?, third)
+}
+
+/// Answers a line about a value: what is asked, and where.
+fn answer_value(value: &Value<'_>, line: &str, out: &mut Out) {
+    let (word, path) = cut(line, ' ');
+    match (at(value, path), found(&ASKS, word)) {
+        (Some(value), Some(asks)) => say_value(value, asks, out),
+        _ => out.line(b"none"),
+    }
+}
+
+/// Answers the lines about what a text spells.
+pub fn values(alloc: Global, text: &str, lines: &str, out: &mut Out) {
+    let mut scratch = Scratch::new(alloc);
+    match read_value(alloc, text.as_bytes(), &mut scratch) {
+        Ok(Some(value)) => {
+            for line in lines.split('\n') {
+                answer_value(&value, line, out);
+            }
+        }
+        _ => out.lack(),
+    }
+}

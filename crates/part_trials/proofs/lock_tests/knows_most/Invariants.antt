@@ -1,5 +1,0 @@
-use Rattle.wake_locks.specs.Locks.{IsTimely}
-use Rattle.part_trials.proofs.lock_tests.knows_most.Given as goal
-
-abbrev pub invariant-loop-number : goal.invariant-loop-number
-invariant-loop-number g l = IsTimely 0 l.locks

@@ -1,0 +1,35 @@
+//! Tests of what threads share, and of calls that no line of `part_cases` can make: jobs of a pool, objects under locks, the
+//! event word in its table, the merge of what several workers made, suspend-to-idle by four workers; and calls that may be
+//! made only where the caller knows what came before, as those on a wakeup source, on named locks and on the job of an actor.
+//! They stand apart from the crates that they try, so that those are proved once. No program stands on this crate.
+#![tactic(auto)]
+
+#[cfg(test)]
+mod idle_tests;
+#[cfg(test)]
+mod list_tests;
+#[cfg(test)]
+mod lock_tests;
+#[cfg(test)]
+mod lock_thread_tests;
+#[cfg(test)]
+mod merge_thread_tests;
+#[cfg(test)]
+mod named_lock_tests;
+#[cfg(test)]
+mod pool_tests;
+#[cfg(test)]
+mod script_tests;
+#[cfg(test)]
+mod source_tests;
+mod threads;
+#[cfg(test)]
+mod word_overlap_tests;
+#[cfg(test)]
+mod word_table_tests;
+#[cfg(test)]
+mod word_tests;
+#[cfg(test)]
+mod word_thread_tests;
+
+pub use threads::{sent_job, sent_source, sent_timer};

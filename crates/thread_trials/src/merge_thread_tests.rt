@@ -1,0 +1,150 @@
+use log_merge::{merge, rises};
+use sleep_model::{
+    Actor, Entry, EntryList, EntryReader, EventNow, Kind, ListOf, SourceEntry, SourceList, Stamp,
+};
+use std::alloc::{AllocError, Global};
+use std::sync::atomic::{AtomicU64, Ordering};
+use std::sync::{Barrier, Wait};
+use std::test::Fail;
+use std::thread;
+use std::thread::Threads;
+
+/// A hard step of a source, which is known by its time.
+fn entry(time: u64, source: u32) -> Entry {
+    let now = EventNow {
+        inpr: 0,
+        count: 0,
+        hard: 0,
+    };
+    Entry {
+        time,
+        now,
+        actor: Actor::Script(source),
+        kind: Kind::Hard(source),
+    }
+}
+
+/// A step on a worker's source, at the next position that threads share. Its time is its position.
+fn step(next: &AtomicU64, worker: usize, tick: u64) -> SourceEntry {
+    let pos = next.fetch_add(1, Ordering::SeqCst);
+    SourceEntry {
+        stamp: Stamp { pos, tick },
+        entry: entry(pos, (worker % 256) as u32),
+    }
+}
+
+/// Whether a log has `count` entries, at the times 0, 1, 2 and on.
+fn is_in_order(log: &EntryList, count: u64) -> bool {
+    let mut reader = log.reader();
+    for time in 0..count {
+        match reader.next() {
+            Some(entry) if entry.time == time => {}
+            _ => return false,
+        }
+    }
+    reader.next().is_none()
+}
+
+/// The history of a source, of which one worker makes all steps.
+fn history(alloc: Global, next: &AtomicU64, worker: usize, steps: u64) -> Vec<SourceEntry> {
+    let mut entries = Vec::new(alloc);
+    for tick in 0..steps {
+        if entries.reserve(1).is_ok() {
+            entries.push_reserved(step(next, worker, tick));
+        }
+    }
+    entries
+}
+
+/// The one log of what the workers made.
+fn log_of(alloc: Global, made: Vec<Vec<SourceEntry>>) -> Result<EntryList, Fail> {
+    let mut histories: Vec<SourceList> = Vec::with_capacity(alloc, made.len())?;
+    for history in made {
+        histories.push(ListOf::of_vec(history))?;
+    }
+    if !rises(&[]) {
+        return Err("a journal that does not rise".into());
+    }
+    Ok(merge(alloc, &[], &histories)?)
+}
+
+/// The histories of that number of workers, each in a thread of its own.
+fn burst<R: Threads + Sync>(
+    rt: &R,
+    alloc: Global,
+    workers: usize,
+    steps: u64,
+) -> Result<Vec<Vec<SourceEntry>>, AllocError> {
+    let next = AtomicU64::new(0);
+    let one = |i: usize| history(alloc, &next, i, steps);
+    thread::map_indices(rt, alloc, workers, &one)
+}
+
+/// Whether the one log of ten thousand steps has each position once, in order.
+fn is_merged<R: Threads + Sync>(
+    rt: &R,
+    alloc: Global,
+    workers: usize,
+    steps: u64,
+) -> Result<bool, Fail> {
+    let made = burst(rt, alloc, workers, steps)?;
+    Ok(is_in_order(&log_of(alloc, made)?, 10_000))
+}
+
+/// Four workers, and sixteen.
+#[test]
+fn the_steps_of_many_workers_stand_by_position(rt: HostRuntime) -> Result<(), Fail> {
+    assert!(rt; is_merged(&rt, rt.alloc(), 4, 2500)?);
+    assert!(rt; is_merged(&rt, rt.alloc(), 16, 625)?);
+    Ok(())
+}
+
+/// A step, and a second one once the other worker has made its first.
+fn meet<R: Wait>(
+    rt: &R,
+    alloc: Global,
+    next: &AtomicU64,
+    both: &Barrier,
+    worker: usize,
+) -> Vec<SourceEntry> {
+    let mut entries = Vec::new(alloc);
+    let room = entries.reserve(2).is_ok();
+    let first = step(next, worker, 0);
+    both.wait(rt);
+    let second = step(next, worker, 1);
+    if room {
+        entries.push_reserved(first);
+        entries.push_reserved(second);
+    }
+    entries
+}
+
+/// The histories of two workers that meet.
+fn met<R: Threads + Wait + Sync>(
+    rt: &R,
+    alloc: Global,
+) -> Result<Vec<Vec<SourceEntry>>, AllocError> {
+    let next = AtomicU64::new(0);
+    let both = Barrier::new(2);
+    let one = |i: usize| meet(rt, alloc, &next, &both, i);
+    thread::map_indices(rt, alloc, 2, &one)
+}
+
+/// Whether the first two entries of a log are of two actors.
+fn are_of_two(reader: &mut EntryReader<'_>) -> bool {
+    match (reader.next(), reader.next()) {
+        (Some(first), Some(second)) => first.actor != second.actor,
+        _ => false,
+    }
+}
+
+/// Two workers overlap: in the one log the first steps of both stand before the second ones.
+#[test]
+fn two_workers_overlap(rt: HostRuntime) -> Result<(), Fail> {
+    let log = log_of(rt.alloc(), met(&rt, rt.alloc())?)?;
+    let mut reader = log.reader();
+    assert!(rt; are_of_two(&mut reader));
+    assert!(rt; are_of_two(&mut reader));
+    assert!(rt; reader.next().is_none());
+    Ok(())
+}
