@@ -24,6 +24,8 @@ mod script_tests;
 mod source_tests;
 mod threads;
 #[cfg(test)]
+mod word_close_tests;
+#[cfg(test)]
 mod word_overlap_tests;
 #[cfg(test)]
 mod word_table_tests;

@@ -1,0 +1,57 @@
+ghost use Rattle.std.specs.Prelude.{◌≡◌, [], IfOk};
+ghost use Rattle.event_word.specs.Seats.{AreAll, AreNew, number_of, made_of};
+ghost use Rattle.event_word.specs.Lists.{tokens};
+
+use crate::word_table_tests::{step, word};
+use event_word::{EventSeat, EventTable, LookSeat, close};
+use std::alloc::AllocError;
+use std::sync::Wait;
+use std::sync::atomic::{AtomicBool, Ordering};
+use std::test::Fail;
+use std::thread;
+use std::thread::Threads;
+
+/// Two steps of a source: the first begins an event, and the second ends it, or is hard, where another source came before.
+fn two_steps(table: &EventTable, seat: EventSeat, came: &AtomicBool) -> EventSeat
+    requires table { seat.token.table_id ≡ table.now.desk.shared.table_id }
+    requires new { made_of seat.token ≡ [] }
+    ensures table { result.token.table_id ≡ seat.token.table_id }
+    ensures number { number_of result.token ≡ number_of seat.token }
+{
+    let mut seat = seat.on(table);
+    let (_before, active) = step(&mut seat, false, false);
+    let hard = came.swap(true, Ordering::SeqCst);
+    let _last = step(&mut seat, active, hard);
+    seat.off()
+}
+
+/// The two steps of each source.
+fn twice<R: Threads + Wait + Sync>(
+    rt: &R,
+    table: &EventTable,
+    look: &LookSeat,
+    seats: Vec<EventSeat>,
+) -> Result<Vec<EventSeat>, AllocError>
+    requires look { look.now.token.table_id ≡ table.now.desk.shared.table_id }
+    requires seats { AreNew look.now.token (tokens seats.items) }
+    ensures { IfOk result (λ back. AreAll look.now.token (tokens back.items)) }
+{
+    let _ = look;
+    let came = AtomicBool::new(false);
+    let one = |seat: EventSeat| -> EventSeat
+        requires { (seat.token.table_id ≡ table.now.desk.shared.table_id) × (made_of seat.token ≡ []) }
+        ensures { (result.token.table_id ≡ seat.token.table_id) × (number_of result.token ≡ number_of seat.token) }
+    { two_steps(table, seat, &came) };
+    let back = thread::map_vec(rt, seats, &one)?;
+    Ok(back)
+}
+
+/// Two sources make four steps: one event is over, one goes on, and one hard event was seen.
+#[test]
+fn four_steps_are_closed(rt: HostRuntime) -> Result<(), Fail> {
+    let (table, seats, look) = EventTable::new(rt.alloc(), 2)?;
+    let back = twice(&rt, &table, &look, seats)?;
+    let last = close(table, back, look)?;
+    assert!(rt; last == word(1, 1, 1));
+    Ok(())
+}
