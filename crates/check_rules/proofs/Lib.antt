@@ -6,3 +6,4 @@ pub mod Owning
 pub mod Quiet
 pub mod Resting
 pub mod Sourcing
+pub mod Walking

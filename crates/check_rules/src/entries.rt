@@ -6,9 +6,8 @@ ghost use Rattle.sleep_model.specs.Parts.{part_of};
 ghost use Rattle.rule_definitions.specs.Enabled.{EnabledEntry};
 ghost use Rattle.rule_definitions.specs.Freezer.{FreezerEntry};
 ghost use Rattle.rule_definitions.specs.Path.{PathEntry};
-ghost use Rattle.rule_definitions.specs.Steps.{StepsEntry, is_inside};
+ghost use Rattle.rule_definitions.specs.Steps.{StepsEntry};
 ghost use Rattle.rule_definitions.specs.Walk.{EndsOwn, ReportsMade, WalkEntry, is_in_callback};
-ghost use Rattle.sleep_model.specs.Sources.{history};
 ghost use Rattle.check_past.specs.Passing.{journal_of, past_of};
 
 use crate::calls::{is_calling, is_in_callback, is_inside, is_of_call, is_own_call, is_own_turn};
@@ -16,6 +15,7 @@ use crate::enabled::keeps_enabled;
 use crate::freezer::{freeze_ends, freezes_entry, goes_on_entry};
 use crate::jump::keeps_jump;
 use crate::path::{keeps_path, keeps_reports};
+use crate::same::both;
 use crate::steps::keeps_steps;
 use crate::walk::{ends_own, keeps_walk};
 use check_past::Passed;
@@ -40,13 +40,6 @@ fn ends_callback(past: &Passed<'_>, e: Entry) -> bool
     !is_in_callback(past, e.actor) || ends_own(past, e.actor, e.kind)
 }
 
-// Whether a step of the word that its actor makes inside a callback is of a call that it is inside, on that source.
-fn steps_callback(past: &Passed<'_>, who: Actor, s: u32) -> bool
-    ensures { IsTrue result ↔ (is_in_callback past.now.machine (journal_of past.now) who ≡ true → is_inside (history s (past_of past.now)) who ≡ true) }
-{
-    !is_in_callback(past, who) || is_inside(past, s, who)
-}
-
 /// Whether devices are taken in order and answer what the machine answers, and a callback makes its reports in order, then
 /// its end, and nothing else (`drivers/base/power/main.c`). `Mem` where the number of reports has no room.
 #[inline(always)]
@@ -58,11 +51,15 @@ pub fn walk_entry(past: &Passed<'_>, e: Entry) -> Result<bool, Mem>
         Kind::Awake(_) | Kind::Relax(_) | Kind::Event { .. } | Kind::Expire(_) => {
             Ok(!is_in_callback(past, e.actor) || is_own_call(past, e.actor, e.kind))
         }
-        Kind::Start(s) | Kind::Finish(s) | Kind::Hard(s) => Ok(steps_callback(past, e.actor, s)),
+        Kind::Start(s) => Ok(!is_in_callback(past, e.actor) || is_inside(past, s, e.actor)),
+        Kind::Finish(s) => Ok(!is_in_callback(past, e.actor) || is_inside(past, s, e.actor)),
+        Kind::Hard(s) => Ok(!is_in_callback(past, e.actor) || is_inside(past, s, e.actor)),
         Kind::Jump => Ok(!is_in_callback(past, e.actor)),
         _ => {
             let made = are_reports_made(past, e)?;
-            Ok(keeps_walk(past, past.word(), e.kind) && made && ends_callback(past, e))
+            let walk = keeps_walk(past, past.word(), e.kind);
+            let ends = ends_callback(past, e);
+            Ok(both(walk, both(made, ends)))
         }
     }
 }
@@ -82,7 +79,10 @@ pub fn freezer_entry(past: &Passed<'_>, e: Entry) -> Result<bool, Mem>
         | Kind::Start(_)
         | Kind::Finish(_)
         | Kind::Hard(_)
-        | Kind::Jump => goes_on_entry(past, e.actor),
+        | Kind::Jump => {
+            let goes = goes_on_entry(past, e.actor)?;
+            Ok(goes)
+        }
         _ => {
             let ends = freeze_ends(past, past.word(), e.kind)?;
             let freezes = freezes_entry(past, e.actor, e.kind)?;

@@ -95,7 +95,10 @@ pub(crate) fn freezes_entry(past: &Passed<'_>, who: Actor, kind: Kind) -> Result
     ensures { IfOk result (λ b. IsTrue b ↔ FreezesEntry past.now.machine (past_of past.now) who (is_maker (journal_of past.now) who) kind) }
 {
     match who {
-        Actor::Script(i) if !past.is_maker(who) => freezes_script(past, i, kind),
+        Actor::Script(i) if !past.is_maker(who) => {
+            let freezes = freezes_script(past, i, kind)?;
+            Ok(freezes)
+        }
         _ => Ok(freezes_not(kind)),
     }
 }
@@ -126,7 +129,10 @@ pub(crate) fn goes_on_entry(past: &Passed<'_>, who: Actor) -> Result<bool, Mem>
     ensures { IfOk result (λ b. IsTrue b ↔ GoesOnEntry past.now.machine (past_of past.now) who (is_maker (journal_of past.now) who)) }
 {
     match who {
-        Actor::Script(i) if !past.is_maker(who) => goes_on_script(past, i),
+        Actor::Script(i) if !past.is_maker(who) => {
+            let goes = goes_on_script(past, i)?;
+            Ok(goes)
+        }
         _ => Ok(true),
     }
 }

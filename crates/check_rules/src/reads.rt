@@ -61,7 +61,10 @@ fn reads_else(past: &Passed<'_>, now: EventNow, who: Actor, kind: Kind) -> Resul
         Kind::SaveWait(c) | Kind::Saved(c) | Kind::SaveErr(c, _) => {
             Ok(is_save_else(past, now, who, c, kind))
         }
-        Kind::StateWait | Kind::StateErr(_) | Kind::StateUnsaved => is_write_else(past, who, kind),
+        Kind::StateWait | Kind::StateErr(_) | Kind::StateUnsaved => {
+            let right = is_write_else(past, who, kind)?;
+            Ok(right)
+        }
         Kind::AutoSaved(c) | Kind::AutoUnsaved(c) => Ok(is_auto_save(past, now, c, kind)),
         _ => Ok(true),
     }
@@ -137,7 +140,10 @@ fn is_write(
             let due = written(past, seat, asked, text.as_slice(), *if_saved, attempt);
             Ok(makes(due, kind))
         }
-        _ => is_write_else(past, who, kind),
+        _ => {
+            let right = is_write_else(past, who, kind)?;
+            Ok(right)
+        }
     }
 }
 
@@ -197,12 +203,16 @@ fn reads_task(
             Ok(is_save(past, now, who, seat, asked, op, c, kind))
         }
         Kind::StateWait | Kind::StateErr(_) | Kind::StateUnsaved => {
-            is_write(past, who, seat, asked, op, kind)
+            let right = is_write(past, who, seat, asked, op, kind)?;
+            Ok(right)
         }
         Kind::Attempt { .. } => Ok(is_good_write(past, seat, asked, op, kind)),
         Kind::AutoBad => Ok(is_bad_text(op)),
         Kind::AutoSet(_) => Ok(is_free(past, op)),
-        _ => reads_else(past, now, who, kind),
+        _ => {
+            let right = reads_else(past, now, who, kind)?;
+            Ok(right)
+        }
     }
 }
 
@@ -216,7 +226,10 @@ fn reads_work(past: &Passed<'_>, now: EventNow, work: Work, kind: Kind) -> Resul
             Ok(is_auto_save(past, now, c, kind))
         }
         (Work::Attempting(_), Kind::Attempt { .. }) => Ok(past.is_on()),
-        _ => reads_else(past, now, Actor::Auto, kind),
+        _ => {
+            let right = reads_else(past, now, Actor::Auto, kind)?;
+            Ok(right)
+        }
     }
 }
 
@@ -228,9 +241,16 @@ pub fn keeps_reads(past: &Passed<'_>, now: EventNow, who: Actor, kind: Kind) -> 
     match who {
         Actor::Script(i) if !past.is_maker(who) => {
             let asked = past.freezing(i).asked;
-            reads_task(past, now, who, past.seat(i), asked, past.operation(i), kind)
+            let right = reads_task(past, now, who, past.seat(i), asked, past.operation(i), kind)?;
+            Ok(right)
         }
-        Actor::Auto if !past.is_maker(who) => reads_work(past, now, past.work(), kind),
-        _ => reads_else(past, now, who, kind),
+        Actor::Auto if !past.is_maker(who) => {
+            let right = reads_work(past, now, past.work(), kind)?;
+            Ok(right)
+        }
+        _ => {
+            let right = reads_else(past, now, who, kind)?;
+            Ok(right)
+        }
     }
 }
