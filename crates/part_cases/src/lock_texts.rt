@@ -62,9 +62,9 @@ fn copies(alloc: Global, times: u32, text: &[u8]) -> Result<Vec<u8>, Mem> {
 fn say_copies<R: Wait>(rt: &R, alloc: Global, text: &str, out: &mut Out) -> Result<(), Mem> {
     let (times, text) = cut(text, ' ');
     let lines = copies(alloc, Words::of(times).number(0), &told_text(alloc, text)?)?;
-    match answered(rt, alloc, &lines) {
-        Ok(_) => out.line(b"answered"),
-        Err(fault) => say_fault(&fault, out),
+    match answered(rt, alloc, &lines).err() {
+        None => out.line(b"answered"),
+        Some(fault) => say_fault(&fault, out),
     }
     Ok(())
 }
