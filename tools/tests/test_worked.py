@@ -54,8 +54,8 @@ class Cases(unittest.TestCase):
         """The worked texts of suspend-to-idle and of named locks are those of the second writings."""
         for words, said in tellings.IDLE:
             self.assertEqual(idle.text_by_rounds(*command_of(words.split())[1:-1]).encode(), said)
-        for lines, times, *said in tellings.NAMED[:2]:
-            self.assertEqual(locks.run(lines * times), tuple(said))
+        for pieces, *said in tellings.NAMED:
+            self.assertEqual(locks.run(Case(("locks",), pieces, 0).data), tuple(said))
 
     def test_cases_of_the_checker(self):
         cases = list(judged.cases())

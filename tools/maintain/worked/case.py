@@ -36,6 +36,11 @@ class Case:
         return 0
 
 
+def many(byte, count):
+    """The pieces of so many of one byte, 256 at a time."""
+    return ((byte * 256, count // 256), (byte, count % 256))
+
+
 def judged_case(tree, text, verdict):
     """The check of a machine's log: legal where the verdict is None, else its first bad line and the rule that this breaks."""
     said = b"legal\n" if verdict is None else b"illegal line %d definition %d\n" % verdict

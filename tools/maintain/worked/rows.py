@@ -4,14 +4,14 @@ A row has its words, a line each, how its streams behave, the pieces of its inpu
 number, the status, how many bytes of the input are left and how long both texts are, and then the texts.
 """
 
-from maintain.worked import generated, judged, reader, runs, tellings
+from maintain.worked import fronts, generated, judged, reader, runs, tellings
 
 NAME = "sleep"  # The word before the others: the program's own.
 
 
 def cases():
     """Every case."""
-    for module in (runs, tellings, judged, reader, generated):
+    for module in (runs, tellings, judged, fronts, reader, generated):
         yield from module.cases()
 
 
@@ -27,9 +27,10 @@ def row(case, number):
     yield from (f"{word}\n".encode() for word in words)
     yield from (f"{what} {count}\n".encode() for what, count in case.streams)
     for piece, times in case.pieces:
-        if times != 1:
+        if times > 1:
             yield b"repeat %d\n" % times
-        yield b"input %d\n%s\n" % (len(piece), piece)
+        if times:
+            yield b"input %d\n%s\n" % (len(piece), piece)
     yield b"row %d\n" % number
 
 

@@ -7,7 +7,7 @@ import json
 
 from maintain.places import WORKED
 from maintain.trials.files import expected
-from maintain.worked.case import Case
+from maintain.worked.case import Case, many
 from maintain.worked.logs import machine_of, text_of
 from maintain.worked.table import LOGS
 
@@ -117,7 +117,7 @@ def refused():
     """Sources that are full, a file of a byte too much, and words of no form, at which nothing is read."""
     for file, source in FULL:
         yield run(file, 7, err=b"source full: " + source + b"\n")
-    yield Case(RUN, ((b" ", 16_777_217),), 3, err=b"machine: longer than 16777216 bytes\n")
+    yield Case(RUN, many(b" ", 16_777_217), 3, err=b"machine: longer than 16777216 bytes\n")
     for words in OTHER_WORDS:
         yield Case(None if words is None else tuple(words.split()), ((file_of("parent_and_child"), 1),), 2, err=USAGE)
 

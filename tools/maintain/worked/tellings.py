@@ -4,7 +4,7 @@ import json
 
 from julampok.second.stats_logs import expected
 from maintain.places import WORKED
-from maintain.worked.case import Case
+from maintain.worked.case import Case, many
 from maintain.worked.logs import text_of
 from maintain.worked.runs import SHORT, file_of, log_of
 
@@ -40,8 +40,8 @@ NO_STATS = [
     (((b'{"version":1}', 1),), b"log: line 1\n"),
     (((TEXT, 1),), b"log: line 1\n"),
     (((TEXT + b"0 0/0/0 auto run\n0 0/0/0 auto walk\nfinished\n", 1),), b"log: line 2\n"),
-    (((b" ", 16_777_216),), b"machine: rule 1: json\n"),
-    (((b" ", 16_777_217),), b"machine: longer than 16777216 bytes\n"),
+    (many(b" ", 16_777_216), b"machine: rule 1: json\n"),
+    (many(b" ", 16_777_217), b"machine: longer than 16777216 bytes\n"),
 ]
 
 # Links of a log of two devices: one that stands already, one that would tie the other way round, one that becomes dormant, and
@@ -81,14 +81,13 @@ source gps 1 1 1 0 2 2 2
 source wifi 1 2 1 0 3 3 3
 """
 
-# Lines of `locks`, how often they stand, and what is answered: lines of each kind, a line of no form, one byte too many, and a
-# source that is full.
+# Lines of `locks`, and what is answered: lines of each kind, a line of no form, one byte too many, and a source that is full.
 NAMED = [
-    (LOCKS, 1, 0, LOCKED, b""),
-    (b"active\nafter 0\n", 1, 3, b"", b"locks: line 2\n"),
-    (b"\n", 16_777_216, 3, b"", b"locks: line 1\n"),
-    (b"\n", 16_777_217, 3, b"", b"locks: longer than 16777216 bytes\n"),
-    (b"lock a\n", 59_997, 7, b"", b"source full: a\n"),
+    (((LOCKS, 1),), 0, LOCKED, b""),
+    (((b"active\nafter 0\n", 1),), 3, b"", b"locks: line 2\n"),
+    (many(b"\n", 16_777_216), 3, b"", b"locks: line 1\n"),
+    (many(b"\n", 16_777_217), 3, b"", b"locks: longer than 16777216 bytes\n"),
+    (((b"lock a\n", 59_997),), 7, b"", b"source full: a\n"),
 ]
 
 # The idler comes back from idle and its session is over; and it sleeps at the end. The option may stand anywhere behind `idle`.
@@ -190,8 +189,8 @@ def cases():
     """All of them."""
     yield from judged()
     yield from counted()
-    for lines, times, *said in NAMED:
-        yield Case(("locks",), ((lines, times),), *said)
+    for pieces, *said in NAMED:
+        yield Case(("locks",), pieces, *said)
     for words, said in IDLE:
         yield Case(tuple(words.split()), (), 0, said)
     yield from soaked()
