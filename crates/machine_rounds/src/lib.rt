@@ -1,5 +1,5 @@
 //! A run of a machine, as far as it has come: rounds over its actors, bursts of their turns on threads between the rounds,
-//! jumps of time, and at the end the log of every step. `sleep_run` makes a whole run of it. `row_trials` runs it.
+//! jumps of time, and at the end the log of every step. `sleep_run` makes a whole run of it.
 #![tactic(auto)]
 
 mod asks;

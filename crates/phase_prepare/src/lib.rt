@@ -1,5 +1,4 @@
-//! What the phases prepare and complete do next (`drivers/base/power/main.c`, `dpm_prepare`, `dpm_complete`). Its tests are in
-//! `part_cases`.
+//! What the phases prepare and complete do next.
 #![tactic(auto)]
 
 mod law;

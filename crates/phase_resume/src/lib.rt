@@ -1,5 +1,4 @@
-//! What the walks of the three phases on the way up do next (`drivers/base/power/main.c`, `dpm_resume`), and a device that they
-//! scheduled. Its tests are in `part_cases`.
+//! What the walks of the three phases on the way up do next, and a device that they scheduled.
 #![tactic(auto)]
 
 mod law;

@@ -1,5 +1,4 @@
-//! The core of system sleep: what each actor may do next, and the journal of what it did. Its tests are in `core_trials`, and
-//! `row_trials` runs it.
+//! The core of system sleep: what each actor may do next, and the journal of what it did.
 #![tactic(auto)]
 
 mod attempt;

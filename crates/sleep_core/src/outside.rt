@@ -118,7 +118,6 @@ impl<'m> Core<'m> {
         ensures { result ≡ (nat_lt calls (calls_due self.now.machine who (entries self.now.past))
             || is_made (due self.now.machine (entries self.now.past) who now)) }
     {
-        // The time stands in the clause alone: a caller shows that it knows it.
         let _ = time;
         (calls as u64) < self.calls_due(who) || matches!(self.due(who, now), Due::Makes(_))
     }

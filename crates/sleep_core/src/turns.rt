@@ -239,7 +239,6 @@ impl<'m> Core<'m> {
         ensures floor { (last_stamp self.new.past).pos ≤ E.floor events.new }
         ensures legal { JournalPart self.new.machine (entries self.new.past) }
     {
-        // Both stand in the clauses alone: a caller shows that it knows them.
         let _ = (calls, now);
         let word = look_from(rt, events, floor.pos);
         let answer = self.step(rt, who, word, floor);

@@ -1,5 +1,4 @@
-//! How many entries the history of a source may need: the calls of a machine bound it. Each function here is a law, and does
-//! nothing. `law_trials` tries the definitions on worked logs.
+//! How many entries the history of a source may need: the calls of a machine bound it.
 #![tactic(auto)]
 
 mod room;
