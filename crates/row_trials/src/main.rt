@@ -18,6 +18,8 @@ mod calls;
 mod fault;
 #[cfg(test)]
 mod held_tests;
+#[cfg(test)]
+mod judged_tests;
 mod line;
 #[cfg(test)]
 mod long_tests;
