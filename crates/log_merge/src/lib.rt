@@ -1,5 +1,5 @@
 //! The one log of a machine's journal and of its sources' histories: the journal stays as it is kept, and the sources'
-//! entries are placed in it (own: Linux keeps no such log). Its tests stand in `worker_trials`.
+//! entries are placed in it (own: Linux keeps no such log). Its tests are in `part_cases`.
 #![tactic(auto)]
 
 mod journal;
