@@ -1,6 +1,6 @@
-//! How many places of its journal an attempt may still need. They are reserved where it begins, so
-//! that no entry of its maker, nor of the devices that it puts to sleep, ever wants memory. Each
-//! function here is a law of `needed` over all legal journals, and does nothing.
+//! How many places of its journal an attempt may still need. They are reserved where it begins, so that no entry of its maker,
+//! nor of the devices that it puts to sleep, ever wants memory. Each function here is a law of `needed` over all legal
+//! journals, and does nothing. `law_trials` tries the definitions on worked logs.
 #![tactic(auto)]
 
 ghost use Rattle.attempt_laws.specs.Room.{NoneNeededOutside, AttemptNeedsFew, OwnEntrySpends, DeviceEntrySpends, OthersNeedNothing};

@@ -1,5 +1,5 @@
-//! What is due of a machine's actors names things of that machine alone; so a legal log fits its machine where its run
-//! is over.
+//! What is due of a machine's actors names things of that machine alone; so a legal log fits its machine where its run is over.
+//! Each function here is a law, and does nothing. `law_trials` tries the definitions on worked logs.
 #![tactic(auto)]
 
 ghost use Rattle.std.specs.Prelude.{◌≡◌, true};

@@ -1,5 +1,5 @@
-//! The laws of the one log that a journal and the sources' histories merge to, from what each of them
-//! says by itself (own: Linux keeps no such log).
+//! The laws of the one log that a journal and the sources' histories merge to, from what each of them says by itself (own:
+//! Linux keeps no such log). `law_trials` tries their premises on worked logs.
 #![tactic(auto)]
 
 mod laws;

@@ -1,4 +1,5 @@
-//! What the phases prepare and complete do next.
+//! What the phases prepare and complete do next (`drivers/base/power/main.c`, `dpm_prepare`, `dpm_complete`). Its tests are in
+//! `part_cases`.
 #![tactic(auto)]
 
 mod law;

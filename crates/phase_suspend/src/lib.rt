@@ -1,5 +1,5 @@
-//! What the walks of the three phases on the way down do next, what a device does that they gave
-//! out, and what a request for a runtime status is answered meanwhile.
+//! What the walks of the three phases on the way down do next (`drivers/base/power/main.c`, `dpm_suspend`), what a device does
+//! that they gave out, and what a request for a runtime status is answered meanwhile. Its tests are in `part_cases`.
 #![tactic(auto)]
 
 mod down;

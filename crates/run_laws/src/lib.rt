@@ -1,5 +1,5 @@
-//! The laws of a run by workers: what each of them knows by itself is what the law of the one log asks
-//! (own: Linux keeps no such log).
+//! The laws of a run by workers: what each of them knows by itself is what the law of the one log asks (own: Linux keeps no
+//! such log). `law_trials` tries them on worked logs.
 #![tactic(auto)]
 
 mod laws;

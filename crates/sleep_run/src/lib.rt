@@ -1,5 +1,5 @@
-//! Runs a machine by workers, to its end: the one call over the rounds and bursts of `machine_rounds`. It stands in a crate
-//! of its own, so that a wrong body of it is tried without proving those anew.
+//! Runs a machine by workers, to its end: the one call over the rounds and bursts of `machine_rounds`. It stands in a crate of
+//! its own, so that a wrong body of it is tried without proving those anew. Its tests are in `row_trials`.
 #![tactic(auto)]
 
 mod run;
