@@ -4,7 +4,6 @@
 
 mod answers;
 mod asked;
-mod asked_commands;
 mod at_once;
 mod autosleeps;
 mod boards;

@@ -2,7 +2,6 @@
 
 use crate::answers::answers;
 use crate::asked::{Words, cut, found};
-use crate::asked_commands::commands;
 use crate::autosleeps::autosleeps;
 use crate::generated::generated;
 use crate::idles::idles;
@@ -27,7 +26,6 @@ enum Part {
     Plain,
     Json,
     Value,
-    Commands,
     Entries,
     Counts,
     Answers,
@@ -39,13 +37,12 @@ enum Part {
     Whole,
 }
 
-const PARTS: [(&str, Part); 15] = [
+const PARTS: [(&str, Part); 14] = [
     ("source", Part::Source),
     ("sink", Part::Sink),
     ("plain", Part::Plain),
     ("json", Part::Json),
     ("value", Part::Value),
-    ("commands", Part::Commands),
     ("entries", Part::Entries),
     ("counts", Part::Counts),
     ("answers", Part::Answers),
@@ -74,7 +71,6 @@ fn answer_bare(alloc: Global, part: Part, lines: &str, out: &mut Out) {
     match part {
         Part::Plain => plain(alloc, lines, out),
         Part::Json => json(alloc, lines, out),
-        Part::Commands => commands(alloc, lines, out),
         Part::Entries => entries(alloc, lines, out),
         Part::Counts => counts(alloc, lines, out),
         Part::Answers => answers(alloc, lines, out),

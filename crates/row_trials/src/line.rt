@@ -14,6 +14,7 @@ pub(crate) enum Verb {
     WriteFails,
     ErrorFails,
     Row,
+    Asks,
 }
 
 /// A line: what it says, and its number.
@@ -35,6 +36,7 @@ fn verb_of(name: &str) -> Option<Verb> {
         "write fails" => Some(Verb::WriteFails),
         "error fails" => Some(Verb::ErrorFails),
         "row" => Some(Verb::Row),
+        "asks" => Some(Verb::Asks),
         _ => None,
     }
 }

@@ -108,7 +108,7 @@ impl Row {
             Verb::ReadFails => self.streams.read_fails = line.number,
             Verb::WriteFails => self.streams.write_fails = line.number,
             Verb::ErrorFails => self.streams.error_fails = line.number,
-            Verb::Row => {}
+            Verb::Row | Verb::Asks => {}
         }
         Ok(left)
     }

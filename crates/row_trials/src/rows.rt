@@ -1,7 +1,8 @@
 //! The rows, one after another.
 
+use crate::command::told_command;
 use crate::fault::RowsFault;
-use crate::line::{Verb, cut_line};
+use crate::line::{Line, Verb, cut_line};
 use crate::outcome::Outcome;
 use crate::row::Row;
 use sleep_base::{ByteSink, Mem, write_all};
@@ -9,21 +10,21 @@ use std::alloc::Global;
 use std::sync::Wait;
 use std::thread::Threads;
 
-/// Takes the lines of one row. The row's number, and what is left behind it.
-fn fill<'a>(row: &mut Row, alloc: Global, rows: &'a [u8]) -> Result<(usize, &'a [u8]), RowsFault> {
+/// Takes the lines of one row. The line that ends it, and what is left after that.
+fn fill<'a>(row: &mut Row, alloc: Global, rows: &'a [u8]) -> Result<(Line, &'a [u8]), RowsFault> {
     let mut left = rows;
     for _ in 0..rows.len() {
-        let (line, behind) = cut_line(left).ok_or(RowsFault::Form)?;
-        if line.verb == Verb::Row {
-            return Ok((line.number, behind));
+        let (line, after) = cut_line(left).ok_or(RowsFault::Form)?;
+        if line.verb == Verb::Row || line.verb == Verb::Asks {
+            return Ok((line, after));
         }
-        left = row.take(alloc, line, behind)?;
+        left = row.take(alloc, line, after)?;
     }
     Err(RowsFault::Form)
 }
 
-/// What is said of a row.
-fn told<R: Threads + Wait + Sync>(
+/// What the program writes for a row, and its status.
+fn told_outcome<R: Threads + Wait + Sync>(
     rt: &R,
     alloc: Global,
     row: Row,
@@ -35,7 +36,22 @@ fn told<R: Threads + Wait + Sync>(
     text
 }
 
-/// Runs the first row, and writes what is said of it. What is left behind it.
+/// What is said of a row that this line ends.
+fn told<R: Threads + Wait + Sync>(
+    rt: &R,
+    alloc: Global,
+    row: Row,
+    end: Line,
+) -> Result<Vec<u8>, Mem> {
+    if end.verb == Verb::Row {
+        return told_outcome(rt, alloc, row, end.number);
+    }
+    let text = told_command(alloc, &row.words, end.number);
+    drop(row);
+    text
+}
+
+/// Runs the first row, and writes what is said of it. What is left after it.
 fn run_row<'a, R: Threads + Wait + Sync, K: ByteSink>(
     rt: &R,
     alloc: Global,
@@ -43,16 +59,16 @@ fn run_row<'a, R: Threads + Wait + Sync, K: ByteSink>(
     out: &mut K,
 ) -> Result<&'a [u8], RowsFault> {
     let mut row = Row::new(alloc);
-    let (number, behind) = match fill(&mut row, alloc, rows) {
+    let (end, after) = match fill(&mut row, alloc, rows) {
         Ok(filled) => filled,
         Err(fault) => {
             drop(row);
             return Err(fault);
         }
     };
-    let text = told(rt, alloc, row, number)?;
+    let text = told(rt, alloc, row, end)?;
     write_all(out, &text)?;
-    Ok(behind)
+    Ok(after)
 }
 
 /// Runs each row, and writes what is said of it.

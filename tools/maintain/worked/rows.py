@@ -2,9 +2,13 @@
 
 A row has its words, a line each, how its streams behave, the pieces of its input and its number. Of each the program says the
 number, the status, how many bytes of the input are left and how long both texts are, and then the texts.
+
+tools/worked/words.cases has words that are read only, a line each with what they ask for. Of each the program says that.
 """
 
+from maintain.places import WORKED
 from maintain.worked import fronts, generated, judged, reader, runs, tellings
+from maintain.worked.part_cases import cut
 
 NAME = "sleep"  # The word before the others: the program's own.
 
@@ -40,8 +44,24 @@ def said(case, number):
     return b"row %d status %d left %d out %d err %d\n" % numbers + case.out + case.err + b"\n"
 
 
+def asked():
+    """Words that are read only, each with what they ask for."""
+    for line in WORKED.joinpath("words.cases").read_text(encoding="utf-8").splitlines():
+        if line and not line.startswith("#"):
+            call, answer = cut(line)
+            yield call.split(" ")[1:], answer
+
+
+def asks(words, number):
+    """Words as they are read."""
+    lines = (f"words {len(words)}", *words, f"asks {number}")
+    return "".join(f"{line}\n" for line in lines).encode()
+
+
 def files():
     """The two files of the crate, by their paths in it."""
-    every = list(enumerate(cases(), 1))
-    yield "stdin", b"".join(piece for number, case in every for piece in row(case, number))
-    yield "stdout", b"".join(said(case, number) for number, case in every)
+    every, words = list(enumerate(cases(), 1)), list(enumerate(asked(), 1))
+    rows = [piece for number, case in every for piece in row(case, number)]
+    yield "stdin", b"".join([*rows, *(asks(each, number) for number, (each, _) in words)])
+    outcomes = [said(case, number) for number, case in every]
+    yield "stdout", b"".join([*outcomes, *(f"asks {number} {answer}\n".encode() for number, (_, answer) in words)])
