@@ -7,7 +7,7 @@ import unittest.mock
 
 from dev_tests import ROOT, dev
 from julampok.errors import CannotError
-from maintain.docs import heads, names, prose
+from maintain.docs import heads, names, prose, recipes
 from maintain.docs.definitions import kernel_of, pages, sentence
 from maintain.docs.reached import reached
 
@@ -20,8 +20,13 @@ class Pages(unittest.TestCase):
         for path, text in [*pages(), heads.page()]:
             self.assertEqual(path.read_text(), text, f"{path.name} is old: `tools/dev docs` writes it")
 
-    def test_no_sentence_is_too_long(self):
+    def test_nothing_is_too_long(self):
         self.assertEqual(prose.all_long(), [])
+
+    def test_recipes(self):
+        self.assertEqual(recipes.all_wrong(), [])
+        found = {file for _, files, _ in recipes.rows(recipes.PAGE.read_text()) for file in files}
+        self.assertGreater(len(found), 90)
 
     def test_the_command(self):
         with unittest.mock.patch("maintain.commands.docs.pages", lambda: [(ROOT / "docs" / "DEFINITIONS.md", "another text\n")]):
@@ -63,10 +68,11 @@ class Broken(unittest.TestCase):
                 self.assertEqual(self.found(text), [])
 
     def test_crates(self):
-        order = names.order_of_crates()
-        with unittest.mock.patch.object(names, "order_of_crates", lambda: [order[1], order[0], *order[2:]]):
-            self.assertEqual(len(list(names.misplaced())), 1)
         self.assertEqual(list(names.uses_below()), [])
+        with tempfile.TemporaryDirectory() as folder:
+            pathlib.Path(folder, "crates.txt").write_text("sleep_model: sleep_base\nsleep_base:\n")
+            with unittest.mock.patch.object(names, "TOP", pathlib.Path(folder)):
+                self.assertEqual(list(names.uses_below()), ["crates.txt:1: sleep_model uses sleep_base, which stands below"])
 
 
 class Definitions(unittest.TestCase):
@@ -83,10 +89,6 @@ class Definitions(unittest.TestCase):
         self.assertIn(first, found)
         self.assertGreater(len(found), 1)
         self.assertEqual(reached([("sleep_model", "Guard", "no_such_definition")]), set())
-
-
-if __name__ == "__main__":
-    unittest.main()
 
 
 class Crates(unittest.TestCase):
@@ -138,3 +140,57 @@ class Prose(unittest.TestCase):
             page.write_text(" ".join(["word"] * 30) + ".\n\n" + " ".join(["word"] * 31) + ".\n")
             (told,) = prose.too_long(page)
             self.assertTrue(told.endswith("PAGE.md:3: a sentence of 31 words: word word word word word word .."), told)
+
+    def test_too_many(self):
+        with tempfile.TemporaryDirectory() as folder:
+            pages = [pathlib.Path(folder, name) for name in ("A.md", "B.md")]
+            for page in pages:
+                page.write_text("# One\n\n| two | three |\n")
+            self.assertEqual(prose.words_in(pages), 14)
+            self.assertEqual([*prose.too_many([("both", pages, 14)])], [])
+            self.assertEqual([*prose.too_many([("both", pages, 13)])], ["both: 14 words, and at most 13"])
+
+
+class Recipes(unittest.TestCase):
+    """What a step of a recipe has to name."""
+
+    TEXT = "## Before\n\n| file | word |\n|---|---|\n| `none.rt` | `none` |\n\n## Recipes\n\n### A thing\n\n| thing | file | word |\n|---|---|---|\n"
+
+    def found(self, row):
+        return [what for _, files, words in recipes.rows(f"{self.TEXT}{row}\n\n## Behind\n") for what in recipes.wrong(files, words)]
+
+    def test_each_kind(self):
+        for row, what in (
+            ("| a | `sleep_base/src/errno.rt` | `Errno`, `by_error` |", []),
+            ("| a | `sleep_base/src/errno.rt` | `by_` |", []),
+            ("| a | `crates.txt`, `sleep_base/src/errno.rt` | `Errno` |", ["no Errno in crates.txt"]),
+            ("| a | `sleep_base/src/nothing.rt` | `Errno` |", ["no file sleep_base/src/nothing.rt"]),
+            ("| a | `sleep_base/src/errno.rt` | its row |", ["a step that names no file, or no word"]),
+            ("| a | the file | `Errno` |", ["a step that names no file, or no word"]),
+            ("no row", []),
+        ):
+            with self.subTest(row):
+                self.assertEqual(self.found(row), what)
+
+    def test_places(self):
+        rows = [*recipes.rows(self.TEXT + "| a | `crates.txt` | `sleep_base` |")]
+        self.assertEqual(rows, [(13, ["crates.txt"], ["sleep_base"])])
+
+
+class Made(unittest.TestCase):
+    """The wrong bodies of a crate on the page of crates."""
+
+    def test_wrong_bodies(self):
+        with tempfile.TemporaryDirectory() as folder:
+            edits = pathlib.Path(folder, "bare", "must-fail")
+            edits.mkdir(parents=True)
+            for name in ("a_step_is_lost.edit", "a_step_is_late.edit.md", "a_step_is_early.edit.md"):
+                (edits / name).write_text("")
+            with unittest.mock.patch("maintain.docs.heads.CRATES", pathlib.Path(folder)):
+                self.assertEqual([*heads.tried("bare")],
+                                 ["Wrong bodies in the gate: a step is lost.", "Wrong bodies set aside: a step is early; a step is late."])
+                self.assertEqual([*heads.tried("other")], [])
+
+
+if __name__ == "__main__":
+    unittest.main()

@@ -1,12 +1,12 @@
 """Writes the pages that are made of the code; with --check, checks all pages.
 
 docs/DEFINITIONS.md and docs/DEFINITIONS_ASIDE.md are made of the comment lines of the crates' specs/, docs/CRATES.md of crates.txt
-and the heads of the crates. --check says which of them is old, which link, file, crate, name or command of a page is not there, and
-which sentence is too long; it then ends with status 1.
+and the heads of the crates. --check says which of them is old, which link, file, crate, name or command of a page is not there, which
+step of a recipe names a file or a word that is not there, which sentence is too long, and which pages are; it then ends with status 1.
 """
 
 from julampok.files import write_all
-from maintain.docs import heads
+from maintain.docs import heads, recipes
 from maintain.docs.definitions import pages
 from maintain.docs.names import all_broken
 from maintain.docs.prose import all_long
@@ -29,6 +29,6 @@ def run(given):
         print("".join(f"{path.relative_to(TOP)} is written\n" for path in old), end="")
         return 0
     wrong = [f"{path.relative_to(TOP)}: is old; `tools/dev docs` writes it" for path in old]
-    wrong += all_broken() + all_long()
+    wrong += all_broken() + recipes.all_wrong() + all_long()
     print("".join(f"{what}\n" for what in wrong), end="")
     return 1 if wrong else 0

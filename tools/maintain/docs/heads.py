@@ -1,7 +1,7 @@
 """The page of crates, made of crates.txt and of the head of each crate's lib.rt.
 
-docs/CRATES.md has the groups of crates.txt in their order. Each crate has its head, as its author wrote it, what it uses, and how
-many wrong bodies its contracts are tried with. A crate without a head is refused.
+docs/CRATES.md has the groups of crates.txt in their order. Each crate has its head, as its author wrote it, what it uses, and the
+wrong bodies that its contracts refuse, by the names of their files. A crate without a head is refused.
 """
 
 import re
@@ -13,7 +13,8 @@ from maintain.places import CRATES, DOCS, TOP
 HEAD = """# Crates
 
 Each crate with what it is for, in the order of `crates.txt`: a crate uses only crates above it. `tools/dev docs` makes this page of
-`crates.txt` and of the head of each crate's `lib.rt`. [ARCHITECTURE](ARCHITECTURE.md) has the picture and the way of the data.
+`crates.txt`, of the head of each crate's `lib.rt`, and of the names of its [wrong bodies](PROMISES.md#wrong-bodies).
+[ARCHITECTURE](ARCHITECTURE.md) has the picture and the way of the data.
 """
 
 
@@ -50,19 +51,25 @@ def wrapped(text):
     return textwrap.fill(text, 130, break_long_words=False, break_on_hyphens=False)
 
 
+def named(folder, ending):
+    """The names of the files of a folder with that ending, as words."""
+    return "; ".join(path.name.removesuffix(ending).replace("_", " ") for path in sorted(folder.glob(f"*{ending}")))
+
+
 def tried(crate):
-    """How many wrong bodies a crate has, those in the gate and those set aside, in words."""
+    """The wrong bodies of a crate, those in the gate and those set aside, in words."""
     folder = CRATES / crate / "must-fail"
-    here, aside = (len(list(folder.glob(f"*.{ending}"))) for ending in ("edit", "edit.md"))
-    counts = [f"{here} in the gate"] * bool(here) + [f"{aside} set aside"] * bool(aside)
-    return f"Wrong bodies: {', '.join(counts)}." if counts else ""
+    for what, ending in (("in the gate", ".edit"), ("set aside", ".edit.md")):
+        names = named(folder, ending)
+        if names:
+            yield f"Wrong bodies {what}: {names}."
 
 
 def entry(crate, used):
     """The lines of a crate."""
     first, *others = head(crate)
     stands = f"Uses {', '.join(f'`{other}`' for other in used)}." if used else "Uses no crate."
-    for paragraph in (f"**`{crate}`**: {first}", *others, f"*{' '.join(filter(None, [stands, tried(crate)]))}*"):
+    for paragraph in (f"**`{crate}`**: {first}", *others, f"*{' '.join([stands, *tried(crate)])}*"):
         yield f"\n{wrapped(paragraph)}"
 
 

@@ -1,7 +1,6 @@
 """The names that stand in README.md and docs/: links, anchors, files, crates, definitions, functions and commands.
 
-Where a page says that a name is in a file, the name has to stand there. Each crate uses only crates above it in crates.txt, and
-docs/ARCHITECTURE.md has the same crates in the same order.
+Where a page says that a name is in a file, the name has to stand there. Each crate uses only crates above it in crates.txt.
 """
 
 import functools
@@ -167,18 +166,6 @@ def order_of_crates():
     return [line.partition(":")[0].split()[0] for line in lines if ":" in line and not line.startswith("#")]
 
 
-def misplaced():
-    """The first crate that the table of docs/ARCHITECTURE.md has at another place than crates.txt."""
-    rows = []
-    for number, line in enumerate((DOCS / "ARCHITECTURE.md").read_text().split("\n"), 1):
-        if line.startswith("| `"):
-            rows += [(crate, number) for crate in CODE.findall(line.split("|")[1]) if crate in crates()]
-    for crate, (other, number) in zip(order_of_crates(), rows):
-        if crate != other:
-            yield f"docs/ARCHITECTURE.md:{number}: {other} stands where crates.txt has {crate}"
-            return
-
-
 # ---- all
 
 
@@ -190,5 +177,5 @@ def broken(page):
 
 
 def all_broken():
-    """What is not there of any page, and what stands at a wrong place."""
-    return [what for page in PAGES for what in broken(page)] + [*uses_below(), *misplaced()]
+    """What is not there of any page, and the crates that use one below them."""
+    return [what for page in PAGES for what in broken(page)] + [*uses_below()]

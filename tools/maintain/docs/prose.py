@@ -1,7 +1,8 @@
-"""The prose of the pages: no sentence has more than thirty words.
+"""The prose of the pages that are written by hand: no sentence has more than thirty words, and no page grows without end.
 
 Tables, headings, pictures and what stands in fences are not prose. What stands between backquotes counts as one word, and so does
-a link's text without its target. A list's items are paragraphs of their own.
+a link's text without its target. A list's items are paragraphs of their own. For the length of the pages each word of the file counts,
+as `wc -w` counts them.
 """
 
 import re
@@ -9,11 +10,15 @@ import re
 from maintain.places import DOCS, TOP
 
 MOST = 30  # Words of a sentence.
-PLAIN = [DOCS / "SUSPEND.md", TOP / "examples" / "README.md"]  # The pages that keep to it.
+MADE = ("CRATES.md", "DEFINITIONS.md", "DEFINITIONS_ASIDE.md")  # The pages of docs/ that a tool writes.
+README = TOP / "README.md"
+OWN = [page for page in sorted(DOCS.glob("*.md")) if page.name not in MADE]
+PLAIN = [TOP / "examples" / "README.md", *(DOCS / f"{name}.md" for name in ("ARCHITECTURE", "DECISIONS", "PROMISES", "SUSPEND"))]
+BOUNDS = [("docs/ by hand", OWN, 29_000), ("README.md", [README], 880)]  # The words of pages, at most.
 
 FENCE = re.compile(r"^```.*?^```$", re.M | re.S)
 ITEM = re.compile(r"^\s*(?:[-*]|\d+\.) ")
-ENDED = re.compile(r"(?<=[.!?])\s+(?=[A-Z\[`*\d])")
+ENDED = re.compile(r"(?<=[.!?])\**\s+(?=[A-Z\[`*\d])")
 
 
 def paragraphs(text):
@@ -45,6 +50,19 @@ def too_long(page):
             yield f"{page.relative_to(TOP)}:{number}: a sentence of {words} words: {' '.join(sentence.split()[:6])} .."
 
 
+def words_in(pages):
+    """How many words these pages have together."""
+    return sum(len(page.read_text().split()) for page in pages)
+
+
+def too_many(bounds):
+    """What has more words than it may have."""
+    for what, pages, most in bounds:
+        count = words_in(pages)
+        if count > most:
+            yield f"{what}: {count} words, and at most {most}"
+
+
 def all_long():
-    """The sentences that are too long, of all pages that keep to the bound."""
-    return [what for page in PLAIN for what in too_long(page)]
+    """The sentences that are too long, of all pages by hand, and the pages that are."""
+    return [what for page in PLAIN for what in too_long(page)] + [*too_many(BOUNDS)]
