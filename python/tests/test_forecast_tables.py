@@ -1,4 +1,4 @@
-"""The tables of forecasts against measurements in docs/REAL.md are what the commands say of the recordings.
+"""The tables of forecasts against measurements on the page of the recordings are what the commands say of the recordings.
 
 usage: python3 python/tests/test_forecast_tables.py, which prints the tables as they have to stand there.
 """
@@ -15,7 +15,7 @@ sys.path.insert(0, str(pathlib.Path(__file__).parent))
 from command_tests import ROOT, julampok  # noqa: E402
 from recordings import words  # noqa: E402
 
-PAGE = ROOT / "docs" / "REAL.md"
+PAGE = ROOT / "python" / "tests" / "recordings" / "README.md"
 PHASES = ("suspend", "late", "noirq", "resume_noirq", "early", "resume")
 ONE_PROCESSOR = (
     ("whatif-gpu-sync", ("--async", "gpu"), "whatif-gpu-async"),

@@ -1,4 +1,4 @@
-"""Holds docs/REAL.md, and the samples in examples/real, against what replay says of the recordings of a real kernel.
+"""Holds the page of the recordings, and the samples in examples/real, against what replay says of the recordings of a real kernel.
 
 What the kernel did in each recording, and what it answered, is known from who recorded it, and stands in KNOWN.
 """
@@ -15,7 +15,7 @@ from command_tests import EXAMPLES, ROOT, julampok
 from julampok.follow.verdict import replay
 from julampok.kernel.reading import read_inputs
 
-REAL = ROOT / "docs" / "REAL.md"
+REAL = ROOT / "python" / "tests" / "recordings" / "README.md"
 SLEPT = ("0", ["The machine slept"])
 NOT_TOLD = None
 # For each attempt: what the write answered (NOT_TOLD: the kernel's messages do not have it), and words that have to be said.
@@ -64,7 +64,7 @@ def said(one):
 
 
 def rows(name, found):
-    """The rows of the table in REAL.md: recording, attempt, lines, answer, what is said."""
+    """The rows of the table of recordings: recording, attempt, lines, answer, what is said."""
     if found.broken:
         return [(name, "", "", "", f"not legal: {found.broken[0].words}")]
     return [(name, str(one.number), f"{one.line} to {one.last_line}", one.answer or "not told", said(one)) for one in found.attempts]
@@ -178,7 +178,7 @@ class Samples(unittest.TestCase):
 
 
 def write_page():
-    """Writes the table of REAL.md anew, with what was recorded as it stands there."""
+    """Writes the table of recordings anew, with what was recorded as it stands there."""
     text = REAL.read_text()
     own, begin, end = table()
     what = dict(re.findall(r"^\| `([\w-]+)` \| ([^|]*) \|", own, re.M))

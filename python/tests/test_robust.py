@@ -294,9 +294,7 @@ class Answers(unittest.TestCase):
         """The members of each command's answer, as docs/FORMATS.md tells them."""
         text = (ROOT / "docs" / "FORMATS.md").read_text()
         rows = text.split("### Answers for scripts", 1)[1].split("\n## ", 1)[0]
-        found = {row[1]: set(re.findall("`([a-z_]+)`", row[2])) for row in re.finditer(r"^\| `(\w+)` \| (.*) \|$", rows, re.M)}
-        times = text.split("### Times, orders and sweeps", 1)[1].split("`-o FOLDER`", 1)[0]
-        return found | {"times": set(re.findall("`([a-z_]+)`", "".join(re.findall(r"^\| .*", times, re.M)))) - {"dpm_suspend", "dpm_suspend_noirq", "dpm_resume", "dpm_resume_noirq"}}
+        return {row[1]: set(re.findall("`([a-z_]+)`", row[2])) for row in re.finditer(r"^\| `(\w+)` \| (.*) \|$", rows, re.M)}
 
     def test_members(self):
         """Each answer is one value, and has the members that the page names."""

@@ -10,7 +10,7 @@ import re
 from julampok.cli import command_names
 from maintain.places import CRATES, DOCS, TOP
 
-PAGES = [TOP / "README.md", TOP / "examples" / "README.md", *sorted(DOCS.glob("*.md"))]
+PAGES = [TOP / "README.md", TOP / "examples" / "README.md", TOP / "python" / "tests" / "recordings" / "README.md", *sorted(DOCS.glob("*.md"))]
 BUILT = ("out", "__pycache__", ".git")  # Folders whose files are in no page.
 
 LINK = re.compile(r"\]\(([^)\s]+)\)")
