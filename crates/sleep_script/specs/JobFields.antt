@@ -1,5 +1,5 @@
 -- What the fields of a job are.
-use Rattle.std.specs.Prelude.{◌≡◌, ℕ, Bool, true, false, List, [], ◌++◌, length, drop, map, Option, Some, None, option_copied}
+use Rattle.std.specs.Prelude.{◌≡◌, ℕ, List, [], ◌++◌, length, drop, map, Option, Some, None, option_copied}
 use Rattle.sleep_model.specs.declared.entry.Actor.{Actor}
 use Rattle.sleep_model.specs.declared.entry.Kind.{Kind}
 use Rattle.sleep_model.specs.declared.machine.Machine.{Machine}
@@ -13,11 +13,6 @@ use Rattle.sleep_script.specs.Jobs.{JobState}
 abbrev pub planned_at : Option ScriptCalls → ℕ → List Kind
 planned_at None k = []
 planned_at (Some plan) k = calls_at (pieces plan.source plan.script) k
-
--- how many of a plan's calls are due before a turn: none, where no turn has just ended (own)
-abbrev pub own_due : Bool → Option ScriptCalls → ℕ → ℕ
-own_due true plan k = length (planned_at plan k)
-own_due false plan k = 0
 
 -- the plan gives the calls before each of the actor's turns (own)
 abbrev pub IsPlanOf : Option ScriptCalls → Machine → Actor → Type 0

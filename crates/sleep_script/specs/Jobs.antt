@@ -49,14 +49,14 @@ abbrev pub is_exit : Kind → Bool
 is_exit kind.Exit = true
 is_exit _ = false
 
--- a step of a walk over devices that begins no callback (dpm_prepare, dpm_complete, async_schedule; own)
-abbrev pub is_in_walk : Kind → Bool
-is_in_walk (kind.Prepare d r) = true
-is_in_walk (kind.Complete d) = true
-is_in_walk (kind.Schedule p d) = true
-is_in_walk (kind.End p d r) = true
-is_in_walk (kind.Skip p d why) = true
-is_in_walk _ = false
+-- a callback of a device begins (dpm_run_callback)
+abbrev pub begins : Kind → Bool
+begins (kind.Begin p d) = true
+begins _ = false
+
+-- after a turn of its own steps, behind which its actor may have calls to make (own)
+abbrev pub after_step : JobState → JobState
+after_step job = record job { turns = job.turns + 1; pending = calls_of_turn job.machine job.who (job.turns + 1) }
 
 -- after an entry: due are the reports of the callback it begins, and the calls up to the next turn (pm_wakeup_event)
 abbrev pub after_turn : Stamp → Kind → ℕ → JobState → JobState
@@ -111,11 +111,6 @@ raised_timer stamp timer = record timer { floor = later stamp timer.floor }
 abbrev pub reports_among : List Answer → ℕ → Kind → List Report
 reports_among answers n (kind.Begin p d) = answer_reports (answer_among answers (what.Device d p) n)
 reports_among answers n _ = []
-
--- no call before the next turn was made, where a turn has just ended (own)
-abbrev pub made_after : Bool → ℕ → ℕ
-made_after true made = 0
-made_after false made = made
 
 -- ---- a job and a journal
 

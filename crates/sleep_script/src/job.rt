@@ -1,28 +1,15 @@
 //! What an actor that takes turns of the core knows of itself.
 
-ghost use Rattle.std.specs.Prelude.{◌≡◌, ◌<◌, ◌^◌, drop, length, map, option_copied, slice_get};
-ghost use Rattle.machine_plans.specs.Book.{answer_among};
-ghost use Rattle.sleep_model.specs.Answers.{answer_reports};
-ghost use Rattle.sleep_model.specs.Calls.{one_more};
+ghost use Rattle.std.specs.Prelude.{◌≡◌, drop, map, option_copied};
 ghost use Rattle.script_plan.specs.CallPlans.{noted};
-ghost use Rattle.sleep_script.specs.JobFields.{own_due, planned_at};
-ghost use Rattle.sleep_script.specs.Jobs.{later, made_after, reports_among};
+ghost use Rattle.sleep_script.specs.JobFields.{planned_at};
+ghost use Rattle.sleep_script.specs.Jobs.{later};
 
-use crate::kinds::{is_exit, is_in_walk};
-use machine_plans::{AnswerBook, MachinePlans};
+use crate::kinds::{begins, is_exit, reports_of};
+use machine_plans::MachinePlans;
 use script_plan::{Plan, ends_turn};
-use sleep_model::{Actor, Kind, Report, Stamp, Want, What};
+use sleep_model::{Actor, Kind, Report, Stamp, Want};
 use std::marker::Model;
-
-/// The reports of the callback that an entry begins in that attempt (`pm_wakeup_event` in a callback).
-fn reports_of<'m>(book: &AnswerBook<'m>, kind: Kind, attempt: u32) -> &'m [Report]
-    ensures { result.now ≡ reports_among book.now attempt kind }
-{
-    match kind {
-        Kind::Begin(phase, device) => book.reports(What::Device(device, phase), attempt),
-        _ => &[],
-    }
-}
 
 /// The reports behind the first.
 fn rest_of(reports: &[Report]) -> &[Report]
@@ -35,13 +22,6 @@ fn rest_of(reports: &[Report]) -> &[Report]
     }
 }
 
-/// The call with that number, where there is one.
-fn call_at(calls: &[Report], number: usize) -> Option<Report>
-    ensures { result ≡ slice_get calls.now number }
-{
-    calls.get(number).copied()
-}
-
 /// The plan's calls right before the turn with that number.
 fn calls_before<'a>(plan: Option<&'a Plan<'_>>, turn: usize) -> &'a [Report]
     ensures { map noted result.now ≡ planned_at (option_copied plan.entry) turn }
@@ -50,34 +30,6 @@ fn calls_before<'a>(plan: Option<&'a Plan<'_>>, turn: usize) -> &'a [Report]
         Some(plan) => plan.calls_at(turn),
         None => &[],
     }
-}
-
-/// How many of the plan's calls are due before the turn with that number: none, where no turn has just ended, before
-/// which all were made.
-fn own_due(ends: bool, plan: Option<&Plan<'_>>, turn: usize) -> usize
-    ensures is { result ≡ own_due ends (option_copied plan.entry) turn }
-    ensures small { result < 2 ^ 63 }
-{
-    if ends {
-        calls_before(plan, turn).len()
-    } else {
-        0
-    }
-}
-
-/// One turn more, where it has ended.
-fn one_more(ends: bool, turns: usize) -> usize
-    requires { turns < 2 ^ 63 }
-    ensures { result ≡ one_more ends turns }
-{
-    if ends { turns + 1 } else { turns }
-}
-
-/// How many calls before the next turn were made: none, where the turn before it has just ended.
-fn made_after(ends: bool, made: usize) -> usize
-    ensures { result ≡ made_after ends made }
-{
-    if ends { 0 } else { made }
 }
 
 /// The greater of two positions, and of two ticks.
@@ -126,12 +78,12 @@ impl<'m> Model for Job<'m> {
 }
 
 impl<'m> Job<'m> {
-    ghost use Rattle.std.specs.Prelude.{◌≡◌, ◌+◌, ◌<◌, ◌^◌, [], drop, length, map, nat_lt, option_copied, slice_get};
-    ghost use Rattle.std.specs.Option.{option_map};
+    ghost use Rattle.std.specs.Prelude.{◌≡◌, ◌+◌, ◌<◌, ◌^◌, ℕ, [], true, Some, drop, length, map, nat_lt, option_copied, slice_get};
+    ghost use Rattle.std.specs.Bool.{OnFalse, OnTrue};
     ghost use Rattle.script_plan.specs.CallPlans.{noted};
-    ghost use Rattle.sleep_model.specs.Calls.{calls_of_turn};
+    ghost use Rattle.sleep_model.specs.Calls.{calls_of_turn, report_calls};
     ghost use Rattle.sleep_script.specs.JobFields.{IsPlanOf};
-    ghost use Rattle.sleep_script.specs.Jobs.{IsWanted, first_job, after_turn, after_call, raised};
+    ghost use Rattle.sleep_script.specs.Jobs.{IsWanted, first_job, after_turn, after_step, after_call, begins, raised};
 
     /// The job of an actor before its first entry, with the plan of its own steps.
     fn new(plans: &'m MachinePlans<'_>, who: Actor, plan: Option<&'m Plan<'m>>) -> Self
@@ -183,48 +135,68 @@ impl<'m> Job<'m> {
         calls_before(self.plan, self.turns)
     }
 
-    /// The next call that it has to make before its next entry of the journal.
-    fn next_call(&self) -> Option<Report>
-        ensures { option_map noted result ≡ slice_get self.now.pending 0 }
+    /// The call that it has to make next.
+    #[inline(never)]
+    fn next_call(&self) -> Report
+        requires { 0 < length self.now.pending }
+        ensures { slice_get self.now.pending 0 ≡ Some (noted result) }
     {
-        if self.due == 0 {
-            return None;
-        }
         match self.reports.first() {
-            Some(report) => Some(*report),
-            None => call_at(self.own_calls(), self.made),
+            Some(report) => *report,
+            None => self.own_calls()[self.made],
         }
     }
 
     /// What its actor does next: the call on a source that is next, else a turn of the core. `Nothing` once it has exited.
+    #[inline(always)]
     pub fn next(&self) -> Want
         ensures { IsWanted self.now result }
     {
-        match self.next_call() {
-            Some(call) => Want::Source(call.source, call.call),
-            None if self.exited => Want::Nothing,
-            None => Want::Core,
+        if self.owes() {
+            let call = self.next_call();
+            Want::Source(call.source, call.call)
+        } else if self.exited {
+            Want::Nothing
+        } else {
+            Want::Core
         }
     }
 
-    /// Its actor made an entry of the journal, which may end a turn, begin a callback or be an exit.
+    /// Whether the entry begins a callback, of a machine whose callbacks answer anything at all.
     #[inline(always)]
-    fn told_step(&mut self, kind: Kind, attempt: u32)
-        requires made { self.old.pending ≡ [] }
-        requires few { self.old.turns < 2 ^ 63 }
-        ensures { self.new ≡ after_turn self.old.floor kind attempt self.old }
+    fn may_report(&self, kind: Kind) -> bool
+        ensures begins { OnTrue result (begins kind ≡ true) }
+        ensures none { OnFalse result ((n : ℕ) → report_calls self.now.machine n kind ≡ []) }
     {
-        let ends = ends_turn(kind);
-        let turns = one_more(ends, self.turns);
-        let reports = reports_of(self.plans.answers(), kind, attempt);
-        self.due = reports.len() + own_due(ends, self.plan, turns);
-        self.made = made_after(ends, self.made);
-        self.turns = turns;
-        self.reports = reports;
-        self.exited = is_exit(kind) | self.exited;
+        begins(kind) && self.plans.machine().answers.len() > 0
     }
 
-    /// Its actor made an entry of the journal, with that stamp, where `attempt` attempts were begun.
+    /// A turn of its own steps has ended: the calls right before the next turn are due.
+    #[inline(always)]
+    fn end_turn(&mut self)
+        requires made { self.old.pending ≡ [] }
+        requires few { self.old.turns < 2 ^ 63 }
+        ensures { self.new ≡ after_step self.old }
+    {
+        let turns = self.turns + 1;
+        self.due = calls_before(self.plan, turns).len();
+        self.made = 0;
+        self.turns = turns;
+    }
+
+    /// Its actor has begun a callback: what that reports is due.
+    #[inline(never)]
+    fn begin_callback(&mut self, kind: Kind, attempt: u32)
+        requires { self.old.pending ≡ [] }
+        ensures { self.new ≡ record self.old { pending = report_calls self.old.machine attempt kind } }
+    {
+        let reports = reports_of(self.plans.answers(), kind, attempt);
+        self.due = reports.len();
+        self.reports = reports;
+    }
+
+    /// Its actor made an entry of the journal, with that stamp, where `attempt` attempts were begun. Most entries
+    /// leave it nothing to do.
     #[inline(always)]
     pub fn told_turn(&mut self, stamp: Stamp, kind: Kind, attempt: u32)
         requires made { self.old.pending ≡ [] }
@@ -232,8 +204,12 @@ impl<'m> Job<'m> {
         ensures { self.new ≡ after_turn stamp kind attempt self.old }
     {
         self.floor = stamp;
-        if !is_in_walk(kind) {
-            self.told_step(kind, attempt);
+        if ends_turn(kind) {
+            self.end_turn();
+        } else if self.may_report(kind) {
+            self.begin_callback(kind, attempt);
+        } else if is_exit(kind) {
+            self.exited = true;
         }
     }
 

@@ -1,9 +1,10 @@
 use Rattle.sleep_model.specs.Calls.{calls_of_turn}
-use Rattle.sleep_script.proofs.Stepped.{own_first}
+use Rattle.sleep_script.proofs.Stepped.{own_next}
 use Rattle.sleep_script.proofs.job.Job.next_call.Goals as goal
 
 pub returns-in-None : goal.returns-in-None
 returns-in-None c =
     let j = c.self.inside in
     let are = rw (← c.self.view_is) at c.own_calls.ensures in
-    rw (← c.self.view_is) (own_first j.reports.now c.own_calls.result.now j.made (calls_of_turn j.plans.now j.who j.turns) c.call_at.result c.in-None.ensures.value are c.call_at.ensures)
+    let some = rw (← c.self.view_is) at c.requires in
+    rw (← c.self.view_is) (own_next j.reports.now c.own_calls.result.now j.made (calls_of_turn j.plans.now j.who j.turns) _ c.in-None.ensures.value are some)
