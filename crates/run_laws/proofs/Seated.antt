@@ -6,6 +6,7 @@ use Rattle.std.specs.List.{list_all, list_any}
 use Rattle.sleep_model.specs.declared.entry.Entry.{Entry}
 use Rattle.sleep_model.specs.declared.entry.JournalEntry.{JournalEntry}
 use Rattle.sleep_model.specs.declared.entry.SourceEntry.{SourceEntry}
+use Rattle.sleep_model.specs.declared.machine.SourceCall.{SourceCall}
 use Rattle.sleep_model.specs.declared.word.EventNow.{EventNow}
 use Rattle.sleep_model.specs.declared.word.WordKind.{WordKind}
 use Rattle.sleep_model.specs.declared.word.WordKind.TheVariants as step
@@ -18,11 +19,11 @@ use Rattle.log_merge.specs.Rests.{sources_entries}
 use Rattle.merge_laws.specs.Apart.{past_of}
 use Rattle.merge_laws.proofs.Lists.{all_append, all_more, all_reverse}
 use Rattle.wakeup_source.specs.declared.call_by.CallBy.{CallBy}
-use Rattle.wakeup_source.specs.Called.{Scene, Steps, after_note, after_step}
+use Rattle.wakeup_source.specs.Called.{Calls, Scene, Steps, after_note, after_step}
 use Rattle.wakeup_source.specs.SourceStates.{bare, note_entry, note_tick, step_entry, step_kind}
 use Rattle.wakeup_source.specs.Told.{steps_of}
 use Rattle.run_laws.specs.Laid.{is_looked, is_placed, was_seen}
-use Rattle.run_laws.specs.Seated.{AreSeen, SeatKeeps, SeatKept, SeatsLay, WatchKeeps, sees}
+use Rattle.run_laws.specs.Seated.{AreSeen, IsFresh, SeatKeeps, SeatKept, SeatsLay, WatchKeeps, sees}
 use Rattle.run_laws.proofs.Laid.{all_weaker, same_word}
 
 -- ---- words that were looked at
@@ -90,6 +91,17 @@ steps_seen by (x ∷ rest) old new looked h o a =
       all_more (sees looked) e (map of_source old.source.past) (left_of (is_word_step e) (list_any (is_word h.0) looked) (step_moves old.source.id x)) a.0,
       all_more is_placed e (map of_source old.source.past) (same_number (position h.0) (position h.0) refl) a.1,
     )
+
+-- ---- what a source last knew
+
+steps_fresh : (by : CallBy) (steps : List WordKind) (old new : Scene) → IsFresh old.source → Steps by steps old new → IsFresh new.source
+steps_fresh by [] old new f h = subst (λ (s : Scene). IsFresh s.source) (sym h) f
+steps_fresh by (x ∷ rest) old new f h = steps_fresh by rest (after_step by x h.0 old) new refl h.3
+
+-- a call leaves its source knowing the tick of its newest entry, and no later one
+pub call_fresh : (by : CallBy) (c : SourceCall) (old new : Scene) → Calls by c old new → IsFresh new.source
+call_fresh by c old new h =
+    steps_fresh by (makes c (since (bare old.source.past))) h.0 new (subst (λ (s : Scene). IsFresh s.source) (sym h.1.6) refl) h.2
 
 pub seat_keeps : SeatKeeps
 seat_keeps by c old new made looked m o seated h tells = by_looked h.0.looked refl (subst (λ (l : Option (List EventNow)). GrewTo h.1.0 l h.0.looked) o h.1.2)

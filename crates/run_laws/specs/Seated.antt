@@ -12,7 +12,7 @@ use Rattle.event_word.specs.Looks.{GrewTo}
 use Rattle.event_word.specs.Steps.{MadeStep}
 use Rattle.wakeup_source.specs.declared.call_by.CallBy.{CallBy}
 use Rattle.wakeup_source.specs.Called.{Calls, Scene}
-use Rattle.wakeup_source.specs.SourceStates.{bare}
+use Rattle.wakeup_source.specs.SourceStates.{SourceState, bare}
 use Rattle.wakeup_source.specs.Told.{AreOwnSteps, steps_of}
 use Rattle.merge_laws.specs.Apart.{is_journals}
 use Rattle.run_laws.specs.Laid.{IsLaid, is_placed}
@@ -29,6 +29,15 @@ AreSeen looked entries = (list_all (sees looked) entries ≡ true) × (list_all 
 pub record IsSeated (made : List MadeStep) (looked : List EventNow) (past : List SourceEntry) : Type 0 where
   pub steps : made ≡ steps_of (bare past)
   pub seen : AreSeen looked (map of_source past)
+
+-- the tick of the newest of these entries, 0 if there is none
+abbrev pub newest_tick : List SourceEntry → ℕ
+newest_tick [] = 0
+newest_tick (e ∷ past) = e.stamp.tick
+
+-- a source between calls last knew the tick of its newest entry
+abbrev pub IsFresh : SourceState → Type 0
+IsFresh source = source.floor.tick ≡ newest_tick source.past
 
 -- by a call the source keeps its seat so
 pub record SeatKept (new : Scene) : Type 0 where

@@ -19,7 +19,7 @@ use Rattle.wakeup_source.specs.Called.{Calls, Scene, Steps, after_step}
 use Rattle.wakeup_source.specs.SourceStates.{IsSettled, SourceState, bare}
 use Rattle.wakeup_source.specs.Told.{AreOwnSteps, step_by, steps_of}
 use Rattle.run_laws.specs.Seated.{IsSeated}
-use Rattle.run_laws.proofs.Seated.{seat_keeps}
+use Rattle.run_laws.proofs.Seated.{call_fresh, seat_keeps}
 use Rattle.run_objects.specs.Objects.{IsSeatedSource, SeatedSourceState, scene_of}
 
 -- ---- what a seat can do next
@@ -121,7 +121,7 @@ called (Ok stamp) by c old new kept seat number settled calls tells err =
     let seated : IsSeated (made_of new.seat) (looked_of new.seat) new.source.past =
     subst (λ (m : List MadeStep). IsSeated m (looked_of new.seat) new.source.past) (sym made_is)
     (subst (λ (l : List EventNow). IsSeated k.made l new.source.past) (sym looked_is) k.seated) in record {
-      kept = record { seat = seat; number = number ∙ kept.number ∙ ap (λ (n : ℕ). Some n) (sym id); seated = seated; settled = settled };
+      kept = record { seat = seat; number = number ∙ kept.number ∙ ap (λ (n : ℕ). Some n) (sym id); seated = seated; settled = settled; fresh = call_fresh by c (scene_of old) (scene_of new) calls };
       number = id;
     }
 called (Err fault) by c old new kept seat number settled calls tells err =

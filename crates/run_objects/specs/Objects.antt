@@ -7,7 +7,7 @@ use Rattle.wakeup_source.specs.Called.{Scene, scene}
 use Rattle.wakeup_source.specs.SourceStates.{IsSettled, SourceState, new_source}
 use Rattle.sleep_core.specs.Cores.{CoreState}
 use Rattle.sleep_core.specs.Histories.{last_stamp}
-use Rattle.run_laws.specs.Seated.{AreSeen, IsSeated}
+use Rattle.run_laws.specs.Seated.{AreSeen, IsFresh, IsSeated}
 
 -- a wakeup source, and its seat (struct wakeup_source, combined_event_count)
 pub record SeatedSourceState : Type 0 where
@@ -19,12 +19,13 @@ pub record SeatedCoreState : Type 0 where
   pub core : CoreState
   pub seat : Token
 
--- between calls the seat is the source's, and its steps and looks are those of the source's history (wakeup_source_activate)
+-- between calls the seat is the source's, its steps and looks are those of the source's history, and the source last knew the tick of its newest entry (wakeup_source_activate)
 pub record IsSeatedSource (s : SeatedSourceState) : Type 0 where
   pub seat : IsSource s.seat
   pub number : number_of s.seat ≡ Some s.source.id
   pub seated : IsSeated (made_of s.seat) (looked_of s.seat) s.source.past
   pub settled : IsSettled s.source
+  pub fresh : IsFresh s.source
 
 -- the seat only looks, it looked at each word of the journal, and knows the newest position there (pm_wakeup_pending)
 pub record IsSeatedCore (s : SeatedCoreState) : Type 0 where

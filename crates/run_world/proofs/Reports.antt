@@ -89,6 +89,7 @@ module _ (by : CallBy) (c : SourceCall) (old new : TimedSource) where
           added = more.0;
           number = refl;
           settled = h.settled;
+          fresh = h.fresh;
           may = h.may;
           calls = h.calls;
           grown = more.1;

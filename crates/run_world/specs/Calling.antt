@@ -24,11 +24,13 @@ use Rattle.wakeup_source.specs.declared.fault.SourceFault.TheVariants as fault
 use Rattle.wakeup_source.specs.Called.{Calls}
 use Rattle.wakeup_source.specs.SourceStates.{IsSettled, bare}
 use Rattle.wakeup_source.specs.Told.{MayCall}
+use Rattle.run_laws.specs.Seated.{IsFresh}
 use Rattle.run_objects.specs.Objects.{SeatedSourceState, scene_of}
 
 -- a whole call that may be made on a source between calls (__pm_stay_awake, __pm_relax, pm_wakeup_ws_event, pm_wakeup_timer_fn)
 pub record IsMade (by : CallBy) (call : SourceCall) (old new : SeatedSourceState) (stamp : Stamp) : Type 0 where
   pub settled : IsSettled old.source
+  pub fresh : IsFresh old.source
   pub may : MayCall call (bare old.source.past) by.now
   pub calls : Calls by call (scene_of old) (scene_of new)
   pub leaves : IsSettled new.source

@@ -38,6 +38,7 @@ use Rattle.turn_lock.specs.Books.{placed}
 use Rattle.turn_lock.specs.Locks.{IsTaken}
 use Rattle.turn_lock.specs.Passes.{Token}
 use Rattle.run_laws.specs.Passes.{Noted, items}
+use Rattle.run_laws.specs.Seated.{IsFresh}
 use Rattle.run_world.specs.declared.object.WorldObject.{WorldObject}
 use Rattle.run_world.specs.Calling.{IsRefusedBy}
 use Rattle.run_world.specs.Objects.{notes_of, root_of}
@@ -50,6 +51,7 @@ pub record IsReport (by : CallBy) (call : SourceCall) (s : ℕ) (stamp : Stamp) 
   pub added : List SourceEntry
   pub number : old.source.id ≡ s
   pub settled : IsSettled old.source
+  pub fresh : IsFresh old.source
   pub may : MayCall call (bare old.source.past) by.now
   pub calls : Calls by call old new
   pub grown : new.source.past ≡ added ++ old.source.past

@@ -6,6 +6,7 @@ ghost use Rattle.sleep_model.specs.declared.machine.SourceCall.TheVariants as ca
 ghost use Rattle.sleep_model.specs.Sources.{expiry, has_expired};
 ghost use Rattle.wakeup_source.specs.SourceStates.{IsSettled, bare, latest};
 ghost use Rattle.wakeup_source.specs.Told.{MayCall};
+ghost use Rattle.run_laws.specs.Seated.{IsFresh};
 ghost use Rattle.run_world.specs.Calling.{AfterCall};
 
 use event_word::EventTable;
@@ -30,6 +31,7 @@ fn may_make(source: &SeatedSource, call: SourceCall, now: u64) -> bool
     ensures waits { OnFalse result ((call ≡ calls.Expire)
         × (has_expired (expiry (bare source.now.source.past)) now ≡ false)) }
     ensures settled { IsSettled source.now.source }
+    ensures fresh { IsFresh source.now.source }
 {
     let due = source.source().due();
     match call {
