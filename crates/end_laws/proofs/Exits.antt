@@ -1,10 +1,8 @@
 -- Who has not exited makes something or waits, and so is named where a log goes no further.
 use Rattle.std.proofs.Common.{◌≡◌, ◌<◌, ◌+◌, ◌∙◌, ◌⊎◌, inl, inr, ℕ, zero, suc, Bool, true, false, not, ◌==◌, ◌&&◌, ◌||◌, nat_lt, nat_le, List, [], ◌∷◌, length, Option, Some, None, is_none, is_some, slice_get, cond, refl, sym, ap, subst, arith}
-use Rattle.std.specs.Prelude.{◌↔◌}
 use Rattle.std.specs.List.{list_any}
 use Rattle.std.proofs.lemmas.Bool.{true≢false}
 use Rattle.std.proofs.lemmas.Bool.Decides.{nat_tests}
-use Rattle.std.proofs.lemmas.List.{get_or-replicate}
 use Rattle.sleep_base.specs.declared.errno.Errno.{Errno}
 use Rattle.phase_table.specs.declared.phase.Phase.{Phase}
 use Rattle.phase_table.specs.Phases.{is_down, mirror}
@@ -37,12 +35,12 @@ use Rattle.sleep_model.specs.declared.place.Work.{Work}
 use Rattle.sleep_model.specs.declared.place.Work.TheVariants.{Resting, Reading, Saving, Attempting, Looking, Napping, Closing}
 use Rattle.sleep_model.specs.declared.word.EventNow.{EventNow}
 use Rattle.sleep_model.specs.Attempt.{answered, attempt_due, cpu_kind, due_at, enter_due, freeze_due, freeze_since, froze_due, gives_up_at, if_left, or_next, sleep_of, sleeps_now, stage_due, stage_or_next}
-use Rattle.sleep_model.specs.Autosleep.{auto_due, may_run, work, work_due}
+use Rattle.sleep_model.specs.Autosleep.{may_run, work, work_due}
 use Rattle.sleep_model.specs.Devices.{after_device, async_work, callback, complete_due, device_due, down_due, is_async_device, next_completed, next_down, next_prepared, next_to_schedule, next_up, phase_error, phase_failed, prepare_due, take_down, taken, unless_failed, up_due, waits_above, waits_below, waits_down, waits_up, walk_down, walk_up}
 use Rattle.sleep_model.specs.Due.{due, is_over, own_due}
 use Rattle.sleep_model.specs.Freezer.{freezing, left}
 use Rattle.sleep_model.specs.Guard.{pending}
-use Rattle.sleep_model.specs.Legal.{IsLegal, IsStuckAfter, JournalPart, is_enabled, is_idle, is_made, none_enabled, none_expires, put_waiting, waiting, waiting_from}
+use Rattle.sleep_model.specs.Legal.{JournalPart, is_made, none_enabled, put_waiting, waiting, waiting_from}
 use Rattle.sleep_model.specs.Lock.{holder, is_on}
 use Rattle.sleep_model.specs.Marks.{mark_at, raised}
 use Rattle.sleep_model.specs.Notifiers.{next_called, next_cpu_off, next_cpu_on, next_posted, next_started, next_stopped}
@@ -50,13 +48,13 @@ use Rattle.sleep_model.specs.Numbers.{numbers, time_of}
 use Rattle.sleep_model.specs.Parts.{journal}
 use Rattle.sleep_model.specs.Path.{is_actor, is_same, maker, maker_after}
 use Rattle.sleep_model.specs.Scripts.{entry_steps, makes_entry}
-use Rattle.sleep_model.specs.Seats.{SeatPart, Waits as WaitsPart, Sets, Sleeps, Reads, Saves, Steps, Exits, Stays, first_seat, seat_after, seat_at, seat_part, seats, seats_after}
+use Rattle.sleep_model.specs.Seats.{SeatPart, Waits as WaitsPart, Sets, Sleeps, Reads, Saves, Steps, Exits, Stays, seat_after, seat_at, seat_part, seats, seats_after}
 use Rattle.sleep_model.specs.Sources.{history}
 use Rattle.sleep_model.specs.Steps.{lock_due, saved_number, seat_due, slept_due, step_due, task_due}
 use Rattle.sleep_model.specs.Table.{behind, stage_of}
 use Rattle.sleep_model.specs.Tasks.{freezes_at, is_line, is_mem, is_off, is_user}
 use Rattle.sleep_model.specs.Word.{position, visible}
-use Rattle.sleep_laws.proofs.Ending.{and_left, and_right, none_of, not_made}
+use Rattle.sleep_laws.proofs.Ending.{and_left, none_of, not_made}
 use Rattle.sleep_laws.proofs.Holding.{StageMaker, held}
 use Rattle.sleep_laws.proofs.Made.{ByMaker, ByTask, EntryMade, Made, StepMade, TaskMade, seat_of}
 use Rattle.sleep_laws.proofs.MakingOwn.{entry_made}

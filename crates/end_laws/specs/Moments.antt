@@ -1,12 +1,14 @@
--- The moments for which something waits: none is past where nobody can make anything, and each wakes somebody.
-use Rattle.std.specs.Prelude.{◌≡◌, ◌<◌, ℕ, true, false, List, ◌∷◌, IfSome}
+-- The moments for which something waits: none is past where nobody can make anything, each is at most a day ahead, and each wakes somebody.
+use Rattle.std.specs.Prelude.{◌≡◌, ◌≤◌, ◌<◌, ◌+◌, ℕ, true, false, List, ◌∷◌, IfSome}
 use Rattle.sleep_model.specs.declared.entry.Actor.TheVariants as actor
 use Rattle.sleep_model.specs.declared.entry.Entry.{Entry}
 use Rattle.sleep_model.specs.declared.entry.Kind.TheVariants as kind
 use Rattle.sleep_model.specs.declared.machine.Machine.{Machine}
 use Rattle.sleep_model.specs.declared.word.EventNow.{EventNow}
+use Rattle.sleep_model.specs.Accepted.{IsAccepted}
 use Rattle.sleep_model.specs.Legal.{JournalPart, JumpStep, is_finished, is_idle, next_time}
 use Rattle.sleep_model.specs.Numbers.{time_of}
+use Rattle.sleep_model.specs.Sources.{expiry}
 
 -- ---- next moments lie ahead
 
@@ -19,6 +21,18 @@ abbrev pub NextMomentsLieAhead : Type 0
 NextMomentsLieAhead =
     (m : Machine) (past : List Entry) (of : ℕ → List Entry) (now : EventNow) → JournalPart m past
     → is_idle m past of now ≡ true → is_finished m past of now ≡ false → LiesAhead m past of
+
+-- ---- next moments are at most a day ahead
+
+-- the expiry of each of these histories, if it has one, is at most a day from now (own)
+abbrev pub ExpiriesAreNear : List Entry → (ℕ → List Entry) → Type 0
+ExpiriesAreNear past of = (s : ℕ) → IfSome (expiry (of s)) (λ at. at ≤ time_of past + 86400000)
+
+-- if each source's expiry is at most a day from now, so is the next moment of a legal journal of an accepted machine (schedule_timeout, mod_timer)
+abbrev pub NextMomentsAreNear : Type 0
+NextMomentsAreNear =
+    (m : Machine) → IsAccepted m → (past : List Entry) (of : ℕ → List Entry) → JournalPart m past → ExpiriesAreNear past of
+    → IfSome (next_time m past of) (λ at. at ≤ time_of past + 86400000)
 
 -- ---- jumps wake
 

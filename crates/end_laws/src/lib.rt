@@ -7,7 +7,7 @@ ghost use Rattle.end_laws.specs.Attempts.{AttemptsAreShort, AttemptsEnd};
 ghost use Rattle.end_laws.specs.Bounds.{AllLogsAreBounded, JournalsAreBounded, LogsAreBounded};
 ghost use Rattle.end_laws.specs.Exits.{GoneHaveExited, NoneWaitStale, StuckNamesAll};
 ghost use Rattle.end_laws.specs.Makers.{MakersTellEntries, MakersTellLogs};
-ghost use Rattle.end_laws.specs.Moments.{JumpsWake, NextMomentsLieAhead};
+ghost use Rattle.end_laws.specs.Moments.{JumpsWake, NextMomentsAreNear, NextMomentsLieAhead};
 ghost use Rattle.end_laws.specs.Waking.{EventsWakeFirst, TimeGoesForward};
 
 /// An event that comes while the machine sleeps wakes it before any time passes: where time jumps while the machine
@@ -45,6 +45,14 @@ pub fn attempts_are_short()
 #[tactic(auto, using(crate::proofs::Moments::lie_ahead))]
 pub fn next_moments_lie_ahead()
     ensures { NextMomentsLieAhead }
+{}
+
+/// If each source's event in progress ends at most a day from now, each moment for which something waits is at most a day
+/// from now: no sleep, no length of an event and no alarm of an accepted machine is longer (`kernel/time/timer.c`,
+/// `schedule_timeout`). Whatever the histories of the sources are.
+#[tactic(auto, using(crate::proofs::Nearby::are_near))]
+pub fn next_moments_are_near()
+    ensures { NextMomentsAreNear }
 {}
 
 /// Behind a jump of time somebody can make something, whatever the word is then; so no jump follows a jump

@@ -17,7 +17,9 @@ use Rattle.sleep_model.specs.Merge.{of_source}
 use Rattle.sleep_model.specs.Numbers.{time_of}
 use Rattle.sleep_model.specs.Parts.{Part, part_of}
 use Rattle.sleep_model.specs.Path.{is_same}
-use Rattle.sleep_model.specs.Sources.{makes, since}
+use Rattle.sleep_model.specs.Sources.{expiry, makes, since}
+use Rattle.end_laws.specs.Moments.{ExpiriesAreNear}
+use Rattle.end_laws.proofs.Lasting.{IsBrief}
 use Rattle.sleep_model.specs.Word.{position}
 use Rattle.sleep_state.specs.Places.{entries}
 use Rattle.sleep_core.specs.Cores.{IsActor}
@@ -35,13 +37,17 @@ use Rattle.run_laws.specs.Acts.{Made, bare}
 use Rattle.run_laws.specs.Called.{IsCalled, IsReady, knows}
 use Rattle.run_laws.specs.Held.{EachJump, Held}
 use Rattle.run_laws.proofs.Acts.{actor_is}
-use Rattle.run_laws.proofs.Called.{call_grows, part_note}
-use Rattle.running_laws.specs.Running.{AreJobs, FloorsKnow, IsGoing, IsMoved, IsRunning, IsSourceOf, IsWith, calls_made, histories, made_so, of_sources}
+use Rattle.run_laws.specs.Seated.{IsFresh}
+use Rattle.run_laws.specs.Turned.{newest_stamp}
+use Rattle.run_laws.proofs.Called.{bare_same, call_grows, part_note}
+use Rattle.run_laws.proofs.Seated.{call_fresh}
+use Rattle.running_laws.specs.Running.{AreJobs, FloorsKnow, IsGoing, IsMoved, IsRunning, IsSourceOf, IsWith, calls_made, entry_count, histories, made_so, of_sources}
 use Rattle.running_laws.proofs.Kept.{calls_are_notes, free}
 use Rattle.running_laws.proofs.Known.{knows_more}
 use Rattle.running_laws.proofs.Turns.{all_raised, is_moved_one, moved_one}
 use Rattle.run_laws.proofs.Held.{each_by}
 use Rattle.running_laws.proofs.Lists.{entries_bare, source_at, source_other, source_set, sources_set}
+use Rattle.running_laws.proofs.Rising.{EndsBy, call_brief, call_ends, call_longer, call_rises, entries_set, floors_low, jobs_low, newest_is}
 
 -- ---- what a call adds
 
@@ -271,16 +277,79 @@ module _ (m : Machine) (journal : List JournalEntry) (sources : List SourceState
         (ap (λ (l : List JournalEntry). notes_of who (bare l)) (source_set sources s new.source within)
         ∙ (one.notes who ∙ ap (λ (l : List JournalEntry). one_more (is_same by.actor who) (notes_of who (bare l))) (sym of_old)))
 
+    -- ---- how far ticks and expiries have come
+
+    new_fresh : IsFresh new.source
+    new_fresh = call_fresh by c old new h.calls
+
+    -- there are more entries
+    counted : entry_count journal sources' + length old.source.past ≡ entry_count journal sources + length new.source.past
+    counted =
+        let is : slice_index_or sources s old.source ≡ old.source = sym h.old_is in
+        omega (arith, entries_set sources s old.source new.source within, ap (λ (x : SourceState). length x.past) is)
+
+    more : entry_count journal sources ≤ entry_count journal sources'
+    more = omega (arith, counted, call_longer by c old new h.calls)
+
+    new_low : new.source.floor.tick ≤ entry_count journal sources'
+    new_low =
+        omega (
+          arith,
+          counted,
+          call_rises by c old new h.calls,
+          here.fresh,
+          newest_is old.source.past,
+          ap (λ (l : List JournalEntry). (newest_stamp l).tick) of_old,
+          r.low.of_each s,
+          ap (λ (f : Stamp). f.tick) h.floor_is,
+          r.low.of_actors by.actor,
+        )
+
+    each_low : (t : ℕ) → (newest_stamp (of_sources sources' t)).tick ≤ entry_count journal sources'
+    each_low t = is (s == t) refl
+      where
+        is : (b : Bool) → (s == t) ≡ b → (newest_stamp (of_sources sources' t)).tick ≤ entry_count journal sources'
+        is true e =
+            let same : s ≡ t = grind (arith, nat_tests) in
+            subst (λ (n : ℕ). (newest_stamp (of_sources sources' n)).tick ≤ entry_count journal sources') same
+            (omega (arith, new_low, new_fresh, newest_is new.source.past, ap (λ (l : List JournalEntry). (newest_stamp l).tick) (source_set sources s new.source within)))
+        is false e = omega (arith, more, r.low.of_each t, ap (λ (l : List JournalEntry). (newest_stamp l).tick) (source_other sources s t new.source e))
+
+    each_near : ExpiriesAreNear (entries journal) (histories sources')
+    each_near t = is (s == t) refl
+      where
+        brief : IsBrief (note old.source.id c)
+        brief = subst (λ (n : ℕ). IsBrief (note n c)) (sym here.number) (call_brief m r.accepted by.actor (entries journal) (calls_made m sources by.actor) s c h.next)
+
+        was : EndsBy (time_of (entries journal) + 86400000) (expiry (states.bare old.source.past))
+        was = subst (λ (xs : List Entry). EndsBy (time_of (entries journal) + 86400000) (expiry xs)) (ap bare of_old ∙ sym (bare_same old.source.past)) (r.near.expiries s)
+
+        is : (b : Bool) → (s == t) ≡ b → EndsBy (time_of (entries journal) + 86400000) (expiry (histories sources' t))
+        is true e =
+            let same : s ≡ t = grind (arith, nat_tests) in
+            subst (λ (n : ℕ). EndsBy (time_of (entries journal) + 86400000) (expiry (histories sources' n))) same
+            (subst (λ (xs : List Entry). EndsBy (time_of (entries journal) + 86400000) (expiry xs)) (bare_same new.source.past ∙ sym (ap bare (source_set sources s new.source within)))
+            (call_ends (time_of (entries journal) + 86400000) by c old new h.calls brief (omega (arith, h.time_is)) was))
+        is false e = subst (λ (l : List JournalEntry). EndsBy (time_of (entries journal) + 86400000) (expiry (bare l))) (sym (source_other sources s t new.source e)) (r.near.expiries t)
+
     -- after a call the run goes on, as its jobs do
-    goes_on : (jobs' : Actor → JobState) (floors' : Actor → Stamp) → IsMoved floors floors' by.actor new.source.floor → AreJobs m journal sources' jobs' → IsGoing m journal sources' jobs' floors'
-    goes_on jobs' floors' w are = record {
+    goes_on : (jobs' : Actor → JobState) (floors' : Actor → Stamp) → IsMoved floors floors' by.actor new.source.floor → AreJobs m journal sources' jobs'
+        → ((who : Actor) → IsActor m who → (jobs' who).floor.tick ≤ entry_count journal sources') → IsGoing m journal sources' jobs' floors'
+    goes_on jobs' floors' w are low = record {
       accepted = r.accepted;
       own = grown.0.own;
       held = subst (Held m) is_so grown.1.held;
-      sources_are = sources_set m sources s new.source within (record { number = new_number; settled = h.settled }) r.sources_are;
+      sources_are = sources_set m sources s new.source within (record { number = new_number; settled = h.settled; fresh = new_fresh }) r.sources_are;
       jobs_are = are;
       floors_know = known floors' w;
       told = (r.told.0, told);
+      low = record {
+        newest = omega (arith, more, r.low.newest);
+        of_each = each_low;
+        of_jobs = low;
+        of_actors = floors_low floors floors' by.actor new.source.floor (entry_count journal sources) (entry_count journal sources') w new_low more r.low.of_actors;
+      };
+      near = record { time = r.near.time; expiries = each_near };
     }
 
     called_jobs : (jobs' : Actor → JobState) (stamp : Stamp) → IsActor m by.actor → 0 < length (jobs by.actor).pending → IsWith m jobs jobs' by.actor (after_call stamp (jobs by.actor)) → AreJobs m journal sources' jobs'
@@ -304,12 +373,15 @@ module _ (m : Machine) (journal : List JournalEntry) (sources : List SourceState
     -- after the call of an actor that has a job
     pub going_call : (jobs' : Actor → JobState) (floors' : Actor → Stamp) (stamp : Stamp) → stamp ≡ new.source.floor → IsActor m by.actor → 0 < length (jobs by.actor).pending
         → IsWith m jobs jobs' by.actor (after_call stamp (jobs by.actor)) → IsMoved floors floors' by.actor stamp → IsGoing m journal sources' jobs' floors'
-    going_call jobs' floors' stamp is a left w moved = goes_on jobs' floors' (subst (IsMoved floors floors' by.actor) is moved) (called_jobs jobs' stamp a left w)
+    going_call jobs' floors' stamp is a left w moved =
+        goes_on jobs' floors' (subst (IsMoved floors floors' by.actor) is moved) (called_jobs jobs' stamp a left w)
+        (jobs_low m jobs jobs' by.actor (after_call stamp (jobs by.actor)) (entry_count journal sources) (entry_count journal sources') w (omega (arith, new_low, ap (λ (x : Stamp). x.tick) is)) more r.low.of_jobs)
 
     -- after an expiry, whose timer has no job
     pub going_expire : (floors' : Actor → Stamp) (stamp : Stamp) → stamp ≡ new.source.floor → ((other : Actor) → IsActor m other → is_same by.actor other ≡ false) → IsMoved floors floors' by.actor stamp
         → IsGoing m journal sources' jobs floors'
-    going_expire floors' stamp is none moved = goes_on jobs floors' (subst (IsMoved floors floors' by.actor) is moved) (expired_jobs none)
+    going_expire floors' stamp is none moved =
+        goes_on jobs floors' (subst (IsMoved floors floors' by.actor) is moved) (expired_jobs none) (λ other a. omega (arith, more, r.low.of_jobs other a))
 
 -- ---- with one worker
 

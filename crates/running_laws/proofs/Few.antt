@@ -1,5 +1,5 @@
 -- How many entries a run has made at most.
-use Rattle.std.proofs.Common.{◌≡◌, ◌≤◌, ◌<◌, ◌+◌, ◌*◌, ◌∙◌, ℕ, zero, suc, Bool, true, false, nat_lt, List, [], ◌∷◌, length, map, slice_get, cond, refl, sym, ap, subst, arith}
+use Rattle.std.proofs.Common.{◌≡◌, ◌≤◌, ◌<◌, ◌+◌, ◌-◌, ◌*◌, ◌^◌, ◌∙◌, Option, ℕ, zero, suc, Bool, true, false, nat_lt, List, [], ◌∷◌, length, map, slice_get, cond, refl, sym, ap, subst, arith}
 use Rattle.std.proofs.lemmas.Bool.{true≢false}
 use Rattle.std.proofs.lemmas.Bool.Decides.{nat_tests}
 use Rattle.sleep_model.specs.declared.entry.Actor.{Actor}
@@ -11,7 +11,7 @@ use Rattle.sleep_model.specs.declared.entry.SourceEntry.{SourceEntry}
 use Rattle.sleep_model.specs.declared.machine.Machine.{Machine}
 use Rattle.sleep_model.specs.declared.word.EventNow.{EventNow}
 use Rattle.sleep_model.specs.declared.word.Stamp.{Stamp}
-use Rattle.sleep_model.specs.Legal.{JournalPart, is_idle}
+use Rattle.sleep_model.specs.Legal.{JournalPart, JumpStep, is_idle}
 use Rattle.sleep_model.specs.Merge.{of_source}
 use Rattle.sleep_model.specs.Numbers.{time_after, time_of}
 use Rattle.sleep_model.specs.Parts.{part_of}
@@ -23,12 +23,15 @@ use Rattle.merge_laws.specs.Apart.{AreJumps, JumpHeld, before}
 use Rattle.end_laws.specs.Bounds.{but_jumps, one_but_jump}
 use Rattle.end_laws.proofs.Bounding.{few_in_journal, journal_bounded}
 use Rattle.end_laws.proofs.Moments.{wake}
+use Rattle.end_laws.proofs.Nearby.{are_near}
+use Rattle.sleep_state.specs.Places.{entries}
 use Rattle.sleep_script.specs.Jobs.{JobState}
 use Rattle.wakeup_source.specs.SourceStates.{SourceState}
 use Rattle.run_laws.specs.Acts.{bare}
-use Rattle.running_laws.specs.Running.{IsGoing, histories}
+use Rattle.running_laws.specs.Running.{IsGoing, entries_in, entry_count, histories}
 use Rattle.running_laws.proofs.Kept.{short}
-use Rattle.running_laws.proofs.Lists.{source_beyond}
+use Rattle.running_laws.proofs.Lists.{entries_bare, source_beyond}
+use Rattle.running_laws.proofs.Rising.{EndsBy}
 
 -- ---- what sources had before a moment
 
@@ -158,7 +161,7 @@ few_apart m of n out past j a = omega (arith, journal_length m of n out past j a
 -- ---- a run
 
 -- the entries of these sources
-abbrev pub of_all : List SourceState → ℕ
+abbrev of_all : List SourceState → ℕ
 of_all sources = total (λ (s : SourceState). length s.past) sources
 
 bare_length : (xs : List JournalEntry) → length (bare xs) ≡ length xs
@@ -189,12 +192,17 @@ all_short (x ∷ sources) h =
     let rest = all_short sources (λ s. h (suc s)) in
     omega (arith, first, rest)
 
+all_counted : (sources : List SourceState) → entries_in sources ≡ of_all sources
+all_counted [] = refl
+all_counted (x ∷ sources) = ap (λ n. length x.past + n) (all_counted sources)
+
 -- a run has made as many entries as a log has at most
-pub run_few : (m : Machine) (journal : List JournalEntry) (sources : List SourceState) (jobs : Actor → JobState) {floors : Actor → Stamp} → IsGoing m journal sources jobs floors → length journal + of_all sources ≤ 37585025
+pub run_few : (m : Machine) (journal : List JournalEntry) (sources : List SourceState) (jobs : Actor → JobState) {floors : Actor → Stamp} → IsGoing m journal sources jobs floors → entry_count journal sources ≤ 37585025
 run_few m journal sources jobs r =
     let out : (s : ℕ) → length m.sources + 1 ≤ s → histories sources s ≡ [] = λ s l. ap bare (source_beyond sources s (omega (arith, l, r.sources_are.count))) in
     omega (
       arith,
+      all_counted sources,
       few_apart m (histories sources) (length m.sources + 1) out (bare journal) r.held.of_journal r.held.of_jumps,
       bare_length journal,
       histories_few sources (length m.sources + 1),
@@ -204,3 +212,15 @@ run_few m journal sources jobs r =
       journal_bounded m r.accepted (bare journal) r.held.of_journal,
       few_in_journal m r.accepted,
     )
+
+-- so ticks and moments stay in their range
+pub tick_small : (m : Machine) (journal : List JournalEntry) (sources : List SourceState) (jobs : Actor → JobState) {floors : Actor → Stamp} → IsGoing m journal sources jobs floors → (who : Actor) → (floors who).tick < 2 ^ 64 - 1
+tick_small m journal sources jobs g who = omega (arith, run_few m journal sources jobs g, g.low.of_actors who)
+
+pub next_small : (m : Machine) (journal : List JournalEntry) (sources : List SourceState) (jobs : Actor → JobState) {floors : Actor → Stamp} → IsGoing m journal sources jobs floors → (word : EventNow) (to : ℕ)
+    → JumpStep m (entries journal) (histories sources) word to → to ≤ 2 ^ 63
+next_small m journal sources jobs g word to step =
+    let legal : JournalPart m (entries journal) = subst (JournalPart m) (sym (entries_bare journal)) g.held.of_journal in
+    let ahead : to ≤ time_of (entries journal) + 86400000 =
+    subst (λ (o : Option ℕ). EndsBy (time_of (entries journal) + 86400000) o) step.least (are_near m g.accepted (entries journal) (histories sources) legal g.near.expiries) in
+    omega (arith, ahead, g.near.time, run_few m journal sources jobs g)

@@ -1,6 +1,7 @@
 pub mod Lists
 pub mod Known
 pub mod Kept
+pub mod Rising
 pub mod Turns
 pub mod Calls
 pub mod Firsts

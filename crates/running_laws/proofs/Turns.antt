@@ -1,5 +1,5 @@
 -- Turns and jumps keep what a run keeps.
-use Rattle.std.proofs.Common.{◌≡◌, ◌≤◌, ◌∙◌, ℕ, Bool, true, false, List, [], ◌∷◌, refl, sym, ap, subst, arith, ap₂, cond}
+use Rattle.std.proofs.Common.{◌≡◌, ◌≤◌, ◌+◌, ◌∙◌, ℕ, Option, Bool, true, false, List, [], ◌∷◌, refl, sym, ap, subst, arith, ap₂, cond}
 use Rattle.std.specs.List.{list_all}
 use Rattle.sleep_model.specs.declared.entry.Actor.{Actor}
 use Rattle.sleep_model.specs.declared.entry.Actor.TheVariants as actor
@@ -16,6 +16,7 @@ use Rattle.sleep_model.specs.Merge.{is_jump}
 use Rattle.sleep_model.specs.Numbers.{time_of}
 use Rattle.sleep_model.specs.Parts.{OfJournal, part_of}
 use Rattle.sleep_model.specs.Path.{attempts, is_same}
+use Rattle.sleep_model.specs.Sources.{expiry}
 use Rattle.sleep_model.specs.Word.{position}
 use Rattle.sleep_state.specs.Places.{entries}
 use Rattle.sleep_core.specs.Cores.{IsActor, jump_entry, made_entry, next_stamp}
@@ -23,6 +24,7 @@ use Rattle.sleep_core.specs.Histories.{last_stamp}
 use Rattle.sleep_script.specs.Jobs.{IsJobOf, JobState, after_turn}
 use Rattle.sleep_script.proofs.Following.{other_entry, own_entry}
 use Rattle.wakeup_source.specs.SourceStates.{SourceState}
+use Rattle.end_laws.proofs.Nearby.{are_near}
 use Rattle.fit_laws.specs.Ranged.{is_ranged, is_told}
 use Rattle.log_merge.proofs.Reading.{both}
 use Rattle.merge_laws.proofs.Calling.{same_actor}
@@ -34,10 +36,11 @@ use Rattle.run_laws.proofs.Acts.{actor_is}
 use Rattle.run_laws.proofs.Called.{knows_itself}
 use Rattle.run_laws.proofs.Held.{each_by}
 use Rattle.run_laws.proofs.Turned.{leap_grows, leaves, turn_grows, turn_part}
-use Rattle.running_laws.specs.Running.{AreJobs, FloorsKnow, IsGoing, IsMoved, IsRunning, IsWith, calls_made, histories, made_so}
+use Rattle.running_laws.specs.Running.{AreJobs, AreLow, FloorsKnow, IsGoing, IsMoved, IsNear, IsRunning, IsWith, calls_made, entry_count, histories, made_so}
 use Rattle.running_laws.proofs.Kept.{actor_told, all_known, calls_are_notes, free}
 use Rattle.running_laws.proofs.Known.{knows_more}
 use Rattle.running_laws.proofs.Lists.{entries_bare}
+use Rattle.running_laws.proofs.Rising.{EndsBy, ends_later, floors_low, jobs_low, time_kept}
 
 last_newest : (journal : List JournalEntry) → last_stamp journal ≡ newest_stamp journal
 last_newest [] = refl
@@ -55,8 +58,8 @@ timeless m actor.Time h = absurd h
 
 -- who knows more goes on knowing
 pub raised : (m : Machine) (journal : List JournalEntry) (sources : List SourceState) (jobs : Actor → JobState) (floors later : Actor → Stamp) → ((who : Actor) → (floors who).tick ≤ (later who).tick)
-    → ((who : Actor) → (floors who).pos ≤ (later who).pos) → IsGoing m journal sources jobs floors → IsGoing m journal sources jobs later
-raised m journal sources jobs floors later tick pos g = record {
+    → ((who : Actor) → (floors who).pos ≤ (later who).pos) → ((who : Actor) → (later who).tick ≤ entry_count journal sources) → IsGoing m journal sources jobs floors → IsGoing m journal sources jobs later
+raised m journal sources jobs floors later tick pos low g = record {
   accepted = g.accepted;
   own = g.own;
   held = g.held;
@@ -68,6 +71,8 @@ raised m journal sources jobs floors later tick pos g = record {
         (λ jump. knows_more (floors who) (later who) (jump ∷ []) (tick who) (pos who)) (g.floors_know.jumps who);
   };
   told = g.told;
+  low = record { newest = g.low.newest; of_each = g.low.of_each; of_jobs = g.low.of_jobs; of_actors = low };
+  near = g.near;
 }
 
 module _ (m : Machine) (journal : List JournalEntry) (sources : List SourceState) (jobs : Actor → JobState) {floors : Actor → Stamp} (g : IsGoing m journal sources jobs floors) where
@@ -92,8 +97,8 @@ module _ (m : Machine) (journal : List JournalEntry) (sources : List SourceState
 
     -- the run goes on
     goes_on : (jobs' : Actor → JobState) (floors' : Actor → Stamp) → FloorsKnow floors' (made_so (e ∷ journal) sources (with_entry e past).own) → AreJobs m (e ∷ journal) sources jobs' → is_told m e.entry ≡ true
-        → IsGoing m (e ∷ journal) sources jobs' floors'
-    goes_on jobs' floors' known are told = record {
+        → AreLow m (e ∷ journal) sources jobs' floors' → IsNear (e ∷ journal) sources → IsGoing m (e ∷ journal) sources jobs' floors'
+    goes_on jobs' floors' known are told low near = record {
       accepted = g.accepted;
       own = (with_entry e past).own;
       held = subst (Held m) is_so t.held;
@@ -101,6 +106,8 @@ module _ (m : Machine) (journal : List JournalEntry) (sources : List SourceState
       jobs_are = are;
       floors_know = known;
       told = (both (is_told m e.entry) (list_all (λ e. is_told m e.entry) journal) told g.told.0, g.told.1);
+      low = low;
+      near = near;
     }
 
   -- ---- a turn
@@ -154,6 +161,25 @@ module _ (m : Machine) (journal : List JournalEntry) (sources : List SourceState
             subst (λ (j : JobState). IsJobOf m other (entries (entry ∷ journal)) (calls_made m sources other) j) (sym (w.others other b is))
             (other_entry m other entry.entry (entries journal) (calls_made m sources other) (jobs other) is (g.jobs_are other b))
 
+    -- no tick is above the number of entries
+    entry_low : entry.stamp.tick ≤ entry_count (entry ∷ journal) sources
+    entry_low = omega (arith, g.low.newest, g.low.of_actors who, ap (λ (s : Stamp). s.tick) (last_newest journal))
+
+    are_low : (jobs' : Actor → JobState) (floors' : Actor → Stamp) (attempt : ℕ) → IsWith m jobs jobs' who (after_turn entry.stamp k attempt (jobs who)) → IsMoved floors floors' who entry.stamp → AreLow m (entry ∷ journal) sources jobs' floors'
+    are_low jobs' floors' attempt w moved = record {
+      newest = entry_low;
+      of_each = λ s. omega (arith, g.low.of_each s);
+      of_jobs = jobs_low m jobs jobs' who (after_turn entry.stamp k attempt (jobs who)) (entry_count journal sources) (entry_count (entry ∷ journal) sources) w entry_low (omega arith) g.low.of_jobs;
+      of_actors = floors_low floors floors' who entry.stamp (entry_count journal sources) (entry_count (entry ∷ journal) sources) moved entry_low (omega arith) g.low.of_actors;
+    }
+
+    -- the time is what it was
+    is_near : IsNear (entry ∷ journal) sources
+    is_near = record {
+      time = omega (arith, time_kept k (time_of (entries journal)), g.near.time);
+      expiries = λ s. subst (λ (t : ℕ). EndsBy (t + 86400000) (expiry (histories sources s))) (sym (time_kept k (time_of (entries journal)))) (g.near.expiries s);
+    }
+
     -- after a turn of an actor that has made its calls the run goes on
     pub going_turn : (jobs' : Actor → JobState) (floors' : Actor → Stamp) (stamp : Stamp) (attempt : ℕ) → stamp ≡ next_stamp journal (floors who) word → attempt ≡ attempts (entries (entry ∷ journal))
         → IsWith m jobs jobs' who (after_turn stamp k attempt (jobs who)) → IsMoved floors floors' who stamp
@@ -162,6 +188,7 @@ module _ (m : Machine) (journal : List JournalEntry) (sources : List SourceState
         let here : IsMoved floors floors' who entry.stamp = subst (IsMoved floors floors' who) s moved in
         goes_on who entry turned jobs' floors' (record { own = own_known who entry turned floors' here; jumps = jumps_known floors' here }) (are_jobs jobs' stamp attempt begun w)
         (both _ _ (both _ _ timed (actor_told m who a)) ranged)
+        (are_low jobs' floors' attempt (subst (λ (x : Stamp). IsWith m jobs jobs' who (after_turn x k attempt (jobs who))) s w) here) is_near
 
 -- ---- with one worker
 
@@ -179,7 +206,8 @@ is_moved_one floor who stamp = record {
 pub all_raised : (m : Machine) (journal : List JournalEntry) (sources : List SourceState) (jobs : Actor → JobState) (floor : Stamp) (who : Actor) (stamp : Stamp) → floor.tick ≤ stamp.tick → floor.pos ≤ stamp.pos
     → IsGoing m journal sources jobs (moved_one floor who stamp) → IsRunning m journal sources jobs stamp
 all_raised m journal sources jobs floor who stamp tick pos g =
-    raised m journal sources jobs (moved_one floor who stamp) (λ other. stamp) (λ other. ticks (is_same who other)) (λ other. places (is_same who other)) g
+    raised m journal sources jobs (moved_one floor who stamp) (λ other. stamp) (λ other. ticks (is_same who other)) (λ other. places (is_same who other))
+    (λ other. subst (λ (x : Stamp). x.tick ≤ entry_count journal sources) (is_moved_one floor who stamp).same (g.low.of_actors who)) g
   where
     ticks : (b : Bool) → (cond b stamp floor).tick ≤ stamp.tick
     ticks true = omega arith
@@ -232,6 +260,27 @@ module _ (m : Machine) (journal : List JournalEntry) (sources : List SourceState
     own_all other true is = ap (λ (x : Actor). knows jump.stamp ((with_entry jump (made_so journal sources r.own)).own x)) (sym (actor_is actor.Time other is)) ∙ leapt.own
     own_all other false is = ap (knows jump.stamp) (leapt.others_own other is) ∙ knows_more floor jump.stamp (r.own other) (omega arith) low (r.floors_know.own other)
 
+    -- the moment is at most a day ahead
+    ahead : to ≤ time_of (entries journal) + 86400000
+    ahead = subst (λ (o : Option ℕ). EndsBy (time_of (entries journal) + 86400000) o) step.least (are_near m r.accepted (entries journal) (histories sources) legal.1 r.near.expiries)
+
+    near : IsNear (jump ∷ journal) sources
+    near = record {
+      time = omega (arith, ahead, r.near.time);
+      expiries = λ s. ends_later (time_of (entries journal) + 86400000) (to + 86400000) (expiry (histories sources s)) (omega (arith, legal.0.1)) (r.near.expiries s);
+    }
+
+    jump_low : jump.stamp.tick ≤ entry_count (jump ∷ journal) sources
+    jump_low = omega (arith, r.low.newest, r.low.of_actors actor.Time, ap (λ (s : Stamp). s.tick) (last_newest journal))
+
+    low_after : AreLow m (jump ∷ journal) sources jobs (λ other. jump.stamp)
+    low_after = record {
+      newest = jump_low;
+      of_each = λ s. omega (arith, r.low.of_each s);
+      of_jobs = λ other a. omega (arith, r.low.of_jobs other a);
+      of_actors = λ other. jump_low;
+    }
+
     -- after a jump the run goes on, and all know it
     pub running_jump : (stamp : Stamp) → stamp ≡ next_stamp journal floor word → is_word64 to ≡ true → IsRunning m (jump ∷ journal) sources jobs stamp
     running_jump stamp s timed =
@@ -245,4 +294,4 @@ module _ (m : Machine) (journal : List JournalEntry) (sources : List SourceState
           );
         })
         (λ other b. other_entry m other jump.entry (entries journal) (calls_made m sources other) (jobs other) (time_same other b) (r.jobs_are other b))
-        (both _ _ (both _ _ timed refl) refl))
+        (both _ _ (both _ _ timed refl) refl) low_after near)

@@ -1,5 +1,5 @@
 -- A run of a machine, as far as it has come: its journal and its sources' histories, which are kept apart (own: Linux keeps no such log).
-use Rattle.std.specs.Prelude.{◌≡◌, ◌<◌, ◌+◌, ℕ, zero, suc, true, false, List, [], ◌∷◌, length, map, reverse, Some, slice_get, slice_index_or}
+use Rattle.std.specs.Prelude.{◌≡◌, ◌≤◌, ◌<◌, ◌+◌, ◌*◌, ℕ, zero, suc, true, false, List, [], ◌∷◌, length, map, reverse, Some, slice_get, slice_index_or}
 use Rattle.sleep_model.specs.declared.entry.Actor.{Actor}
 use Rattle.sleep_model.specs.declared.entry.Entry.{Entry}
 use Rattle.sleep_model.specs.declared.entry.JournalEntry.{JournalEntry}
@@ -10,15 +10,19 @@ use Rattle.sleep_model.specs.declared.word.Stamp.{Stamp}
 use Rattle.sleep_model.specs.Accepted.{IsAccepted}
 use Rattle.sleep_model.specs.Calls.{calls_of, made, note}
 use Rattle.sleep_model.specs.Merge.{of_source}
+use Rattle.sleep_model.specs.Numbers.{time_of}
 use Rattle.sleep_model.specs.Path.{is_same}
 use Rattle.sleep_state.specs.Places.{entries}
 use Rattle.sleep_core.specs.Cores.{IsActor}
 use Rattle.sleep_script.specs.Jobs.{IsJobOf, JobState}
 use Rattle.wakeup_source.specs.SourceStates.{IsSettled, SourceState}
+use Rattle.end_laws.specs.Moments.{ExpiriesAreNear}
 use Rattle.fit_laws.specs.Ranged.{is_told}
 use Rattle.run_laws.specs.Acts.{Made, bare}
 use Rattle.run_laws.specs.Called.{knows}
 use Rattle.run_laws.specs.Held.{AllOf, EachJump, Held}
+use Rattle.run_laws.specs.Seated.{IsFresh}
+use Rattle.run_laws.specs.Turned.{newest_stamp}
 
 -- ---- the sources
 
@@ -32,14 +36,24 @@ of_sources (x ∷ sources) (suc s) = of_sources sources s
 abbrev pub histories : List SourceState → ℕ → List Entry
 histories sources s = bare (of_sources sources s)
 
+-- how many entries these sources have
+abbrev pub entries_in : List SourceState → ℕ
+entries_in [] = 0
+entries_in (source ∷ sources) = length source.past + entries_in sources
+
+-- how many entries were made in all
+abbrev pub entry_count : List JournalEntry → List SourceState → ℕ
+entry_count journal sources = length journal + entries_in sources
+
 -- the history of each, the oldest entry first
 abbrev pub kept_histories : List SourceState → List (List SourceEntry)
 kept_histories sources = map (λ s. reverse s.past) sources
 
--- a source has its number, and is between calls
+-- a source has its number, is between calls, and last knew the tick of its newest entry
 pub record IsSourceOf (s : ℕ) (source : SourceState) : Type 0 where
   pub number : source.id ≡ s
   pub settled : IsSettled source
+  pub fresh : IsFresh source
 
 -- so has each of a machine's sources, autosleep's last
 pub record AreSources (m : Machine) (sources : List SourceState) : Type 0 where
@@ -83,7 +97,21 @@ pub record IsMoved (old new : Actor → Stamp) (who : Actor) (stamp : Stamp) : T
   pub same : new who ≡ stamp
   pub others : (other : Actor) → is_same who other ≡ false → new other ≡ old other
 
--- what a run keeps, between turns: all that is known of what was made, sources that are between calls, jobs that stand where it has brought them, and the last stamp of each actor
+-- no tick is above the number of entries: of the newest entry of the journal and of each source, of what each job last knew, and each actor
+pub record AreLow
+    (m : Machine) (journal : List JournalEntry) (sources : List SourceState) (jobs : Actor → JobState)
+    (floors : Actor → Stamp) : Type 0 where
+  pub newest : (newest_stamp journal).tick ≤ entry_count journal sources
+  pub of_each : (s : ℕ) → (newest_stamp (of_sources sources s)).tick ≤ entry_count journal sources
+  pub of_jobs : (who : Actor) → IsActor m who → (jobs who).floor.tick ≤ entry_count journal sources
+  pub of_actors : (who : Actor) → (floors who).tick ≤ entry_count journal sources
+
+-- time has come no further than a day for each entry of the journal, and each event in progress ends at most a day from now
+pub record IsNear (journal : List JournalEntry) (sources : List SourceState) : Type 0 where
+  pub time : time_of (entries journal) ≤ length journal * 86400000
+  pub expiries : ExpiriesAreNear (entries journal) (histories sources)
+
+-- what a run keeps, between turns: all that is known of what was made, sources that are between calls, jobs that stand where it has brought them, the last stamp of each actor, and how far ticks and time have come
 pub record IsGoing
     (m : Machine) (journal : List JournalEntry) (sources : List SourceState) (jobs : Actor → JobState)
     (floors : Actor → Stamp) : Type 0 where
@@ -94,6 +122,8 @@ pub record IsGoing
   pub jobs_are : AreJobs m journal sources jobs
   pub floors_know : FloorsKnow floors (made_so journal sources own)
   pub told : AllOf (λ e. is_told m e.entry) (made_so journal sources own)
+  pub low : AreLow m journal sources jobs floors
+  pub near : IsNear journal sources
 
 -- with one worker all actors know one stamp, the last that anybody made
 abbrev pub IsRunning :
