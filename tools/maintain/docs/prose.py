@@ -14,7 +14,7 @@ MADE = ("CRATES.md", "DEFINITIONS.md", "DEFINITIONS_ASIDE.md")  # The pages of d
 README = TOP / "README.md"
 OWN = [page for page in sorted(DOCS.glob("*.md")) if page.name not in MADE]
 PLAIN = [README, TOP / "examples" / "README.md", *OWN]
-BOUNDS = [("docs/ by hand", OWN, 21_400), ("README.md", [README], 850)]  # The words of pages, at most.
+BOUNDS = [("docs/ by hand", OWN, 20_000), ("README.md", [README], 850)]  # The words of pages, at most.
 
 FENCE = re.compile(r"^```.*?^```$", re.M | re.S)
 ITEM = re.compile(r"^\s*(?:[-*]|\d+\.) ")
