@@ -25,4 +25,4 @@ MOST_LOCKS = 100  # The names that are known to them.
 
 # The errors that a log may name, each with Linux's number; a file's answers may name five of them.
 ERRORS = {"EINTR": 4, "EIO": 5, "EAGAIN": 11, "EACCES": 13, "EBUSY": 16, "ENODEV": 19, "EINVAL": 22}
-ANSWERED = ["EIO", "EAGAIN", "EBUSY", "ENODEV", "EINVAL"]
+ANSWERED = ["EIO", "EAGAIN", "EBUSY", "ENODEV", "EINVAL"]  # Prepare answers no EAGAIN.

@@ -28,6 +28,10 @@ class Pages(unittest.TestCase):
         found = {file for _, files, _ in recipes.rows(recipes.PAGE.read_text()) for file in files}
         self.assertGreater(len(found), 90)
 
+    def test_the_check(self):
+        done = dev("docs", "--check")
+        self.assertEqual((done.status, done.out, done.err), (0, "", ""))
+
     def test_the_command(self):
         with unittest.mock.patch("maintain.commands.docs.pages", lambda: [(ROOT / "docs" / "DEFINITIONS.md", "another text\n")]):
             with unittest.mock.patch("maintain.commands.docs.all_broken", lambda: ["docs/X.md:3: no file y.rt"]):

@@ -4,7 +4,7 @@ import collections
 import re
 
 from ..json_text import NoJson, decoded, read_json
-from ..limits import AUTO_CYCLES, MOST, MOST_INPUT, MOST_LINKS, MOST_OF_ONE, MOST_REPORTS, MOST_SEEN, MOST_STEPS
+from ..limits import ANSWERED, AUTO_CYCLES, MOST, MOST_INPUT, MOST_LINKS, MOST_OF_ONE, MOST_REPORTS, MOST_SEEN, MOST_STEPS
 from ..second import rules
 from .forms import ELEMENTS, TOP, Form, kind_of, member_points, name_points, object_points, operation_points
 from .points import Point, arrows, Told, located, near_words, numbered, quoted, shown_line
@@ -295,7 +295,7 @@ def ret_points(tree, path):
     """Rule 21: what the thing may return."""
     answer = value_at(tree, path)
     is_prepare = answer.get("phase") == "prepare"
-    may = ["EIO", "EBUSY", "ENODEV", "EINVAL", *([] if is_prepare else ["EAGAIN"])]
+    may = [*(error for error in ANSWERED if error != "EAGAIN"), *([] if is_prepare else ["EAGAIN"])]
     where = "a device's prepare" if is_prepare else f"a {THINGS[answer['what']]}" + (f" in {answer['phase']}" if "phase" in answer else "")
     return [Point(f"{where} may return 0{', 1' if is_prepare else ''}, {quoted(may)}, and not {answer['ret']!r}", (*path, "ret"))]
 

@@ -6,9 +6,11 @@ where it stands is a matter of the rules.
 
 import re
 
+from ..limits import ERRORS
+
 WORD32, WORD64 = 1 << 32, 1 << 64
 NUMBER = r"(?:0|[1-9]\d{0,19})"
-ERROR = "(?:EINTR|EIO|EAGAIN|EACCES|EBUSY|ENODEV|EINVAL)"
+ERROR = f"(?:{'|'.join(ERRORS)})"
 ANSWER = f"(?:0|{ERROR})"
 PHASE = "(?:prepare|suspend|late|noirq|resume_noirq|early|resume|complete)"
 # What entries say: <n> is a number of 32 bits, <t> a time, <d> a device, <s> a source, <x> a notifier, <c> a step of the

@@ -4,8 +4,8 @@ import collections
 import json
 import re
 
-from ..limits import ALARM_MS, AUTO_CYCLES, ERRORS, LONGEST_MS, MOST, MOST_CPUS, MOST_LINKS, MOST_OF_ONE, MOST_REPORTS, MOST_SEEN
-from ..limits import MOST_STEPS, MOST_TIMES, WORD
+from ..limits import ALARM_MS, ANSWERED, AUTO_CYCLES, ERRORS, LONGEST_MS, MOST, MOST_CPUS, MOST_LINKS, MOST_OF_ONE, MOST_REPORTS
+from ..limits import MOST_SEEN, MOST_STEPS, MOST_TIMES, WORD
 
 MEMBERS = "version alarm_ms cpus auto_cycles devices links syscore notifiers sources actors answers".split()
 LISTS = list(MOST)
@@ -250,7 +250,7 @@ def answer_rules(file):
     is_prepare = lambda answer: is_device(answer) and answer["phase"] == "prepare"
     there = lambda answer: answer["name"] in things[answer["what"]] and ("phase" in answer) == is_device(answer)
     yield 20, first_not("answers", answers, there)
-    allowed = lambda answer: [0, "EIO", "EBUSY", "ENODEV", "EINVAL", 1 if is_prepare(answer) else "EAGAIN"]
+    allowed = lambda answer: [0, 1, *set(ANSWERED) - {"EAGAIN"}] if is_prepare(answer) else [0, *ANSWERED]
     yield 21, first_not("answers", answers, lambda answer: answer.get("ret", 0) in allowed(answer))
     most = lambda answer: MOST_OF_ONE if is_device(answer) and not is_prepare(answer) else 0
     yield 22, first_not("answers", answers, lambda answer: len(answer.get("reports", [])) <= most(answer))
