@@ -2,7 +2,13 @@
 
 TRACE is an ftrace of the events power:*, as for replay and times. The page is one file that loads nothing: the verdict first,
 then each attempt with its stages, devices and longest path, and the trace with an anchor a line. A click on a stage zooms to it,
-a click on a device tells whom it waited for. With --perfetto the output is Trace Event JSON in place of the page.
+a click on a device tells whom it waited for. On top of the rows stand what stopped the attempt and the longest path, with a red
+edge; devices without a callback are folded. Keys: / searches devices and drivers, arrows up and down go from row to row, Enter
+chooses one, +, -, 0 and arrows left and right zoom and move, Escape closes.
+
+With --perfetto the output is Trace Event JSON in place of the page. Each parent is a group of tracks, one for itself and one for
+each device directly below it; attempts, wakeup sources and the rest have groups of their own. An arrow goes from whoever made
+another wait, and from an event to the test that found it.
 """
 
 import os

@@ -6,7 +6,8 @@ take the time that they took there, and the times until the event is noticed are
 by the table beside MACHINE (its name with .names) where there is one.
 
 Output is TAP, a line a place. --expect FILE has rules, 'PLACES: CLAIM' a line, and a place that breaks one is 'not ok':
-  noirq: found by cpu 1            (a stage, or the entry before the place; * and ? stand for any letters)
+  noirq: found by cpu 1            (a stage, or the entry before the place; * and ? stand for any letters;
+                                    found by save, freeze user, suspend disk, cpu 1, syscore check, enter, wake or the like)
   begin suspend disk: undone hub   (also: not undone ..)
   *: within 200 ms                 (also: not found, sleeps, does not sleep)
 Status 0: no rule is broken. Status 1: one is.
