@@ -13,7 +13,7 @@ the kernel has none. `tools/dev docs` writes this page from the comment lines.
 ## What a reader has to trust
 
 Whoever believes these, with the definitions that they cite, knows what the headline says. They stand here in
-reading order, from "the program wrote a legal log" down to the rule that decides an entry. The sections behind have
+reading order, from "the program wrote a legal log" down to the rule that decides an entry. The sections after have
 every definition that the headline's clauses come to, then those of the laws of sleep, of the rules of a log, of the merge
 and of running threads. What no promise comes to, as invariants and the steps of proofs, is in the crates' `specs/` and not
 here. The checker's account and a library have [a page of their own](DEFINITIONS_ASIDE.md).
