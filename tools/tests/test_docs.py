@@ -184,6 +184,13 @@ class Recipes(unittest.TestCase):
 class Made(unittest.TestCase):
     """The wrong bodies of a crate on the page of crates."""
 
+    def test_promises(self):
+        text = "What this is.\n\none\n    It does\n    this. Clauses: `f`,\n    `g`.\n\nother\n    That. Lemmas: `h`.\n\none\n    More. Clauses: `i`.\n"
+        self.assertEqual(heads.promises(text), {
+            "one": ["Promises: It does this.", "Clauses: `f`, `g`.", "Promises: More.", "Clauses: `i`."],
+            "other": ["Promises: That.", "Lemmas: `h`."]})
+        self.assertLessEqual(set(heads.promises(heads.PROMISES.read_text())), names.crates())
+
     def test_wrong_bodies(self):
         with tempfile.TemporaryDirectory() as folder:
             edits = pathlib.Path(folder, "bare", "must-fail")
