@@ -6,15 +6,10 @@ use Rattle.sleep_model.specs.declared.entry.Kind.{Kind}
 use Rattle.sleep_model.specs.declared.entry.Kind.TheVariants as kind
 use Rattle.sleep_model.specs.declared.log.Want.{Want}
 use Rattle.sleep_model.specs.declared.log.Want.TheVariants as want
-use Rattle.sleep_model.specs.declared.machine.Answer.{Answer}
 use Rattle.sleep_model.specs.declared.machine.Machine.{Machine}
-use Rattle.sleep_model.specs.declared.machine.Report.{Report}
-use Rattle.sleep_model.specs.declared.machine.What.TheVariants as what
 use Rattle.sleep_model.specs.declared.word.Stamp.{Stamp}
-use Rattle.sleep_model.specs.Answers.{answer_reports}
 use Rattle.sleep_model.specs.Calls.{calls_of_turn, calls_behind, ends_turn, one_more, note, report_calls, turns_ended, calls_of, calls_due}
 use Rattle.sleep_model.specs.Path.{is_same}
-use Rattle.machine_plans.specs.Book.{answer_among}
 
 -- ---- a job
 
@@ -48,11 +43,6 @@ first_job m who = record {
 abbrev pub is_exit : Kind → Bool
 is_exit kind.Exit = true
 is_exit _ = false
-
--- a callback of a device begins (dpm_run_callback)
-abbrev pub begins : Kind → Bool
-begins (kind.Begin p d) = true
-begins _ = false
 
 -- after a turn of its own steps, behind which its actor may have calls to make (own)
 abbrev pub after_step : JobState → JobState
@@ -104,13 +94,6 @@ after_expiry stamp timer = record timer { calls = min (timer.calls + 1) 42949672
 -- it knows at least that stamp (own)
 abbrev pub raised_timer : Stamp → TimerState → TimerState
 raised_timer stamp timer = record timer { floor = later stamp timer.floor }
-
--- ---- parts of a job
-
--- the reports of the callback that an entry begins, by these answers, in that attempt (pm_wakeup_event)
-abbrev pub reports_among : List Answer → ℕ → Kind → List Report
-reports_among answers n (kind.Begin p d) = answer_reports (answer_among answers (what.Device d p) n)
-reports_among answers n _ = []
 
 -- ---- a job and a journal
 

@@ -5,10 +5,9 @@ ghost use Rattle.script_plan.specs.CallPlans.{noted};
 ghost use Rattle.sleep_script.specs.JobFields.{planned_at};
 ghost use Rattle.sleep_script.specs.Jobs.{later};
 
-use crate::kinds::{begins, is_exit, reports_of};
 use machine_plans::MachinePlans;
 use script_plan::{Plan, ends_turn};
-use sleep_model::{Actor, Kind, Report, Stamp, Want};
+use sleep_model::{Actor, Kind, Phase, Report, Stamp, Want, What};
 use std::marker::Model;
 
 /// The reports behind the first.
@@ -78,12 +77,12 @@ impl<'m> Model for Job<'m> {
 }
 
 impl<'m> Job<'m> {
-    ghost use Rattle.std.specs.Prelude.{◌≡◌, ◌+◌, ◌<◌, ◌^◌, ℕ, [], true, Some, drop, length, map, nat_lt, option_copied, slice_get};
-    ghost use Rattle.std.specs.Bool.{OnFalse, OnTrue};
+    ghost use Rattle.std.specs.Prelude.{◌≡◌, ◌+◌, ◌<◌, ◌^◌, [], Some, drop, length, map, nat_lt, option_copied, slice_get};
+    ghost use Rattle.sleep_model.specs.declared.entry.Kind.TheVariants as kind;
     ghost use Rattle.script_plan.specs.CallPlans.{noted};
     ghost use Rattle.sleep_model.specs.Calls.{calls_of_turn, report_calls};
     ghost use Rattle.sleep_script.specs.JobFields.{IsPlanOf};
-    ghost use Rattle.sleep_script.specs.Jobs.{IsWanted, first_job, after_turn, after_step, after_call, begins, raised};
+    ghost use Rattle.sleep_script.specs.Jobs.{IsWanted, first_job, after_turn, after_step, after_call, raised};
 
     /// The job of an actor before its first entry, with the plan of its own steps.
     fn new(plans: &'m MachinePlans<'_>, who: Actor, plan: Option<&'m Plan<'m>>) -> Self
@@ -162,15 +161,6 @@ impl<'m> Job<'m> {
         }
     }
 
-    /// Whether the entry begins a callback, of a machine whose callbacks answer anything at all.
-    #[inline(always)]
-    fn may_report(&self, kind: Kind) -> bool
-        ensures begins { OnTrue result (begins kind ≡ true) }
-        ensures none { OnFalse result ((n : ℕ) → report_calls self.now.machine n kind ≡ []) }
-    {
-        begins(kind) && self.plans.machine().answers.len() > 0
-    }
-
     /// A turn of its own steps has ended: the calls right before the next turn are due.
     #[inline(always)]
     fn end_turn(&mut self)
@@ -184,15 +174,27 @@ impl<'m> Job<'m> {
         self.turns = turns;
     }
 
-    /// Its actor has begun a callback: what that reports is due.
+    /// Its actor has begun a callback of that device, and so has the reports that this answers.
     #[inline(never)]
-    fn begin_callback(&mut self, kind: Kind, attempt: u32)
+    fn take_reports(&mut self, phase: Phase, device: u32, attempt: u32)
         requires { self.old.pending ≡ [] }
-        ensures { self.new ≡ record self.old { pending = report_calls self.old.machine attempt kind } }
+        ensures { self.new ≡ record self.old { pending = report_calls self.old.machine attempt (kind.Begin phase device) } }
     {
-        let reports = reports_of(self.plans.answers(), kind, attempt);
+        let what = What::Device(device, phase);
+        let reports = self.plans.answers().reports(what, attempt);
         self.due = reports.len();
         self.reports = reports;
+    }
+
+    /// Its actor has begun a callback of that device: what that reports is due. Most machines answer nothing at all.
+    #[inline(always)]
+    fn begin_callback(&mut self, phase: Phase, device: u32, attempt: u32)
+        requires { self.old.pending ≡ [] }
+        ensures { self.new ≡ record self.old { pending = report_calls self.old.machine attempt (kind.Begin phase device) } }
+    {
+        if self.plans.machine().answers.len() > 0 {
+            self.take_reports(phase, device, attempt);
+        }
     }
 
     /// Its actor made an entry of the journal, with that stamp, where `attempt` attempts were begun. Most entries
@@ -204,12 +206,14 @@ impl<'m> Job<'m> {
         ensures { self.new ≡ after_turn stamp kind attempt self.old }
     {
         self.floor = stamp;
-        if ends_turn(kind) {
-            self.end_turn();
-        } else if self.may_report(kind) {
-            self.begin_callback(kind, attempt);
-        } else if is_exit(kind) {
-            self.exited = true;
+        match kind {
+            Kind::Begin(phase, device) => self.begin_callback(phase, device, attempt),
+            Kind::Exit => self.exited = true,
+            _ => {
+                if ends_turn(kind) {
+                    self.end_turn();
+                }
+            }
         }
     }
 

@@ -5,7 +5,6 @@
 mod draws;
 mod generator;
 mod job;
-mod kinds;
 mod timer;
 
 pub use generator::generate;
