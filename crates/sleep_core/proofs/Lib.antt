@@ -4,6 +4,7 @@ mod Counted
 mod Freezing
 mod Growing
 mod Linked
+mod Parting
 mod Passing
 mod Propers
 mod Reporting

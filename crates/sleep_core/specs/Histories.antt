@@ -163,6 +163,16 @@ IsOfNone (kind.End p d r) = ⊥
 IsOfNone (kind.Skip p d cause) = ⊥
 IsOfNone _ = Unit {0}
 
+-- by an entry of that kind a task, or the autosleep work, sleeps, has slept, passes, or posts or takes a mark (schedule_timeout)
+abbrev pub IsOfTask : Kind → Type 0
+IsOfTask (kind.Sleep until) = Unit {0}
+IsOfTask (kind.SleepD until) = Unit {0}
+IsOfTask kind.Slept = Unit {0}
+IsOfTask kind.Pass = Unit {0}
+IsOfTask (kind.Post mark) = Unit {0}
+IsOfTask (kind.Got mark) = Unit {0}
+IsOfTask _ = ⊥
+
 -- the history after an entry
 abbrev pub after_entry : Kept → JournalEntry → Kept
 after_entry kept j = record kept { past = j ∷ kept.past; room = kept.room - 1 }

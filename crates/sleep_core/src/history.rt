@@ -14,7 +14,7 @@ use device_links::Links;
 use platform_steps::Platform;
 use sleep_base::{Mem, lost};
 use sleep_model::{
-    Device, DeviceFlags, Entry, EventNow, Journal, JournalEntry, Kind, Machine, Stamp, pos,
+    Actor, Device, DeviceFlags, Entry, EventNow, Journal, JournalEntry, Kind, Machine, Stamp, pos,
 };
 use sleep_state::{Devices, Path, Tasks};
 use std::alloc::{AllocError, Global};
@@ -153,11 +153,13 @@ impl<'m> History<'m> {
     ghost use Rattle.attempt_laws.specs.Room.{enough};
     ghost use Rattle.sleep_model.specs.Numbers.{time_of};
     ghost use Rattle.sleep_model.specs.Path.{maker};
+    ghost use Rattle.sleep_model.specs.declared.entry.Actor.TheVariants as actor;
+    ghost use Rattle.sleep_model.specs.declared.entry.Kind.TheVariants as kind;
     ghost use Rattle.sleep_model.specs.Accepted.{IsAccepted};
     ghost use Rattle.sleep_model.specs.Order.{parents_of};
     ghost use Rattle.sleep_state.specs.Places.{entries};
     ghost use Rattle.sleep_core.specs.Numbered.{IsCounted};
-    ghost use Rattle.sleep_core.specs.Histories.{Admits, Settles, IsOfDevice, IsOfNone, after_entry, places_for, HasRoom, last_stamp, guard_of, path_of, devices_of, board_of, tasks_of, freezer_of, autosleep_of, steps_of, parts_of};
+    ghost use Rattle.sleep_core.specs.Histories.{Admits, Settles, IsOfDevice, IsOfNone, IsOfTask, after_entry, places_for, HasRoom, last_stamp, guard_of, path_of, devices_of, board_of, tasks_of, freezer_of, autosleep_of, steps_of, parts_of};
 
     /// The empty journal of a machine, and its parts before any entry.
     fn of_parts(machine: &'m Machine, journal: Journal, parts: Parts<'m>, board: Board) -> Self
@@ -224,6 +226,15 @@ impl<'m> History<'m> {
                 self.append_device(stamped);
                 Ok(())
             }
+            Kind::Sleep(_)
+            | Kind::SleepD(_)
+            | Kind::Slept
+            | Kind::Pass
+            | Kind::Post(_)
+            | Kind::Got(_) => {
+                self.append_task(stamped);
+                Ok(())
+            }
             _ => self.append_other(stamped),
         }
     }
@@ -249,10 +260,44 @@ impl<'m> History<'m> {
         self.journal.put(stamped);
     }
 
+    /// Appends an entry by which a task, or the autosleep work, sleeps, has slept, passes, or posts or takes a mark.
+    /// It concerns where that task or the work stands, and the marks; the other parts know no such entry.
+    #[inline(always)]
+    fn append_task(&mut self, stamped: JournalEntry)
+        requires task { IsOfTask stamped.entry.kind }
+        requires admits { Admits self.old stamped.entry }
+        ensures { self.new ≡ after_entry self.old stamped }
+    {
+        let Entry { actor, kind, .. } = stamped.entry;
+        self.tasks.note(actor, kind);
+        self.autosleep.note(kind, actor);
+        self.last = stamped.stamp;
+        self.journal.put(stamped);
+    }
+
+    /// Appends a jump of time to `to` ms, as seen at that word. It concerns the time alone.
+    pub fn append_jump(&mut self, stamp: Stamp, seen: EventNow, to: u64)
+        requires { 0 < self.old.room }
+        ensures { self.new ≡ after_entry self.old (record {
+          stamp = stamp;
+          entry = record { time = to; now = seen; actor = actor.Time; kind = kind.Jump };
+        }) }
+    {
+        let entry = Entry {
+            time: to,
+            now: seen,
+            actor: Actor::Time,
+            kind: Kind::Jump,
+        };
+        self.time = to;
+        self.last = stamp;
+        self.journal.put(JournalEntry { stamp, entry });
+    }
+
     /// Appends an entry that is of no device. `Mem` where it adds a link, for which there is no memory; nothing
     /// has changed then.
     #[inline(never)]
-    pub(crate) fn append_other(&mut self, stamped: JournalEntry) -> Result<(), Mem>
+    fn append_other(&mut self, stamped: JournalEntry) -> Result<(), Mem>
         requires other { IsOfNone stamped.entry.kind }
         requires admits { Admits self.old stamped.entry }
         requires board { Settles self.old.machine (entries self.old.past) stamped.entry }

@@ -21,9 +21,7 @@ ghost use Rattle.sleep_core.specs.Histories.{last_stamp};
 
 use crate::state::Core;
 use sleep_base::Mem;
-use sleep_model::{
-    Actor, Due, Entry, EventNow, Journal, JournalEntry, Kind, Phase, Stamp, Stand, pos,
-};
+use sleep_model::{Actor, Due, EventNow, Journal, Phase, Stamp, Stand, pos};
 
 /// Whether a device that stands there was scheduled on the way down, and has not begun.
 fn is_scheduled(stand: Stand) -> bool
@@ -70,20 +68,8 @@ impl<'m> Core<'m> {
         };
         let places = self.history.room() + 1;
         self.history.reserve(places)?;
-        // A journal is shorter than 2^63, and the work's runs have a number of 32 bits.
-        let _made = self.history.len();
-        let _runs = self.history.autosleep().runs();
-        let entry = Entry {
-            time: to,
-            now: seen,
-            actor: Actor::Time,
-            kind: Kind::Jump,
-        };
-        match self.history.append_other(JournalEntry { stamp, entry }) {
-            Ok(()) => Ok(stamp),
-            // A jump changes no link.
-            Err(_) => unreachable!(),
-        }
+        self.history.append_jump(stamp, seen, to);
+        Ok(stamp)
     }
 
     /// How many calls on sources a script has to have made before its next entry, by its plan.

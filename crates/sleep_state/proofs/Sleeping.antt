@@ -91,7 +91,7 @@ later_than None b time h = (refl, h)
 later_than (Some a) None time h = (h, refl)
 later_than (Some a) (Some b) time h = (grind (arith, nat_tests), grind (arith, nat_tests))
 
-all_later : (seats : List Seat) (n time : ℕ) → is_later (end_of seats n) time ≡ true → (i : ℕ) → i < n → is_later (seat_at seats i).until time ≡ true
+pub all_later : (seats : List Seat) (n time : ℕ) → is_later (end_of seats n) time ≡ true → (i : ℕ) → i < n → is_later (seat_at seats i).until time ≡ true
 all_later seats zero time h i l = absurd (omega (arith, l))
 all_later seats (suc n) time h i l = by_last (nat_lt i n) refl (λ k. all_later seats n time (later_than (seat_at seats n).until (end_of seats n) time h).1 i k)
   where

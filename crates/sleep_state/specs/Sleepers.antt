@@ -40,3 +40,11 @@ is_still seat time = seat.exited || sleeps_past seat.until time
 -- so does each (own)
 abbrev pub AllStill : List Seat → ℕ → Type 0
 AllStill seats time = (i : ℕ) → i < length seats → is_still (seat_at seats i) time ≡ true
+
+-- the sleep of that script has come to its end by then (own)
+abbrev pub HasSlept : List Seat → ℕ → ℕ → Type 0
+HasSlept seats i time = is_later (seat_at seats i).until time ≡ false
+
+-- no script's has (own)
+abbrev pub NoneSlept : List Seat → ℕ → Type 0
+NoneSlept seats time = (i : ℕ) → is_later (seat_at seats i).until time ≡ true

@@ -1,8 +1,9 @@
 //! The least of many moments, each of which may change.
 
-ghost use Rattle.std.specs.Prelude.{◌≡◌, ◌<◌, ◌+◌, ◌*◌, ◌^◌, None, drop, length, slice_index_or};
+ghost use Rattle.std.specs.Prelude.{◌≡◌, ◌≤◌, ◌<◌, ◌+◌, ◌*◌, ◌^◌, false, None, drop, length, slice_index_or};
 ghost use Rattle.std.specs.Bool.{OnTrue};
 ghost use Rattle.sleep_model.specs.Legal.{sooner};
+ghost use Rattle.sleep_state.specs.Sleepers.{is_later};
 ghost use Rattle.sleep_state.specs.Trees.{AreJoined, AreJoinedBut};
 
 use sleep_base::Mem;
@@ -112,9 +113,41 @@ fn node_behind(at: usize) -> usize {
     }
 }
 
+/// Whether a moment, if there is one, is later than that.
+#[inline(always)]
+pub(crate) fn is_later(moment: Option<u64>, time: u64) -> bool
+    ensures { result ≡ is_later moment time }
+{
+    match moment {
+        Some(moment) => time < moment,
+        None => true,
+    }
+}
+
+/// The node of a thing whose moment is not later than now, where the least is not: of each node that stands above others,
+/// one of the two below has its moment.
+#[tactic(auto, using(crate::proofs::Coming::come_other))]
+fn come_below(nodes: &[Option<u64>], many: usize, now: u64) -> usize
+    requires size { length nodes.now ≡ 2 * many }
+    requires joined { AreJoined many nodes.now }
+    requires come { is_later (slice_index_or nodes.now 1 None) now ≡ false }
+    ensures own { many ≤ result }
+    ensures come { is_later (slice_index_or nodes.now result None) now ≡ false }
+{
+    let mut at = 1;
+    while at < many {
+        at *= 2;
+        if is_later(node_there(nodes, at), now) {
+            at += 1;
+        }
+    }
+    at
+}
+
 impl Moments {
-    ghost use Rattle.std.specs.Prelude.{◌≡◌, ◌<◌, None, length, replicate, slice_set, IfOk};
+    ghost use Rattle.std.specs.Prelude.{◌≡◌, ◌<◌, true, false, None, length, replicate, slice_index_or, slice_set, IfOk, IfSome};
     ghost use Rattle.sleep_state.specs.Trees.{least_of};
+    ghost use Rattle.sleep_state.specs.Sleepers.{is_later};
 
     /// So many things without a moment. `Mem` where there is no memory.
     #[tactic(auto, using(crate::proofs::Rising::own_first))]
@@ -136,27 +169,52 @@ impl Moments {
         node(self.nodes.as_slice(), 1)
     }
 
-    /// The next thing behind that one, or the first of all, whose moment is not later than now. Things are gone through in
-    /// the order of the tree. Which are found is no part of what is promised.
-    pub(crate) fn next_past(&self, behind: Option<usize>, now: u64) -> Option<usize> {
-        let mut at = match behind {
-            Some(thing) => node_behind(self.many.saturating_add(thing)),
-            None => 1,
-        };
+    /// The first thing whose moment is not later than now, in the order of the tree.
+    #[tactic(auto, using(crate::proofs::Coming::own_come))]
+    fn first_come(&self, now: u64) -> Option<usize>
+        ensures found { IfSome result (λ thing. is_later (slice_index_or self.now thing None) now ≡ false) }
+        ensures none { result ≡ None → is_later (least_of self.now) now ≡ true }
+    {
+        if is_later(self.least(), now) {
+            return None;
+        }
+        let at = come_below(self.nodes.as_slice(), self.many, now);
+        Some(at - self.many)
+    }
+
+    /// The first thing from that node on, in the order of the tree, whose moment is not later than now. Which is found is
+    /// no part of what is promised.
+    #[tactic(auto, using(crate::proofs::Coming::own_come))]
+    fn come_from(&self, from: usize, now: u64) -> Option<usize>
+        ensures { IfSome result (λ thing. is_later (slice_index_or self.now thing None) now ≡ false) }
+    {
+        let mut at = from;
         // The tree has at most 64 levels.
         for _ in 0..256 {
-            match self.nodes.get(at) {
-                Some(Some(moment)) if at > 0 && *moment <= now => {
-                    if at >= self.many {
-                        return Some(at - self.many);
-                    }
-                    at *= 2;
-                }
-                Some(_) if at > 0 => at = node_behind(at),
-                _ => return None,
+            if at == 0 || at >= self.nodes.len() {
+                return None;
+            }
+            if is_later(node_there(self.nodes.as_slice(), at), now) {
+                at = node_behind(at);
+            } else if at < self.many {
+                at *= 2;
+            } else {
+                return Some(at - self.many);
             }
         }
         None
+    }
+
+    /// The next thing behind that one, or the first of all, whose moment is not later than now. Things are gone through in
+    /// the order of the tree. Where none is found behind none, each moment is later.
+    pub(crate) fn next_come(&self, behind: Option<usize>, now: u64) -> Option<usize>
+        ensures found { IfSome result (λ thing. is_later (slice_index_or self.now thing None) now ≡ false) }
+        ensures none { behind ≡ None → result ≡ None → is_later (least_of self.now) now ≡ true }
+    {
+        match behind {
+            Some(thing) => self.come_from(node_behind(self.many.saturating_add(thing)), now),
+            None => self.first_come(now),
+        }
     }
 
     /// Another moment of a thing, or none.

@@ -3,9 +3,9 @@
 ghost use Rattle.std.specs.Prelude.{◌≡◌, ◌≤◌, ◌<◌, ◌+◌, ◌^◌, None, length, slice_index_or, slice_set};
 ghost use Rattle.sleep_model.specs.Seats.{first_seat};
 ghost use Rattle.sleep_model.specs.Places.{one_if};
-ghost use Rattle.sleep_state.specs.Sleepers.{is_awake, is_later};
+ghost use Rattle.sleep_state.specs.Sleepers.{is_awake};
 
-use crate::moments::Moments;
+use crate::moments::{Moments, is_later};
 use sleep_base::Mem;
 use sleep_model::Seat;
 use std::alloc::Global;
@@ -59,16 +59,6 @@ fn is_awake(seat: Seat) -> bool
     !seat.exited && seat.until.is_none()
 }
 
-/// Whether a moment, if there is one, is later than that.
-fn is_later(moment: Option<u64>, time: u64) -> bool
-    ensures { result ≡ is_later moment time }
-{
-    match moment {
-        Some(moment) => time < moment,
-        None => true,
-    }
-}
-
 /// How many stand so, where one that did or not does or not.
 #[inline(always)]
 fn recount(was: bool, is: bool, many: usize) -> usize
@@ -95,10 +85,10 @@ fn move_end(ends: &mut Moments, script: usize, was: Option<u64>, is: Option<u64>
 }
 
 impl Seats {
-    ghost use Rattle.std.specs.Prelude.{◌≡◌, ◌<◌, IfOk, length, replicate, slice_get, slice_set};
+    ghost use Rattle.std.specs.Prelude.{◌≡◌, ◌<◌, None, IfOk, IfSome, length, replicate, slice_get, slice_set};
     ghost use Rattle.std.specs.Bool.{OnTrue};
     ghost use Rattle.sleep_model.specs.Seats.{first_seat, seat_at, all_exited};
-    ghost use Rattle.sleep_state.specs.Sleepers.{end_of, AllStill};
+    ghost use Rattle.sleep_state.specs.Sleepers.{end_of, AllStill, HasSlept, NoneSlept};
 
     /// So many scripts at their first steps. `Mem` where there is no memory.
     #[tactic(auto, using(crate::proofs::Sleeping::ends_first, crate::proofs::Sleeping::awake_first, crate::proofs::Sleeping::there_first))]
@@ -148,10 +138,14 @@ impl Seats {
         self.awake == 0 && is_later(self.ends.least(), time)
     }
 
-    /// The next script behind that one, or the first, whose sleep has come to its end by now. Which are found is no part
-    /// of what is promised.
-    pub(crate) fn next_slept(&self, behind: Option<usize>, now: u64) -> Option<usize> {
-        self.ends.next_past(behind, now)
+    /// The next script behind that one, or the first, whose sleep has come to its end by now. Where none is found behind
+    /// none, no script's has.
+    #[tactic(auto, using(crate::proofs::Coming::slept_of, crate::proofs::Coming::none_of))]
+    pub(crate) fn next_slept(&self, behind: Option<usize>, now: u64) -> Option<usize>
+        ensures found { IfSome result (λ script. HasSlept self.now script now) }
+        ensures none { behind ≡ None → result ≡ None → NoneSlept self.now now }
+    {
+        self.ends.next_come(behind, now)
     }
 
     /// Whether every script has made its exit.

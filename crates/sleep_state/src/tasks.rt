@@ -132,12 +132,12 @@ fn move_marks(marks: &mut Vec<u32>, kind: Kind)
 }
 
 impl Tasks {
-    ghost use Rattle.std.specs.Prelude.{◌≡◌, IfOk, length};
+    ghost use Rattle.std.specs.Prelude.{◌≡◌, ◌≤◌, ◌^◌, None, IfOk, IfSome, length};
     ghost use Rattle.std.specs.Bool.{OnTrue};
     ghost use Rattle.sleep_model.specs.Marks.{mark_at};
     ghost use Rattle.sleep_model.specs.Seats.{seat_at, all_exited};
     ghost use Rattle.sleep_state.specs.TaskStates.{SeatIsSmall, MarksAreSmall, tasks_after, at_first};
-    ghost use Rattle.sleep_state.specs.Sleepers.{end_of, AllStill};
+    ghost use Rattle.sleep_state.specs.Sleepers.{end_of, AllStill, HasSlept, NoneSlept};
 
     /// All scripts at their first steps, and no mark raised. `Mem` where there is no memory.
     pub fn new(alloc: Global, scripts: usize, marks: usize) -> Result<Self, Mem>
@@ -201,9 +201,12 @@ impl Tasks {
         self.seats.are_still(time)
     }
 
-    /// The next script behind that one, or the first, whose sleep has come to its end by now, in an order of its own. Which
-    /// are found is no part of what is promised.
-    pub fn next_slept(&self, behind: Option<u32>, now: u64) -> Option<u32> {
+    /// The next script behind that one, or the first, whose sleep has come to its end by now, in an order of its own.
+    /// Where none is found behind none, no script's has.
+    pub fn next_slept(&self, behind: Option<u32>, now: u64) -> Option<u32>
+        ensures found { IfSome result (λ script. HasSlept self.now.seats script now) }
+        ensures none { behind ≡ None → result ≡ None → length self.now.seats ≤ 2 ^ 32 → NoneSlept self.now.seats now }
+    {
         let behind = behind.map(|script| script as usize);
         match self.seats.next_slept(behind, now) {
             Some(script) => u32::try_from(script).ok(),

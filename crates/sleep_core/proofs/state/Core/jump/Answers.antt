@@ -10,26 +10,15 @@ use Rattle.sleep_core.proofs.Reporting.{counts_more}
 use Rattle.sleep_core.proofs.Turning.{admits_jump, core_jumped}
 use Rattle.sleep_core.proofs.state.Core.jump.Goals as goal
 
-pub append_other-requires : goal.append_other-requires
-append_other-requires c = record {
-  other = tt;
-  admits =
-      admits_jump c.self.inside.history c.reserve.new.self c.args.to c.args.seen c.self.invariant.core c.in_ok-reserve.ensures.machine c.in_ok-reserve.ensures.past
-      (omega (arith, c.in_ok-reserve.ensures.ok, c.room-places.ensures.room))
-      (omega (arith, c.runs-runs.type_inv, c.runs-runs.ensures, ap (λ (a : AutosleepState). a.runs) c.autosleep.ensures))
-      (omega (arith, c.len-made.ensures.len, c.len-made.ensures.small));
-  board = λ h. absurd h;
-}
-
 pub invariant_of-self-2 : goal.invariant_of-self-2
 invariant_of-self-2 c =
     let h = c.self.inside.history in
-    let same : c.append_other.new.self.machine ≡ h.machine = ap (λ (k : Kept). k.machine) c.in-Ok.ensures.ok ∙ c.in_ok-reserve.ensures.machine in
+    let same : c.append_jump.new.self.machine ≡ h.machine = ap (λ (k : Kept). k.machine) c.append_jump.ensures ∙ c.in_ok-reserve.ensures.machine in
     record {
-      core = core_jumped h c.reserve.new.self c.append_other.new.self _ c.args.to c.args.seen c.self.invariant.core c.in_ok-reserve.ensures.machine c.in_ok-reserve.ensures.past
+      core = core_jumped h c.reserve.new.self c.append_jump.new.self _ c.args.to c.args.seen c.self.invariant.core c.in_ok-reserve.ensures.machine c.in_ok-reserve.ensures.past
           (omega (arith, c.in_ok-reserve.ensures.ok, c.room-places.ensures.room))
-          (subst (λ (s : CoreState). time_of (entries s.past) < c.args.to) (sym c.self.view_is) c.requires.later) c.requires.small c.in-Ok.ensures.ok;
+          (subst (λ (s : CoreState). time_of (entries s.past) < c.args.to) (sym c.self.view_is) c.requires.later) c.requires.small c.append_jump.ensures;
       plans_are = c.self.invariant.plans_are ∙ sym same;
       wakeup_is = c.self.invariant.wakeup_is ∙ ap (λ (m : Machine). map may_wake m.devices) (sym same);
-      reports_are = c.self.invariant.reports_are ∙ sym (counts_more h c.reserve.new.self c.append_other.new.self _ c.in_ok-reserve.ensures.machine c.in_ok-reserve.ensures.past c.in-Ok.ensures.ok);
+      reports_are = c.self.invariant.reports_are ∙ sym (counts_more h c.reserve.new.self c.append_jump.new.self _ c.in_ok-reserve.ensures.machine c.in_ok-reserve.ensures.past c.append_jump.ensures);
     }

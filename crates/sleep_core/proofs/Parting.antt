@@ -1,0 +1,131 @@
+-- An entry by which a task sleeps, and a jump of time, pass by the parts that know neither.
+use Rattle.std.proofs.Common.{◌≡◌, ℕ, List, ◌∷◌, refl}
+use Rattle.sleep_model.specs.declared.entry.Actor.{Actor}
+use Rattle.sleep_model.specs.declared.entry.Actor.TheVariants as actor
+use Rattle.sleep_model.specs.declared.entry.Entry.{Entry}
+use Rattle.sleep_model.specs.declared.entry.Kind.{Kind}
+use Rattle.sleep_model.specs.declared.entry.Kind.TheVariants as kind
+use Rattle.sleep_model.specs.declared.machine.Machine.{Machine}
+use Rattle.sleep_model.specs.declared.word.EventNow.{EventNow}
+use Rattle.sleep_model.specs.Numbers.{time_of}
+use Rattle.async_board.proofs.Told.{board_next}
+use Rattle.sleep_core.specs.Histories.{IsOfTask, guard_of, path_of, devices_of, board_of, tasks_of, freezer_of, autosleep_of, steps_of, parts_of}
+use Rattle.sleep_core.proofs.Freezing.{freezer_moves}
+
+-- an entry at that time, of that maker and kind
+abbrev entry_of : ℕ → EventNow → Actor → Kind → Entry
+entry_of time now who k = record { time = time; now = now; actor = who; kind = k }
+
+-- each of these parts stands as before the entry
+pub record Stays (m : Machine) (past : List Entry) (e : Entry) : Type 0 where
+  pub guard : guard_of past ≡ guard_of (e ∷ past)
+  pub path : path_of past ≡ path_of (e ∷ past)
+  pub devices : devices_of m past ≡ devices_of m (e ∷ past)
+  pub board : board_of m past ≡ board_of m (e ∷ past)
+  pub freezer : freezer_of m past ≡ freezer_of m (e ∷ past)
+  pub platform : steps_of m past ≡ steps_of m (e ∷ past)
+  pub syscore : parts_of m past ≡ parts_of m (e ∷ past)
+
+-- the time, too, where a task sleeps
+pub record Passes (m : Machine) (past : List Entry) (e : Entry) : Type 0 where
+  pub time : time_of past ≡ time_of (e ∷ past)
+  pub stays : Stays m past e
+
+by_kind : (m : Machine) (past : List Entry) (time : ℕ) (now : EventNow) (who : Actor) (k : Kind) → IsOfTask k → Passes m past (entry_of time now who k)
+by_kind m past time now who (kind.Sleep until) h = record {
+  time = refl;
+  stays = record {
+    guard = refl;
+    path = refl;
+    devices = refl;
+    board = board_next m past (entry_of time now who (kind.Sleep until)) refl;
+    freezer = freezer_moves m (entry_of time now who (kind.Sleep until)) past;
+    platform = refl;
+    syscore = refl;
+  };
+}
+by_kind m past time now who (kind.SleepD until) h = record {
+  time = refl;
+  stays = record {
+    guard = refl;
+    path = refl;
+    devices = refl;
+    board = board_next m past (entry_of time now who (kind.SleepD until)) refl;
+    freezer = freezer_moves m (entry_of time now who (kind.SleepD until)) past;
+    platform = refl;
+    syscore = refl;
+  };
+}
+by_kind m past time now who kind.Slept h = record {
+  time = refl;
+  stays = record {
+    guard = refl;
+    path = refl;
+    devices = refl;
+    board = board_next m past (entry_of time now who kind.Slept) refl;
+    freezer = freezer_moves m (entry_of time now who kind.Slept) past;
+    platform = refl;
+    syscore = refl;
+  };
+}
+by_kind m past time now who kind.Pass h = record {
+  time = refl;
+  stays = record {
+    guard = refl;
+    path = refl;
+    devices = refl;
+    board = board_next m past (entry_of time now who kind.Pass) refl;
+    freezer = freezer_moves m (entry_of time now who kind.Pass) past;
+    platform = refl;
+    syscore = refl;
+  };
+}
+by_kind m past time now who (kind.Post mark) h = record {
+  time = refl;
+  stays = record {
+    guard = refl;
+    path = refl;
+    devices = refl;
+    board = board_next m past (entry_of time now who (kind.Post mark)) refl;
+    freezer = freezer_moves m (entry_of time now who (kind.Post mark)) past;
+    platform = refl;
+    syscore = refl;
+  };
+}
+by_kind m past time now who (kind.Got mark) h = record {
+  time = refl;
+  stays = record {
+    guard = refl;
+    path = refl;
+    devices = refl;
+    board = board_next m past (entry_of time now who (kind.Got mark)) refl;
+    freezer = freezer_moves m (entry_of time now who (kind.Got mark)) past;
+    platform = refl;
+    syscore = refl;
+  };
+}
+by_kind m past time now who k h = absurd h
+
+pub passes : (m : Machine) (past : List Entry) (e : Entry) → IsOfTask e.kind → Passes m past e
+passes m past e h = by_kind m past e.time e.now e.actor e.kind h
+
+-- where time jumps, so do the tasks and the autosleep work
+pub record Jumps (m : Machine) (past : List Entry) (e : Entry) : Type 0 where
+  pub tasks : tasks_of m past ≡ tasks_of m (e ∷ past)
+  pub autosleep : autosleep_of past ≡ autosleep_of (e ∷ past)
+  pub stays : Stays m past e
+
+pub jumps : (m : Machine) (past : List Entry) (time : ℕ) (now : EventNow) → Jumps m past (entry_of time now actor.Time kind.Jump)
+jumps m past time now = record {
+  tasks = refl;
+  autosleep = refl;
+  stays = record {
+    guard = refl;
+    path = refl;
+    devices = refl;
+    board = board_next m past (entry_of time now actor.Time kind.Jump) refl;
+    freezer = freezer_moves m (entry_of time now actor.Time kind.Jump) past;
+    platform = refl;
+    syscore = refl;
+  };
+}
