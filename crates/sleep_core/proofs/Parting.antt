@@ -1,5 +1,5 @@
 -- An entry by which a task sleeps, and a jump of time, pass by the parts that know neither.
-use Rattle.std.proofs.Common.{◌≡◌, ℕ, List, ◌∷◌, refl}
+use Rattle.std.proofs.Common.{◌≡◌, ℕ, List, ◌∷◌, refl, sym, ap}
 use Rattle.sleep_model.specs.declared.entry.Actor.{Actor}
 use Rattle.sleep_model.specs.declared.entry.Actor.TheVariants as actor
 use Rattle.sleep_model.specs.declared.entry.Entry.{Entry}
@@ -7,7 +7,10 @@ use Rattle.sleep_model.specs.declared.entry.Kind.{Kind}
 use Rattle.sleep_model.specs.declared.entry.Kind.TheVariants as kind
 use Rattle.sleep_model.specs.declared.machine.Machine.{Machine}
 use Rattle.sleep_model.specs.declared.word.EventNow.{EventNow}
-use Rattle.sleep_model.specs.Numbers.{time_of}
+use Rattle.sleep_model.specs.declared.place.Work.{Work}
+use Rattle.sleep_model.specs.Autosleep.{work_after}
+use Rattle.sleep_model.specs.Numbers.{time_of, time_after}
+use Rattle.autosleep_loop.specs.Autosleeps.{AutosleepState, autosleep_after}
 use Rattle.async_board.proofs.Told.{board_next}
 use Rattle.sleep_core.specs.Histories.{IsOfTask, guard_of, path_of, devices_of, board_of, tasks_of, freezer_of, autosleep_of, steps_of, parts_of}
 use Rattle.sleep_core.proofs.Freezing.{freezer_moves}
@@ -129,3 +132,18 @@ jumps m past time now = record {
     syscore = refl;
   };
 }
+
+-- the time stays where an entry is made at the time that is
+pub time_stays : (k : Kind) (time before : ℕ) → time ≡ before → time ≡ time_after k time before
+time_stays kind.Jump time before h = refl
+time_stays _ time before h = h
+
+-- the work is where it was after such an entry of another actor
+pub work_stays : (k : Kind) (who : Actor) (a : AutosleepState) → IsOfTask k → work_after who k a.work ≡ a.work → a ≡ autosleep_after k who a
+work_stays (kind.Sleep until) who a h same = ap (λ (w : Work). record a { work = w }) (sym same)
+work_stays (kind.SleepD until) who a h same = ap (λ (w : Work). record a { work = w }) (sym same)
+work_stays kind.Slept who a h same = ap (λ (w : Work). record a { work = w }) (sym same)
+work_stays kind.Pass who a h same = ap (λ (w : Work). record a { work = w }) (sym same)
+work_stays (kind.Post mark) who a h same = ap (λ (w : Work). record a { work = w }) (sym same)
+work_stays (kind.Got mark) who a h same = ap (λ (w : Work). record a { work = w }) (sym same)
+work_stays k who a h same = absurd h

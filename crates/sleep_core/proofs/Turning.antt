@@ -223,16 +223,6 @@ admits_more h reserved e own core makes leaves own_is has short =
 
 -- ---- jumps of time
 
--- a jump may be appended where one more place was made
-pub admits_jump : (h reserved : Kept) (t : ℕ) (now : EventNow) → IsCore h → reserved.machine ≡ h.machine → reserved.past ≡ h.past → h.room + 1 ≤ reserved.room → runs (entries reserved.past) < 2 ^ 32 → length reserved.past < 2 ^ 63 → Admits reserved (record { time = t; now = now; actor = actor.Time; kind = kind.Jump })
-admits_jump h reserved t now core machine past room few_runs short = record {
-  room = omega (arith, room);
-  attempts = subst (λ (xs : List JournalEntry). attempts (entries xs) < 2 ^ 32) (sym past) (omega (arith, core.few));
-  runs = few_runs;
-  seat = tt;
-  marks = tt;
-}
-
 -- the core after a jump
 pub core_jumped : (h reserved new : Kept) (s : Stamp) (t : ℕ) (now : EventNow) → IsCore h → reserved.machine ≡ h.machine → reserved.past ≡ h.past → h.room + 1 ≤ reserved.room → time_of (entries h.past) < t → t ≤ 2 ^ 63
     → new ≡ after_entry reserved (record { stamp = s; entry = record { time = t; now = now; actor = actor.Time; kind = kind.Jump } }) → IsCore new

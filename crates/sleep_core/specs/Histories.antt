@@ -8,6 +8,7 @@ use Rattle.sleep_model.specs.declared.entry.Kind.{Kind}
 use Rattle.sleep_model.specs.declared.entry.Kind.TheVariants as kind
 use Rattle.sleep_model.specs.declared.machine.Machine.{Machine}
 use Rattle.sleep_model.specs.declared.place.Seat.{Seat}
+use Rattle.sleep_model.specs.declared.word.EventNow.{EventNow}
 use Rattle.sleep_model.specs.declared.word.Stamp.{Stamp}
 use Rattle.sleep_model.specs.Attempt.{failed, freeze_since, sleep_of}
 use Rattle.sleep_model.specs.Autosleep.{work, is_queued, runs, runs_after}
@@ -17,6 +18,7 @@ use Rattle.sleep_model.specs.Guard.{in_force, forgotten}
 use Rattle.sleep_model.specs.Lock.{holder, is_on}
 use Rattle.sleep_model.specs.Marks.{raised}
 use Rattle.sleep_model.specs.Notifiers.{call_order, told, cpus_off, stopped}
+use Rattle.sleep_model.specs.Numbers.{time_of}
 use Rattle.sleep_model.specs.Order.{links_added, links_after, links_at, links_set, parents_of}
 use Rattle.sleep_model.specs.Path.{attempts, attempts_after, maker}
 use Rattle.sleep_model.specs.Runtime.{is_async, statuses, disabled_by_direct, disabled_by_late}
@@ -176,6 +178,14 @@ IsOfTask _ = ⊥
 -- the history after an entry
 abbrev pub after_entry : Kept → JournalEntry → Kept
 after_entry kept j = record kept { past = j ∷ kept.past; room = kept.room - 1 }
+
+-- the entry that an actor makes now, at the time of the last jump
+abbrev pub entry_now : Kept → EventNow → Actor → Kind → Entry
+entry_now kept now who k = record { time = time_of (entries kept.past); now = now; actor = who; kind = k }
+
+-- the history after that entry
+abbrev pub after_made : Kept → Stamp → EventNow → Actor → Kind → Kept
+after_made kept stamp now who k = after_entry kept (record { stamp = stamp; entry = entry_now kept now who k })
 
 -- ---- room
 

@@ -1,13 +1,14 @@
-ghost use Rattle.std.specs.Prelude.{◌≡◌, map, IfOk, OnOk, OnErr};
+ghost use Rattle.std.specs.Prelude.{◌≡◌, ◌<◌, ◌^◌, map, IfOk, OnOk, OnErr};
 ghost use Rattle.sleep_model.specs.Runtime.{is_async};
 ghost use Rattle.async_board.specs.Boards.{first_board};
 ghost use Rattle.sleep_model.specs.Accepted.{IsAccepted};
 ghost use Rattle.sleep_core.specs.FirstParts.{AreFirst};
-ghost use Rattle.sleep_core.specs.Histories.{moved_board, IsOfDevice, IsOfNone};
+ghost use Rattle.sleep_model.specs.Autosleep.{runs_after};
+ghost use Rattle.autosleep_loop.specs.Autosleeps.{autosleep_after};
+ghost use Rattle.sleep_core.specs.Histories.{moved_board, IsOfDevice, IsOfNone, IsOfTask};
 ghost use Rattle.sleep_core.specs.Numbered.{IsCounted};
 ghost use Rattle.wakeup_guard.specs.Guarded.{guarded_after};
 
-use crate::clock::time_after;
 use async_board::Board;
 use autosleep_loop::Autosleep;
 use device_links::Links;
@@ -107,6 +108,34 @@ fn move_guard(guard: &mut Guard<24>, kind: Kind, now: EventNow)
     }
 }
 
+/// The autosleep work takes down its own sleeps alone.
+#[inline(always)]
+#[tactic(auto, using(crate::proofs::Parting::work_stays))]
+fn move_work(autosleep: &mut Autosleep, kind: Kind, actor: Actor)
+    requires task { IsOfTask kind }
+    requires runs { runs_after kind autosleep.old.runs < 2 ^ 32 }
+    ensures { autosleep.new ≡ autosleep_after kind actor autosleep.old }
+{
+    match actor {
+        Actor::Auto => autosleep.note(kind, actor),
+        _ => {}
+    }
+}
+
+/// An entry of that time, in ms, with its stamp.
+#[inline(always)]
+fn made_at(time: u64, stamp: Stamp, now: EventNow, actor: Actor, kind: Kind) -> JournalEntry
+    ensures { result ≡ record { stamp = stamp; entry = record { time = time; now = now; actor = actor; kind = kind } } }
+{
+    let entry = Entry {
+        time,
+        now,
+        actor,
+        kind,
+    };
+    JournalEntry { stamp, entry }
+}
+
 /// The parts that take memory, but for the board.
 #[derive(Drop)]
 struct Parts<'m> {
@@ -159,7 +188,7 @@ impl<'m> History<'m> {
     ghost use Rattle.sleep_model.specs.Order.{parents_of};
     ghost use Rattle.sleep_state.specs.Places.{entries};
     ghost use Rattle.sleep_core.specs.Numbered.{IsCounted};
-    ghost use Rattle.sleep_core.specs.Histories.{Admits, Settles, IsOfDevice, IsOfNone, IsOfTask, after_entry, places_for, HasRoom, last_stamp, guard_of, path_of, devices_of, board_of, tasks_of, freezer_of, autosleep_of, steps_of, parts_of};
+    ghost use Rattle.sleep_core.specs.Histories.{Admits, Settles, IsOfDevice, IsOfNone, IsOfTask, after_entry, entry_now, after_made, places_for, HasRoom, last_stamp, guard_of, path_of, devices_of, board_of, tasks_of, freezer_of, autosleep_of, steps_of, parts_of};
 
     /// The empty journal of a machine, and its parts before any entry.
     fn of_parts(machine: &'m Machine, journal: Journal, parts: Parts<'m>, board: Board) -> Self
@@ -210,20 +239,26 @@ impl<'m> History<'m> {
     /// Appends an entry in a reserved place. `Mem` where it adds a link, for which there is no memory; nothing
     /// has changed then.
     #[inline(always)]
-    pub fn append(&mut self, stamped: JournalEntry) -> Result<(), Mem>
-        requires admits { Admits self.old stamped.entry }
-        requires board { Settles self.old.machine (entries self.old.past) stamped.entry }
-        ensures ok { OnOk result (self.new ≡ after_entry self.old stamped) }
-        ensures err { OnErr result (IsCounted stamped.entry.kind × (self.new ≡ self.old)) }
+    pub fn append(
+        &mut self,
+        stamp: Stamp,
+        now: EventNow,
+        actor: Actor,
+        kind: Kind,
+    ) -> Result<(), Mem>
+        requires admits { Admits self.old (entry_now self.old now actor kind) }
+        requires board { Settles self.old.machine (entries self.old.past) (entry_now self.old now actor kind) }
+        ensures ok { OnOk result (self.new ≡ after_made self.old stamp now actor kind) }
+        ensures err { OnErr result (IsCounted kind × (self.new ≡ self.old)) }
     {
-        match stamped.entry.kind {
+        match kind {
             Kind::Prepare { .. }
             | Kind::Complete(_)
             | Kind::Schedule(..)
             | Kind::Begin(..)
             | Kind::End(..)
             | Kind::Skip(..) => {
-                self.append_device(stamped);
+                self.append_device(stamp, now, actor, kind);
                 Ok(())
             }
             Kind::Sleep(_)
@@ -232,47 +267,42 @@ impl<'m> History<'m> {
             | Kind::Pass
             | Kind::Post(_)
             | Kind::Got(_) => {
-                self.append_task(stamped);
+                self.append_task(stamp, now, actor, kind);
                 Ok(())
             }
-            _ => self.append_other(stamped),
+            _ => self.append_other(stamp, now, actor, kind),
         }
     }
 
     /// Appends an entry that is of a device. It concerns the board, what the phases of devices keep, and the
     /// count in force, which a skip may drop; the other parts know no such entry.
     #[inline(always)]
-    fn append_device(&mut self, stamped: JournalEntry)
+    fn append_device(&mut self, stamp: Stamp, now: EventNow, actor: Actor, kind: Kind)
         requires room { 0 < self.old.room }
-        requires device { IsOfDevice stamped.entry.kind }
-        ensures { self.new ≡ after_entry self.old stamped }
+        requires device { IsOfDevice kind }
+        ensures { self.new ≡ after_made self.old stamp now actor kind }
     {
-        let Entry {
-            now,
-            actor,
-            kind,
-            ..
-        } = stamped.entry;
         self.board.note(kind);
         move_guard(&mut self.guard, kind, now);
         self.devices.note(kind, actor);
-        self.last = stamped.stamp;
-        self.journal.put(stamped);
+        self.last = stamp;
+        self.journal
+            .put(made_at(self.time, stamp, now, actor, kind));
     }
 
     /// Appends an entry by which a task, or the autosleep work, sleeps, has slept, passes, or posts or takes a mark.
     /// It concerns where that task or the work stands, and the marks; the other parts know no such entry.
     #[inline(always)]
-    fn append_task(&mut self, stamped: JournalEntry)
-        requires task { IsOfTask stamped.entry.kind }
-        requires admits { Admits self.old stamped.entry }
-        ensures { self.new ≡ after_entry self.old stamped }
+    fn append_task(&mut self, stamp: Stamp, now: EventNow, actor: Actor, kind: Kind)
+        requires task { IsOfTask kind }
+        requires admits { Admits self.old (entry_now self.old now actor kind) }
+        ensures { self.new ≡ after_made self.old stamp now actor kind }
     {
-        let Entry { actor, kind, .. } = stamped.entry;
         self.tasks.note(actor, kind);
-        self.autosleep.note(kind, actor);
-        self.last = stamped.stamp;
-        self.journal.put(stamped);
+        move_work(&mut self.autosleep, kind, actor);
+        self.last = stamp;
+        self.journal
+            .put(made_at(self.time, stamp, now, actor, kind));
     }
 
     /// Appends a jump of time to `to` ms, as seen at that word. It concerns the time alone.
@@ -283,45 +313,40 @@ impl<'m> History<'m> {
           entry = record { time = to; now = seen; actor = actor.Time; kind = kind.Jump };
         }) }
     {
-        let entry = Entry {
-            time: to,
-            now: seen,
-            actor: Actor::Time,
-            kind: Kind::Jump,
-        };
         self.time = to;
         self.last = stamp;
-        self.journal.put(JournalEntry { stamp, entry });
+        self.journal
+            .put(made_at(to, stamp, seen, Actor::Time, Kind::Jump));
     }
 
     /// Appends an entry that is of no device. `Mem` where it adds a link, for which there is no memory; nothing
     /// has changed then.
     #[inline(never)]
-    fn append_other(&mut self, stamped: JournalEntry) -> Result<(), Mem>
-        requires other { IsOfNone stamped.entry.kind }
-        requires admits { Admits self.old stamped.entry }
-        requires board { Settles self.old.machine (entries self.old.past) stamped.entry }
-        ensures ok { OnOk result (self.new ≡ after_entry self.old stamped) }
-        ensures err { OnErr result (IsCounted stamped.entry.kind × (self.new ≡ self.old)) }
+    fn append_other(
+        &mut self,
+        stamp: Stamp,
+        now: EventNow,
+        actor: Actor,
+        kind: Kind,
+    ) -> Result<(), Mem>
+        requires other { IsOfNone kind }
+        requires admits { Admits self.old (entry_now self.old now actor kind) }
+        requires board { Settles self.old.machine (entries self.old.past) (entry_now self.old now actor kind) }
+        ensures ok { OnOk result (self.new ≡ after_made self.old stamp now actor kind) }
+        ensures err { OnErr result (IsCounted kind × (self.new ≡ self.old)) }
     {
-        let Entry {
-            time,
-            now,
-            actor,
-            kind,
-        } = stamped.entry;
         move_links(&mut self.board, kind)?;
-        self.last = stamped.stamp;
-        self.time = time_after(kind, time, self.time);
         self.guard.note(kind, now);
-        self.path.note(kind, actor, pos(now), time);
+        self.path.note(kind, actor, pos(now), self.time);
         self.devices.note(kind, actor);
         self.tasks.note(actor, kind);
         self.freezer.note(actor, kind);
         self.autosleep.note(kind, actor);
         self.platform.note(kind);
         self.syscore.note(kind);
-        self.journal.put(stamped);
+        self.last = stamp;
+        self.journal
+            .put(made_at(self.time, stamp, now, actor, kind));
         Ok(())
     }
 

@@ -1,9 +1,9 @@
-//! The core of system sleep: what each actor may do next, and the journal of what it did.
+//! The core of system sleep: what each actor may do next, and the journal of what it did. Its tests are in `core_trials`, and
+//! `row_trials` runs it.
 #![tactic(auto)]
 
 mod attempt;
 mod auto;
-mod clock;
 mod due;
 mod history;
 mod linking;

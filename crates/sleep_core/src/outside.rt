@@ -1,6 +1,6 @@
 //! What a run asks of the core between turns: jumps of time, calls that are due, and whether all is over.
 
-ghost use Rattle.std.specs.Prelude.{◌≡◌, ◌≤◌, ◌<◌, ◌+◌, ◌-◌, ◌^◌, ◌||◌, nat_lt, length, is_some, IfOk, OnErr};
+ghost use Rattle.std.specs.Prelude.{◌≡◌, ◌≤◌, ◌<◌, ◌+◌, ◌-◌, ◌^◌, ◌||◌, nat_lt, length, None, is_some, IfOk, IfSome, OnErr};
 ghost use Rattle.std.specs.Bool.{OnTrue};
 ghost use Rattle.sleep_model.specs.Calls.{calls_due, pieces_in};
 ghost use Rattle.sleep_model.specs.Due.{due, is_over};
@@ -12,7 +12,7 @@ ghost use Rattle.sleep_model.specs.Path.{maker};
 ghost use Rattle.sleep_model.specs.Seats.{seat_at, seats};
 ghost use Rattle.sleep_model.specs.Word.{position};
 ghost use Rattle.sleep_state.specs.Places.{entries};
-ghost use Rattle.sleep_state.specs.Sleepers.{AllStill, is_still, sleeps_past};
+ghost use Rattle.sleep_state.specs.Sleepers.{AllStill, HasSlept, NoneSlept, is_still, sleeps_past};
 ghost use Rattle.async_board.specs.AtPlaces.{board_at};
 ghost use Rattle.sleep_core.specs.Seen.{is_scheduled, is_rescheduled, is_ready_on};
 ghost use Rattle.script_plan.specs.Plans.{calls_before};
@@ -153,9 +153,14 @@ impl<'m> Core<'m> {
         seat.exited || sleeps_past(seat.until, self.now())
     }
 
-    /// The next script behind that one, or the first, whose sleep has come to its end, in an order of its own. Which are
-    /// found is no part of what is promised.
-    pub fn next_slept(&self, behind: Option<u32>) -> Option<u32> {
+    /// The next script behind that one, or the first, whose sleep has come to its end, in an order of its own. Where none is
+    /// found behind none, no script's has.
+    pub fn next_slept(&self, behind: Option<u32>) -> Option<u32>
+        ensures found { IfSome result (λ script. HasSlept (seats (length self.now.machine.actors) (entries self.now.past)) script (time_of (entries self.now.past))) }
+        ensures none { behind ≡ None → result ≡ None → NoneSlept (seats (length self.now.machine.actors) (entries self.now.past)) (time_of (entries self.now.past)) }
+    {
+        // A machine has fewer than 2^32 scripts.
+        let _scripts = self.scripts();
         self.history.tasks().next_slept(behind, self.now())
     }
 

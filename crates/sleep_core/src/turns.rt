@@ -24,7 +24,7 @@ ghost use Rattle.sleep_core.specs.Turned.{AfterTurn};
 use crate::state::Core;
 use event_word::{Events, look_from};
 use sleep_base::Mem;
-use sleep_model::{Actor, Due, Entry, EventNow, JournalEntry, Kind, Stamp, What, Why, pos};
+use sleep_model::{Actor, Due, EventNow, Kind, Stamp, What, Why, pos};
 use sleep_state::is_device;
 use std::sync::Wait;
 use thiserror::Error;
@@ -134,7 +134,6 @@ impl<'m> Core<'m> {
 
     /// Makes the entry that is due. `Mem` where there is no memory for it, or no number; never for the maker
     /// of the open attempt, nor for a device.
-    #[inline(always)]
     fn make(
         &mut self,
         makes: bool,
@@ -164,76 +163,12 @@ impl<'m> Core<'m> {
         }
         // A journal is shorter than 2^63, so no script's steps run over.
         let _made = self.history.len();
-        let entry = Entry {
-            time: self.history.time(),
-            now,
-            actor: who,
-            kind,
-        };
-        match self.history.append(JournalEntry { stamp, entry }) {
+        match self.history.append(stamp, now, who, kind) {
             Ok(()) => {
                 self.reports.add(who, reports);
                 Ok(())
             }
             Err(_) => Err(CoreFault::Mem),
-        }
-    }
-
-    /// Makes the entry that is due, of a kind that is rare: no code is made for such kinds alone.
-    #[inline(never)]
-    fn make_otherwise(
-        &mut self,
-        makes: bool,
-        who: Actor,
-        now: EventNow,
-        kind: Kind,
-        stamp: Stamp,
-    ) -> Result<(), CoreFault>
-        requires makes { makes ≡ is_actor who (maker (entries self.old.past)) }
-        requires actor { IsActor self.old.machine who }
-        requires due { due self.old.machine (entries self.old.past) who now ≡ Makes kind }
-        requires calls { calls_due self.old.machine who (entries self.old.past) < 2 ^ 32 }
-        ensures ok { OnOk result (self.new ≡ with_entry self.old (record {
-          stamp = stamp;
-          entry = record { time = time_of (entries self.old.past); now = now; actor = who; kind = kind };
-        })) }
-        ensures err { OnErr result ((is_actor who (maker (entries self.old.past)) ≡ false) × (is_device who ≡ false) × (self.new ≡ self.old)) }
-    {
-        self.make(makes, who, now, kind, stamp)
-    }
-
-    /// Makes the entry that is due, as `make` does. An entry of a device, and one by which a task sleeps, have code of
-    /// their own, in which the compiler leaves out what such an entry cannot change.
-    #[inline(always)]
-    fn make_by_kind(
-        &mut self,
-        makes: bool,
-        who: Actor,
-        now: EventNow,
-        kind: Kind,
-        stamp: Stamp,
-    ) -> Result<(), CoreFault>
-        requires makes { makes ≡ is_actor who (maker (entries self.old.past)) }
-        requires actor { IsActor self.old.machine who }
-        requires due { due self.old.machine (entries self.old.past) who now ≡ Makes kind }
-        requires calls { calls_due self.old.machine who (entries self.old.past) < 2 ^ 32 }
-        ensures ok { OnOk result (self.new ≡ with_entry self.old (record {
-          stamp = stamp;
-          entry = record { time = time_of (entries self.old.past); now = now; actor = who; kind = kind };
-        })) }
-        ensures err { OnErr result ((is_actor who (maker (entries self.old.past)) ≡ false) × (is_device who ≡ false) × (self.new ≡ self.old)) }
-    {
-        match kind {
-            Kind::Prepare { .. }
-            | Kind::Complete(_)
-            | Kind::Schedule(..)
-            | Kind::Begin(..)
-            | Kind::End(..)
-            | Kind::Skip(..) => self.make(makes, who, now, kind, stamp),
-            Kind::Sleep(_) | Kind::SleepD(_) | Kind::Slept => {
-                self.make(makes, who, now, kind, stamp)
-            }
-            _ => self.make_otherwise(makes, who, now, kind, stamp),
         }
     }
 
@@ -259,7 +194,7 @@ impl<'m> Core<'m> {
                     pos: pos(word),
                     tick,
                 };
-                self.make_by_kind(makes, who, word, kind, stamp)?;
+                self.make(makes, who, word, kind, stamp)?;
                 let attempt = self.history.path().attempts();
                 Ok(CoreTurn::Did {
                     stamp,

@@ -1,5 +1,6 @@
 use Rattle.std.proofs.Common.{◌∙◌, refl, ap}
 use Rattle.async_board.specs.Boards.{board_after}
+use Rattle.sleep_model.specs.declared.entry.Entry.{Entry}
 use Rattle.sleep_state.specs.DeviceStates.{devices_after}
 use Rattle.sleep_state.specs.Places.{entries}
 use Rattle.wakeup_guard.specs.Guarded.{guarded_after}
@@ -10,10 +11,10 @@ use Rattle.sleep_core.proofs.history.History.append_device.Goals as goal
 
 pub invariant_of-self : goal.invariant_of-self
 invariant_of-self c =
-    let e = c.args.stamped.entry in
+    let e : Entry = record { time = c.self.inside.time; now = c.args.now; actor = c.args.actor; kind = c.args.kind } in
     let i = c.self.invariant in
     let same = passes c.self.inside.machine.now (entries c.self.inside.journal.past) e c.requires.device in
-    rw (c.put.ensures) (record {
+    rw (c.put.ensures, c.made_at.ensures) (record {
       few = i.few;
       small = i.small;
       last_is = refl;

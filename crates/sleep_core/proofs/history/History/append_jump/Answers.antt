@@ -7,7 +7,7 @@ pub invariant_of-self : goal.invariant_of-self
 invariant_of-self c =
     let i = c.self.invariant in
     let same = jumps c.self.inside.machine.now (entries c.self.inside.journal.past) c.args.to c.args.seen in
-    rw (c.put.ensures) (record {
+    rw (c.put.ensures, c.made_at.ensures) (record {
       few = i.few;
       small = i.small;
       last_is = refl;

@@ -1,4 +1,5 @@
 use Rattle.std.proofs.Common.{◌∙◌, refl, ap}
+use Rattle.sleep_model.specs.declared.entry.Entry.{Entry}
 use Rattle.autosleep_loop.specs.Autosleeps.{autosleep_after}
 use Rattle.sleep_state.specs.Places.{entries}
 use Rattle.sleep_state.specs.TaskStates.{tasks_after}
@@ -7,10 +8,10 @@ use Rattle.sleep_core.proofs.history.History.append_task.Goals as goal
 
 pub invariant_of-self : goal.invariant_of-self
 invariant_of-self c =
-    let e = c.args.stamped.entry in
+    let e : Entry = record { time = c.self.inside.time; now = c.args.now; actor = c.args.actor; kind = c.args.kind } in
     let i = c.self.invariant in
     let same = passes c.self.inside.machine.now (entries c.self.inside.journal.past) e c.requires.task in
-    rw (c.put.ensures) (record {
+    rw (c.put.ensures, c.made_at.ensures) (record {
       few = i.few;
       small = i.small;
       last_is = refl;
@@ -21,7 +22,7 @@ invariant_of-self c =
       board_is = i.board_is ∙ same.stays.board;
       tasks_is = c.note.ensures ∙ ap (tasks_after e.actor e.kind) i.tasks_is;
       freezer_is = i.freezer_is ∙ same.stays.freezer;
-      autosleep_is = c.note-2.ensures ∙ ap (autosleep_after e.kind e.actor) i.autosleep_is;
+      autosleep_is = c.move_work.ensures ∙ ap (autosleep_after e.kind e.actor) i.autosleep_is;
       platform_is = i.platform_is ∙ same.stays.platform;
       syscore_is = i.syscore_is ∙ same.stays.syscore;
     })

@@ -2,12 +2,11 @@ use Rattle.std.proofs.Common.{◌≡◌, ◌∙◌, ◌<◌, map, ap, sym, subst
 use Rattle.sleep_model.specs.declared.machine.Machine.{Machine}
 use Rattle.sleep_model.specs.Numbers.{time_of}
 use Rattle.sleep_model.specs.Runtime.{may_wake}
-use Rattle.autosleep_loop.specs.Autosleeps.{AutosleepState}
 use Rattle.sleep_state.specs.Places.{entries}
 use Rattle.sleep_core.specs.Cores.{CoreState}
 use Rattle.sleep_core.specs.Histories.{Kept}
 use Rattle.sleep_core.proofs.Reporting.{counts_more}
-use Rattle.sleep_core.proofs.Turning.{admits_jump, core_jumped}
+use Rattle.sleep_core.proofs.Turning.{core_jumped}
 use Rattle.sleep_core.proofs.state.Core.jump.Goals as goal
 
 pub invariant_of-self-2 : goal.invariant_of-self-2

@@ -38,7 +38,7 @@ pub append-requires : goal.append-requires
 append-requires c =
     let h = c.self.inside.history in
     let has = c.in-Ok.ensures.ok in
-    let e : Entry = record { time = c.time.result; now = c.args.now; actor = c.args.who; kind = c.args.kind } in
+    let e : Entry = record { time = time_of (entries c.make_room.new.self.past); now = c.args.now; actor = c.args.who; kind = c.args.kind } in
     let makes = subst (λ (s : CoreState). due s.machine (entries s.past) c.args.who c.args.now ≡ Makes c.args.kind) (sym c.self.view_is) c.requires.due in
     record {
       admits = admits_more h c.make_room.new.self e c.is_own-own.result c.self.invariant.core makes
@@ -47,7 +47,7 @@ append-requires c =
           has (omega (arith, c.len-made.ensures.len, c.len-made.ensures.small));
       board = subst (λ (x : Machine). Settles x (entries c.make_room.new.self.past) e) (sym has.machine)
           (subst (λ (xs : List JournalEntry). Settles h.machine (entries xs) e) (sym has.past)
-          (settles h.machine (entries h.past) c.self.invariant.core.legal c.time.result c.args.now c.args.who c.args.kind makes));
+          (settles h.machine (entries h.past) c.self.invariant.core.legal (time_of (entries c.make_room.new.self.past)) c.args.now c.args.who c.args.kind makes));
     }
 
 pub add-requires : goal.add-requires
@@ -64,10 +64,10 @@ invariant_of-self-in-Ok-append c =
     let has = c.in-Ok.ensures.ok in
     let same : c.append.new.self.machine ≡ h.machine = ap (λ (k : Kept). k.machine) c.in-Ok-append.ensures.ok ∙ has.machine in
     record {
-      core = core_more h c.make_room.new.self c.append.new.self (record { stamp = c.args.stamp; entry = record { time = c.time.result; now = c.args.now; actor = c.args.who; kind = c.args.kind } }) c.is_own-own.result c.self.invariant.core
+      core = core_more h c.make_room.new.self c.append.new.self (record { stamp = c.args.stamp; entry = record { time = time_of (entries c.make_room.new.self.past); now = c.args.now; actor = c.args.who; kind = c.args.kind } }) c.is_own-own.result c.self.invariant.core
           (subst (λ (s : CoreState). IsActor s.machine c.args.who) (sym c.self.view_is) c.requires.actor)
           (subst (λ (s : CoreState). due s.machine (entries s.past) c.args.who c.args.now ≡ Makes c.args.kind) (sym c.self.view_is) c.requires.due)
-          (c.time.ensures ∙ ap (λ (xs : List JournalEntry). time_of (entries xs)) has.past)
+          (ap (λ (xs : List JournalEntry). time_of (entries xs)) has.past)
           (subst (λ (s : CoreState). Leaves s.machine c.args.kind (entries s.past)) (sym c.self.view_is) c.if-not-leaves.ensures.fits)
           (subst (λ (s : CoreState). c.is_own-own.result ≡ (is_actor c.args.who (maker (entries s.past)) || is_device c.args.who)) (sym c.self.view_is) c.is_own-own.ensures)
           has c.in-Ok-append.ensures.ok;
@@ -78,7 +78,7 @@ invariant_of-self-in-Ok-append c =
           ∙ (ap₂ (λ n r. counts_after c.args.who n r)
           (subst (λ (s : CoreState). c.reports_in-reports.result ≡ length (report_calls s.machine (attempts (entries s.past)) c.args.kind)) (sym c.self.view_is) c.reports_in-reports.ensures)
           c.self.invariant.reports_are
-          ∙ sym (counts_more h c.make_room.new.self c.append.new.self (record { stamp = c.args.stamp; entry = record { time = c.time.result; now = c.args.now; actor = c.args.who; kind = c.args.kind } }) has.machine has.past c.in-Ok-append.ensures.ok));
+          ∙ sym (counts_more h c.make_room.new.self c.append.new.self (record { stamp = c.args.stamp; entry = record { time = time_of (entries c.make_room.new.self.past); now = c.args.now; actor = c.args.who; kind = c.args.kind } }) has.machine has.past c.in-Ok-append.ensures.ok));
     }
 
 pub invariant_of-self-in-Err-append : goal.invariant_of-self-in-Err-append
