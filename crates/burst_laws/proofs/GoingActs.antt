@@ -5,7 +5,6 @@ use Rattle.sleep_model.specs.declared.entry.Actor.{Actor}
 use Rattle.sleep_model.specs.declared.entry.Actor.TheVariants as actor
 use Rattle.sleep_model.specs.declared.entry.JournalEntry.{JournalEntry}
 use Rattle.sleep_model.specs.declared.entry.Kind.{Kind}
-use Rattle.sleep_model.specs.declared.entry.Kind.TheVariants as kind
 use Rattle.sleep_model.specs.declared.log.Want.TheVariants as want
 use Rattle.sleep_model.specs.declared.machine.Machine.{Machine}
 use Rattle.sleep_model.specs.declared.machine.SourceCall.{SourceCall}
@@ -14,7 +13,7 @@ use Rattle.sleep_model.specs.declared.word.Stamp.{Stamp}
 use Rattle.sleep_model.specs.Calls.{calls_due, note}
 use Rattle.sleep_model.specs.Fits.{is_word64}
 use Rattle.sleep_model.specs.Legal.{JournalPart}
-use Rattle.sleep_model.specs.Numbers.{time_after, time_of}
+use Rattle.sleep_model.specs.Numbers.{time_of}
 use Rattle.sleep_model.specs.Path.{is_same}
 use Rattle.sleep_model.specs.Word.{position}
 use Rattle.sleep_state.specs.Places.{entries}
@@ -32,6 +31,7 @@ use Rattle.running_laws.specs.Running.{CallsNext, IsGoing, IsMoved, IsWith, call
 use Rattle.running_laws.proofs.Asked.{call_is, call_there}
 use Rattle.running_laws.proofs.Calls.{going_call, going_expire}
 use Rattle.running_laws.proofs.Kept.{actor_told}
+use Rattle.running_laws.proofs.Rising.{time_kept}
 use Rattle.running_laws.proofs.Turns.{going_turn}
 use Rattle.run_world.specs.declared.task.Task.{Task}
 use Rattle.run_world.specs.declared.task.Task.TheVariants as task
@@ -94,11 +94,6 @@ turn_goes m sources jobs floors job stamp k attempt gains t r here timed ranged 
     (t.stamp_is ∙ ap (λ (f : Stamp). next_stamp t.past f t.word) (sym here.2)) t.attempt_is
     (subst (λ (j : JobState). IsWith m jobs (put job.who (after_turn stamp k attempt job) jobs) job.who (after_turn stamp k attempt j)) (sym here.1) (with_put m jobs job.who (after_turn stamp k attempt job)))
     (moved_put floors job.who stamp) timed ranged)
-
--- no turn moves the time
-time_kept : (k : Kind) (n : ℕ) → time_after k n n ≡ n
-time_kept kind.Jump n = refl
-time_kept _ n = refl
 
 -- a timer has no job
 no_timer : (m : Machine) (s : ℕ) (other : Actor) → IsActor m other → is_same (actor.Timer s) other ≡ false

@@ -1,5 +1,5 @@
 -- Bursts keep what a run keeps.
-use Rattle.std.proofs.Common.{◌≡◌, ◌∙◌, ◌+◌, ℕ, suc, true, List, length, refl, sym, ap, subst, arith}
+use Rattle.std.proofs.Common.{◌≡◌, ◌∙◌, ◌+◌, ℕ, true, List, length, refl, sym, ap, subst}
 use Rattle.sleep_model.specs.declared.entry.JournalEntry.{JournalEntry}
 use Rattle.sleep_model.specs.declared.machine.Machine.{Machine}
 use Rattle.sleep_model.specs.Fits.{is_word64}
@@ -15,10 +15,7 @@ use Rattle.burst_laws.specs.Serial.{IsSerial, plain_sources, standing_of}
 use Rattle.burst_laws.proofs.GoingOn.{courses_go_on}
 use Rattle.burst_laws.proofs.GoingSwapped.{swapped}
 use Rattle.burst_laws.proofs.SerialBursts.{bursts_are_serial}
-
--- the list of source s stands behind the machine's
-one_behind : (journal : List JournalEntry) (sources : List SourceState) (s : ℕ) → lists_of journal sources (1 + s) ≡ of_sources sources s
-one_behind journal sources s = let next : 1 + s ≡ suc s = omega arith in ap (lists_of journal sources) next
+use Rattle.burst_laws.proofs.SerialGrowth.{one_behind}
 
 module _ (m : Machine) (moment : ℕ) (machine machine_then : SeatedCoreState) (sources sources_then : List SeatedSourceState) (tasks tasks_then : List Task) where
   -- after a burst that is serial the run goes on

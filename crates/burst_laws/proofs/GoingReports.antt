@@ -29,27 +29,16 @@ use Rattle.run_world.specs.Told.{IsReport}
 use Rattle.running_laws.specs.Running.{IsGoing, calls_made, of_sources}
 use Rattle.running_laws.proofs.Calls.{IsCalledNow}
 use Rattle.running_laws.proofs.Lists.{set_same, source_other, source_set}
+use Rattle.running_laws.proofs.Rising.{call_longer}
 use Rattle.burst_laws.specs.Courses.{Lands}
 use Rattle.burst_laws.proofs.GoingLanding.{HasLanded, lands_there}
 use Rattle.burst_laws.proofs.GoingSwapped.{one_swapped}
 
--- ---- a call adds something
-
-steps_more : (by : CallBy) (steps : List WordKind) (old new : Scene) → Steps by steps old new → length old.source.past ≤ length new.source.past
-steps_more by [] old new h = omega (arith, ap (λ (s : Scene). length s.source.past) h)
-steps_more by (x ∷ rest) old new h = omega (arith, steps_more by rest (after_step by x h.0 old) new h.3)
-
--- its note at least
-call_more : (by : CallBy) (c : SourceCall) (old new : Scene) → Calls by c old new → length old.source.past < length new.source.past
-call_more by c old new h =
-    let is : h.0 ≡ after_note by c h.1.0 h.0.looked old = h.1.6 in
-    omega (arith, steps_more by (makes c (since (states.bare old.source.past))) h.0 new h.2, ap (λ (s : Scene). length s.source.past) is)
+-- ---- where a report lands
 
 map_onto : (added past : List SourceEntry) → map of_source (added ++ past) ≡ map of_source added ++ map of_source past
 map_onto [] past = refl
 map_onto (e ∷ added) past = ap (λ (l : List JournalEntry). of_source e ∷ l) (map_onto added past)
-
--- ---- where a report lands
 
 -- the source's list was the old source's, and is the new one's; the other lists are as they were
 pub record HasReported (s : ℕ) (source source' : SourceState) (old new : ℕ → List JournalEntry) : Type 0 where
@@ -60,7 +49,7 @@ pub record HasReported (s : ℕ) (source source' : SourceState) (old new : ℕ �
 
 module _ (by : CallBy) (call : SourceCall) (s : ℕ) (stamp : Stamp) (gains : List (Made Noted)) (t : IsReport by call s stamp gains) (old new : ℕ → List JournalEntry) (l : Lands gains old new) where
   landed : (added : List SourceEntry) → t.added ≡ added → HasLanded (1 + s) (map of_source t.old.source.past) (map of_source t.new.source.past) old new
-  landed [] none = absurd (let same : length t.new.source.past ≡ length t.old.source.past = ap length (t.grown ∙ ap (λ (xs : List SourceEntry). xs ++ t.old.source.past) none) in omega (arith, call_more by call t.old t.new t.calls))
+  landed [] none = absurd (let same : length t.new.source.past ≡ length t.old.source.past = ap length (t.grown ∙ ap (λ (xs : List SourceEntry). xs ++ t.old.source.past) none) in omega (arith, call_longer by call t.old t.new t.calls))
   landed (e ∷ added) some =
       let gained = subst (λ (xs : List SourceEntry). gains ≡ placed (1 + s) (length t.old.source.past) (notes_on (map of_source t.old.source.past) (map of_source xs))) some t.gained in
       let with : of_source e ∷ map of_source added ++ map of_source t.old.source.past ≡ map of_source t.new.source.past =
@@ -88,7 +77,7 @@ module _ (m : Machine) (journal : List JournalEntry) (sources : List SourceState
   before = slice_set sources s t.old.source
 
   pub going_before : IsGoing m journal before jobs floors
-  going_before = one_swapped m journal sources jobs floors r s t.old.source (omega (arith, there, r.sources_are.count)) (record { number = t.number; settled = t.settled }) was
+  going_before = one_swapped m journal sources jobs floors r s t.old.source (omega (arith, there, r.sources_are.count)) (record { number = t.number; settled = t.settled; fresh = t.fresh }) was
 
   within : s < length before
   within = omega (arith, there, going_before.sources_are.count)

@@ -1,5 +1,5 @@
 -- Sources with the same entries stand for one another.
-use Rattle.std.proofs.Common.{◌≡◌, ◌∙◌, ◌<◌, ◌+◌, ℕ, Bool, true, false, ◌==◌, List, length, map, slice_set, sym, subst, refl, arith}
+use Rattle.std.proofs.Common.{◌≡◌, ◌∙◌, ◌≤◌, ◌<◌, ◌+◌, ℕ, Bool, true, false, ◌==◌, List, length, map, slice_set, sym, ap, subst, refl, arith}
 use Rattle.std.proofs.lemmas.Bool.Decides.{nat_tests}
 use Rattle.sleep_model.specs.declared.entry.Actor.{Actor}
 use Rattle.sleep_model.specs.declared.entry.JournalEntry.{JournalEntry}
@@ -7,14 +7,18 @@ use Rattle.sleep_model.specs.declared.machine.Machine.{Machine}
 use Rattle.sleep_model.specs.declared.word.Stamp.{Stamp}
 use Rattle.sleep_model.specs.Calls.{made}
 use Rattle.sleep_model.specs.Merge.{of_source}
+use Rattle.sleep_model.specs.Numbers.{time_of}
+use Rattle.sleep_model.specs.Sources.{expiry}
 use Rattle.sleep_state.specs.Places.{entries}
 use Rattle.sleep_script.specs.Jobs.{IsJobOf, JobState}
 use Rattle.wakeup_source.specs.SourceStates.{SourceState}
 use Rattle.fit_laws.specs.Ranged.{is_told}
 use Rattle.run_laws.specs.Acts.{bare}
 use Rattle.run_laws.specs.Held.{AllOf, Held}
-use Rattle.running_laws.specs.Running.{AreSources, FloorsKnow, IsGoing, IsSourceOf, made_so, of_sources}
+use Rattle.run_laws.specs.Turned.{newest_stamp}
+use Rattle.running_laws.specs.Running.{AreSources, FloorsKnow, IsGoing, IsSourceOf, entry_count, made_so, of_sources}
 use Rattle.running_laws.proofs.Lists.{source_other, source_set, sources_set}
+use Rattle.running_laws.proofs.Rising.{EndsBy, entries_more}
 
 -- a run goes on with other sources that have the same entries, and are between calls
 pub swapped : (m : Machine) (journal : List JournalEntry) (sources others : List SourceState) (jobs : Actor → JobState) (floors : Actor → Stamp) → AreSources m others
@@ -22,6 +26,8 @@ pub swapped : (m : Machine) (journal : List JournalEntry) (sources others : List
 swapped m journal sources others jobs floors are same g =
     let lists : of_sources sources ≡ of_sources others = λ i s. sym (same s) i in
     let made_is : made_so journal sources g.own ≡ made_so journal others g.own = λ i. record { journal = journal; of = λ s. sym (same s) i; own = g.own } in
+    let more : entry_count journal sources ≤ entry_count journal others =
+    omega (arith, entries_more sources others (omega (arith, g.sources_are.count, are.count)) (λ s. omega (arith, ap (λ (l : List JournalEntry). length l) (same s)))) in
     record {
       accepted = g.accepted;
       own = g.own;
@@ -31,6 +37,16 @@ swapped m journal sources others jobs floors are same g =
           subst (λ (of : ℕ → List JournalEntry). IsJobOf m who (entries journal) (made (length m.sources + 1) (λ s. bare (of s)) who) (jobs who)) lists (g.jobs_are who a);
       floors_know = subst (FloorsKnow floors) made_is g.floors_know;
       told = subst (AllOf (λ e. is_told m e.entry)) made_is g.told;
+      low = record {
+        newest = omega (arith, more, g.low.newest);
+        of_each = λ s. omega (arith, more, g.low.of_each s, ap (λ (l : List JournalEntry). (newest_stamp l).tick) (same s));
+        of_jobs = λ who a. omega (arith, more, g.low.of_jobs who a);
+        of_actors = λ who. omega (arith, more, g.low.of_actors who);
+      };
+      near = record {
+        time = g.near.time;
+        expiries = λ s. subst (λ (l : List JournalEntry). EndsBy (time_of (entries journal) + 86400000) (expiry (bare l))) (sym (same s)) (g.near.expiries s);
+      };
     }
 
 module _ (m : Machine) (journal : List JournalEntry) (sources : List SourceState) (jobs : Actor → JobState) (floors : Actor → Stamp) (g : IsGoing m journal sources jobs floors)

@@ -14,3 +14,4 @@ pub mod SerialCalls
 pub mod SerialActs
 pub mod SerialWorld
 pub mod SerialBursts
+pub mod SerialGrowth

@@ -1,7 +1,7 @@
 //! What holds of each burst, whichever way its workers took turns.
 
 ghost use Rattle.burst_laws.specs.Courses.{CoursesGoOn};
-ghost use Rattle.burst_laws.specs.Keeping.{BurstsGoOn};
+ghost use Rattle.burst_laws.specs.Keeping.{BurstsGoOn, BurstsGrow};
 ghost use Rattle.burst_laws.specs.Serial.{BurstsAreSerial};
 
 /// The acts of a burst have an order in which each finds the machine and the sources as those before it left them, and
@@ -19,4 +19,9 @@ pub fn courses_go_on()
 /// A run goes on after a burst at its time, with the machine, the sources and the tasks that came back.
 pub fn bursts_go_on()
     ensures { BurstsGoOn }
+{}
+
+/// A burst leaves no fewer entries than it found, neither in the journal nor of a source.
+pub fn bursts_grow()
+    ensures { BurstsGrow }
 {}

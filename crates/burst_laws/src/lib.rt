@@ -4,4 +4,4 @@
 
 mod laws;
 
-pub use laws::{bursts_are_serial, bursts_go_on, courses_go_on};
+pub use laws::{bursts_are_serial, bursts_go_on, bursts_grow, courses_go_on};
