@@ -1,4 +1,6 @@
+mod Making
 mod Ordering
+mod Placing
 mod Tabling
 mod Tying
 mod Walking

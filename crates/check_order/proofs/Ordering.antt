@@ -6,7 +6,7 @@ use Rattle.sleep_model.specs.declared.machine.Link.{Link}
 use Rattle.sleep_model.specs.Order.{is_among, dependents, EachAfterParent, last_places, moved, moved_last, order_by}
 use Rattle.sleep_model.specs.Links.{AreLinks}
 use Rattle.sleep_model.proofs.Dependents.{among_first, among_rest}
-use Rattle.sleep_model.proofs.Acyclic.{among_last, dependents_within, order_within}
+use Rattle.sleep_model.proofs.Acyclic.{among_last, dependents_within, moved_before, order_within}
 use Rattle.device_rows.specs.Table.{Table, row_at}
 use Rattle.check_order.specs.declared.walk.Visits.{Visits}
 use Rattle.check_order.specs.Visited.{visited, AreMarked, Leaves}
@@ -55,18 +55,17 @@ module _ (ps : List (Option ℕ)) (after : EachAfterParent 0 ps) where
   put_places : (M order : List ℕ) → put_last (last_places M) order ≡ moved_last M order
   put_places M order = ap (λ xs. xs ++ last_places M) (filter_agree (λ d. not (is_among (last_places M) d)) (λ d. not (is_among M d)) (λ x. ap not (among_last ps after M x)) order)
 
-  pub order_next : (l : Link) (ls : List Link) → AreLinks ps (l ∷ ls) → (t : Table) → IsTableOf (length ps) (dependents ps (l ∷ ls)) t.rows → moved_behind (length t.rows) (row_at t) l.consumer (order_by ps ls) ≡ order_by ps (l ∷ ls)
+  -- a link moves what hung below its consumer before
+  pub order_next : (l : Link) (ls : List Link) → AreLinks ps (l ∷ ls) → (t : Table) → IsTableOf (length ps) (dependents ps ls) t.rows → moved_behind (length t.rows) (row_at t) l.consumer (order_by ps ls) ≡ order_by ps (l ∷ ls)
   order_next l ls linked t h =
-      ap (λ out. put_last out (order_by ps ls)) (table_walk (l ∷ ls) linked t h l.consumer linked.1)
-      ∙ put_places (moved (length ps) (dependents ps (l ∷ ls)) l.consumer) (order_by ps ls)
+      ap (λ out. put_last out (order_by ps ls)) (table_walk ls linked.4 t h l.consumer linked.1)
+      ∙ (put_places (moved (length ps) (dependents ps ls) l.consumer) (order_by ps ls)
+      ∙ ap (λ (ds : List ℕ). moved_last ds (order_by ps ls)) (sym (moved_before ps after l ls linked.3)))
 
-  -- the loop over links
-  module _ (ls : List Link) (linked : AreLinks ps (reverse ls)) (k : ℕ) (d : Link) (here : k < length ls) (t : Table) (h : IsTableOf (length ps) (dependents ps (reverse (take (k + 1) ls))) t.rows) (now : List ℕ) (is : now ≡ order_by ps (reverse (take k ls))) where
-    pub stand_within : (x : ℕ) → is_among now x ≡ true → x < length t.rows
-    stand_within x m = subst (λ (n : ℕ). x < n) (sym h.count) (order_within ps after (reverse (take k ls)) (first_links ls linked k) x (ap (λ o. is_among o x) (sym is) ∙ m))
+  -- the order has registered devices alone
+  pub stand_within : (ls : List Link) → AreLinks ps ls → (t : Table) → IsTableOf (length ps) (dependents ps ls) t.rows → (now : List ℕ) → now ≡ order_by ps ls → (x : ℕ) → is_among now x ≡ true → x < length t.rows
+  stand_within ls linked t h now is x m = subst (λ (n : ℕ). x < n) (sym h.count) (order_within ps after ls linked x (ap (λ o. is_among o x) (sym is) ∙ m))
 
-    pub order_more : moved_behind (length t.rows) (row_at t) (get_or ls k d).consumer now ≡ order_by ps (reverse (take (k + 1) ls))
-    order_more =
-        ap (moved_behind (length t.rows) (row_at t) (get_or ls k d).consumer) is
-        ∙ (order_next (get_or ls k d) (reverse (take k ls)) (subst (AreLinks ps) (newest ls k d here) (first_links ls linked (k + 1))) t (subst (λ (xs : List Link). IsTableOf (length ps) (dependents ps xs) t.rows) (newest ls k d here) h)
-        ∙ ap (order_by ps) (sym (newest ls k d here)))
+  -- the next link
+  pub link_next : (ls : List Link) → AreLinks ps (reverse ls) → (k : ℕ) (d : Link) → k < length ls → AreLinks ps (get_or ls k d ∷ reverse (take k ls))
+  link_next ls linked k d here = subst (AreLinks ps) (newest ls k d here) (first_links ls linked (k + 1))

@@ -1,18 +1,16 @@
 -- Tables of rows, as they are made.
-use Rattle.std.proofs.Common.{◌≡◌, ◌<◌, ◌≤◌, ◌+◌, ◌∙◌, ℕ, zero, suc, Bool, true, false, ◌==◌, List, [], ◌∷◌, ◌++◌, length, map, take, reverse, filter, get_or, set, slice_get, option_to_list, replicate, Option, Some, None, IfSome, refl, sym, ap, subst, cond, arith, length-set}
+use Rattle.std.proofs.Common.{◌≡◌, ◌<◌, ◌≤◌, ◌+◌, ◌∙◌, ℕ, zero, suc, Bool, true, false, ◌==◌, List, [], ◌∷◌, ◌++◌, length, map, take, reverse, get_or, set, slice_get, option_to_list, replicate, Option, Some, None, IfSome, refl, sym, ap, subst, cond, arith, length-set}
 use Rattle.std.specs.List.{range_with_len}
 use Rattle.std.proofs.lemmas.List.{append-nil, take_more, length-take-le, length-map, length-replicate, reverse-append, get_or-set_same, get_or-set_other}
-use Rattle.std.proofs.lemmas.List.Elements.{filter-append}
 use Rattle.std.proofs.lemmas.Bool.{eqb-true, eqb-false}
 use Rattle.sleep_model.specs.declared.machine.Link.{Link}
-use Rattle.sleep_model.specs.Order.{active_of, children_from, dependents, superiors, parent_of, EachAfterParent}
-use Rattle.sleep_model.specs.Links.{AreLinks}
+use Rattle.sleep_model.specs.Order.{children_from, dependents, superiors, parent_of, EachAfterParent}
 use Rattle.sleep_model.proofs.Children.{children_push}
 use Rattle.sleep_model.proofs.FirstPlaces.{dependents_new, holding_new, holding_other}
 use Rattle.sleep_model.proofs.Acyclic.{others_same}
 use Rattle.sleep_model.proofs.Walks.{same_eq}
 use Rattle.device_rows.specs.Table.{with_number}
-use Rattle.check_order.specs.Kept.{IsTableOf, AreWithin}
+use Rattle.check_order.specs.Kept.{IsTableOf}
 
 -- a run of numbers with one more
 pub run_push : (a n : ℕ) → range_with_len a n ++ (a + n) ∷ [] ≡ range_with_len a (n + 1)
@@ -24,18 +22,25 @@ run_push a (suc n) = let e : a + suc n ≡ a + 1 + n = omega arith in ap (λ xs.
 
 -- ---- one more number
 
--- one row has one more
-pub table_push : (n : ℕ) (f g : ℕ → List ℕ) (rows : List (List ℕ)) → IsTableOf n f rows → (r x : ℕ) → r < n → g r ≡ f r ++ x ∷ [] → ((d : ℕ) → (r == d) ≡ false → g d ≡ f d) → IsTableOf n g (set rows r (get_or rows r [] ++ x ∷ []))
-table_push n f g rows h r x l here other = record {
-  count = length-set rows r (get_or rows r [] ++ x ∷ []) ∙ h.count;
+pub same_number : (k : ℕ) → (k == k) ≡ true
+same_number k = grind (arith)
+
+-- one row is another
+pub table_set : (n : ℕ) (f g : ℕ → List ℕ) (rows : List (List ℕ)) → IsTableOf n f rows → (r : ℕ) (row : List ℕ) → r < n → row ≡ g r → ((d : ℕ) → (r == d) ≡ false → g d ≡ f d) → IsTableOf n g (set rows r row)
+table_set n f g rows h r row l here other = record {
+  count = length-set rows r row ∙ h.count;
   each = λ d. by_test d (r == d) refl;
 }
   where
-    by_test : (d : ℕ) (b : Bool) → (r == d) ≡ b → get_or (set rows r (get_or rows r [] ++ x ∷ [])) d [] ≡ g d
+    by_test : (d : ℕ) (b : Bool) → (r == d) ≡ b → get_or (set rows r row) d [] ≡ g d
     by_test d true e =
-        subst (λ (k : ℕ). get_or (set rows r (get_or rows r [] ++ x ∷ [])) k [] ≡ g k) (eqb-true r d e)
-        (get_or-set_same rows r (get_or rows r [] ++ x ∷ []) [] (omega (arith, h.count)) ∙ (ap (λ xs. xs ++ x ∷ []) (h.each r) ∙ sym here))
-    by_test d false e = get_or-set_other rows r d (get_or rows r [] ++ x ∷ []) [] (λ k. eqb-false r d e (sym k)) ∙ (h.each d ∙ sym (other d e))
+        subst (λ (k : ℕ). get_or (set rows r row) k [] ≡ g k) (eqb-true r d e)
+        (get_or-set_same rows r row [] (omega (arith, h.count)) ∙ here)
+    by_test d false e = get_or-set_other rows r d row [] (λ k. eqb-false r d e (sym k)) ∙ (h.each d ∙ sym (other d e))
+
+-- one row has one more
+pub table_push : (n : ℕ) (f g : ℕ → List ℕ) (rows : List (List ℕ)) → IsTableOf n f rows → (r x : ℕ) → r < n → g r ≡ f r ++ x ∷ [] → ((d : ℕ) → (r == d) ≡ false → g d ≡ f d) → IsTableOf n g (set rows r (get_or rows r [] ++ x ∷ []))
+table_push n f g rows h r x l here other = table_set n f g rows h r (get_or rows r [] ++ x ∷ []) l (ap (λ xs. xs ++ x ∷ []) (h.each r) ∙ sym here) other
 
 pub table_same : (n : ℕ) (f g : ℕ → List ℕ) (rows : List (List ℕ)) → IsTableOf n f rows → ((d : ℕ) → g d ≡ f d) → IsTableOf n g rows
 table_same n f g rows h e = record { count = h.count; each = λ d. h.each d ∙ sym (e d) }
@@ -73,7 +78,7 @@ child_next ps k rows after l h =
     (table_child (length ps) (take k ps) (get_or ps k None) rows h (parent_below ps k (length ps) after l refl)))
 
 -- no row has anything
-empty_rows : (n d : ℕ) → get_or {A = List ℕ} (replicate n []) d [] ≡ []
+pub empty_rows : (n d : ℕ) → get_or {A = List ℕ} (replicate n []) d [] ≡ []
 empty_rows zero d = refl
 empty_rows (suc n) zero = refl
 empty_rows (suc n) (suc d) = empty_rows n d
@@ -109,71 +114,6 @@ pub link_above : (ps : List (Option ℕ)) (l : Link) (ls : List Link) (rows : Li
 link_above ps l ls rows i h =
     table_push (length ps) (superiors ps ls) (superiors ps (l ∷ ls)) rows h l.consumer l.supplier i (holding_new ps l ls) (λ d e. holding_other ps l ls d e)
 
--- what an index reads past the end
-abbrev pub no_link : Link
-no_link = record { supplier = 0; consumer = 0; active = false }
-
 -- the newest of the first links
 pub newest : (ls : List Link) (k : ℕ) (l : Link) → k < length ls → reverse (take (k + 1) ls) ≡ get_or ls k l ∷ reverse (take k ls)
 newest ls k l i = ap reverse (take_more ls k l i) ∙ reverse-append (take k ls) (get_or ls k l ∷ [])
-
-pub within_at : (n : ℕ) (ls : List Link) (k : ℕ) (l : Link) → AreWithin n ls → k < length ls → ((get_or ls k l).supplier < n) × ((get_or ls k l).consumer < n)
-within_at n [] k l h i = absurd (omega arith)
-within_at n (x ∷ ls) zero l h i = (h.0, h.1)
-within_at n (x ∷ ls) (suc k) l h i = within_at n ls k l h.2 (omega arith)
-
-within_append : (n : ℕ) (xs ys : List Link) → AreWithin n (xs ++ ys) → AreWithin n ys × AreWithin n xs
-within_append n [] ys h = (h, tt)
-within_append n (x ∷ xs) ys h = let r = within_append n xs ys h.2 in (r.0, (h.0, h.1, r.1))
-
-within_linked : (ps : List (Option ℕ)) (ls : List Link) → AreLinks ps ls → AreWithin (length ps) ls
-within_linked ps [] h = tt
-within_linked ps (l ∷ ls) h = (h.0, h.1, within_linked ps ls h.4)
-
-within_reverse : (n : ℕ) (ls : List Link) → AreWithin n (reverse ls) → AreWithin n ls
-within_reverse n [] h = tt
-within_reverse n (l ∷ ls) h =
-    let parts = within_append n (reverse ls) (l ∷ []) (subst (AreWithin n) (reverse-append (l ∷ []) ls) h) in
-    (parts.0.0, parts.0.1, within_reverse n ls parts.1)
-
--- links that may be added in turn are between registered devices
-pub links_within : (ps : List (Option ℕ)) (ls : List Link) → AreLinks ps (reverse ls) → AreWithin (length ps) ls
-links_within ps ls h = within_reverse (length ps) ls (within_linked ps (reverse ls) h)
-
-pub within_filter : (n : ℕ) (p : Link → Bool) (ls : List Link) → AreWithin n ls → AreWithin n (filter p ls)
-within_filter n p [] h = tt
-within_filter n p (l ∷ ls) h = by_test (within_filter n p ls h.2) (p l)
-  where
-    by_test : AreWithin n (filter p ls) → (b : Bool) → AreWithin n (cond b (l ∷ filter p ls) (filter p ls))
-    by_test r true = (h.0, h.1, r)
-    by_test r false = r
-
--- the active ones, the newest first
-pub active_reverse : (ls : List Link) → reverse (filter (λ l. l.active) ls) ≡ active_of (reverse ls)
-active_reverse [] = refl
-active_reverse (l ∷ ls) = by_test (active_reverse ls) l.active ∙ sym (ap (filter (λ x. x.active)) (reverse-append (l ∷ []) ls) ∙ filter-append (λ x. x.active) (reverse ls) (l ∷ []))
-  where
-    by_test : reverse (filter (λ x. x.active) ls) ≡ active_of (reverse ls) → (b : Bool) → reverse (cond b (l ∷ filter (λ x. x.active) ls) (filter (λ x. x.active) ls)) ≡ active_of (reverse ls) ++ cond b (l ∷ []) []
-    by_test rest true = reverse-append (l ∷ []) (filter (λ x. x.active) ls) ∙ ap (λ xs. xs ++ l ∷ []) rest
-    by_test rest false = rest ∙ sym (append-nil (active_of (reverse ls)))
-
--- ---- the loops over links
-
-module _ (ps : List (Option ℕ)) (ls : List Link) (within : AreWithin (length ps) ls) (k : ℕ) (d : Link) (here : k < length ls) where
-  pub supplier_within : (n : ℕ) → n ≡ length ps → (get_or ls k d).supplier < n
-  supplier_within n e = let w = within_at (length ps) ls k d within here in subst (λ (m : ℕ). (get_or ls k d).supplier < m) (sym e) w.0
-
-  pub consumer_within : (n : ℕ) → n ≡ length ps → (get_or ls k d).consumer < n
-  consumer_within n e = let w = within_at (length ps) ls k d within here in subst (λ (m : ℕ). (get_or ls k d).consumer < m) (sym e) w.1
-
-  pub below_next : EachAfterParent 0 ps → (rows more : List (List ℕ)) → IsTableOf (length ps) (dependents ps (reverse (take k ls))) rows → more ≡ set rows (get_or ls k d).supplier (get_or rows (get_or ls k d).supplier [] ++ (get_or ls k d).consumer ∷ []) → IsTableOf (length ps) (dependents ps (reverse (take (k + 1) ls))) more
-  below_next after rows more h e =
-      subst (λ (rs : List (List ℕ)). IsTableOf (length ps) (dependents ps (reverse (take (k + 1) ls))) rs) (sym e)
-      (subst (λ (xs : List Link). IsTableOf (length ps) (dependents ps xs) (set rows (get_or ls k d).supplier (get_or rows (get_or ls k d).supplier [] ++ (get_or ls k d).consumer ∷ []))) (sym (newest ls k d here))
-      (link_below ps after (get_or ls k d) (reverse (take k ls)) rows (supplier_within (length ps) refl) h))
-
-  pub above_next : (rows more : List (List ℕ)) → IsTableOf (length ps) (superiors ps (reverse (take k ls))) rows → more ≡ set rows (get_or ls k d).consumer (get_or rows (get_or ls k d).consumer [] ++ (get_or ls k d).supplier ∷ []) → IsTableOf (length ps) (superiors ps (reverse (take (k + 1) ls))) more
-  above_next rows more h e =
-      subst (λ (rs : List (List ℕ)). IsTableOf (length ps) (superiors ps (reverse (take (k + 1) ls))) rs) (sym e)
-      (subst (λ (xs : List Link). IsTableOf (length ps) (superiors ps xs) (set rows (get_or ls k d).consumer (get_or rows (get_or ls k d).consumer [] ++ (get_or ls k d).supplier ∷ []))) (sym (newest ls k d here))
-      (link_above ps (get_or ls k d) (reverse (take k ls)) rows (consumer_within (length ps) refl) h))

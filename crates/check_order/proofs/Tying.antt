@@ -10,7 +10,7 @@ use Rattle.sleep_model.proofs.Acyclic.{among_last}
 use Rattle.device_rows.specs.Table.{Table, row_at}
 use Rattle.check_order.specs.declared.walk.Visits.{Visits}
 use Rattle.check_order.specs.Visited.{visited, Leaves}
-use Rattle.check_order.specs.Kept.{AreActive, IsTableOf, AreWithin, Ties}
+use Rattle.check_order.specs.Kept.{AreActive, IsTableOf, Ties}
 use Rattle.check_order.proofs.Ordering.{table_walk}
 
 -- ---- the same parents and links
@@ -21,9 +21,6 @@ ties ps ls = record { parents = ps; links = ls }
 
 pub ties_as : {ps qs : List (Option ℕ)} {ls ms : List Link} → ps ≡ qs → ls ≡ ms → ties ps ls ≡ ties qs ms
 ties_as p l = λ i. record { parents = p i; links = l i }
-
-pub within_as : {ps qs : List (Option ℕ)} {ls ms : List Link} → ps ≡ qs → ls ≡ ms → AreWithin (length qs) ms → AreWithin (length ps) ls
-within_as {qs = qs} {ls = ls} p l h = subst (λ (xs : List (Option ℕ)). AreWithin (length xs) ls) (sym p) (subst (AreWithin (length qs)) (sym l) h)
 
 pub below_as : {ps qs : List (Option ℕ)} {ls ms : List Link} (rows : List (List ℕ)) → ps ≡ qs → ls ≡ ms → IsTableOf (length ps) (dependents ps ls) rows → IsTableOf (length qs) (dependents qs ms) rows
 below_as {qs = qs} {ls = ls} rows p l h = subst (λ (xs : List Link). IsTableOf (length qs) (dependents qs xs) rows) l (subst (λ (xs : List (Option ℕ)). IsTableOf (length xs) (dependents xs ls) rows) p h)

@@ -1,12 +1,13 @@
-//! A list of links: whether one stands there, and their states.
+//! The links of each device, found by their places among all links.
 
-ghost use Rattle.std.specs.Prelude.{◌≡◌, true, IfOk, map, reverse};
-ghost use Rattle.sleep_model.specs.Order.{is_link, with_state};
+ghost use Rattle.std.specs.Prelude.{◌≡◌, ◌++◌, ◌==◌, false, MatchOption, OnOk, map, reverse};
+ghost use Rattle.sleep_model.specs.Order.{active_of, consumers_of, is_link, suppliers_of, with_state};
 ghost use Rattle.sleep_model.specs.Links.{is_linked};
+ghost use Rattle.check_order.specs.Kept.{StandsAt, places_of};
 
+use crate::tables::push_if;
 use sleep_base::Mem;
 use sleep_model::Link;
-use std::alloc::Global;
 
 // Whether the link is between these two.
 fn is_link(link: Link, supplier: u32, consumer: u32) -> bool
@@ -15,65 +16,74 @@ fn is_link(link: Link, supplier: u32, consumer: u32) -> bool
     link.supplier == supplier && link.consumer == consumer
 }
 
-// The link, with that state where it is between these two.
-fn with_state(link: Link, supplier: u32, consumer: u32, active: bool) -> Link
-    ensures { result ≡ with_state supplier consumer active link }
+// The link, with the state of the changed one where it is between the same two.
+fn with_state(link: Link, changed: Link) -> Link
+    ensures { result ≡ with_state changed.supplier changed.consumer changed.active link }
 {
-    if is_link(link, supplier, consumer) {
+    if is_link(link, changed.supplier, changed.consumer) {
         Link {
             supplier: link.supplier,
             consumer: link.consumer,
-            active,
+            active: changed.active,
         }
     } else {
         link
     }
 }
 
-/// Whether a link between these two is among them, the oldest of which stands first.
-pub(crate) fn stands(links: &[Link], supplier: u32, consumer: u32) -> bool
-    ensures { result ≡ is_linked (reverse links.now) supplier consumer }
-{
-    for link in links {
-        if is_link(*link, supplier, consumer) {
-            return true;
-        }
-    }
-    false
-}
-
-// Whether a link is not between these two, or has that state.
-fn has_state(link: Link, supplier: u32, consumer: u32, active: bool) -> bool
-    ensures { result ≡ true → with_state supplier consumer active link ≡ link }
-{
-    !is_link(link, supplier, consumer) || link.active == active
-}
-
-/// Whether each link between these two has that state already.
-pub(crate) fn have_state(links: &[Link], supplier: u32, consumer: u32, active: bool) -> bool
-    ensures { result ≡ true → map (with_state supplier consumer active) links.now ≡ links.now }
-{
-    for link in links {
-        if !has_state(*link, supplier, consumer, active) {
-            return false;
-        }
-    }
-    true
-}
-
-/// The links, with that state of each between these two.
-pub(crate) fn set_states(
-    alloc: Global,
+/// The place of the link between these two, looked for among those of the consumer's links. None exactly where there is
+/// no such link.
+pub(crate) fn place_of(
     links: &[Link],
+    places: &[u32],
     supplier: u32,
     consumer: u32,
-    active: bool,
-) -> Result<Vec<Link>, Mem>
-    ensures { IfOk result (λ v. v.items ≡ map (with_state supplier consumer active) links.now) }
+) -> Option<usize>
+    requires { places.now ≡ places_of (λ l. l.consumer == consumer) (reverse links.now) }
+    ensures { MatchOption result (is_linked (reverse links.now) supplier consumer ≡ false)
+        (StandsAt supplier consumer links.now) }
 {
-    let mut set = Vec::new(alloc);
-    for link in links {
-        set.push(with_state(*link, supplier, consumer, active))?;
+    for place in places {
+        let place = *place as usize;
+        if is_link(links[place], supplier, consumer) {
+            return Some(place);
+        }
     }
-    Ok(set)
+    None
+}
+
+/// Puts behind a row the consumers of the changed link's supplier by active links, whose places these are.
+pub(crate) fn push_consumers(
+    row: &mut Vec<u32>,
+    links: &[Link],
+    places: &[u32],
+    changed: Link,
+) -> Result<(), Mem>
+    requires { places.now ≡ places_of (λ l. l.supplier == changed.supplier) (reverse links.now) }
+    ensures { OnOk result (row.new.items ≡ row.old.items ++ consumers_of changed.supplier
+        (active_of (map (with_state changed.supplier changed.consumer changed.active) (reverse links.now)))) }
+{
+    for place in places {
+        let link = with_state(links[*place as usize], changed);
+        push_if(row, link.active, link.consumer)?;
+    }
+    Ok(())
+}
+
+/// Puts behind a row the suppliers of the changed link's consumer by active links, whose places these are.
+pub(crate) fn push_suppliers(
+    row: &mut Vec<u32>,
+    links: &[Link],
+    places: &[u32],
+    changed: Link,
+) -> Result<(), Mem>
+    requires { places.now ≡ places_of (λ l. l.consumer == changed.consumer) (reverse links.now) }
+    ensures { OnOk result (row.new.items ≡ row.old.items ++ suppliers_of changed.consumer
+        (active_of (map (with_state changed.supplier changed.consumer changed.active) (reverse links.now)))) }
+{
+    for place in places {
+        let link = with_state(links[*place as usize], changed);
+        push_if(row, link.active, link.supplier)?;
+    }
+    Ok(())
 }

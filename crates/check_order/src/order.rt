@@ -1,21 +1,18 @@
 //! The order of devices that links leave.
 
-ghost use Rattle.std.specs.Prelude.{◌≡◌, ◌<◌, ◌^◌, ◌++◌, ℕ, true, false, not, IfOk, filter, length, reverse, slice_index_or};
+ghost use Rattle.std.specs.Prelude.{◌≡◌, ◌<◌, ◌^◌, ◌++◌, ℕ, true, false, not, IfOk, filter, length, slice_index_or};
 ghost use Rattle.std.specs.List.{range_with_len};
-ghost use Rattle.sleep_model.specs.Order.{EachAfterParent, is_among, order_by};
-ghost use Rattle.sleep_model.specs.Links.{AreLinks};
+ghost use Rattle.sleep_model.specs.Order.{is_among};
 ghost use Rattle.device_rows.specs.Table.{row_at};
 ghost use Rattle.check_order.specs.Kept.{moved_behind};
 
-use crate::tables::rows_below;
 use crate::walk::{Visits, visit_below};
 use device_rows::{Flags, Rows};
 use sleep_base::Mem;
-use sleep_model::Link;
 use std::alloc::Global;
 
-// The devices in the order of their registration.
-fn registered(alloc: Global, count: u32) -> Result<Vec<u32>, Mem>
+/// The devices in the order of their registration.
+pub(crate) fn registered(alloc: Global, count: u32) -> Result<Vec<u32>, Mem>
     ensures { IfOk result (λ v. v.items ≡ range_with_len 0 count) }
 {
     let mut order = Vec::new(alloc);
@@ -55,25 +52,4 @@ pub(crate) fn move_behind(
 {
     let Visits { out, marks } = visit_below(alloc, table, device)?;
     with_last(alloc, order, &marks, &out.into_vec())
-}
-
-/// The order that these links leave: each moves its consumer to the end, with all that hangs below it by the
-/// links up to this one.
-pub(crate) fn order_of(
-    alloc: Global,
-    parents: &[Option<u32>],
-    links: &[Link],
-) -> Result<Vec<u32>, Mem>
-    requires numbered { length parents.now < 2 ^ 32 }
-    requires after { EachAfterParent 0 parents.now }
-    requires linked { AreLinks parents.now (reverse links.now) }
-    ensures { IfOk result (λ v. v.items ≡ order_by parents.now (reverse links.now)) }
-{
-    let mut table = rows_below(alloc, parents, &[])?;
-    let mut order = registered(alloc, parents.len() as u32)?;
-    for link in links {
-        table.append(link.supplier, link.consumer)?;
-        order = move_behind(alloc, &table, link.consumer, &order)?;
-    }
-    Ok(order)
 }

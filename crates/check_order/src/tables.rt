@@ -1,13 +1,12 @@
 //! What hangs right below each device, and what each hangs right below.
 
-ghost use Rattle.std.specs.Prelude.{◌≡◌, ◌<◌, ◌^◌, IfOk, IfSome, OnOk, length, map, option_to_list, filter, reverse};
-ghost use Rattle.sleep_model.specs.Order.{EachAfterParent, children_from, dependents, superiors};
+ghost use Rattle.std.specs.Prelude.{◌≡◌, ◌<◌, ◌^◌, ◌++◌, ◌∷◌, [], IfOk, IfSome, OnOk, length, map, option_to_list, if◌then◌else◌};
+ghost use Rattle.sleep_model.specs.Order.{EachAfterParent, children_from};
 ghost use Rattle.device_rows.specs.Table.{with_number};
-ghost use Rattle.check_order.specs.Kept.{AreWithin, IsTableOf};
+ghost use Rattle.check_order.specs.Kept.{IsTableOf};
 
 use device_rows::Rows;
 use sleep_base::Mem;
-use sleep_model::Link;
 use std::alloc::Global;
 
 // Puts a number at the end of a row, where there is one to put it.
@@ -21,8 +20,8 @@ fn hang(table: &mut Rows, row: Option<u32>, number: u32) -> Result<(), Mem>
     Ok(())
 }
 
-// The children of each device.
-fn children(alloc: Global, parents: &[Option<u32>]) -> Result<Rows, Mem>
+/// The children of each device.
+pub(crate) fn children(alloc: Global, parents: &[Option<u32>]) -> Result<Rows, Mem>
     requires numbered { length parents.now < 2 ^ 32 }
     requires after { EachAfterParent 0 parents.now }
     ensures { IfOk result
@@ -35,8 +34,8 @@ fn children(alloc: Global, parents: &[Option<u32>]) -> Result<Rows, Mem>
     Ok(table)
 }
 
-// The parent of each device, as a row.
-fn parent_rows(alloc: Global, parents: &[Option<u32>]) -> Result<Rows, Mem>
+/// The parent of each device, as a row.
+pub(crate) fn parent_rows(alloc: Global, parents: &[Option<u32>]) -> Result<Rows, Mem>
     ensures { IfOk result (λ t. t.rows ≡ map option_to_list parents.now) }
 {
     let mut table = Rows::new(alloc);
@@ -46,49 +45,26 @@ fn parent_rows(alloc: Global, parents: &[Option<u32>]) -> Result<Rows, Mem>
     Ok(table)
 }
 
-/// What hangs right below each device by these links, its children first.
-pub(crate) fn rows_below(
-    alloc: Global,
-    parents: &[Option<u32>],
-    links: &[Link],
-) -> Result<Rows, Mem>
-    requires numbered { length parents.now < 2 ^ 32 }
-    requires after { EachAfterParent 0 parents.now }
-    requires within { AreWithin (length parents.now) links.now }
-    ensures { IfOk result (λ t. IsTableOf (length parents.now) (dependents parents.now (reverse links.now)) t.rows) }
+/// Puts a number at the end of a row where that shows it.
+pub(crate) fn push_if(row: &mut Vec<u32>, is_shown: bool, number: u32) -> Result<(), Mem>
+    ensures { OnOk result (row.new.items ≡ row.old.items ++ (if is_shown then number ∷ [] else [])) }
 {
-    let mut table = children(alloc, parents)?;
-    for link in links {
-        table.append(link.supplier, link.consumer)?;
+    if is_shown {
+        row.push(number)?;
     }
-    Ok(table)
+    Ok(())
 }
 
-/// What each device hangs right below by these links, its parent first.
-pub(crate) fn rows_above(
+/// A row, with one more number at its end where it shows that.
+pub(crate) fn longer_if(
     alloc: Global,
-    parents: &[Option<u32>],
-    links: &[Link],
-) -> Result<Rows, Mem>
-    requires within { AreWithin (length parents.now) links.now }
-    ensures { IfOk result (λ t. IsTableOf (length parents.now) (superiors parents.now (reverse links.now)) t.rows) }
+    is_shown: bool,
+    row: &[u32],
+    number: u32,
+) -> Result<Vec<u32>, Mem>
+    ensures { IfOk result (λ v. v.items ≡ row.now ++ (if is_shown then number ∷ [] else [])) }
 {
-    let mut table = parent_rows(alloc, parents)?;
-    for link in links {
-        table.append(link.consumer, link.supplier)?;
-    }
-    Ok(table)
-}
-
-/// The links that are not dormant.
-pub(crate) fn active_links(alloc: Global, links: &[Link]) -> Result<Vec<Link>, Mem>
-    ensures { IfOk result (λ v. v.items ≡ filter (λ l. l.active) links.now) }
-{
-    let mut active = Vec::new(alloc);
-    for link in links {
-        if link.active {
-            active.push(*link)?;
-        }
-    }
-    Ok(active)
+    let mut longer = Vec::from_slice(alloc, row)?;
+    push_if(&mut longer, is_shown, number)?;
+    Ok(longer)
 }

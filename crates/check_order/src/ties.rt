@@ -1,12 +1,13 @@
 //! What hangs below what, by devices' parents and their links.
 
-ghost use Rattle.std.specs.Prelude.{◌≡◌, IfOk, reverse};
-ghost use Rattle.sleep_model.specs.Order.{order_by};
-ghost use Rattle.check_order.specs.Kept.{AreActive, AreTies, Ties};
+ghost use Rattle.std.specs.Prelude.{◌≡◌, ◌<◌, ◌^◌, [], IfOk, OnOk, length, vec_capacity, vec_len};
+ghost use Rattle.sleep_model.specs.Order.{EachAfterParent};
+ghost use Rattle.check_order.specs.Kept.{HaveRoom};
 
-use crate::links::{have_state, set_states, stands};
-use crate::order::{move_behind, order_of};
-use crate::tables::{active_links, rows_above, rows_below};
+use crate::links::{place_of, push_consumers, push_suppliers};
+use crate::order::{move_behind, registered};
+use crate::shown::ShownRows;
+use crate::tables::{children, longer_if, parent_rows};
 use crate::walk::visit_below;
 use device_rows::Rows;
 use sleep_base::Mem;
@@ -23,8 +24,12 @@ pub struct DeviceTies {
     links: Vec<Link>,
     // What hangs below each device by all links, dormant ones too.
     hanging: Rows,
-    below: Rows,
-    above: Rows,
+    // The places of the links that each device supplies, and of those that it consumes.
+    supplied: Rows,
+    consumed: Rows,
+    // By the links that are active.
+    below: ShownRows,
+    above: ShownRows,
     order: Vec<u32>,
 }
 
@@ -37,14 +42,21 @@ impl Model for DeviceTies {
     ghost view = { λ t. record { parents = t.parents.items; links = reverse t.links.items } };
 
     ghost invariant = { λ t. IsMade (record { parents = t.parents.items; links = reverse t.links.items })
-        t.hanging.rows t.below.rows t.above.rows t.order.items };
+        t.hanging.rows t.supplied.rows t.consumed.rows t.below t.above t.order.items };
+}
+
+// The rows that a link's two devices have after it was added.
+#[derive(Drop)]
+struct ChangedRows {
+    below: Vec<u32>,
+    above: Vec<u32>,
 }
 
 impl DeviceTies {
-    ghost use Rattle.std.specs.Prelude.{◌≡◌, ◌∷◌, ◌<◌, IfOk, OnOk, length, map};
+    ghost use Rattle.std.specs.Prelude.{◌≡◌, ◌∷◌, ◌<◌, IfOk, OnOk, length, map, reverse};
     ghost use Rattle.sleep_model.specs.Order.{active_of, dependents, superiors, order_by, with_state};
     ghost use Rattle.sleep_model.specs.Links.{AreLinks, is_dependent, is_linked};
-    ghost use Rattle.check_order.specs.Kept.{AreTies, with_links};
+    ghost use Rattle.check_order.specs.Kept.{AreShown, AreTies, links_with, with_links};
 
     /// Devices with these parents, in the order of their registration, and these links, in the order in which they
     /// were added. `Mem` if there is no memory for them.
@@ -52,12 +64,11 @@ impl DeviceTies {
         requires { AreTies (record { parents = parents.now; links = reverse links.now }) }
         ensures { IfOk result (λ t. t ≡ record { parents = parents.now; links = reverse links.now }) }
     {
-        let order = order_of(alloc, parents, links)?;
-        made(
-            Vec::from_slice(alloc, parents)?,
-            Vec::from_slice(alloc, links)?,
-            order,
-        )
+        let mut ties = without_links(alloc, parents)?;
+        for link in links {
+            ties.add_link(*link)?;
+        }
+        Ok(ties)
     }
 
     /// The devices and the links are as the reader of machines takes them.
@@ -95,7 +106,8 @@ impl DeviceTies {
     pub fn is_linked(&self, supplier: u32, consumer: u32) -> bool
         ensures { result ≡ is_linked self.now.links supplier consumer }
     {
-        stands(&self.links, supplier, consumer)
+        let consumed = self.consumed.row(consumer);
+        place_of(&self.links, consumed, supplier, consumer).is_some()
     }
 
     /// Whether a walk down from the consumer, over children and links of either state, meets the supplier
@@ -109,18 +121,79 @@ impl DeviceTies {
         Ok(visits.marks.is_set(supplier))
     }
 
-    /// The same devices with one more link, the newest, which may be added to those that stand
-    /// (`device_link_add`). `Mem` if there is no memory for them.
-    pub fn with_link(&self, link: Link) -> Result<DeviceTies, Mem>
+    // The order that a link leaves: its consumer is moved to the end, with all that hangs below it.
+    fn moved_by(&self, link: Link) -> Result<Vec<u32>, Mem>
         requires { AreLinks self.now.parents (link ∷ self.now.links) }
-        ensures { IfOk result (λ t. t ≡ with_links self.now (link ∷ self.now.links)) }
+        ensures { IfOk result (λ v. v.items ≡ order_by self.now.parents (link ∷ self.now.links)) }
     {
         let alloc = *self.order.allocator();
-        let mut links = Vec::from_slice(alloc, &self.links)?;
-        links.push(link)?;
-        let table = rows_below(alloc, &self.parents, &links)?;
-        let order = move_behind(alloc, &table, link.consumer, &self.order)?;
-        made(Vec::from_slice(alloc, &self.parents)?, links, order)
+        move_behind(alloc, &self.hanging, link.consumer, &self.order)
+    }
+
+    // The rows of a link's devices after it is added.
+    fn longer_rows(&self, link: Link) -> Result<ChangedRows, Mem>
+        ensures { IfOk result (λ r. AreShown self.now.parents (link ∷ self.now.links) link r.below.items r.above.items) }
+    {
+        let alloc = *self.order.allocator();
+        let supplied = self.below.row(link.supplier);
+        let below = longer_if(alloc, link.active, supplied, link.consumer)?;
+        let consumed = self.above.row(link.consumer);
+        let above = longer_if(alloc, link.active, consumed, link.supplier)?;
+        Ok(ChangedRows { below, above })
+    }
+
+    /// Adds a link, the newest, which may be added to those that stand (`device_link_add`): it moves its consumer, with
+    /// all that hangs below that, to the end of the order. `Mem` if there is no memory for it.
+    pub fn add_link(&mut self, link: Link) -> Result<(), Mem>
+        requires { AreLinks self.old.parents (link ∷ self.old.links) }
+        ensures { OnOk result (self.new ≡ with_links self.old (link ∷ self.old.links)) }
+    {
+        let place = place_number(self.links.len())?;
+        let order = self.moved_by(link)?;
+        let rows = self.longer_rows(link)?;
+        make_room(
+            &mut self.links,
+            &mut self.hanging,
+            &mut self.supplied,
+            &mut self.consumed,
+            link,
+        )?;
+        self.links.push_reserved(link);
+        self.hanging.push(link.supplier, link.consumer);
+        self.supplied.push(link.supplier, place);
+        self.consumed.push(link.consumer, place);
+        self.below.replace(link.supplier, rows.below);
+        self.above.replace(link.consumer, rows.above);
+        self.order = order;
+        Ok(())
+    }
+
+    // What hangs below the supplier of a link by active ones, after that link's state was set.
+    fn row_below(&self, changed: Link) -> Result<Vec<u32>, Mem>
+        ensures { IfOk result (λ v. v.items
+            ≡ dependents self.now.parents (active_of (links_with changed self.now.links)) changed.supplier) }
+    {
+        let supplied = self.supplied.row(changed.supplier);
+        let hanging = self.hanging.row(changed.supplier);
+        let children = &hanging[..hanging.len() - supplied.len()];
+        let mut row = Vec::from_slice(*self.order.allocator(), children)?;
+        push_consumers(&mut row, &self.links, supplied, changed)?;
+        Ok(row)
+    }
+
+    // What hangs above the consumer of a link by active ones, after that link's state was set.
+    fn row_above(&self, changed: Link) -> Result<Vec<u32>, Mem>
+        requires { changed.consumer < length self.now.parents }
+        ensures { IfOk result (λ v. v.items
+            ≡ superiors self.now.parents (active_of (links_with changed self.now.links)) changed.consumer) }
+    {
+        let mut row = Vec::new(*self.order.allocator());
+        if let Some(parent) = self.parents[changed.consumer as usize] {
+            row.push(parent)?;
+        }
+        let consumed = self.consumed.row(changed.consumer);
+        push_suppliers(&mut row, &self.links, consumed, changed)?;
+        Ok(row)
     }
 
     /// Gives the link between these two that state, if there is one (`device_links_driver_bound`). Where it has that state
@@ -129,52 +202,80 @@ impl DeviceTies {
     pub fn set_state(&mut self, supplier: u32, consumer: u32, active: bool) -> Result<(), Mem>
         ensures { OnOk result (self.new ≡ with_links self.old (map (with_state supplier consumer active) self.old.links)) }
     {
-        if have_state(&self.links, supplier, consumer, active) {
+        let consumed = self.consumed.row(consumer);
+        let Some(place) = place_of(&self.links, consumed, supplier, consumer) else {
+            return Ok(());
+        };
+        if self.links[place].active == active {
             return Ok(());
         }
-        let alloc = *self.order.allocator();
-        let links = set_states(alloc, &self.links, supplier, consumer, active)?;
-        let ActiveRows { below, above } = active_rows(alloc, &self.parents, &links)?;
-        self.links = links;
-        self.below = below;
-        self.above = above;
+        let changed = Link {
+            supplier,
+            consumer,
+            active,
+        };
+        let below = self.row_below(changed)?;
+        let above = self.row_above(changed)?;
+        self.links[place] = changed;
+        self.below.replace(supplier, below);
+        self.above.replace(consumer, above);
         Ok(())
     }
 }
 
-// What hangs right below and above each device by the links that are active.
-#[derive(Drop)]
-struct ActiveRows {
-    below: Rows,
-    above: Rows,
+// The place of a link that so many stand before. `Mem` where there is no number for it.
+fn place_number(count: usize) -> Result<u32, Mem>
+    ensures { IfOk result (λ n. n ≡ count) }
+{
+    if count > u32::MAX as usize {
+        return Err(Mem);
+    }
+    Ok(count as u32)
 }
 
-// The same of these links.
-fn active_rows(alloc: Global, parents: &[Option<u32>], links: &[Link]) -> Result<ActiveRows, Mem>
-    requires { AreTies (record { parents = parents.now; links = reverse links.now }) }
-    ensures { IfOk result (λ t. AreActive parents.now (reverse links.now) t.below.rows t.above.rows) }
+// Makes room for one more link among the links and in the rows of its two devices. `Mem` if there is no memory for it; what
+// they say is then as before.
+fn make_room(
+    links: &mut Vec<Link>,
+    hanging: &mut Rows,
+    supplied: &mut Rows,
+    consumed: &mut Rows,
+    link: Link,
+) -> Result<(), Mem>
+    requires hanging { link.supplier < length hanging.old.rows }
+    requires supplied { link.supplier < length supplied.old.rows }
+    requires consumed { link.consumer < length consumed.old.rows }
+    ensures links { links.new.items ≡ links.old.items }
+    ensures hanging { hanging.new.rows ≡ hanging.old.rows }
+    ensures supplied { supplied.new.rows ≡ supplied.old.rows }
+    ensures consumed { consumed.new.rows ≡ consumed.old.rows }
+    ensures place { OnOk result (vec_len links.new < vec_capacity links.new) }
+    ensures room { OnOk result (HaveRoom link hanging.new supplied.new consumed.new) }
 {
-    let active = active_links(alloc, links)?;
-    let below = rows_below(alloc, parents, &active)?;
-    let above = rows_above(alloc, parents, &active)?;
-    Ok(ActiveRows { below, above })
+    links.reserve(1)?;
+    hanging.make_room(link.supplier)?;
+    supplied.make_room(link.supplier)?;
+    consumed.make_room(link.consumer)
 }
 
-// The devices with these links, whose order is this.
-fn made(parents: Vec<Option<u32>>, links: Vec<Link>, order: Vec<u32>) -> Result<DeviceTies, Mem>
-    requires ties { AreTies (record { parents = parents.items; links = reverse links.items }) }
-    requires order { order.items ≡ order_by parents.items (reverse links.items) }
-    ensures { IfOk result (λ t. t ≡ record { parents = parents.items; links = reverse links.items }) }
+// Devices with these parents and no links. `Mem` if there is no memory for them.
+fn without_links(alloc: Global, parents: &[Option<u32>]) -> Result<DeviceTies, Mem>
+    requires numbered { length parents.now < 2 ^ 32 }
+    requires after { EachAfterParent 0 parents.now }
+    ensures { IfOk result (λ t. t ≡ record { parents = parents.now; links = [] }) }
 {
-    let alloc = *order.allocator();
-    let hanging = rows_below(alloc, &parents, &links)?;
-    let ActiveRows { below, above } = active_rows(alloc, &parents, &links)?;
+    let hanging = children(alloc, parents)?;
+    let parent_rows = parent_rows(alloc, parents)?;
+    let below = ShownRows::of_rows(alloc, &hanging)?;
+    let above = ShownRows::of_rows(alloc, &parent_rows)?;
     Ok(DeviceTies {
-        parents,
-        links,
+        parents: Vec::from_slice(alloc, parents)?,
+        links: Vec::new(alloc),
         hanging,
+        supplied: Rows::with_rows(alloc, parents.len())?,
+        consumed: Rows::with_rows(alloc, parents.len())?,
         below,
         above,
-        order,
+        order: registered(alloc, parents.len() as u32)?,
     })
 }

@@ -30,7 +30,7 @@ fn add_link(ties: &mut DeviceTies, link: Link) -> Result<(), Mem>
     requires { AreLinks ties.old.parents (link ∷ ties.old.links) }
     ensures { OnOk result (ties.new ≡ with_links ties.old (link ∷ ties.old.links)) }
 {
-    *ties = ties.with_link(link)?;
+    ties.add_link(link)?;
     Ok(())
 }
 

@@ -1,52 +1,83 @@
-use Rattle.std.proofs.Common.{◌≡◌, ◌∙◌, ℕ, Bool, List, Option, length, map, reverse, refl, ap, sym, subst}
+use Rattle.std.proofs.Common.{◌≡◌, ◌<◌, ◌∙◌, ℕ, List, length, map, reverse, refl, ap, sym, subst}
 use Rattle.sleep_model.specs.declared.machine.Link.{Link}
-use Rattle.sleep_model.specs.Order.{order_by, with_state}
-use Rattle.sleep_model.proofs.Changing.{same_supplier, same_consumer, dependents_kept, links_kept, order_kept}
-use Rattle.check_order.specs.Kept.{AreTies, IsTableOf, Ties, with_links}
-use Rattle.check_order.proofs.Tying.{active_as, below_as, reversed_map, ties, ties_as}
+use Rattle.sleep_model.specs.Order.{with_state}
+use Rattle.check_order.specs.Kept.{AreShown, StandsAt, Ties, links_with, with_links}
+use Rattle.check_order.proofs.Making.{made_as, made_set}
+use Rattle.check_order.proofs.Placing.{linked_within, new_state, none_changed, same_state, stands_there}
+use Rattle.check_order.proofs.Tying.{ties_as}
 use Rattle.check_order.proofs.ties.DeviceTies.set_state.Goals as goal
 
--- the parents and links after a change of a state are such, too
-kept : (s d : ℕ) (to : Bool) (ps : List (Option ℕ)) (ls new : List Link) → new ≡ map (with_state s d to) ls → AreTies (ties ps ls) → AreTies (ties ps new)
-kept s d to ps ls new e was =
-    subst AreTies (sym (ties_as refl e))
-    (record { numbered = was.numbered; after = was.after; linked = links_kept (with_state s d to) (same_supplier s d to) (same_consumer s d to) ps ls was.linked })
+pub returns-in_default : goal.returns-in_default
+returns-in_default c =
+    let s = c.args.supplier in
+    let d = c.args.consumer in
+    let f = with_state s d c.args.active in
+    let none = subst (λ (ls : List Link). map f (reverse ls) ≡ reverse ls) c.deref.ensures.value (none_changed s d c.args.active (reverse c.deref.result.now) c.in_default.ensures) in
+    ap (with_links c.args.self.now) (sym (subst (λ (v : Ties). map f v.links ≡ v.links) c.self.view_is none))
 
-pub returns-then-have_state : goal.returns-then-have_state
-returns-then-have_state c =
-    let f = with_state c.args.supplier c.args.consumer c.args.active in
-    let links : List Link = c.self.inside.links.items in
-    let same : map f links ≡ links = subst (λ (xs : List Link). map f xs ≡ xs) c.deref.ensures.value (c.have_state.ensures c.if-have_state.true) in
-    let seen : map f c.args.self.now.links ≡ c.args.self.now.links = subst (λ (v : Ties). map f v.links ≡ v.links) c.self.view_is (sym (reversed_map f links) ∙ ap reverse same) in
-    ap (with_links c.args.self.now) (sym seen)
-
-pub active_rows-requires : goal.active_rows-requires
-active_rows-requires c =
+pub returns-then-index-active : goal.returns-then-index-active
+returns-then-index-active c =
+    let s = c.args.supplier in
+    let d = c.args.consumer in
+    let f = with_state s d c.args.active in
     let old = c.self.inside in
-    let f = with_state c.args.supplier c.args.consumer c.args.active in
-    let links = ap reverse (c.in_ok-links.ensures ∙ ap (map f) c.deref-2.ensures.value) ∙ reversed_map f old.links.items in
-    subst AreTies (sym (ties_as c.deref-3.ensures.value (ap reverse c.deref-4.ensures.value)))
-    (kept c.args.supplier c.args.consumer c.args.active old.parents.items (reverse old.links.items) (reverse c.in_ok-links.links.items) links c.self.invariant.ties)
+    let at = subst (λ (ls : List Link). StandsAt s d ls c.in-Some.place) c.deref.ensures.value c.in-Some.ensures in
+    let same = same_state s d c.args.active old.parents.items old.links.items c.self.invariant.ties.linked c.in-Some.place at c.index.result.now c.index.ensures c.if-index-active.true in
+    ap (with_links c.args.self.now) (sym (subst (λ (v : Ties). map f v.links ≡ v.links) c.self.view_is same))
+
+pub row_above-requires : goal.row_above-requires
+row_above-requires c =
+    let s = c.args.supplier in
+    let d = c.args.consumer in
+    let old = c.self.inside in
+    let at = subst (λ (ls : List Link). StandsAt s d ls c.in-Some.place) c.deref.ensures.value c.in-Some.ensures in
+    let linked = c.self.invariant.ties.linked in
+    let within = linked_within old.parents.items s d (reverse old.links.items) linked (stands_there s d c.args.active old.parents.items old.links.items linked c.in-Some.place at) in
+    subst (λ (v : Ties). d < length v.parents) c.self.view_is within.1
+
+pub replace-requires : goal.replace-requires
+replace-requires c =
+    let s = c.args.supplier in
+    let d = c.args.consumer in
+    let old = c.self.inside in
+    let at = subst (λ (ls : List Link). StandsAt s d ls c.in-Some.place) c.deref.ensures.value c.in-Some.ensures in
+    let linked = c.self.invariant.ties.linked in
+    let within = linked_within old.parents.items s d (reverse old.links.items) linked (stands_there s d c.args.active old.parents.items old.links.items linked c.in-Some.place at) in
+    subst (λ (n : ℕ). s < n) (sym c.self.invariant.active.below.count) within.0
+
+pub replace-requires-2 : goal.replace-requires-2
+replace-requires-2 c =
+    let s = c.args.supplier in
+    let d = c.args.consumer in
+    let old = c.self.inside in
+    let at = subst (λ (ls : List Link). StandsAt s d ls c.in-Some.place) c.deref.ensures.value c.in-Some.ensures in
+    let linked = c.self.invariant.ties.linked in
+    let within = linked_within old.parents.items s d (reverse old.links.items) linked (stands_there s d c.args.active old.parents.items old.links.items linked c.in-Some.place at) in
+    subst (λ (n : ℕ). d < n) (sym c.self.invariant.active.above.count) within.1
 
 pub invariant_of-self : goal.invariant_of-self
 invariant_of-self c =
-    let old = c.self.inside in
     let s = c.args.supplier in
     let d = c.args.consumer in
-    let to = c.args.active in
-    let f = with_state s d to in
+    let old = c.self.inside in
     let ps = old.parents.items in
-    let ls = reverse old.links.items in
-    let links = ap reverse (c.in_ok-links.ensures ∙ ap (map f) c.deref-2.ensures.value) ∙ reversed_map f old.links.items in
-    record {
-      ties = kept s d to ps ls (reverse c.in_ok-links.links.items) links c.self.invariant.ties;
-      hanging = below_as old.hanging.rows refl (sym links) (subst (λ (g : ℕ → List ℕ). IsTableOf (length ps) g old.hanging.rows) (sym (dependents_kept f (same_supplier s d to) (same_consumer s d to) ps ls)) c.self.invariant.hanging);
-      active = active_as c.in_ok-below.field-0.below.rows c.in_ok-below.field-0.above.rows c.deref-3.ensures.value (ap reverse c.deref-4.ensures.value) c.in_ok-below.ensures;
-      order = c.self.invariant.order ∙ (sym (order_kept f (same_supplier s d to) (same_consumer s d to) ps ls) ∙ ap (order_by ps) (sym links));
-    }
+    let l : Link = record { supplier = s; consumer = d; active = c.args.active } in
+    let at = subst (λ (ls : List Link). StandsAt s d ls c.in-Some.place) c.deref.ensures.value c.in-Some.ensures in
+    let linked = c.self.invariant.ties.linked in
+    let stands = stands_there s d c.args.active ps old.links.items linked c.in-Some.place at in
+    let below = c.in_ok-below.below.items in
+    let above = c.in_ok-above.above.items in
+    let shown : AreShown ps (links_with l (reverse old.links.items)) l below above =
+    subst (λ (v : Ties). AreShown v.parents (links_with l v.links) l below above) (sym c.self.view_is) (record { below = c.in_ok-below.ensures; above = c.in_ok-above.ensures }) in
+    made_as old.order.items (sym (new_state s d c.args.active ps old.links.items linked c.in-Some.place at)) refl refl refl (sym c.replace.ensures) (sym c.replace-2.ensures)
+    (made_set ps (reverse old.links.items) old.hanging.rows old.supplied.rows old.consumed.rows old.below old.above old.order.items c.self.invariant l stands below above shown)
 
 pub returns : goal.returns
 returns c =
-    let f = with_state c.args.supplier c.args.consumer c.args.active in
-    let links = ap reverse (c.in_ok-links.ensures ∙ ap (map f) c.deref-2.ensures.value) ∙ reversed_map f c.self.inside.links.items in
-    ties_as refl links ∙ ap (λ (v : Ties). with_links v (map f v.links)) c.self.view_is
+    let s = c.args.supplier in
+    let d = c.args.consumer in
+    let old = c.self.inside in
+    let f = with_state s d c.args.active in
+    let at = subst (λ (ls : List Link). StandsAt s d ls c.in-Some.place) c.deref.ensures.value c.in-Some.ensures in
+    ties_as refl (new_state s d c.args.active old.parents.items old.links.items c.self.invariant.ties.linked c.in-Some.place at)
+    ∙ ap (λ (v : Ties). with_links v (map f v.links)) c.self.view_is

@@ -1,6 +1,0 @@
-use Rattle.std.proofs.Common.{◌≡◌, map, take}
-use Rattle.sleep_model.specs.Order.{with_state}
-use Rattle.check_order.proofs.links.set_states.Given as goal
-
-abbrev pub invariant-loop-link : goal.invariant-loop-link
-invariant-loop-link l = l.set.items ≡ map (with_state l.supplier l.consumer l.active) (take l.link-index l.links)
