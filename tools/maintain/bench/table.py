@@ -151,9 +151,33 @@ def link_states():
 # ---- logs that are read
 
 
-def checked(make):
+def checked(make, less=None, each=None):
     """The time of the checker over a machine and its log."""
-    return Spent(("check",), lambda clock: clock.file(make) + b"\n" + clock.log(make))
+    return Spent(("check",), lambda clock: clock.file(make) + b"\n" + clock.log(make), less=less, each=each)
+
+
+def checked_states(name):
+    """The checker over the log of a task that sets states of links, where 400 and 4,000 stand, divided by the same where 40 do."""
+    spents = {
+        f"states: {name}, {count} links": checked(
+            functools.partial(machines.set_states, machines.spread(count), STATES[name], STATES_TAKEN, STATES_TIMES)
+        )
+        for count in (40, 400, 4000)
+    }
+    few = next(iter(spents.values()))
+    return against(few, [(row, spent, 1.5) for row, spent in spents.items()])
+
+
+def checked_links():
+    """The checker over the log of a task that adds links, for each of them divided by that of half as many."""
+    bare = checked(functools.partial(machines.scripted, 0))
+    return against_before(
+        {
+            f"{count} links added": checked(functools.partial(machines.scripted, count), less=bare, each=lambda clock, count=count: count)
+            for count in (1000, 2000, 4000)
+        },
+        1.5,
+    )
 
 
 def checks():
@@ -167,12 +191,7 @@ def checks():
         ("events", machines.hard_events, 5),
     ]
     told = [Row(name, checked(make), (run_of(make),), most) for name, make, most in rows]
-    few, many = (
-        checked(functools.partial(machines.set_states, machines.spread(count), STATES["stays"], STATES_TAKEN, STATES_TIMES))
-        for count in (40, 4000)
-    )
-    # A state that is set anew makes nothing, but its link is still looked for among all.
-    return told + against(few, [("states that stay, 40 links", few, None), ("states that stay, 4000 links", many, None)])
+    return told + [row for name in STATES for row in checked_states(name)] + checked_links()
 
 
 STATS_ENTRIES = 2_000_000
