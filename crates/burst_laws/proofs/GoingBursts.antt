@@ -9,7 +9,7 @@ use Rattle.run_objects.specs.Objects.{SeatedCoreState, SeatedSourceState}
 use Rattle.wakeup_source.specs.SourceStates.{SourceState}
 use Rattle.running_laws.specs.Running.{AreSources, IsGoing, of_sources}
 use Rattle.run_world.specs.declared.task.Task.{Task}
-use Rattle.burst_laws.specs.Courses.{AreTasks, GoesFarther, GoesOnAt, has_task, lists_of}
+use Rattle.burst_laws.specs.Courses.{AreTasks, GoesFarther, GoesOnAt, has_task}
 use Rattle.burst_laws.specs.Keeping.{BurstsGoOn, GoesOnWith}
 use Rattle.burst_laws.specs.Serial.{IsSerial, plain_sources, standing_of}
 use Rattle.burst_laws.proofs.GoingOn.{courses_go_on}

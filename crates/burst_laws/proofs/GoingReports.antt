@@ -7,18 +7,14 @@ use Rattle.sleep_model.specs.declared.entry.SourceEntry.{SourceEntry}
 use Rattle.sleep_model.specs.declared.machine.Machine.{Machine}
 use Rattle.sleep_model.specs.declared.machine.SourceCall.{SourceCall}
 use Rattle.sleep_model.specs.declared.word.Stamp.{Stamp}
-use Rattle.sleep_model.specs.declared.word.WordKind.{WordKind}
 use Rattle.sleep_model.specs.Calls.{calls_of, note}
 use Rattle.sleep_model.specs.Fits.{fits_actor, is_word64}
 use Rattle.sleep_model.specs.Merge.{of_source}
 use Rattle.sleep_model.specs.Numbers.{time_of}
-use Rattle.sleep_model.specs.Sources.{makes, since}
 use Rattle.sleep_state.specs.Places.{entries}
 use Rattle.sleep_script.specs.Jobs.{JobState}
 use Rattle.wakeup_source.specs.declared.call_by.CallBy.{CallBy}
-use Rattle.wakeup_source.specs.Called.{Calls, Scene, Steps, after_note, after_step}
 use Rattle.wakeup_source.specs.SourceStates.{SourceState}
-use Rattle.wakeup_source.specs.SourceStates as states
 use Rattle.fit_laws.specs.Ranged.{is_ranged}
 use Rattle.merge_laws.specs.Apart.{IsCall}
 use Rattle.turn_lock.specs.declared.view.Made.{Made}

@@ -1,15 +1,13 @@
 -- A burst leaves no list shorter.
-use Rattle.std.proofs.Common.{◌≡◌, ◌≤◌, ◌+◌, ◌==◌, ◌∙◌, ℕ, Bool, true, false, List, length, ap, sym, subst, length-append, arith, refl, suc}
+use Rattle.std.proofs.Common.{◌≡◌, ◌≤◌, ◌+◌, ◌==◌, ℕ, Bool, true, false, List, length, ap, subst, length-append, arith, refl, suc}
 use Rattle.std.proofs.lemmas.Bool.Decides.{nat_tests}
 use Rattle.std.proofs.lemmas.List.{length-map}
 use Rattle.sleep_model.specs.declared.entry.JournalEntry.{JournalEntry}
 use Rattle.turn_lock.specs.declared.view.Made.{Made}
 use Rattle.run_laws.specs.Passes.{Noted}
-use Rattle.run_objects.specs.Objects.{SeatedCoreState, SeatedSourceState}
-use Rattle.run_world.specs.declared.task.Task.{Task}
-use Rattle.run_world.specs.Bursts.{IsBurst}
+use Rattle.run_objects.specs.Objects.{SeatedSourceState}
 use Rattle.wakeup_source.specs.SourceStates.{SourceState}
-use Rattle.running_laws.specs.Running.{entries_in, entry_count, of_sources}
+use Rattle.running_laws.specs.Running.{of_sources}
 use Rattle.running_laws.proofs.Rising.{entries_more}
 use Rattle.burst_laws.specs.Courses.{Begins, Course, Goes, Lands, Standing, lists_of}
 use Rattle.burst_laws.specs.Keeping.{BurstsGrow}

@@ -1,0 +1,5 @@
+use Rattle.burst_laws.proofs.laws.bursts_grow.Goals as goal
+use Rattle.burst_laws.proofs.SerialGrowth.{bursts_grow}
+
+pub returns : goal.returns
+returns c = bursts_grow
