@@ -157,13 +157,14 @@ def checked(make, less=None, each=None):
 
 
 def checked_states(name):
-    """The checker over the log of a task that sets states of links, where 400 and 4,000 stand, divided by the same where 40 do."""
-    spents = {
-        f"states: {name}, {count} links": checked(
-            functools.partial(machines.set_states, machines.spread(count), STATES[name], STATES_TAKEN, STATES_TIMES)
-        )
-        for count in (40, 400, 4000)
-    }
+    """The checker over each state that a task sets, less the same machine whose task does nothing, divided by that of 40 links."""
+    spents = {}
+    for count in (40, 400, 4000):
+        make = functools.partial(machines.set_states, machines.spread(count))
+        less = checked(functools.partial(make, (), STATES_TAKEN, STATES_TIMES))
+        steps = STATES_TAKEN * len(STATES[name]) * STATES_TIMES
+        told = checked(functools.partial(make, STATES[name], STATES_TAKEN, STATES_TIMES), less=less, each=lambda clock, steps=steps: steps)
+        spents[f"state {name}, {count} links"] = told
     few = next(iter(spents.values()))
     return against(few, [(row, spent, 1.5) for row, spent in spents.items()])
 
