@@ -99,22 +99,6 @@ after_turn_counts jobs who x n after b h none is now more = omega (arith, owing_
 after_call_counts : (jobs : JobsState) (who : Actor) (x : JobState) (n after : ℕ) (b : Bool) → HasJob jobs who → 0 < length (job_at jobs who).pending → n ≡ owing jobs → b ≡ owes x → after + 1 ≡ n + one_if b → after ≡ owing (with_job jobs who x)
 after_call_counts jobs who x n after b h some is now left = omega (arith, owing_with jobs who x h, owes_some (job_at jobs who) some, is, ap one_if now, left)
 
--- the jobs are others in an actor's place alone, before they are counted, and it is told whether the new one has a call to make
-pub record IsMoved (was is : Inside) (who : Actor) (told : Bool) : Type 0 where
-  pub job : JobState
-  pub jobs_are : jobs is ≡ with_job (jobs was) who job
-  pub owing_is : is.owing ≡ was.owing
-  pub told_is : told ≡ owes job
-
--- the job of that actor is another now
-pub moved_there : (was : Inside) (who at : Actor) (x : JobState) → who ≡ at → {is next : Inside} → is ≡ next → jobs next ≡ with_job (jobs was) at x → next.owing ≡ was.owing → {told : Bool} → told ≡ owes x → IsMoved was is who told
-moved_there was who at x here now jobs_are owing_is told_is = record {
-  job = x;
-  jobs_are = ap jobs now ∙ (jobs_are ∙ ap (λ (a : Actor). with_job (jobs was) a x) (sym here));
-  owing_is = ap (λ (j : Inside). j.owing) now ∙ owing_is;
-  told_is = told_is;
-}
-
 -- who has a job and is neither a script nor a device is the autosleep work
 pub is_auto : (those : JobsState) (who : Actor) → HasJob those who → ((i : ℕ) → who ≡ actor.Script i → ⊥) → ((d : ℕ) → who ≡ actor.Dev d → ⊥) → who ≡ actor.Auto
 is_auto those (actor.Script i) h script device = absurd (script i refl)
@@ -138,22 +122,24 @@ many_devices those (actor.Timer s) x = refl
 many_devices those actor.Time x = refl
 
 -- counted anew the jobs are as they are to be
-counted : (was is : Inside) (who : Actor) (told : Bool) (n : ℕ) → AreCounted was → (m : IsMoved was is who told) → n ≡ owing (with_job (jobs was) who m.job) → AreCounted (record is { owing = n })
-counted was is who told n k m e = record {
-  few_scripts = omega (arith, ap (λ (those : JobsState). length those.scripts) m.jobs_are, many_scripts (jobs was) who m.job, k.few_scripts);
-  few_devices = omega (arith, ap (λ (those : JobsState). length those.devices) m.jobs_are, many_devices (jobs was) who m.job, k.few_devices);
-  owing_is = e ∙ ap owing (sym m.jobs_are);
+counted : (was : Inside) (who : Actor) (job : JobState) (now : JobsState) (n : ℕ) → AreCounted was → now ≡ with_job was.actors who job → n ≡ owing (with_job was.actors who job) → AreCounted (record { actors = now; owing = n })
+counted was who job now n k is e = record {
+  few_scripts = omega (arith, ap (λ (those : JobsState). length those.scripts) is, many_scripts was.actors who job, k.few_scripts);
+  few_devices = omega (arith, ap (λ (those : JobsState). length those.devices) is, many_devices was.actors who job, k.few_devices);
+  owing_is = e ∙ ap owing (sym is);
 }
 
 -- after a turn of one that had no call to make
-pub turn_counted : (was is : Inside) (who : Actor) (told : Bool) (n : ℕ) → HasJob (jobs was) who → (job_at (jobs was) who).pending ≡ [] → AreCounted was → IsMoved was is who told → n ≡ is.owing + one_if told → AreCounted (record is { owing = n })
-turn_counted was is who told n h none k m more =
-    counted was is who told n k m (after_turn_counts (jobs was) who m.job was.owing n told h none k.owing_is m.told_is (more ∙ ap (λ o. o + one_if told) m.owing_is))
+pub turn_counted : (was : Inside) (who : Actor) (job : JobState) (now : JobsState) (told : Bool) (n : ℕ) → HasJob was.actors who → (job_at was.actors who).pending ≡ [] → AreCounted was
+    → now ≡ with_job was.actors who job → told ≡ owes job → n ≡ was.owing + one_if told → AreCounted (record { actors = now; owing = n })
+turn_counted was who job now told n h none k is owes_is more =
+    counted was who job now n k is (after_turn_counts was.actors who job was.owing n told h none k.owing_is owes_is more)
 
 -- after a call of one that had it to make
-pub call_counted : (was is : Inside) (who : Actor) (told : Bool) (n : ℕ) → HasJob (jobs was) who → 0 < length (job_at (jobs was) who).pending → AreCounted was → IsMoved was is who told → n + 1 ≡ is.owing + one_if told → AreCounted (record is { owing = n })
-call_counted was is who told n h some k m left =
-    counted was is who told n k m (after_call_counts (jobs was) who m.job was.owing n told h some k.owing_is m.told_is (left ∙ ap (λ o. o + one_if told) m.owing_is))
+pub call_counted : (was : Inside) (who : Actor) (job : JobState) (now : JobsState) (told : Bool) (n : ℕ) → HasJob was.actors who → 0 < length (job_at was.actors who).pending → AreCounted was
+    → now ≡ with_job was.actors who job → told ≡ owes job → n + 1 ≡ was.owing + one_if told → AreCounted (record { actors = now; owing = n })
+call_counted was who job now told n h some k is owes_is left =
+    counted was who job now n k is (after_call_counts was.actors who job was.owing n told h some k.owing_is owes_is left)
 
 owing_least : (xs : List JobState) (i : ℕ) (none : JobState) → i < length xs → one_if (owes (slice_index_or xs i none)) ≤ owing_of xs
 owing_least [] i none l = absurd (omega (arith, l))

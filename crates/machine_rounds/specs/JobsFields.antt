@@ -5,13 +5,13 @@ use Rattle.machine_rounds.specs.JobsOf.{JobsState, owing}
 
 -- the jobs as contracts see them
 abbrev pub jobs : Inside → JobsState
-jobs j = record { scripts = j.scripts.items; auto = j.auto; devices = j.devices.items }
+jobs j = j.actors
 
 -- there are few, and it is counted how many have a call on a source to make
 pub record AreCounted (j : Inside) : Type 0 where
-  pub few_scripts : length j.scripts.items < 2 ^ 30
-  pub few_devices : length j.devices.items < 2 ^ 30
-  pub owing_is : j.owing ≡ owing (jobs j)
+  pub few_scripts : length j.actors.scripts < 2 ^ 30
+  pub few_devices : length j.actors.devices < 2 ^ 30
+  pub owing_is : j.owing ≡ owing j.actors
 
 -- what holds of the jobs between calls
 abbrev pub keeps : Inside → Type 0

@@ -1,10 +1,12 @@
 -- The jobs of a machine's actors, together.
-use Rattle.std.specs.Prelude.{◌≡◌, ◌<◌, ◌+◌, ℕ, zero, suc, Bool, nat_lt, List, [], ◌∷◌, ◌++◌, length, slice_set, slice_index_or}
+use Rattle.std.specs.Prelude.{◌≡◌, ◌<◌, ◌+◌, ◌^◌, ℕ, zero, suc, Bool, nat_lt, List, [], ◌∷◌, ◌++◌, length, slice_set, slice_index_or}
 use Rattle.sleep_model.specs.declared.entry.Actor.{Actor}
 use Rattle.sleep_model.specs.declared.entry.Actor.TheVariants as actor
 use Rattle.sleep_model.specs.declared.machine.Machine.{Machine}
 use Rattle.sleep_model.specs.Places.{one_if}
-use Rattle.sleep_script.specs.Jobs.{JobState, first_job}
+use Rattle.sleep_script.specs.Jobs.{JobState, after_call, after_turn, first_job}
+use Rattle.machine_rounds.specs.declared.jobs.Heard.{Heard}
+use Rattle.machine_rounds.specs.declared.jobs.Heard.TheVariants as heard
 
 -- the jobs of the scripts, of the autosleep work, and of the devices, by number
 pub record JobsState : Type 0 where
@@ -35,6 +37,16 @@ abbrev pub with_job : JobsState → Actor → JobState → JobsState
 with_job jobs (actor.Script i) job = record jobs { scripts = slice_set jobs.scripts i job }
 with_job jobs (actor.Dev d) job = record jobs { devices = slice_set jobs.devices d job }
 with_job jobs _ job = record jobs { auto = job }
+
+-- a job after what it heard of its actor
+abbrev pub after_hearing : Heard → JobState → JobState
+after_hearing (heard.Entry stamp k attempt) job = after_turn stamp k attempt job
+after_hearing (heard.Call stamp) job = after_call stamp job
+
+-- the actor could do that: an entry with no call left to make, or the call that was next
+abbrev pub MayHear : JobState → Heard → Type 0
+MayHear job (heard.Entry stamp k attempt) = (job.pending ≡ []) × (job.turns < 2 ^ 63)
+MayHear job (heard.Call stamp) = (0 < length job.pending) × (job.calls + 1 < 2 ^ 32)
 
 -- the jobs of the first n actors of a kind, before anything was done
 abbrev pub first_jobs_of : Machine → (ℕ → Actor) → ℕ → List JobState

@@ -243,10 +243,8 @@ impl<'m> Run<'m> {
         ensures { IfSome result (IsRefused self.now) }
     {
         match stop {
-            Some(Stop::Mem { .. }) => Some(RunFault::Mem),
-            Some(Stop::Full { source, .. }) if self.is_full(source) => {
-                Some(RunFault::SourceFull(source))
-            }
+            Some(Stop::Mem) => Some(RunFault::Mem),
+            Some(Stop::Full(source)) if self.is_full(source) => Some(RunFault::SourceFull(source)),
             _ => None,
         }
     }

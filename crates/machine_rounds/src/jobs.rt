@@ -5,7 +5,7 @@ ghost use Rattle.sleep_model.specs.declared.entry.Actor.TheVariants.{Script, Dev
 ghost use Rattle.sleep_model.specs.Accepted.{IsAccepted};
 ghost use Rattle.sleep_model.specs.Places.{one_if};
 ghost use Rattle.sleep_script.specs.Jobs.{IsWanted, first_job, after_turn, after_call};
-ghost use Rattle.machine_rounds.specs.JobsOf.{owes, owing_of, job_at, HasJob, with_job, first_jobs_of, first_jobs};
+ghost use Rattle.machine_rounds.specs.JobsOf.{owes, owing_of, job_at, HasJob, MayHear, after_hearing, with_job, first_jobs_of, first_jobs};
 
 use machine_plans::MachinePlans;
 use sleep_base::Mem;
@@ -14,13 +14,39 @@ use sleep_script::Job;
 use std::alloc::Global;
 use std::marker::Model;
 
+/// What a job hears of its actor.
+#[derive(Clone, Copy)]
+pub(crate) enum Heard {
+    /// It made an entry of the journal, with that stamp, where `attempt` attempts were begun.
+    Entry {
+        stamp: Stamp,
+        kind: Kind,
+        attempt: u32,
+    },
+    /// It made the call that was next, and knows that stamp.
+    Call(Stamp),
+}
+
 /// The jobs of the scripts, the autosleep work and the devices, by number.
 #[derive(Drop)]
-pub(crate) struct Jobs<'m> {
+pub(crate) struct ActorJobs<'m> {
     pub(crate) scripts: Vec<Job<'m>>,
     pub(crate) auto: Job<'m>,
     pub(crate) devices: Vec<Job<'m>>,
-    /// How many of them have a call on a source to make.
+}
+
+impl<'m> Model for ActorJobs<'m> {
+    ghost use Rattle.machine_rounds.specs.JobsOf.{JobsState};
+
+    ghost Value = { JobsState };
+
+    ghost view = { λ j. record { scripts = j.scripts.items; auto = j.auto; devices = j.devices.items } };
+}
+
+/// Those jobs, and how many of them have a call on a source to make.
+#[derive(Drop)]
+pub(crate) struct Jobs<'m> {
+    pub(crate) actors: ActorJobs<'m>,
     owing: u32,
 }
 
@@ -92,6 +118,54 @@ fn left_owing(owes: bool, owing: u32) -> u32
     if owes { owing } else { owing - 1 }
 }
 
+/// A job hears what its actor made. Whether it has a call on a source to make then.
+#[inline(always)]
+fn hear(job: &mut Job<'_>, heard: Heard) -> bool
+    requires { MayHear job.old heard }
+    ensures job { job.new ≡ after_hearing heard job.old }
+    ensures owes { result ≡ owes job.new }
+{
+    match heard {
+        Heard::Entry {
+            stamp,
+            kind,
+            attempt,
+        } => job.told_turn(stamp, kind, attempt),
+        Heard::Call(stamp) => job.told_source(stamp),
+    }
+    job.owes()
+}
+
+impl<'m> ActorJobs<'m> {
+    /// The job of an actor.
+    #[inline(always)]
+    fn job(&self, who: Actor) -> &Job<'m>
+        requires { HasJob self.now who }
+        ensures { result.now ≡ job_at self.now who }
+    {
+        match who {
+            Actor::Script(script) => &self.scripts[script as usize],
+            Actor::Dev(device) => &self.devices[device as usize],
+            _ => &self.auto,
+        }
+    }
+
+    /// The job of an actor hears what that made. Whether it has a call on a source to make then.
+    #[inline(always)]
+    fn hear(&mut self, who: Actor, heard: Heard) -> bool
+        requires job { HasJob self.old who }
+        requires may { MayHear (job_at self.old who) heard }
+        ensures jobs { self.new ≡ with_job self.old who (after_hearing heard (job_at self.old who)) }
+        ensures owes { result ≡ owes (after_hearing heard (job_at self.old who)) }
+    {
+        match who {
+            Actor::Script(script) => hear(&mut self.scripts[script as usize], heard),
+            Actor::Dev(device) => hear(&mut self.devices[device as usize], heard),
+            _ => hear(&mut self.auto, heard),
+        }
+    }
+}
+
 impl<'m> Jobs<'m> {
     ghost use Rattle.std.specs.Bool.{OnTrue};
     ghost use Rattle.machine_rounds.specs.JobsOf.{OweNone};
@@ -106,9 +180,11 @@ impl<'m> Jobs<'m> {
     {
         let owing = owing_among(scripts.as_slice());
         Jobs {
-            scripts,
-            auto,
-            devices,
+            actors: ActorJobs {
+                scripts,
+                auto,
+                devices,
+            },
             owing,
         }
     }
@@ -123,9 +199,11 @@ impl<'m> Jobs<'m> {
         let devices_owing = owing_among(devices.as_slice());
         let owing = more_owing(auto.owes(), scripts_owing + devices_owing);
         Jobs {
-            scripts,
-            auto,
-            devices,
+            actors: ActorJobs {
+                scripts,
+                auto,
+                devices,
+            },
             owing,
         }
     }
@@ -142,27 +220,21 @@ impl<'m> Jobs<'m> {
     }
 
     /// What an actor does next: the call on a source that is next, else a turn of the core.
+    #[inline(always)]
     pub(crate) fn next(&self, who: Actor) -> Want
         requires { HasJob self.now who }
         ensures { IsWanted (job_at self.now who) result }
     {
-        match who {
-            Actor::Script(script) => self.scripts[script as usize].next(),
-            Actor::Dev(device) => self.devices[device as usize].next(),
-            _ => self.auto.next(),
-        }
+        self.actors.job(who).next()
     }
 
     /// How many calls on sources an actor has made.
+    #[inline(always)]
     pub(crate) fn calls(&self, who: Actor) -> u32
         requires { HasJob self.now who }
         ensures { result ≡ (job_at self.now who).calls }
     {
-        match who {
-            Actor::Script(script) => self.scripts[script as usize].calls(),
-            Actor::Dev(device) => self.devices[device as usize].calls(),
-            _ => self.auto.calls(),
-        }
+        self.actors.job(who).calls()
     }
 
     /// An actor made an entry of the journal, with that stamp, where `attempt` attempts were begun.
@@ -172,22 +244,12 @@ impl<'m> Jobs<'m> {
         requires few { (job_at self.old who).turns < 2 ^ 63 }
         ensures { self.new ≡ with_job self.old who (after_turn stamp kind attempt (job_at self.old who)) }
     {
-        let owes = match who {
-            Actor::Script(script) => {
-                let job = &mut self.scripts[script as usize];
-                job.told_turn(stamp, kind, attempt);
-                job.owes()
-            }
-            Actor::Dev(device) => {
-                let job = &mut self.devices[device as usize];
-                job.told_turn(stamp, kind, attempt);
-                job.owes()
-            }
-            _ => {
-                self.auto.told_turn(stamp, kind, attempt);
-                self.auto.owes()
-            }
+        let heard = Heard::Entry {
+            stamp,
+            kind,
+            attempt,
         };
+        let owes = self.actors.hear(who, heard);
         self.owing = more_owing(owes, self.owing);
     }
 
@@ -198,22 +260,7 @@ impl<'m> Jobs<'m> {
         requires few { (job_at self.old who).calls + 1 < 2 ^ 32 }
         ensures { self.new ≡ with_job self.old who (after_call stamp (job_at self.old who)) }
     {
-        let owes = match who {
-            Actor::Script(script) => {
-                let job = &mut self.scripts[script as usize];
-                job.told_source(stamp);
-                job.owes()
-            }
-            Actor::Dev(device) => {
-                let job = &mut self.devices[device as usize];
-                job.told_source(stamp);
-                job.owes()
-            }
-            _ => {
-                self.auto.told_source(stamp);
-                self.auto.owes()
-            }
-        };
+        let owes = self.actors.hear(who, Heard::Call(stamp));
         self.owing = left_owing(owes, self.owing);
     }
 

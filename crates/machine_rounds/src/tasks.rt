@@ -5,7 +5,7 @@ ghost use Rattle.sleep_model.specs.declared.entry.Actor.TheVariants as actor;
 ghost use Rattle.sleep_script.specs.Jobs.{later};
 ghost use Rattle.machine_rounds.specs.TasksOf.{AreJobsOf, acts, all_actors, highest, jobs_in, numbered, tasks_of, timers};
 
-use crate::jobs::Jobs;
+use crate::jobs::{ActorJobs, Jobs};
 use run_world::Task;
 use sleep_base::Mem;
 use sleep_model::{Actor, Stamp};
@@ -138,12 +138,11 @@ impl<'m> Jobs<'m> {
     ) -> Result<Vec<Task<'m>>, AllocError>
         ensures { IfOk result (λ tasks. tasks.items ≡ tasks_of floor sources self.entry) }
     {
-        let Jobs {
+        let ActorJobs {
             scripts,
             auto,
             devices,
-            ..
-        } = self;
+        } = self.actors;
         let mut tasks = Vec::with_capacity(alloc, scripts.len())?;
         push_jobs(&mut tasks, scripts, floor)?;
         push_job(&mut tasks, auto, floor)?;

@@ -27,6 +27,11 @@ abbrev pub known_by : Task → Stamp
 known_by (task.Acts job) = job.floor
 known_by (task.Fires timer) = timer.floor
 
+-- how many calls on sources it has made (own)
+abbrev pub calls_by : Task → ℕ
+calls_by (task.Acts job) = job.calls
+calls_by (task.Fires timer) = timer.calls
+
 -- what it does next: a timer's call is the expiry (pm_wakeup_timer_fn)
 abbrev pub Wants : Task → Want → Type 0
 Wants (task.Acts job) w = IsWanted job w

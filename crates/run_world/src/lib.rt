@@ -22,4 +22,4 @@ pub use opening::world_objects;
 pub use placed::PlacedCore;
 pub use task::Task;
 pub use timed::TimedSource;
-pub use world::{CoreReply, Reported, World, WorldDesk, WorldPass};
+pub use world::{Reply, World, WorldDesk, WorldPass};

@@ -14,7 +14,7 @@ pub enum Task<'m> {
 
 impl<'m> Task<'m> {
     ghost use Rattle.std.specs.Prelude.{◌≡◌};
-    ghost use Rattle.run_world.specs.Acts.{Wants, known_by};
+    ghost use Rattle.run_world.specs.Acts.{Wants, calls_by, known_by};
 
     /// What it does next: a call on a source, else a turn of the machine.
     pub fn next(&self) -> Want
@@ -33,6 +33,15 @@ impl<'m> Task<'m> {
         match self {
             Task::Acts(job) => job.floor(),
             Task::Fires(timer) => timer.floor(),
+        }
+    }
+    /// How many calls on sources it has made, a timer those that ended an event.
+    pub fn calls(&self) -> u32
+        ensures { result ≡ calls_by self.now }
+    {
+        match self {
+            Task::Acts(job) => job.calls(),
+            Task::Fires(timer) => timer.calls(),
         }
     }
 }

@@ -43,20 +43,11 @@ pub struct World<'w, 'm, R, G> {
     pub moment: u64,
 }
 
-/// What a report on a source answers, with the pass.
+/// What came of taking a lock of the world, with the pass.
 #[derive(Drop)]
-pub struct Reported<'m> {
+pub struct Reply<'m, A> {
     pub pass: WorldPass<'m>,
-    /// What the caller then knows; None where it was an expiry whose moment has not come.
-    pub answer: Result<Option<Stamp>, SourceFault>,
-}
-
-/// What a turn of the machine answers, with the pass.
-#[derive(Drop)]
-pub struct CoreReply<'m> {
-    pub pass: WorldPass<'m>,
-    /// What it did; `Stale` where the actor's number of calls or its time is not the machine's.
-    pub answer: Result<CoreTurn, CoreFault>,
+    pub answer: A,
 }
 
 impl<'w, 'm, R: Wait, G: Gate> World<'w, 'm, R, G> {
@@ -70,7 +61,7 @@ impl<'w, 'm, R: Wait, G: Gate> World<'w, 'm, R, G> {
         source: u32,
         call: SourceCall,
         by: CallBy,
-    ) -> Reported<'m>
+    ) -> Reply<'m, Result<Option<Stamp>, SourceFault>>
         requires pass { IsWorldPass self.now.machine.now self.now.table.now.desk.shared.table_id
             self.now.desk.now.shared.table_id self.now.moment pass.token }
         requires there { source ≤ length self.now.machine.now.sources }
@@ -84,7 +75,7 @@ impl<'w, 'm, R: Wait, G: Gate> World<'w, 'm, R, G> {
     {
         let mut held = take(self.desk, self.rt, pass, 1 + source as usize);
         let answer = held.value().report(self.rt, self.table, by, call);
-        Reported {
+        Reply {
             pass: give(self.desk, held),
             answer,
         }
@@ -102,7 +93,7 @@ impl<'w, 'm, R: Wait, G: Gate> World<'w, 'm, R, G> {
         calls: u32,
         floor: Stamp,
         now: u64,
-    ) -> CoreReply<'m>
+    ) -> Reply<'m, Result<CoreTurn, CoreFault>>
         requires pass { IsWorldPass self.now.machine.now self.now.table.now.desk.shared.table_id
             self.now.desk.now.shared.table_id self.now.moment pass.token }
         requires actor { IsActor self.now.machine.now who }
@@ -118,7 +109,7 @@ impl<'w, 'm, R: Wait, G: Gate> World<'w, 'm, R, G> {
         let answer = held
             .value()
             .turn(self.rt, self.table, who, calls, floor, now);
-        CoreReply {
+        Reply {
             pass: give(self.desk, held),
             answer,
         }

@@ -1,11 +1,9 @@
 -- A whole burst, from what goes into it to what comes out.
-use Rattle.std.proofs.Common.{◌≡◌, ◌∙◌, ◌+◌, ℕ, true, List, ◌++◌, length, map, take, drop, sym, ap, subst, arith}
+use Rattle.std.proofs.Common.{◌≡◌, ◌∙◌, ◌+◌, ℕ, suc, List, ◌++◌, Result, Ok, Err, IfOk, length, take, drop, sym, ap, subst, arith}
 use Rattle.std.proofs.lemmas.List.{drop_all, take_all}
-use Rattle.sleep_model.specs.declared.machine.Machine.{Machine}
-use Rattle.sleep_model.specs.Fits.{is_word64}
 use Rattle.atomic_table.specs.Seated.{TableId}
 use Rattle.turn_lock.specs.declared.table.Pass.{Pass}
-use Rattle.turn_lock.specs.Passes.{AreAll, AreNew, Token, first_of}
+use Rattle.turn_lock.specs.Passes.{AreAll, Token, first_of}
 use Rattle.turn_lock.specs.Passing.{made_lists, tokens}
 use Rattle.run_laws.specs.Passes.{Noted}
 use Rattle.run_objects.specs.Objects.{AreKept, SeatedCoreState, SeatedSourceState}
@@ -13,13 +11,12 @@ use Rattle.run_world.specs.declared.object.WorldObject.{WorldObject}
 use Rattle.run_world.specs.Held.{AreAll as AreAllObjects, IsClosedWorld}
 use Rattle.run_world.specs.Objects.{AreObjects}
 use Rattle.run_world.specs.declared.task.Task.{Task}
-use Rattle.run_world.specs.Acts.{actor_of}
-use Rattle.run_world.specs.Bursts.{AllPlayed, IsBurst}
+use Rattle.run_world.specs.Bursts.{AllPlayed}
 use Rattle.world_workers.specs.declared.worker.Worker.{Worker}
-use Rattle.world_workers.specs.Bursts.{AreReady}
-use Rattle.world_workers.specs.Workers.{AreFresh, AreParts, AreWorkersOf, HaveGone}
+use Rattle.world_workers.specs.Opened.{Began, HasEnded, HasRun, IsOpened}
+use Rattle.world_workers.specs.Workers.{AreParts, AreWorkersOf, HaveGone}
 use Rattle.world_workers.proofs.Crews.{AreSame, actors_same, all_back, all_played, append_nil, fresh_workers, new_passes, tasks_back}
-use Rattle.world_workers.proofs.Opening.{objects_are}
+use Rattle.world_workers.proofs.Opening.{objects_are, those_count}
 use Rattle.world_workers.proofs.Closing.{ready_again}
 
 -- what a vector of that length has, once all of it was written over
@@ -28,51 +25,64 @@ written len new old same is =
     ap (λ (l : List _). take len (new ++ l)) (drop_all (length new) old (omega (arith, same))) ∙ ap (λ (l : List _). take len l) (append_nil new) ∙ take_all len new (omega (arith, same, is))
 
 -- how many objects there are
-pub world_count : (m : Machine) (table : TableId) (moment : ℕ) (core : SeatedCoreState) (sources : List SeatedSourceState) (tasks : List Task) (objects : List WorldObject)
-    → AreReady m table core sources tasks → AreKept sources → AreAllObjects moment core sources objects → length objects ≡ length m.sources + 2
-world_count m table moment core sources tasks objects ready kept all = (objects_are m table moment core sources tasks ready kept objects all).count
+pub world_count : (moment : ℕ) (core : SeatedCoreState) (sources : List SeatedSourceState) (objects : List WorldObject) → AreAllObjects moment core sources objects → length objects ≡ suc (length sources)
+world_count moment core sources objects all = ap (λ (l : List WorldObject). length l) all.are ∙ ap (λ (n : ℕ). suc n) (those_count sources all.rest all.those)
 
-module _ (m : Machine) (table locks : TableId) (moment : ℕ) (core : SeatedCoreState) (sources : List SeatedSourceState) (tasks : List Task) (objects : List WorldObject)
-    (own : Token WorldObject Noted) (passes : List (Pass WorldObject Noted)) (workers : List Worker)
-    (ready : AreReady m table core sources tasks) (kept : AreKept sources) (all : AreAllObjects moment core sources objects) (first_is : first_of own ≡ objects)
-    (place : own.table_id ≡ locks) (new : AreNew own (tokens passes)) (parts : AreParts workers passes tasks) (fresh : AreFresh moment workers) where
-  world : AreObjects m table moment objects
-  world = objects_are m table moment core sources tasks ready kept objects all
+module _ (b : Began) (own : Token WorldObject Noted) (locks : TableId) (workers : List Worker) (o : IsOpened b own locks workers) where
+  world : AreObjects b.machine b.table b.moment o.objects
+  world = objects_are b.machine b.table b.moment b.core b.sources b.tasks o.ready o.kept o.objects o.all
 
   -- they are a machine's, as the table has them
-  pub world_first : AreObjects m table moment (first_of own)
-  world_first = subst (AreObjects m table moment) (sym first_is) world
+  pub world_first : AreObjects b.machine b.table b.moment (first_of own)
+  world_first = subst (AreObjects b.machine b.table b.moment) (sym o.first) world
 
   -- the workers go with the world
-  pub start : AreWorkersOf m table locks moment workers
-  start = fresh_workers m table locks moment workers passes tasks parts fresh (new_passes m table locks moment own objects passes place first_is world new) ready.tasks_in
+  pub start : AreWorkersOf b.machine b.table locks b.moment workers
+  start = fresh_workers b.machine b.table locks b.moment workers o.passes b.tasks o.parts o.fresh (new_passes b.machine b.table locks b.moment own o.objects o.passes o.place o.first world o.new) o.ready.tasks_in
 
-  module _ (news : List Worker) (did : ℕ) (backs : List (Pass WorldObject Noted)) (thens : List Task) (gone : HaveGone workers news did) (go : AreWorkersOf m table locks moment news)
-      (after : AreParts news backs thens) where
-    played : AllPlayed (length m.sources + 1) moment tasks (made_lists backs) thens × AreSame passes backs
-    played = all_played m table locks moment workers news did passes backs tasks thens gone parts fresh (new_passes m table locks moment own objects passes place first_is world new) after
+module _ (b : Began) (own : Token WorldObject Noted) (locks : TableId) (workers : List Worker) (r : HasRun b own locks workers) (backs : List (Pass WorldObject Noted)) (thens : List Task)
+    (after : AreParts workers backs thens) where
+  played : AllPlayed (length b.machine.sources + 1) b.moment b.tasks (made_lists backs) thens × AreSame r.opened.passes backs
+  played = all_played b.machine b.table locks b.moment r.before workers r.did r.opened.passes backs b.tasks thens r.gone r.opened.parts r.opened.fresh
+      (new_passes b.machine b.table locks b.moment own r.opened.objects r.opened.passes r.opened.place r.opened.first (world b own locks r.before r.opened) r.opened.new) after
 
-    -- all passes come back
-    pub passes_back : AreAll own (tokens backs)
-    passes_back = all_back m table locks moment own passes backs news thens place new played.1 after go
+  -- all passes come back
+  pub passes_back : AreAll own (tokens backs)
+  passes_back = all_back b.machine b.table locks b.moment own r.opened.passes backs workers thens r.opened.place r.opened.new played.1 after r.goes
 
-    -- the tasks are of the same actors
-    pub actors_back : map actor_of thens ≡ map actor_of tasks
-    actors_back = actors_same (length m.sources + 1) moment tasks (made_lists backs) thens played.0
+  -- what comes back with them makes a burst
+  pub ended : (core : SeatedCoreState) (sources : List SeatedSourceState) → IsClosedWorld (first_of own) (made_lists backs) core sources → AreKept sources → HasEnded b core sources thens
+  ended core sources closed kept = record {
+    burst = record {
+      first = r.opened.objects;
+      passes = made_lists backs;
+      timed = r.opened.timed;
+      opened = r.opened.all;
+      closed = subst (λ (l : List WorldObject). IsClosedWorld l (made_lists backs) core sources) r.opened.first closed;
+      played = subst (λ (n : ℕ). AllPlayed n b.moment b.tasks (made_lists backs) thens) (sym r.opened.ready.count) played.0;
+    };
+    ready = ready_again b.machine b.table b.moment (first_of own) (made_lists backs) core sources (world_first b own locks r.before r.opened) closed kept thens
+        (tasks_back b.machine b.table locks b.moment workers backs thens after r.goes);
+    actors = actors_same (length b.machine.sources + 1) b.moment b.tasks (made_lists backs) thens played.0;
+  }
 
-    module _ (core_then : SeatedCoreState) (sources_then : List SeatedSourceState) (closed : IsClosedWorld (first_of own) (made_lists backs) core_then sources_then) where
-      -- it was a burst
-      pub is_burst : is_word64 moment ≡ true → IsBurst moment core sources tasks core_then sources_then thens
-      is_burst timed = record {
-        first = objects;
-        passes = made_lists backs;
-        timed = timed;
-        opened = all;
-        closed = subst (λ (l : List WorldObject). IsClosedWorld l (made_lists backs) core_then sources_then) first_is closed;
-        played = subst (λ (n : ℕ). AllPlayed n moment tasks (made_lists backs) thens) (sym ready.count) played.0;
-      }
+-- ---- a burst from its parts
 
-      -- another may follow
-      pub is_ready : AreKept sources_then → AreReady m table core_then sources_then thens
-      is_ready kept_then = ready_again m table moment (first_of own) (made_lists backs) core_then sources_then world_first closed kept_then thens
-          (tasks_back m table locks moment news backs thens after go)
+-- the workers of a burst that was opened have run, all written over in their vector
+pub has_run : (b : Began) (own : Token WorldObject Noted) (locks : TableId) (len : ℕ) (given new olds : List Worker) (did : ℕ) → IsOpened b own locks olds
+    → given ≡ olds → length new ≡ length given → len ≡ length olds → HaveGone given new did → AreWorkersOf b.machine b.table locks b.moment new
+    → HasRun b own locks (take len (new ++ drop (length new) olds))
+has_run b own locks len given new olds did o same many count gone goes =
+    let long : length new ≡ length olds = many ∙ ap (λ (l : List Worker). length l) same in
+    subst (λ (l : List Worker). HasRun b own locks l) (sym (written len new olds long count)) (record {
+      before = olds;
+      opened = o;
+      did = did;
+      gone = subst (λ (l : List Worker). HaveGone l new did) same gone;
+      goes = goes;
+    })
+
+-- what holds of a value holds of one that it says more of
+pub if_ok : {A E : Type 0} (P Q : A → Type 0) → ((a : A) → P a → Q a) → (r : Result A E) → IfOk r P → IfOk r Q
+if_ok P Q more (Ok a) h = more a h
+if_ok P Q more (Err e) h = tt

@@ -19,7 +19,7 @@ use Rattle.run_world.specs.Bursts.{AllPlayed}
 use Rattle.world_workers.specs.declared.worker.Worker.{Worker}
 use Rattle.world_workers.specs.Tries.{HasMade, IsTaskIn}
 use Rattle.world_workers.specs.Bursts.{AreTasksIn}
-use Rattle.world_workers.specs.Workers.{AreFresh, AreParts, AreWorkersOf, HaveGone, IsWorkerOf, Moment, Since, WentOn}
+use Rattle.world_workers.specs.Workers.{AreFresh, AreOneMore, AreParts, AreWorkersOf, HaveGone, IsWorkerOf, Moment, Since, WentOn}
 use Rattle.world_workers.proofs.Acting.{append_none}
 
 abbrev WorldPass : Type 0
@@ -49,6 +49,13 @@ parts_more [] (q ∷ passes) tasks w p t are has is = absurd are
 parts_more (v ∷ workers) [] tasks w p t are has is = absurd are
 parts_more (v ∷ workers) (q ∷ passes) [] w p t are has is = absurd are
 parts_more (v ∷ workers) (q ∷ passes) (u ∷ tasks) w p t are has is = (are.0, parts_more workers passes tasks w p t are.1 has is)
+
+-- those that one worker brings come behind the others
+pub parts_pushed : (workers : List Worker) (passes passes' : List WorldPass) (tasks tasks' : List Task) (w : Worker)
+    → AreParts workers passes tasks → AreOneMore w.pass passes passes' → tasks' ≡ tasks ++ w.task ∷ [] → AreParts (workers ++ w ∷ []) passes' tasks'
+parts_pushed workers passes passes' tasks tasks' w are more is =
+    subst (λ (ts : List Task). AreParts (workers ++ w ∷ []) passes' ts) (sym is)
+    (subst (λ (ps : List WorldPass). AreParts (workers ++ w ∷ []) ps (tasks ++ w.task ∷ [])) (sym more.2) (parts_more workers passes tasks w more.0 w.task are more.1 refl))
 
 pub fresh_more : (moment : ℕ) (workers : List Worker) (w : Worker) → AreFresh moment workers → w.moment ≡ moment → w.left ≡ 1000 → AreFresh moment (workers ++ w ∷ [])
 fresh_more moment [] w are time left = ((time, left), tt)

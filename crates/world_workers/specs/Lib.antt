@@ -1,3 +1,4 @@
 pub mod Tries
 pub mod Workers
 pub mod Bursts
+pub mod Opened

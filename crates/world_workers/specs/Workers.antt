@@ -1,5 +1,5 @@
 -- A worker of a burst, and what it did in it.
-use Rattle.std.specs.Prelude.{◌≡◌, ◌+◌, ℕ, true, List, [], ◌∷◌, Some, length}
+use Rattle.std.specs.Prelude.{◌≡◌, ◌+◌, ℕ, true, List, [], ◌∷◌, ◌++◌, Option, Some, length}
 use Rattle.sleep_model.specs.declared.machine.Machine.{Machine}
 use Rattle.atomic_table.specs.Seated.{TableId}
 use Rattle.sleep_pool.specs.declared.turns.Turn.{Turn}
@@ -60,6 +60,10 @@ abbrev pub AreParts : List Worker → List (Pass WorldObject Noted) → List Tas
 AreParts [] [] [] = Unit {0}
 AreParts (w ∷ workers) (p ∷ passes) (t ∷ tasks) = ((w.pass ≡ Some p) × (w.task ≡ t)) × AreParts workers passes tasks
 AreParts _ _ _ = ⊥
+
+-- these passes are those, and that of one worker
+abbrev pub AreOneMore : Option (Pass WorldObject Noted) → List (Pass WorldObject Noted) → List (Pass WorldObject Noted) → Type 0
+AreOneMore pass olds news = (p : Pass WorldObject Noted) × (pass ≡ Some p) × (news ≡ olds ++ p ∷ [])
 
 -- each is at the beginning of a burst at that moment, and can make a thousand turns
 abbrev pub AreFresh : ℕ → List Worker → Type 0

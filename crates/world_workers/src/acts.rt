@@ -9,40 +9,21 @@ ghost use Rattle.run_world.specs.declared.task.Task.TheVariants as variant;
 ghost use Rattle.run_world.specs.Acts.{actor_of};
 ghost use Rattle.world_workers.specs.Tries.{GoesIn, HasActed, IsRangedTurn, told_call, told_expiry, told_turn, turns_of};
 
+use crate::parts::Stop;
 use fit_laws::{calls_are_ranged, kinds_are_ranged};
-use run_world::{Gate, Task, World, WorldPass};
+use run_world::{Gate, Reply, Task, World, WorldPass};
 use sleep_core::{CoreFault, CoreTurn};
 use sleep_model::{Actor, DeviceFlags, Machine, SourceCall, Stamp, Want};
+use sleep_pool::Turn;
 use sleep_script::{Job, TimerJob};
 use std::sync::Wait;
 use wakeup_source::{CallBy, SourceFault};
 
-/// What came of a try.
-#[derive(Clone, Copy, Debug, Drop, PartialEq, Eq)]
-pub enum Tried {
-    /// A turn of the machine made an entry.
-    Made,
-    /// A call on a source made entries.
-    Called,
-    /// It has nothing to do now.
-    Waits,
-    /// It has nothing to do any more.
-    Gone,
-    /// The history of that source has no place left for a call.
-    Full(u32),
-    /// There was no memory.
-    Mem,
-}
-
-/// A pass after a try, and what came of it.
-#[derive(Drop)]
-pub struct Acted<'m> {
-    pub pass: WorldPass<'m>,
-    pub tried: Tried,
-}
+/// What came of a try of a task, with the pass: what the pool hears of it, or why the task comes to no end of its own.
+pub type Tried<'m> = Reply<'m, Result<Turn, Stop>>;
 
 /// Tells a job what its turn of the machine came to.
-fn tell_turn(job: &mut Job<'_>, answer: Result<CoreTurn, CoreFault>) -> Tried
+fn tell_turn(job: &mut Job<'_>, answer: Result<CoreTurn, CoreFault>) -> Result<Turn, Stop>
     requires made { job.old.pending ≡ [] }
     requires few { job.old.turns < 2 ^ 63 }
     ensures told { job.new ≡ told_turn answer job.old }
@@ -58,16 +39,20 @@ fn tell_turn(job: &mut Job<'_>, answer: Result<CoreTurn, CoreFault>) -> Tried
         ) => {
             kinds_are_ranged(kind);
             job.told_turn(stamp, kind, attempt);
-            Tried::Made
+            Ok(Turn::Did)
         }
-        Ok(CoreTurn::NotYet(_)) => Tried::Waits,
-        Ok(CoreTurn::Done) => Tried::Gone,
-        Err(CoreFault::Mem) => Tried::Mem,
+        Ok(CoreTurn::NotYet(_)) => Ok(Turn::NotYet),
+        Ok(CoreTurn::Done) => Ok(Turn::Done),
+        Err(CoreFault::Mem) => Err(Stop::Mem),
     }
 }
 
 /// Tells a job what its call on that source came to.
-fn tell_call(job: &mut Job<'_>, source: u32, answer: Result<Option<Stamp>, SourceFault>) -> Tried
+fn tell_call(
+    job: &mut Job<'_>,
+    source: u32,
+    answer: Result<Option<Stamp>, SourceFault>,
+) -> Result<Turn, Stop>
     requires left { 0 < length job.old.pending }
     requires few { job.old.calls + 1 < 2 ^ 32 }
     ensures { job.new ≡ told_call answer job.old }
@@ -75,11 +60,11 @@ fn tell_call(job: &mut Job<'_>, source: u32, answer: Result<Option<Stamp>, Sourc
     match answer {
         Ok(Some(stamp)) => {
             job.told_source(stamp);
-            Tried::Called
+            Ok(Turn::Did)
         }
-        Ok(None) => Tried::Waits,
-        Err(SourceFault::Full) => Tried::Full(source),
-        Err(SourceFault::Mem) => Tried::Mem,
+        Ok(None) => Ok(Turn::NotYet),
+        Err(SourceFault::Full) => Err(Stop::Full(source)),
+        Err(SourceFault::Mem) => Err(Stop::Mem),
     }
 }
 
@@ -88,17 +73,17 @@ fn tell_expiry(
     timer: &mut TimerJob,
     source: u32,
     answer: Result<Option<Stamp>, SourceFault>,
-) -> Tried
+) -> Result<Turn, Stop>
     ensures { timer.new ≡ told_expiry answer timer.old }
 {
     match answer {
         Ok(Some(stamp)) => {
             timer.told_source(stamp);
-            Tried::Called
+            Ok(Turn::Did)
         }
-        Ok(None) => Tried::Waits,
-        Err(SourceFault::Full) => Tried::Full(source),
-        Err(SourceFault::Mem) => Tried::Mem,
+        Ok(None) => Ok(Turn::NotYet),
+        Err(SourceFault::Full) => Err(Stop::Full(source)),
+        Err(SourceFault::Mem) => Err(Stop::Mem),
     }
 }
 
@@ -119,7 +104,7 @@ fn turn<'m, R: Wait, G: Gate>(
     pass: WorldPass<'m>,
     job: &mut Job<'m>,
     who: Actor,
-) -> Acted<'m>
+) -> Tried<'m>
     requires goes { GoesIn world.now.machine.now world.now.table.now.desk.shared.table_id
         world.now.desk.now.shared.table_id world.now.moment (variant.Acts job.old) pass.token }
     requires who { who ≡ job.old.who }
@@ -130,16 +115,16 @@ fn turn<'m, R: Wait, G: Gate>(
         pass.entry.token result.pass.token }
 {
     if is_synchronous(world.machine, who) {
-        return Acted {
+        return Reply {
             pass,
-            tried: Tried::Waits,
+            answer: Ok(Turn::NotYet),
         };
     }
     let reply = world.core_turn(pass, who, job.calls(), job.floor(), world.moment);
-    let tried = tell_turn(job, reply.answer);
-    Acted {
+    let answer = tell_turn(job, reply.answer);
+    Reply {
         pass: reply.pass,
-        tried,
+        answer,
     }
 }
 
@@ -151,7 +136,7 @@ fn call<'m, R: Wait, G: Gate>(
     who: Actor,
     source: u32,
     call: SourceCall,
-) -> Acted<'m>
+) -> Tried<'m>
     requires goes { GoesIn world.now.machine.now world.now.table.now.desk.shared.table_id
         world.now.desk.now.shared.table_id world.now.moment (variant.Acts job.old) pass.token }
     requires who { who ≡ job.old.who }
@@ -161,9 +146,9 @@ fn call<'m, R: Wait, G: Gate>(
         pass.entry.token result.pass.token }
 {
     if source as usize > world.machine.sources.len() || job.calls() == u32::MAX {
-        return Acted {
+        return Reply {
             pass,
-            tried: Tried::Waits,
+            answer: Ok(Turn::NotYet),
         };
     }
     calls_are_ranged(source, call);
@@ -173,10 +158,10 @@ fn call<'m, R: Wait, G: Gate>(
         now: world.moment,
     };
     let reported = world.report(pass, source, call, by);
-    let tried = tell_call(job, source, reported.answer);
-    Acted {
+    let answer = tell_call(job, source, reported.answer);
+    Reply {
         pass: reported.pass,
-        tried,
+        answer,
     }
 }
 
@@ -186,7 +171,7 @@ fn expire<'m, R: Wait, G: Gate>(
     pass: WorldPass<'m>,
     timer: &mut TimerJob,
     source: u32,
-) -> Acted<'m>
+) -> Tried<'m>
     requires goes { GoesIn world.now.machine.now world.now.table.now.desk.shared.table_id
         world.now.desk.now.shared.table_id world.now.moment (variant.Fires timer.old) pass.token }
     requires source { source ≡ timer.old.source }
@@ -200,10 +185,10 @@ fn expire<'m, R: Wait, G: Gate>(
         now: world.moment,
     };
     let reported = world.report(pass, source, SourceCall::Expire, by);
-    let tried = tell_expiry(timer, source, reported.answer);
-    Acted {
+    let answer = tell_expiry(timer, source, reported.answer);
+    Reply {
         pass: reported.pass,
-        tried,
+        answer,
     }
 }
 
@@ -213,7 +198,7 @@ fn act_job<'m, R: Wait, G: Gate>(
     pass: WorldPass<'m>,
     job: &mut Job<'m>,
     who: Actor,
-) -> Acted<'m>
+) -> Tried<'m>
     requires goes { GoesIn world.now.machine.now world.now.table.now.desk.shared.table_id
         world.now.desk.now.shared.table_id world.now.moment (variant.Acts job.old) pass.token }
     requires who { who ≡ job.old.who }
@@ -225,9 +210,9 @@ fn act_job<'m, R: Wait, G: Gate>(
     match job.next() {
         Want::Core => turn(world, pass, job, who),
         Want::Source(source, wanted) => call(world, pass, job, who, source, wanted),
-        Want::Nothing => Acted {
+        Want::Nothing => Reply {
             pass,
-            tried: Tried::Gone,
+            answer: Ok(Turn::Done),
         },
     }
 }
@@ -237,7 +222,7 @@ fn act_timer<'m, R: Wait, G: Gate>(
     world: &World<'_, 'm, R, G>,
     pass: WorldPass<'m>,
     timer: &mut TimerJob,
-) -> Acted<'m>
+) -> Tried<'m>
     requires goes { GoesIn world.now.machine.now world.now.table.now.desk.shared.table_id
         world.now.desk.now.shared.table_id world.now.moment (variant.Fires timer.old) pass.token }
     ensures { HasActed world.now.machine.now world.now.table.now.desk.shared.table_id
@@ -257,7 +242,7 @@ pub fn act<'m, R: Wait, G: Gate>(
     pass: WorldPass<'m>,
     task: &mut Task<'m>,
     who: Actor,
-) -> Acted<'m>
+) -> Tried<'m>
     requires goes { GoesIn world.now.machine.now world.now.table.now.desk.shared.table_id
         world.now.desk.now.shared.table_id world.now.moment task.old pass.token }
     requires who { who ≡ actor_of task.old }

@@ -1,6 +1,8 @@
-//! A whole burst.
+//! A whole burst: a world is opened, its workers make their turns, and it is closed.
 
 ghost use Rattle.std.specs.Prelude.{◌≡◌, ◌≤◌, ◌<◌, ◌^◌, length, map, IfOk};
+ghost use Rattle.sleep_model.specs.declared.machine.Machine.{Machine};
+ghost use Rattle.atomic_table.specs.Seated.{TableId};
 ghost use Rattle.sleep_model.specs.Numbers.{time_of};
 ghost use Rattle.sleep_state.specs.Places.{entries};
 ghost use Rattle.run_objects.specs.Objects.{AreKept};
@@ -8,19 +10,61 @@ ghost use Rattle.run_world.specs.Held.{AreTimely};
 ghost use Rattle.run_world.specs.Acts.{actor_of};
 ghost use Rattle.run_world.specs.Bursts.{IsBurst};
 ghost use Rattle.world_workers.specs.Bursts.{AreReady, HaveTurns};
+ghost use Rattle.world_workers.specs.Opened.{Began, HasEnded, HasRun, IsOpened};
 ghost use Rattle.world_workers.specs.Workers.{AreFresh, AreWorkersOf, HaveGone};
 
-use crate::crew::{Brought, taken_apart, workers_of};
+use crate::crew::{Brought, came_to, taken_apart, workers_of};
 use crate::parts::{Burst, BurstParts, BurstPlan};
 use crate::worker::Worker;
 use fit_laws::moments_are_ranged;
-use run_world::{Gate, World, WorldDesk, close_world, world_objects};
+use run_world::{Gate, World, WorldDesk, WorldObject, close_world, world_objects};
 use sleep_base::{Mem, lost};
+use sleep_model::Actor;
 use sleep_pool::burst;
 use std::alloc::Global;
 use std::sync::Wait;
 use std::thread::Threads;
 use turn_lock::LockTable;
+
+/// The locks of the world of a burst.
+type WorldLocks<'m> = LockTable<WorldObject<'m>>;
+
+/// Opens a burst at that moment in ms: the machine and its sources go under locks, and each task to a worker. `Mem` where
+/// there is no memory; all that went in is lost then.
+fn open_burst<'m>(
+    alloc: Global,
+    parts: BurstParts<'m>,
+    actors: &[Actor],
+    moment: u64,
+) -> Result<(WorldLocks<'m>, Vec<Worker<'m>>), Mem>
+    requires timely { AreTimely moment parts.sources.items }
+    requires small { moment ≤ 2 ^ 63 }
+    requires actors { actors.now ≡ map actor_of parts.tasks.items }
+    requires turns { HaveTurns parts.tasks.items }
+    requires few { (length parts.tasks.items ≤ 2000) × (length parts.sources.items ≤ 256) }
+    requires some { 1 ≤ length parts.tasks.items }
+    ensures opened { IfOk result (λ opened. (m : Machine) (table : TableId) → AreReady m table parts.entry.core parts.entry.sources.items parts.entry.tasks.items
+        → IsOpened (record { machine = m; table = table; moment = moment; core = parts.entry.core; sources = parts.entry.sources.items; tasks = parts.entry.tasks.items })
+        opened.0.own opened.0.desk.shared.table_id opened.1.items) }
+{
+    moments_are_ranged(moment);
+    let BurstParts {
+        core,
+        sources,
+        tasks,
+    } = parts;
+    let count = tasks.len() as u32;
+    let Ok(objects) = world_objects(alloc, core, sources, moment) else {
+        return Err(lost(tasks));
+    };
+    let Ok((locks, passes)) = LockTable::new(alloc, objects, count) else {
+        return Err(lost(tasks));
+    };
+    let Ok(workers) = workers_of(alloc, passes, tasks, actors, moment) else {
+        return Err(lost(locks));
+    };
+    Ok((locks, workers))
+}
 
 /// The workers make their turns, side by side where threads can be made. Answers how many turns did something.
 fn run_workers<'m, R: Threads + Sync + Wait, G: Gate + Sync>(
@@ -48,6 +92,39 @@ fn run_workers<'m, R: Threads + Sync + Wait, G: Gate + Sync>(
     burst(rt, workers, &world, moment, plan.workers)
 }
 
+/// Closes a burst in which so many turns did something: all come back with what the workers made. `Mem` where there is no
+/// memory; all that went in is lost then.
+fn close_burst<'m>(
+    alloc: Global,
+    locks: WorldLocks<'m>,
+    workers: Vec<Worker<'m>>,
+    did: u64,
+) -> Result<Burst<'m>, Mem>
+    requires ran { (b : Began) × HasRun b locks.own locks.desk.shared.table_id workers.items }
+    ensures ended { IfOk result (λ made. (b : Began) → HasRun b locks.entry.own locks.entry.desk.shared.table_id workers.entry.items
+        → HasEnded b made.parts.core made.parts.sources.items made.parts.tasks.items) }
+    ensures kept { IfOk result (λ made. AreKept made.parts.sources.items) }
+{
+    let (stop, beside) = came_to(workers.as_slice());
+    let Ok(brought) = taken_apart(alloc, workers) else {
+        return Err(lost(locks));
+    };
+    let Brought { passes, tasks } = brought;
+    let Ok((core, sources)) = close_world(alloc, locks, passes) else {
+        return Err(lost(tasks));
+    };
+    Ok(Burst {
+        parts: BurstParts {
+            core,
+            sources,
+            tasks,
+        },
+        did,
+        beside,
+        stop,
+    })
+}
+
 /// One burst: the machine and its sources go under locks, each task goes to a worker, and all come back with what the
 /// workers made. Time stands still in it. That it is over says nothing of who could go on. `Mem` where there is no memory;
 /// all that went in is lost then.
@@ -70,44 +147,8 @@ pub fn make_burst<'m, R: Threads + Sync + Wait, G: Gate + Sync>(
     ensures kept { IfOk result (λ made. AreKept made.parts.sources.items) }
     ensures actors { IfOk result (λ made. map actor_of made.parts.tasks.items ≡ plan.now.actors.now) }
 {
-    let BurstParts {
-        core,
-        sources,
-        tasks,
-    } = parts;
-    let moment = core.core().time();
-    moments_are_ranged(moment);
-    let count = tasks.len() as u32;
-    let Ok(objects) = world_objects(alloc, core, sources, moment) else {
-        return Err(lost(tasks));
-    };
-    let Ok((locks, passes)) = LockTable::new(alloc, objects, count) else {
-        return Err(lost(tasks));
-    };
-    let Ok(mut workers) = workers_of(alloc, passes, tasks, plan.actors, moment) else {
-        return Err(lost(locks));
-    };
+    let moment = parts.core.core().time();
+    let (locks, mut workers) = open_burst(alloc, parts, plan.actors, moment)?;
     let did = run_workers(rt, plan, &locks.desk, workers.as_mut_slice(), moment);
-    let Ok(brought) = taken_apart(alloc, workers) else {
-        return Err(lost(locks));
-    };
-    let Brought {
-        passes,
-        tasks,
-        stop,
-        beside,
-    } = brought;
-    let Ok((core, sources)) = close_world(alloc, locks, passes) else {
-        return Err(lost(tasks));
-    };
-    Ok(Burst {
-        parts: BurstParts {
-            core,
-            sources,
-            tasks,
-        },
-        did,
-        beside,
-        stop,
-    })
+    close_burst(alloc, locks, workers, did)
 }

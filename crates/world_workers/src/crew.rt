@@ -5,12 +5,12 @@ ghost use Rattle.sleep_model.specs.declared.machine.Machine.{Machine};
 ghost use Rattle.atomic_table.specs.Seated.{TableId};
 ghost use Rattle.run_world.specs.Acts.{actor_of};
 ghost use Rattle.world_workers.specs.Bursts.{HaveTurns};
-ghost use Rattle.world_workers.specs.Workers.{AreFresh, AreParts, AreWorkersOf};
+ghost use Rattle.world_workers.specs.Workers.{AreFresh, AreOneMore, AreParts, AreWorkersOf};
 
-use crate::parts::{Stop, graver, stop_of};
+use crate::parts::{Stop, graver};
 use crate::worker::Worker;
 use run_world::{Task, WorldPass};
-use sleep_base::Mem;
+use sleep_base::{Mem, lost};
 use sleep_model::Actor;
 use std::alloc::Global;
 
@@ -29,50 +29,82 @@ pub(crate) fn workers_of<'m>(
     ensures parts { IfOk result (λ workers. AreParts workers.items passes.entry.items tasks.entry.items) }
     ensures fresh { IfOk result (λ workers. AreFresh moment workers.items) }
 {
-    let mut workers = Vec::with_capacity(alloc, tasks.len())?;
+    let Ok(mut workers) = Vec::with_capacity(alloc, tasks.len()) else {
+        return Err(lost((passes, tasks)));
+    };
     let mut left = passes.into_iter();
     for task in tasks {
         let place = workers.len();
         let Some(pass) = left.next() else {
             unreachable!()
         };
-        workers.push(Worker::new(pass, task, actors[place], place as u32, moment))?;
+        let worker = Worker::new(pass, task, actors[place], place as u32, moment);
+        let Ok(()) = workers.push(worker) else {
+            return Err(lost((workers, left)));
+        };
     }
     Ok(workers)
 }
 
-/// What the workers bring out of a burst.
+/// Why one of these workers stopped, if one did, and how many calls on sources they made, but for those of the busiest.
+pub(crate) fn came_to(workers: &[Worker<'_>]) -> (Option<Stop>, u64) {
+    let mut stop = None;
+    let mut calls: u64 = 0;
+    let mut most = 0;
+    for worker in workers {
+        let made = u64::from(worker.calls());
+        stop = graver(stop, worker.stop);
+        calls = calls.saturating_add(made);
+        most = made.max(most);
+    }
+    (stop, calls.saturating_sub(most))
+}
+
+/// The passes and the tasks that workers bring out of a burst, in their order.
 #[derive(Drop)]
 pub(crate) struct Brought<'m> {
     pub(crate) passes: Vec<WorldPass<'m>>,
     pub(crate) tasks: Vec<Task<'m>>,
-    pub(crate) stop: Option<Stop>,
-    /// How many calls on sources were made, but for those of the task that made most.
-    pub(crate) beside: u64,
 }
 
-/// The passes and the tasks of the workers, in their order, and why one stopped, if one did.
+impl<'m> Brought<'m> {
+    ghost use Rattle.std.specs.Prelude.{[], ◌∷◌, ◌++◌, Some, IsSome, OnOk};
+
+    /// None, with room for those of so many workers.
+    fn new(alloc: Global, workers: usize) -> Result<Self, Mem>
+        ensures { IfOk result (λ brought. (brought.passes.items ≡ []) × (brought.tasks.items ≡ [])) }
+    {
+        Ok(Brought {
+            passes: Vec::with_capacity(alloc, workers)?,
+            tasks: Vec::with_capacity(alloc, workers)?,
+        })
+    }
+
+    /// Those of one worker more.
+    fn push(&mut self, worker: Worker<'m>) -> Result<(), Mem>
+        requires { IsSome worker.pass }
+        ensures passes { OnOk result (AreOneMore worker.entry.pass self.old.passes.items self.new.passes.items) }
+        ensures tasks { OnOk result (self.new.tasks.items ≡ self.old.tasks.items ++ worker.entry.task ∷ []) }
+    {
+        let (pass, task) = worker.into_parts();
+        self.passes.push(pass)?;
+        self.tasks.push(task)?;
+        Ok(())
+    }
+}
+
+/// The passes and the tasks of the workers, in their order.
 pub(crate) fn taken_apart<'m>(alloc: Global, workers: Vec<Worker<'m>>) -> Result<Brought<'m>, Mem>
     requires { (m : Machine) × (table : TableId) × (locks : TableId) × (moment : ℕ) × AreWorkersOf m table locks moment workers.items }
     ensures { IfOk result (λ brought. AreParts workers.entry.items brought.passes.items brought.tasks.items) }
 {
-    let mut passes = Vec::with_capacity(alloc, workers.len())?;
-    let mut tasks = Vec::with_capacity(alloc, workers.len())?;
-    let mut stop = None;
-    let mut calls: u64 = 0;
-    let mut busiest = 0;
+    let Ok(mut brought) = Brought::new(alloc, workers.len()) else {
+        return Err(lost(workers));
+    };
     for worker in workers {
-        stop = graver(stop, stop_of(worker.tried, worker.place));
-        calls = calls.saturating_add(worker.pause.calls);
-        busiest = worker.pause.calls.max(busiest);
-        let (pass, task) = worker.into_parts();
-        passes.push(pass)?;
-        tasks.push(task)?;
+        let Ok(()) = brought.push(worker) else {
+            return Err(lost(brought));
+        };
     }
-    Ok(Brought {
-        passes,
-        tasks,
-        stop,
-        beside: calls.saturating_sub(busiest),
-    })
+    Ok(brought)
 }

@@ -11,7 +11,7 @@ mod pause;
 mod turns;
 mod worker;
 
-pub use acts::{Acted, Tried, act};
+pub use acts::{Tried, act};
 pub use burst::make_burst;
 pub use parts::{Burst, BurstParts, BurstPlan, Stop};
 pub use worker::Worker;

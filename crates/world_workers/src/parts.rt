@@ -1,6 +1,5 @@
 //! What goes into a burst, and comes out of it.
 
-use crate::acts::Tried;
 use event_word::EventTable;
 use run_objects::{SeatedCore, SeatedSource};
 use run_world::Task;
@@ -33,10 +32,10 @@ pub struct BurstParts<'m> {
 /// Why a task came to no end of its own.
 #[derive(Clone, Copy, Debug, Drop, PartialEq, Eq)]
 pub enum Stop {
-    /// There was no memory for the task at that place.
-    Mem { task: u32 },
-    /// The history of the source has no place left for a call of the task at that place.
-    Full { task: u32, source: u32 },
+    /// There was no memory for it.
+    Mem,
+    /// The history of that source has no place left for its call.
+    Full(u32),
 }
 
 /// What a burst came to.
@@ -47,25 +46,15 @@ pub struct Burst<'m> {
     pub did: u64,
     /// How many calls on sources were made, but for those of the task that made most. No clause speaks of it.
     pub beside: u64,
-    /// Why a task stopped, if one did: want of memory before a full source, and the least of those. No clause speaks of it.
+    /// Why a task stopped, if one did: out of memory before a full source, and the least of those. No clause speaks of it.
     pub stop: Option<Stop>,
 }
 
-/// Why the task at that place stopped, if it did.
-pub(crate) fn stop_of(tried: Tried, task: u32) -> Option<Stop> {
-    match tried {
-        Tried::Full(source) => Some(Stop::Full { task, source }),
-        Tried::Mem => Some(Stop::Mem { task }),
-        Tried::Made | Tried::Called | Tried::Waits | Tried::Gone => None,
-    }
-}
-
-/// Which of two counts: want of memory before a full source, and the lesser source.
+/// Which of two counts: out of memory before a full source, and the lesser source.
 pub(crate) fn graver(one: Option<Stop>, other: Option<Stop>) -> Option<Stop> {
     match (one, other) {
-        (None, _) | (Some(Stop::Full { .. }), Some(Stop::Mem { .. })) => other,
-        (Some(Stop::Full { source, .. }), Some(Stop::Full { source: less, .. })) if less < source =>
-            { other }
+        (None, _) | (Some(Stop::Full(_)), Some(Stop::Mem)) => other,
+        (Some(Stop::Full(source)), Some(Stop::Full(less))) if less < source => other,
         _ => one,
     }
 }

@@ -1,30 +1,24 @@
 //! How a task that has nothing to do spares the locks.
 
-use crate::acts::Tried;
+use sleep_pool::Turn;
 
 /// The longest pause, in rounds.
 const LONGEST: u32 = 255;
 
 /// A task whose tries come to nothing takes no lock for a while, twice as long each time. None of this is part of what
-/// is promised: whoever was left out in a burst is asked in the caller's own round behind it.
+/// is promised: whoever was left out in a burst is asked in the caller's own round after it.
 #[derive(Drop)]
 pub(crate) struct Pause {
     /// How many rounds it still takes no lock.
     left: u32,
     /// How long the last pause was.
     length: u32,
-    /// How many calls on sources it made.
-    pub(crate) calls: u64,
 }
 
 impl Pause {
     /// None at first.
     pub(crate) fn new() -> Self {
-        Pause {
-            left: 0,
-            length: 0,
-            calls: 0,
-        }
+        Pause { left: 0, length: 0 }
     }
 
     /// Whether it takes no lock in this round.
@@ -37,18 +31,14 @@ impl Pause {
     }
 
     /// What came of a try.
-    pub(crate) fn note(&mut self, tried: Tried) {
-        match tried {
-            Tried::Made => self.length = 0,
-            Tried::Called => {
-                self.length = 0;
-                self.calls = self.calls.saturating_add(1);
-            }
-            Tried::Waits => {
+    pub(crate) fn note(&mut self, turn: Turn) {
+        match turn {
+            Turn::Did => self.length = 0,
+            Turn::NotYet => {
                 self.length = 2 * self.length.min(LONGEST / 2) + 1;
                 self.left = self.length;
             }
-            Tried::Gone | Tried::Full(_) | Tried::Mem => {}
+            Turn::Done | Turn::Stop => {}
         }
     }
 }

@@ -3,19 +3,18 @@
 ghost use Rattle.std.specs.Prelude.{◌≡◌, Some, IsSome};
 ghost use Rattle.world_workers.specs.Workers.{IsWorkerOf, WentOn, left_of};
 
-use crate::acts::{Acted, Tried, act};
+use crate::acts::act;
+use crate::parts::Stop;
 use crate::worker::Worker;
-use run_world::{Gate, World, WorldPass};
+use run_world::{Gate, Reply, World, WorldPass};
 use sleep_pool::{Job as Work, Turn};
 use std::sync::Wait;
 
-/// The answer to the pool for a try.
-fn turn_of(tried: Tried) -> Turn {
-    match tried {
-        Tried::Made | Tried::Called => Turn::Did,
-        Tried::Waits => Turn::NotYet,
-        Tried::Gone => Turn::Done,
-        Tried::Full(_) | Tried::Mem => Turn::Stop,
+/// What the pool hears of a try.
+fn turn_of(answer: Result<Turn, Stop>) -> Turn {
+    match answer {
+        Ok(turn) => turn,
+        Err(_) => Turn::Stop,
     }
 }
 
@@ -45,11 +44,12 @@ impl<'w, 'm, R: Wait, G: Gate> Work<World<'w, 'm, R, G>> for Worker<'m> {
             return Turn::NotYet;
         }
         let pass = taken(&mut self.pass);
-        let Acted { pass, tried } = act(shared, pass, &mut self.task, self.who);
+        let Reply { pass, answer } = act(shared, pass, &mut self.task, self.who);
         self.pass = Some(pass);
-        self.tried = tried;
-        self.pause.note(tried);
-        turn_of(tried)
+        self.stop = answer.err();
+        let turn = turn_of(answer);
+        self.pause.note(turn);
+        turn
     }
 
     ghost made_none = { λ a s h. h };

@@ -4,7 +4,7 @@ ghost use Rattle.std.specs.Prelude.{◌≡◌, ◌<◌, ◌+◌, ◌^◌, Some, 
 ghost use Rattle.run_world.specs.Acts.{actor_of};
 ghost use Rattle.world_workers.specs.Tries.{turns_of};
 
-use crate::acts::Tried;
+use crate::parts::Stop;
 use crate::pause::Pause;
 use run_world::{Task, WorldPass};
 use sleep_model::Actor;
@@ -23,8 +23,10 @@ pub struct Worker<'m> {
     pub(crate) moment: u64,
     /// How many turns it can still make.
     pub(crate) left: u64,
-    /// What came of its last turn.
-    pub(crate) tried: Tried,
+    /// Why it stopped, if it did.
+    pub(crate) stop: Option<Stop>,
+    /// How many calls on sources its task had made when the burst began.
+    pub(crate) called: u32,
     /// For how long it tries nothing.
     pub(crate) pause: Pause,
     ghost named: { who ≡ actor_of task },
@@ -42,6 +44,7 @@ impl<'m> Worker<'m> {
         ensures pass { result.pass ≡ Some pass.entry }
         ensures task { (result.task ≡ task.entry) × (result.moment ≡ moment) × (result.left ≡ 1000) }
     {
+        let called = task.calls();
         Worker {
             pass: Some(pass),
             task,
@@ -49,9 +52,15 @@ impl<'m> Worker<'m> {
             place,
             moment,
             left: MOST_TURNS,
-            tried: Tried::Waits,
+            stop: None,
+            called,
             pause: Pause::new(),
         }
+    }
+
+    /// How many calls on sources its task has made in the burst.
+    pub(crate) fn calls(&self) -> u32 {
+        self.task.calls().saturating_sub(self.called)
     }
 
     /// The pass, and the task, when the burst is over.

@@ -25,6 +25,6 @@ returns g c =
     let by_who = subst (λ (x : Actor). AfterCoreTurn m x c.calls.result c.floor.result w.moment made.2 reply.result.answer made.0) c.requires.who made.4 in
     let by_calls = subst (λ (n : ℕ). AfterCoreTurn m job.who n c.floor.result w.moment made.2 reply.result.answer made.0) c.calls.ensures by_who in
     let after = subst (λ (f : Stamp). AfterCoreTurn m job.who job.calls f w.moment made.2 reply.result.answer made.0) c.floor.ensures by_calls in
-    subst (λ (j : JobState). HasActed m table locks w.moment (task.Acts job) (task.Acts j) c.args.pass.token reply.result.pass.token) (sym c.tell_turn-tried.ensures.told)
+    subst (λ (j : JobState). HasActed m table locks w.moment (task.Acts job) (task.Acts j) c.args.pass.token reply.result.pass.token) (sym c.tell_turn-answer.ensures.told)
     (acted_turn m table locks w.moment c.args.pass.token reply.result.pass.token reply.ensures.pass made.0
-    (record { made = made.1; number = reply.ensures.same.0; first = reply.ensures.same.1 }) job c.requires.goes.is_in reply.result.answer c.requires.wants c.tell_turn-tried.ensures.ranged made.2 after)
+    (record { made = made.1; number = reply.ensures.same.0; first = reply.ensures.same.1 }) job c.requires.goes.is_in reply.result.answer c.requires.wants c.tell_turn-answer.ensures.ranged made.2 after)

@@ -6,5 +6,5 @@ use Rattle.world_workers.proofs.crew.taken_apart.Given as goal
 
 abbrev pub invariant-loop-worker : goal.invariant-loop-worker
 invariant-loop-worker l =
-    AreParts l.yielded l.passes.items l.tasks.items
+    AreParts l.yielded l.brought.passes.items l.brought.tasks.items
     × ((m : Machine) × (table : TableId) × (locks : TableId) × (moment : ℕ) × AreWorkersOf m table locks moment l.worker-iterator.rest.items)

@@ -15,7 +15,7 @@ unreachable-requires c =
     let l = c.loop-task in
     let is = l.invariant in
     one_left c.args.passes.items is.0.0 l.left.rest.items c.args.tasks.items l.yielded l.task-iterator.rest.items l.workers.items is.0.1 c.requires.count is.3 is.0.2
-    c.in-Some.task c.next.new.self.rest.items c.in-Some.ensures.steps.0 (sym is.2 ∙ c.in_default.ensures.cases.0)
+    c.in-Some.task c.next.new.self.rest.items c.in-Some.ensures.steps.0 (sym is.2 ∙ c.in_default-next.ensures.cases.0)
 
 pub offset_bounds-actors-place : goal.offset_bounds-actors-place
 offset_bounds-actors-place c =
@@ -45,8 +45,8 @@ overflow_cast-place c =
     c.in-Some.task c.next.new.self.rest.items c.in-Some.ensures.steps.0 in
     omega (arith, less, c.requires.few, c.len-place.ensures, l.workers.ok.0)
 
-pub new-requires-clause-who : goal.new-requires-clause-who
-new-requires-clause-who c =
+pub new-worker-requires-clause-who : goal.new-worker-requires-clause-who
+new-worker-requires-clause-who c =
     let l = c.loop-task in
     let is = l.invariant in
     let place_is : c.len-place.result ≡ length l.workers.items = omega (arith, c.len-place.ensures, l.workers.ok.0) in
@@ -63,9 +63,9 @@ loop-task-preserved c =
       (
         is.0.0 ++ c.in-Some-next.pass ∷ [],
         is.0.1 ∙ ap (λ (k : List (Pass WorldObject Noted)). is.0.0 ++ k) left_is ∙ sym (append_assoc is.0.0 (c.in-Some-next.pass ∷ []) c.next-in-loop-task.new.self.rest.items),
-        rw (c.in_ok-push.ensures.items) (parts_more l.workers.items is.0.0 l.yielded c.new.result c.in-Some-next.pass c.in-Some.task is.0.2 c.new.ensures.pass c.new.ensures.task.0),
+        rw (c.in-Ok-push.ensures.items) (parts_more l.workers.items is.0.0 l.yielded c.new-worker.result c.in-Some-next.pass c.in-Some.task is.0.2 c.new-worker.ensures.pass c.new-worker.ensures.task.0),
       ),
-      rw (c.in_ok-push.ensures.items) (fresh_more c.args.moment l.workers.items c.new.result is.1 c.new.ensures.task.1 c.new.ensures.task.2),
+      rw (c.in-Ok-push.ensures.items) (fresh_more c.args.moment l.workers.items c.new-worker.result is.1 c.new-worker.ensures.task.1 c.new-worker.ensures.task.2),
       (let n = ap (λ (k : List (Pass WorldObject Noted)). length k) left_is in omega (arith, n, is.2, c.in-Some-next.ensures.cases.1)),
       is.3 ∙ ap (λ (k : List Task). l.yielded ++ k) rest_is ∙ sym (append_assoc l.yielded (c.in-Some.task ∷ []) c.next.new.self.rest.items),
       (let n = ap (λ (k : List Task). length k) rest_is in omega (arith, n, is.4, c.in-Some.ensures.steps.1)),
