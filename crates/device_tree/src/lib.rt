@@ -1,6 +1,5 @@
-//! The tree of devices, in the order of their registration (`drivers/base/core.c`). No program stands on it: the reader
-//! of files registers devices by itself. It serves callers that register devices one at a time. Its tests are
-//! in `part_cases`.
+//! The tree of devices, in the order of their registration (`drivers/base/core.c`), and requests for a runtime status. The
+//! reader of machine files registers devices in it one at a time, and finds them there by name. Its tests are in `part_cases`.
 #![tactic(auto)]
 
 mod fault;

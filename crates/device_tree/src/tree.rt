@@ -135,6 +135,14 @@ impl Tree {
     }
 
     /// The devices, in the order of their registration.
+    pub fn devices(&self) -> &[Device]
+        ensures devices { result.now ≡ self.now }
+        ensures tree { IsTree self.now }
+    {
+        self.devices.as_slice()
+    }
+
+    /// The devices, in the order of their registration.
     pub fn into_devices(self) -> Vec<Device>
         ensures devices { result.items ≡ self }
         ensures tree { IsTree self }

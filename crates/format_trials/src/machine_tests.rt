@@ -100,7 +100,7 @@ fn files_that_are_none(rt: HostRuntime) {
     expect_each(&rt, rt.alloc(), &NO_FILES);
 }
 
-const MEMBERS: [(&str, u8, &str); 15] = [
+const MEMBERS: [(&str, u8, &str); 18] = [
     (r#","devices":[{"name":"a"},{"name":1}]"#, 5, "devices[1]"),
     (
         r#","syscore":["t","t","t","t","t","t","t","t","t","t","t","t","t","t","t","t","t","t","t","t","t","t","t","t","t","t","t","t","t","t","t","t","t"]"#,
@@ -113,6 +113,21 @@ const MEMBERS: [(&str, u8, &str); 15] = [
         r#","devices":[{"name":"a","parent":"b"},{"name":"b"}]"#,
         9,
         "devices[0]",
+    ),
+    (
+        r#","devices":[{"name":"a"},{"name":"b","parent":"b"}]"#,
+        9,
+        "devices[1]",
+    ),
+    (
+        r#","devices":[{"name":"a"},{"name":"a","parent":"c"}]"#,
+        8,
+        "devices[1]",
+    ),
+    (
+        r#","devices":[{"name":"a","parent":"c"},{"name":"b"},{"name":"b"}]"#,
+        8,
+        "devices[2]",
     ),
     (
         r#","devices":[{"name":"a"}],"links":[{"supplier":"a","consumer":"b"}]"#,
@@ -158,7 +173,7 @@ const MEMBERS: [(&str, u8, &str); 15] = [
     ),
 ];
 
-/// Each rule on the members of a file, by a file that breaks it alone, and where.
+/// Each rule on the members of a file, by a file that breaks it, and where: of two that are broken, the first in order.
 #[test]
 fn members_that_break_a_rule(rt: HostRuntime) -> Result<(), Fail> {
     for (more, rule, place) in &MEMBERS {

@@ -20,6 +20,8 @@ use Rattle.machine_file.specs.Operations.{is_formed, marks_of, first_places, who
 use Rattle.machine_file.specs.Limits.{times_of, repeat_of, times_if, script_steps}
 use Rattle.machine_file.specs.Whole.{rules, first_broken}
 use Rattle.machine_file.specs.Fitting.{IsShort, HasShortName, FitsAt, FitsNotifier, FitsStep, FitsScript, HasPlainRet, FitsAnswer, FitsFile}
+use Rattle.machine_file.specs.Groups.{form_rules}
+use Rattle.machine_file.specs.Kept.{broken_form}
 use Rattle.machine_file.proofs.Accepted.{keeps_all, all_pass}
 use Rattle.machine_file.proofs.AnswersKept.{text_no_number, reports_formed}
 use Rattle.machine_file.proofs.ScriptsKept.{EachList, each_list, each_item, each_operation, steps_few}
@@ -221,6 +223,13 @@ fits_answer a e =
 device_name : (d : Data) → names_of_device d ≡ true → HasShortName d
 device_name d e = record { name = short_name d (and_parts (must_have (codes "name") spells_name d) (may_have (codes "parent") spells_name d) e).0 }
 
+-- the devices of a file that keeps the rules on form have short names
+pub fits_devices : (d : Data) → broken_form d ≡ None → All HasShortName (list_in (codes "devices") d)
+unfolding broken_form
+fits_devices d h =
+    let spelled : EachList d item_names = each_list d item_names (keeps_all form_rules d h).1.1.1.1.1.0 in
+    all_of HasShortName names_of_device device_name (list_in (codes "devices") d) (each_item (codes "devices") names_of_device d spelled.0)
+
 -- a file that breaks no rule has room
 pub fits_file : (d : Data) → first_broken d ≡ None → FitsFile d
 fits_file d h =
@@ -240,7 +249,6 @@ fits_file d h =
     record {
       cpus = within_fits 1 64 (codes "cpus") d (omega arith) members.1.0;
       auto_cycles = within_fits 1 1000 (codes "auto_cycles") d (omega arith) members.1.1.0;
-      devices = all_of HasShortName names_of_device device_name (list_in (codes "devices") d) (each_item (codes "devices") names_of_device d spelled.0);
       syscore = all_passed IsShort text_of spells_name short_text (list_in (codes "syscore") d) (each_item (codes "syscore") spells_name d spelled.1.1.0);
       notifiers =
           all_both FitsNotifier is_notifier_form own_name fits_notifier (list_in (codes "notifiers") d)

@@ -121,7 +121,7 @@ within_more true o n h = omega arith
 within_more false None n h = tt
 within_more false (Some i) n h = omega arith
 
-position_within : (p : List ℕ → Bool) (names : List (List ℕ)) → IfSome (position p names) (λ i. i < length names)
+pub position_within : (p : List ℕ → Bool) (names : List (List ℕ)) → IfSome (position p names) (λ i. i < length names)
 position_within p [] = tt
 position_within p (s ∷ names) = subst (λ o. IfSome o (λ i. i < suc (length names))) (sym (position_cons p s names)) (within_more (p s) (position p names) (length names) (position_within p names))
 

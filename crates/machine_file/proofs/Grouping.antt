@@ -3,13 +3,13 @@ use Rattle.std.proofs.Common.{◌≡◌, ◌≤◌, ◌∙◌, ℕ, Bor, Bool, t
 use Rattle.std.specs.Option.{option_or, option_map}
 use Rattle.serde_json.specs.Data.{Data}
 use Rattle.machine_file.specs.Whole.{Rule, rule, first_of, first_broken, broken_at}
-use Rattle.machine_file.specs.Groups.{form_rules, device_rules, thing_rules, operation_rules, answer_rules}
+use Rattle.machine_file.specs.Groups.{form_rules, device_rules, end_rules, thing_rules, operation_rules, answer_rules}
 use Rattle.machine_file.specs.Members.{list_in, file_members}
 use Rattle.machine_file.specs.Devices.{cyclic_link, closes_no_cycle, orphan, loose_link, repeated_link}
 use Rattle.machine_file.specs.Joined.{AreJoined}
-use Rattle.machine_file.specs.Kept.{broken_form, broken_devices, broken_cycle, broken_rest, first_in_order}
+use Rattle.machine_file.specs.Kept.{broken_form, broken_devices, broken_ends, broken_cycle, broken_rest, first_in_order}
 use Rattle.machine_file.specs.declared.names.known.Known.{Known}
-use Rattle.machine_file.specs.Knows.{Knows, AreFew, texts}
+use Rattle.machine_file.specs.Knows.{Knows, AreFew, names, texts}
 use Rattle.machine_file.specs.Form.{Named, row, first_row, unformed_member, unformed_item}
 use Rattle.machine_file.specs.Limits.{too_many, most_items}
 use Rattle.machine_file.specs.Rules.{name_of, has_version}
@@ -32,13 +32,14 @@ split (r ∷ xs) ys d =
 
 -- the order of the groups is that of the rules
 pub in_order : (d : Data) → first_in_order d ≡ first_broken d
-unfolding broken_form broken_devices broken_cycle broken_rest
+unfolding broken_form broken_devices broken_ends broken_cycle broken_rest
 in_order d =
-    sym (split form_rules (device_rules ++ (rule 12 cyclic_link ∷ [] ++ (thing_rules ++ (operation_rules ++ answer_rules)))) d
-    ∙ ap (option_or (first_of form_rules d)) (split device_rules (rule 12 cyclic_link ∷ [] ++ (thing_rules ++ (operation_rules ++ answer_rules))) d
-    ∙ ap (option_or (first_of device_rules d)) (ap (option_or (option_map (broken_at 12) (cyclic_link d)))
+    sym (split form_rules (device_rules ++ (end_rules ++ (rule 12 cyclic_link ∷ [] ++ (thing_rules ++ (operation_rules ++ answer_rules))))) d
+    ∙ ap (option_or (first_of form_rules d)) (split device_rules (end_rules ++ (rule 12 cyclic_link ∷ [] ++ (thing_rules ++ (operation_rules ++ answer_rules)))) d
+    ∙ ap (option_or (first_of device_rules d)) (split end_rules (rule 12 cyclic_link ∷ [] ++ (thing_rules ++ (operation_rules ++ answer_rules))) d
+    ∙ ap (option_or (first_of end_rules d)) (ap (option_or (option_map (broken_at 12) (cyclic_link d)))
     (split thing_rules (operation_rules ++ answer_rules) d ∙ ap (option_or (first_of thing_rules d)) (split operation_rules answer_rules d)
-    ∙ sym (or_group (first_of thing_rules d) (first_of operation_rules d) (first_of answer_rules d))))))
+    ∙ sym (or_group (first_of thing_rules d) (first_of operation_rules d) (first_of answer_rules d)))))))
 
 pub or_none : {A : Type 0} (a b : Option A) → option_or a b ≡ None → (a ≡ None) × (b ≡ None)
 or_none None b e = (refl, e)
@@ -67,6 +68,10 @@ unfold_devices : (d : Data) → broken_devices d ≡ None → first_of device_ru
 unfolding broken_devices
 unfold_devices d e = e
 
+unfold_ends : (d : Data) → broken_ends d ≡ None → first_of end_rules d ≡ None
+unfolding broken_ends
+unfold_ends d e = e
+
 pub record FewItems (d : Data) : Type 0 where
   pub devices : length (list_in (codes "devices") d) ≤ 1000
   pub links : length (list_in (codes "links") d) ≤ 4000
@@ -93,12 +98,12 @@ few_in d e =
     let six = kept_rule (rule 6 too_many) (drop 5 form_rules) d five.1 in
     few_items d six.0
 
-pub joined : (d : Data) → broken_form d ≡ None → broken_devices d ≡ None → AreJoined d
-joined d e h =
+pub joined : (d : Data) → broken_form d ≡ None → broken_devices d ≡ None → broken_ends d ≡ None → AreJoined d
+joined d e h i =
     let few = few_in d e in
     let eight = kept_rule (rule 8 repeated_device) (drop 1 device_rules) d (unfold_devices d h) in
-    let nine = kept_rule (rule 9 orphan) (drop 2 device_rules) d eight.1 in
-    let ten = kept_rule (rule 10 loose_link) (drop 3 device_rules) d nine.1 in
+    let nine = kept_rule (rule 9 orphan) [] d eight.1 in
+    let ten = kept_rule (rule 10 loose_link) (drop 1 end_rules) d (unfold_ends d i) in
     let eleven = kept_rule (rule 11 repeated_link) [] d ten.1 in
     record { few_devices = few.devices; few_links = few.links; parents = nine.0; ends = ten.0; again = eleven.0 }
 
@@ -107,7 +112,7 @@ pub few_known : (k : Known) (d : Data) → Knows k d → broken_form d ≡ None 
 few_known k d h e =
     let few = few_in d e in
     record {
-      devices = count k.devices _ _ 1000 h.devices (length-map (list_in (codes "devices") d) name_of) few.devices;
+      devices = let n = length-map k.devices (λ x. x.name) in let m = ap length h.devices in let s = length-map (list_in (codes "devices") d) name_of in let f = few.devices in omega arith;
       syscore = count k.syscore _ _ 1000 h.syscore (length-map (list_in (codes "syscore") d) text_of) (let f = few.syscore in omega arith);
       notifiers = count k.notifiers _ _ 1000 h.notifiers (length-map (list_in (codes "notifiers") d) name_of) (let f = few.notifiers in omega arith);
       sources = count k.sources _ _ 1000 h.sources (length-map (list_in (codes "sources") d) text_of) (let f = few.sources in omega arith);

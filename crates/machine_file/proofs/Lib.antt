@@ -3,6 +3,7 @@ pub mod MembersNamed
 pub mod Trees
 pub mod Placing
 pub mod Pairing
+mod Registering
 pub mod Answered
 pub mod Cycling
 pub mod Freshly

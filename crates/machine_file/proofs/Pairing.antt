@@ -1,33 +1,22 @@
--- Parents and the ends of links beside those before.
+-- The ends of links beside those before.
 use Rattle.std.proofs.Common.{◌≡◌, ◌<◌, ◌+◌, ◌∙◌, ◌&&◌, ◌||◌, ℕ, suc, Bool, true, false, not, cond, List, [], ◌∷◌, ◌++◌, length, get_or, map, take, reverse, bytes_eq, codes, Option, Some, None, is_some, position, refl, sym, ap, subst, arith}
 use Rattle.std.specs.List.{list_any}
 use Rattle.std.specs.Option.{option_map}
 use Rattle.std.specs.Cmp.Lexicographic.{nat_list_eq_equiv}
 use Rattle.std.proofs.Math.Seq.{take-suc}
-use Rattle.std.proofs.lemmas.List.{get_or-map, length-map, map-append}
+use Rattle.std.proofs.lemmas.List.{length-map, length-take-le, map-append, take_more}
 use Rattle.serde_json.specs.Data.{Data}
 use Rattle.borrowed_json.specs.View.{Value, view}
+use Rattle.sleep_model.specs.declared.machine.Link.{Link}
+use Rattle.machine_file.specs.Spelled.{link_of}
 use Rattle.machine_file.specs.declared.rules.pairs.Ends.{Ends}
 use Rattle.machine_file.specs.declared.rules.pairs.EndPlaces.{EndPlaces}
-use Rattle.machine_file.specs.Look.{is_none_or, text_at}
-use Rattle.machine_file.specs.Members.{word_at}
+use Rattle.machine_file.specs.Look.{text_at}
 use Rattle.machine_file.specs.Names.{is_among_names}
-use Rattle.machine_file.specs.Rules.{name_of}
-use Rattle.machine_file.specs.Devices.{has_parent_before, has_ends, is_new_link}
-use Rattle.machine_file.specs.Seen.{ends_seen, ends_written, differ, same_ends, end_places, are_devices}
+use Rattle.machine_file.specs.Devices.{has_ends, is_new_link}
+use Rattle.machine_file.specs.Seen.{ends_seen, ends_written, differ, same_ends, end_places, are_devices, link_at, links_between}
 use Rattle.machine_file.specs.Places.{first_not, first_not_after}
-use Rattle.machine_file.proofs.Placing.{any_append, position_cons, some_position, any_taken_twice, any_reverse, seen_map}
-
-none_or_same : (f g : List ℕ → Bool) (o : Option (List ℕ)) → ((p : List ℕ) → f p ≡ g p) → is_none_or f o ≡ is_none_or g o
-none_or_same f g None h = refl
-none_or_same f g (Some p) h = h p
-
--- the parent among the devices before
-pub parent_test : (names : List (List ℕ)) (vs : List Value) (v : Value) (i : ℕ) → names ≡ map name_of (map view vs) →
-    has_parent_before (map view (reverse (take i vs))) (view v) ≡ is_none_or (λ p. list_any (bytes_eq p) (take i names)) (word_at (codes "parent") (view v))
-parent_test names vs v i e =
-    none_or_same _ _ (word_at (codes "parent") (view v))
-    (λ p. any_taken_twice (bytes_eq p) name_of view i vs ∙ ap (λ (ns : List (List ℕ)). list_any (bytes_eq p) (take i ns)) (sym e))
+use Rattle.machine_file.proofs.Placing.{any_append, position_cons, some_position, any_reverse, seen_map}
 
 pub flipped : (b : Bool) → true ≡ not b → b ≡ false
 flipped true e = e
@@ -83,20 +72,31 @@ placed_more names es i e old new p within is before here after =
     taken = ap (λ (n : ℕ). take n es) next ∙ take-suc es i e within ∙ ap (λ x. take i es ++ x ∷ []) (sym is)
 
 -- as many places as links
-pub as_many : (names : List (List ℕ)) (ps : List EndPlaces) (vs : List Value) → ps ≡ map (end_places names) (map ends_written (map view vs)) → length ps ≡ length vs
-as_many names ps vs all = ap length all ∙ length-map (map ends_written (map view vs)) (end_places names) ∙ length-map (map view vs) ends_written ∙ length-map vs view
+pub as_many : (names : List (List ℕ)) (ps : List EndPlaces) (ds : List Data) → ps ≡ map (end_places names) (map ends_written ds) → length ps ≡ length ds
+as_many names ps ds all = ap length all ∙ length-map (map ends_written ds) (end_places names) ∙ length-map ds ends_written
 
--- the places of one link's ends, where those of all are kept
-pub place_at : (names : List (List ℕ)) (ps : List EndPlaces) (vs : List Value) (i : ℕ) (p : EndPlaces) (v : Value) → i < length ps → i < length vs → p ≡ get_or ps i p → v ≡ get_or vs i v
-    → ps ≡ map (end_places names) (map ends_written (map view vs)) → p ≡ end_places names (ends_written (view v))
-place_at names ps vs i p v within inside isp isv all =
-    let seen : i < length (map view vs) = subst (λ (n : ℕ). i < n) (sym (length-map vs view)) inside in
-    let written : i < length (map ends_written (map view vs)) = subst (λ (n : ℕ). i < n) (sym (length-map (map view vs) ends_written)) seen in
-    isp ∙ ap (λ (xs : List EndPlaces). get_or xs i p) all
-    ∙ get_or-map (end_places names) (map ends_written (map view vs)) i (ends_written (view v)) p written
-    ∙ ap (end_places names) (get_or-map ends_written (map view vs) i (view v) (ends_written (view v)) seen)
-    ∙ ap (λ (d : Data). end_places names (ends_written d)) (get_or-map view vs i v (view v) inside)
-    ∙ ap (λ (x : Value). end_places names (ends_written (view x))) (sym isv)
+-- links between these places, and one more behind them
+between_append : (ps : List EndPlaces) (ds : List Data) (p : EndPlaces) (d : Data) → length ps ≡ length ds → links_between ps ds ++ link_at p d ∷ [] ≡ links_between (ps ++ p ∷ []) (ds ++ d ∷ [])
+between_append [] [] p d e = refl
+between_append [] (b ∷ ds) p d e = absurd (omega arith)
+between_append (a ∷ ps) [] p d e = absurd (omega arith)
+between_append (a ∷ ps) (b ∷ ds) p d e = ap (λ (ls : List Link). link_at a b ∷ ls) (between_append ps ds p d (omega arith))
+
+-- the link between the next places
+pub between_more : (ps : List EndPlaces) (vs : List Value) (i : ℕ) (p : EndPlaces) (v : Value) → i < length ps → i < length vs → p ≡ get_or ps i p → v ≡ get_or vs i v
+    → links_between (take i ps) (map view (take i vs)) ++ link_at p (view v) ∷ [] ≡ links_between (take (i + 1) ps) (map view (take (i + 1) vs))
+between_more ps vs i p v within inside isp isv =
+    between_append (take i ps) (map view (take i vs)) p (view v) count
+    ∙ ap (λ (qs : List EndPlaces). links_between qs (map view (take i vs) ++ view v ∷ [])) (sym (take_more ps i p within ∙ ap (λ x. take i ps ++ x ∷ []) (sym isp)))
+    ∙ ap (links_between (take (i + 1) ps)) (sym (ap (map view) (take_more vs i v inside ∙ ap (λ x. take i vs ++ x ∷ []) (sym isv)) ∙ map-append view (take i vs) (v ∷ [])))
+  where
+    count : length (take i ps) ≡ length (map view (take i vs))
+    count = length-take-le i ps (omega arith) ∙ sym (length-map (take i vs) view ∙ length-take-le i vs (omega arith))
+
+-- the links between the places of their ends among these names
+pub all_between : (names : List (List ℕ)) (ds : List Data) → links_between (map (end_places names) (map ends_written ds)) ds ≡ map (link_of names) ds
+all_between names [] = refl
+all_between names (d ∷ ds) = ap (λ (ls : List Link). link_of names d ∷ ls) (all_between names ds)
 
 -- the first link of which an end has no place
 pub loose_told : (names : List (List ℕ)) (ds : List Data) → position (λ p. not (are_devices p)) (map (end_places names) (map ends_written ds)) ≡ first_not (has_ends names) ds

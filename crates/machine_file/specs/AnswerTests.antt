@@ -9,7 +9,7 @@ use Rattle.sleep_model.specs.Text.{down_word}
 use Rattle.machine_file.specs.declared.rules.answers.AnswerTest.{AnswerTest}
 use Rattle.machine_file.specs.declared.rules.answers.AnswerTest.TheVariants as test
 use Rattle.machine_file.specs.declared.names.known.Known.{Known}
-use Rattle.machine_file.specs.Knows.{texts}
+use Rattle.machine_file.specs.Knows.{names, texts}
 use Rattle.machine_file.specs.Members.{may_have, has_text, list_in, number_at}
 use Rattle.machine_file.specs.Names.{is_among_names}
 use Rattle.machine_file.specs.Operations.{names_source}
@@ -20,7 +20,7 @@ use Rattle.machine_file.specs.Answering.{is_of_device, has_its_phase, is_ret_all
 -- the names of the things of an answer's kind
 abbrev pub kind_names : Known → Data → List (List ℕ)
 kind_names k a =
-    if is_of_device a then texts k.devices else if has_text (codes "what") (codes "syscore") a then texts k.syscore
+    if is_of_device a then names k.devices else if has_text (codes "what") (codes "syscore") a then texts k.syscore
     else if has_text (codes "what") (codes "notifier") a then texts k.notifiers
     else map down_word platform_steps
 

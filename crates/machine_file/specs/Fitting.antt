@@ -51,7 +51,6 @@ pub record FitsAnswer (a : Data) : Type 0 where
 pub record FitsFile (d : Data) : Type 0 where
   pub cpus : FitsAt (codes "cpus") d
   pub auto_cycles : FitsAt (codes "auto_cycles") d
-  pub devices : All HasShortName (list_in (codes "devices") d)
   pub syscore : All IsShort (texts_in (codes "syscore") d)
   pub notifiers : All FitsNotifier (list_in (codes "notifiers") d)
   pub sources : All IsShort (sources_named d)

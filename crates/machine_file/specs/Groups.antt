@@ -24,9 +24,13 @@ form_rules =
     ∷ rule 7 misspelled_item
     ∷ []
 
--- the rules on devices and the ends of links
+-- the rules on the names and the parents of devices
 abbrev pub device_rules : List Rule
-device_rules = rule 8 repeated_device ∷ rule 9 orphan ∷ rule 10 loose_link ∷ rule 11 repeated_link ∷ []
+device_rules = rule 8 repeated_device ∷ rule 9 orphan ∷ []
+
+-- the rules on the ends of links
+abbrev pub end_rules : List Rule
+end_rules = rule 10 loose_link ∷ rule 11 repeated_link ∷ []
 
 -- the rules on the names of other things
 abbrev pub thing_rules : List Rule

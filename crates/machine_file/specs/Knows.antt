@@ -1,18 +1,25 @@
 -- That the names of a file's things are known.
 use Rattle.std.specs.Prelude.{◌≡◌, ◌≤◌, ℕ, List, map, length, codes}
 use Rattle.std.specs.Borrow.{Bor}
+use Rattle.sleep_model.specs.declared.machine.Device.{Device}
 use Rattle.serde_json.specs.Data.{Data}
 use Rattle.machine_file.specs.declared.names.known.Known.{Known}
 use Rattle.machine_file.specs.Operations.{Known as Names, whole_marks}
+use Rattle.machine_file.specs.Devices.{whole_devices}
 use Rattle.machine_file.specs.Names.{names_in, texts_in, devices_named, sources_named}
 
 -- the texts behind references
 abbrev pub texts : List (Bor (List ℕ)) → List (List ℕ)
 texts names = map (λ s. s.now) names
 
--- they are the names of the file's devices, syscore callbacks, notifiers, sources and marks
+-- the names of devices
+abbrev pub names : List Device → List (List ℕ)
+names devices = map (λ d. d.name) devices
+
+-- they are the file's devices, and the names of its devices, syscore callbacks, notifiers, sources and marks
 pub record Knows (k : Known) (file : Data) : Type 0 where
-  pub devices : texts k.devices ≡ devices_named file
+  pub registered : k.devices ≡ whole_devices file
+  pub devices : names k.devices ≡ devices_named file
   pub syscore : texts k.syscore ≡ texts_in (codes "syscore") file
   pub notifiers : texts k.notifiers ≡ names_in (codes "notifiers") file
   pub sources : texts k.sources ≡ sources_named file
@@ -27,4 +34,4 @@ pub record AreFew (k : Known) : Type 0 where
 
 -- what operations name by numbers
 abbrev pub known_seen : Known → Names
-known_seen k = record { devices = texts k.devices; sources = texts k.sources; marks = texts k.marks }
+known_seen k = record { devices = names k.devices; sources = texts k.sources; marks = texts k.marks }

@@ -28,4 +28,5 @@ pub mod Marks
 pub mod Fitting
 pub mod Reading
 pub mod Refusing
+pub mod Registered
 pub mod Writing

@@ -9,7 +9,7 @@ use Rattle.machine_file.specs.declared.rules.operations.Word.TheVariants as word
 use Rattle.machine_file.specs.declared.rules.operations.OperationTest.{OperationTest}
 use Rattle.machine_file.specs.declared.rules.operations.OperationTest.TheVariants as test
 use Rattle.machine_file.specs.declared.names.known.Known.{Known}
-use Rattle.machine_file.specs.Knows.{texts}
+use Rattle.machine_file.specs.Knows.{names, texts}
 use Rattle.machine_file.specs.Look.{text_at}
 use Rattle.machine_file.specs.Members.{has_text, number_at}
 use Rattle.machine_file.specs.Operations.{Known as Names, ms_of, says, thing_at, Operation, operation, operations, users, tasks, everyone, plain, has_count, is_state_form, has_short_text, has_length, has_mark, is_runtime_form, has_ends_named, is_link_state_form, has_source, is_event_form, is_formed, is_allowed, names_source, names_device}
@@ -74,4 +74,4 @@ abbrev pub operation_test : OperationTest → Known → Data → Data → Bool
 operation_test (test.Formed second) k actor = is_formed second actor
 operation_test test.Allowed k actor = is_allowed actor
 operation_test test.Source k actor = names_source (texts k.sources)
-operation_test test.Device k actor = names_device (texts k.devices)
+operation_test test.Device k actor = names_device (names k.devices)

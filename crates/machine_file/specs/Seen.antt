@@ -1,12 +1,13 @@
 -- By what links and answers are told apart.
-use Rattle.std.specs.Prelude.{◌≡◌, ℕ, List, map, Bool, not, ◌&&◌, bytes_eq, codes, is_some, position, Option}
+use Rattle.std.specs.Prelude.{◌≡◌, ℕ, List, [], ◌∷◌, map, Bool, not, ◌&&◌, bytes_eq, codes, is_some, position, unwrap_or, Option}
 use Rattle.serde_json.specs.Data.{Data}
 use Rattle.sleep_model.specs.Answers.{is_for}
+use Rattle.sleep_model.specs.declared.machine.Link.{Link}
 use Rattle.machine_file.specs.declared.rules.pairs.Ends.{Ends}
 use Rattle.machine_file.specs.declared.rules.pairs.EndPlaces.{EndPlaces}
 use Rattle.machine_file.specs.declared.rules.answers.Given.{Given}
 use Rattle.machine_file.specs.Look.{text_at}
-use Rattle.machine_file.specs.Members.{number_at, list_in}
+use Rattle.machine_file.specs.Members.{has_text, number_at, list_in}
 use Rattle.machine_file.specs.Names.{devices_named}
 
 -- the ends of a link
@@ -33,6 +34,20 @@ same_ends a b = bytes_eq a.supplier b.supplier && bytes_eq a.consumer b.consumer
 -- the places of both ends among these names
 abbrev pub end_places : List (List ℕ) → SeenEnds → EndPlaces
 end_places names e = record { supplier = position (bytes_eq e.supplier) names; consumer = position (bytes_eq e.consumer) names }
+
+-- a link between these places, active unless it says that it is dormant; an end that is no device counts as the first
+abbrev pub link_at : EndPlaces → Data → Link
+link_at p l = record {
+  supplier = unwrap_or p.supplier 0;
+  consumer = unwrap_or p.consumer 0;
+  active = not (has_text (codes "state") (codes "dormant") l);
+}
+
+-- the links between these places
+abbrev pub links_between : List EndPlaces → List Data → List Link
+links_between (p ∷ ps) (l ∷ ls) = link_at p l ∷ links_between ps ls
+links_between [] ls = []
+links_between (p ∷ ps) [] = []
 
 -- both ends are devices
 abbrev pub are_devices : EndPlaces → Bool

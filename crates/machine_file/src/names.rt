@@ -1,4 +1,5 @@
 //! The names of things, and where one stands a second time.
+pub(crate) mod devices;
 pub(crate) mod known;
 pub(crate) mod marks;
 pub(crate) mod places;

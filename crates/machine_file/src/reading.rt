@@ -9,7 +9,8 @@ ghost use Rattle.std.specs.Prelude.{◌≡◌, ◌++◌, codes, Some, None, IfOk
 ghost use Rattle.borrowed_json.specs.View.{view};
 ghost use Rattle.sleep_model.specs.Accepted.{IsAccepted};
 ghost use Rattle.machine_file.specs.Whole.{machine_in};
-ghost use Rattle.machine_file.specs.Kept.{broken_form};
+ghost use Rattle.machine_file.specs.Kept.{broken_devices, broken_form};
+ghost use Rattle.machine_file.specs.Devices.{whole_devices};
 ghost use Rattle.machine_file.specs.Knows.{Knows};
 ghost use Rattle.machine_file.specs.Reading.{links_among, Reads};
 ghost use Rattle.machine_file.specs.Refusing.{Names, Refuses, RefusesValue};
@@ -17,6 +18,7 @@ ghost use Rattle.machine_file.specs.Places.{item_place};
 ghost use Rattle.machine_file.specs.Broken.{broken_view, place_text};
 
 use crate::fault::MachineFault;
+use crate::names::devices::{Devices, devices_in};
 use crate::names::known::{Known, known_in};
 use crate::reading::machine::{first_of_form, linked};
 use crate::reading::whole::read_of;
@@ -71,13 +73,32 @@ fn read_tree(alloc: Global, tree: &Value<'_>) -> Result<ReadMachine, MachineFaul
     }
 }
 
-/// Reads a file that keeps the rules on form. It alone owns the names of its things, and drops them at one exit.
+/// Reads a file that keeps the rules on form: its devices are registered in turn, which decides the rules on their names and
+/// parents.
 fn read_formed(alloc: Global, tree: &Value<'_>) -> Result<ReadMachine, MachineFault>
     requires { broken_form (view tree.now) ≡ None }
     ensures ok { IfOk result (Reads (view tree.now)) }
     ensures err { IfErr result (RefusesValue (view tree.now)) }
 {
-    let known = known_in(alloc, tree)?;
+    match devices_in(alloc, tree)? {
+        Ok(devices) => read_registered(alloc, tree, devices),
+        Err(broken) => Err(fault_of(alloc, broken)),
+    }
+}
+
+/// Reads a file with these devices. It alone owns the names of its things, and drops them at one exit.
+fn read_registered(
+    alloc: Global,
+    tree: &Value<'_>,
+    devices: Devices,
+) -> Result<ReadMachine, MachineFault>
+    requires form { broken_form (view tree.now) ≡ None }
+    requires unbroken { broken_devices (view tree.now) ≡ None }
+    requires devices { devices ≡ whole_devices (view tree.now) }
+    ensures ok { IfOk result (Reads (view tree.now)) }
+    ensures err { IfErr result (RefusesValue (view tree.now)) }
+{
+    let known = known_in(alloc, tree, devices)?;
     let read = read_known(alloc, tree, &known);
     drop(known);
     read
@@ -90,6 +111,7 @@ fn read_known(
     known: &Known<'_>,
 ) -> Result<ReadMachine, MachineFault>
     requires form { broken_form (view tree.now) ≡ None }
+    requires devices { broken_devices (view tree.now) ≡ None }
     requires knows { Knows known.now (view tree.now) }
     ensures ok { IfOk result (Reads (view tree.now)) }
     ensures err { IfErr result (RefusesValue (view tree.now)) }

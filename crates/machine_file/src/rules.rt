@@ -17,20 +17,18 @@ ghost use Rattle.machine_file.specs.Rules.{has_version};
 ghost use Rattle.machine_file.specs.Operations.{unformed_operation, sourceless_operation, deviceless_operation};
 ghost use Rattle.machine_file.specs.Answering.{sourceless_report, thingless_answer};
 ghost use Rattle.machine_file.specs.Places.{unless};
-ghost use Rattle.machine_file.specs.Groups.{form_rules, device_rules, thing_rules, operation_rules, answer_rules};
+ghost use Rattle.machine_file.specs.Groups.{form_rules, end_rules, thing_rules, operation_rules, answer_rules};
 ghost use Rattle.machine_file.specs.Knows.{Knows};
 ghost use Rattle.machine_file.specs.Seen.{AreEnds, ArePlaced};
 ghost use Rattle.machine_file.specs.Broken.{place_of, broken_view};
 
-use crate::names::known::{
-    Known, repeated_actor, repeated_callback, repeated_device, repeated_source,
-};
+use crate::names::known::{Known, repeated_actor, repeated_callback, repeated_source};
 use crate::rules::answers::{AnswerTest, first_answer, repeated_answer};
 use crate::rules::form::unformed_member;
 use crate::rules::items::{is_second, misspelled_item, unformed_item};
 use crate::rules::limits::{too_many, too_much};
 use crate::rules::operations::{OperationTest, first_operation};
-use crate::rules::pairs::{EndPlaces, Ends, loose_link, orphan, repeated_link};
+use crate::rules::pairs::{EndPlaces, Ends, loose_link, repeated_link};
 use crate::value::look::{has_number, has_only};
 use crate::value::place::{Member, Place};
 use borrowed_json::Value;
@@ -101,24 +99,20 @@ pub(crate) fn form_broken(tree: &Value<'_>) -> Option<Broken>
         .or(breaks(7, misspelled_item(tree)))
 }
 
-/// The first rule of devices and of the ends of links that is broken.
-pub(crate) fn device_broken(
+/// The first rule of the ends of links that is broken.
+pub(crate) fn end_broken(
     alloc: Global,
     tree: &Value<'_>,
-    known: &Known<'_>,
     ends: &[Ends<'_>],
     places: &[EndPlaces],
 ) -> Result<Option<Broken>, Mem>
-    requires knows { Knows known.now (view tree.now) }
     requires ends { AreEnds ends.now (view tree.now) }
     requires placed { ArePlaced places.now (view tree.now) }
-    ensures { IfOk result (λ b. option_map broken_view b ≡ first_of device_rules (view tree.now)) }
+    ensures { IfOk result (λ b. option_map broken_view b ≡ first_of end_rules (view tree.now)) }
 {
     let again = repeated_link(alloc, tree, ends)?;
-    let device = breaks(8, repeated_device(tree, known));
-    let parent = breaks(9, orphan(tree, known));
     let end = breaks(10, loose_link(tree, places));
-    Ok(device.or(parent).or(end).or(breaks(11, again)))
+    Ok(end.or(breaks(11, again)))
 }
 
 /// The first rule that tells things apart that is broken.

@@ -1,7 +1,7 @@
 """The pages of definitions, made of the comment lines of the crates' specs/.
 
 docs/DEFINITIONS.md has what a reader has to trust, in reading order, and behind it the definitions that a promise comes to.
-docs/DEFINITIONS_ASIDE.md has those of the checker's account, and of a library on which no program stands. A definition without a
+docs/DEFINITIONS_ASIDE.md has those of the checker's account, and of the tree of devices. A definition without a
 comment line, and one that the program's clauses come to and that no section has, are refused.
 """
 

@@ -16,13 +16,14 @@ Whoever believes these, with the definitions that they cite, knows what the head
 reading order, from "the program wrote a legal log" down to the rule that decides an entry. The sections after have
 every definition that the headline's clauses come to, then those of the laws of sleep, of the rules of a log, of the merge
 and of running threads. What no promise comes to, as invariants and the steps of proofs, is in the crates' `specs/` and not
-here. The checker's account and a library have [a page of their own](DEFINITIONS_ASIDE.md).
+here. The checker's account and the tree of devices have [a page of their own](DEFINITIONS_ASIDE.md).
 """
 
 ASIDE_HEAD = """# Definitions aside
 
 No clause of the program comes to these, so nobody has to trust them to believe what the program promises. The first sections
-are of the checker's account, by which `check` judges a log; no program stands on the crate of the last. The tables are as on
+are of the checker's account, by which `check` judges a log; the last is of the tree in which the reader of machine files
+registers devices, and of requests for a runtime status. The tables are as on
 [the page of the program's definitions](DEFINITIONS.md), and `tools/dev docs` writes both.
 """
 

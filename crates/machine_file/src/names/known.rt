@@ -7,11 +7,13 @@ ghost use Rattle.machine_file.specs.Look.{is_none_or, text_at};
 ghost use Rattle.machine_file.specs.Rules.{name_of};
 ghost use Rattle.machine_file.specs.Members.{list_in, word_at};
 ghost use Rattle.machine_file.specs.Places.{item_place, first_not, first_not_after};
-ghost use Rattle.machine_file.specs.Names.{names_in, texts_in, is_among_names, repeated_device, repeated_callback, repeated_source, repeated_actor};
+ghost use Rattle.machine_file.specs.Names.{names_in, texts_in, is_among_names, repeated, repeated_callback, repeated_device, repeated_source, repeated_actor};
+ghost use Rattle.machine_file.specs.Devices.{whole_devices};
 ghost use Rattle.machine_file.specs.Operations.{whole_marks};
 ghost use Rattle.machine_file.specs.Knows.{Knows, texts};
 ghost use Rattle.machine_file.specs.Broken.{member_name, place_of};
 
+use crate::names::devices::Devices;
 use crate::names::marks::marks_in;
 use crate::names::{first_repeated, names_in, texts_in};
 use crate::value::place::{Member, Place};
@@ -24,7 +26,8 @@ use std::alloc::Global;
 /// The names of the things of a file, by kind.
 #[derive(Drop)]
 pub(crate) struct Known<'v> {
-    pub(crate) devices: KeyIndex<&'v str>,
+    /// The devices, by name and number.
+    pub(crate) devices: Devices,
     pub(crate) syscore: KeyIndex<&'v str>,
     pub(crate) notifiers: KeyIndex<&'v str>,
     pub(crate) sources: KeyIndex<&'v str>,
@@ -56,11 +59,15 @@ fn marked_in<'v>(alloc: Global, tree: &Value<'v>) -> Result<KeyIndex<&'v str>, M
     KeyIndex::new(alloc, marks)
 }
 
-/// The names of the things of a file.
-pub(crate) fn known_in<'v>(alloc: Global, tree: &Value<'v>) -> Result<Known<'v>, Mem>
+/// The names of the things of a file, whose devices these are.
+pub(crate) fn known_in<'v>(
+    alloc: Global,
+    tree: &Value<'v>,
+    devices: Devices,
+) -> Result<Known<'v>, Mem>
+    requires { devices ≡ whole_devices (view tree.now) }
     ensures { IfOk result (λ k. Knows k (view tree.now)) }
 {
-    let devices = named_in(alloc, tree, Member::Devices)?;
     let Ok(syscore) = told_in(alloc, tree, Member::Syscore) else {
         return Err(lost(devices));
     };
@@ -90,14 +97,6 @@ pub(crate) fn item(list: Member, number: Option<usize>) -> Option<Place>
         Some(number) => Some(Place::Item(list, number)),
         None => None,
     }
-}
-
-/// The first device that has another's name.
-pub(crate) fn repeated_device(_tree: &Value<'_>, known: &Known) -> Option<Place>
-    requires { Knows known.now (view _tree.now) }
-    ensures { place_of result ≡ repeated_device (view _tree.now) }
-{
-    item(Member::Devices, first_repeated(&known.devices))
 }
 
 /// The first syscore callback or notifier that has another's name.
@@ -154,15 +153,28 @@ fn one_less(number: Option<usize>) -> Option<usize>
     }
 }
 
+/// The first of a list of objects that has another's name.
+fn repeated(alloc: Global, tree: &Value<'_>, list: Member) -> Result<Option<Place>, Mem>
+    ensures { IfOk result (λ p. place_of p ≡ repeated (member_name list) (names_in (member_name list) (view tree.now))) }
+{
+    let names = named_in(alloc, tree, list)?;
+    let number = first_repeated(&names);
+    drop(names);
+    Ok(item(list, number))
+}
+
+/// The first device that has another's name.
+pub(crate) fn repeated_device(alloc: Global, tree: &Value<'_>) -> Result<Option<Place>, Mem>
+    ensures { IfOk result (λ p. place_of p ≡ repeated_device (view tree.now)) }
+{
+    repeated(alloc, tree, Member::Devices)
+}
+
 /// The first actor that has another's name.
 pub(crate) fn repeated_actor(alloc: Global, tree: &Value<'_>) -> Result<Option<Place>, Mem>
     ensures { IfOk result (λ p. place_of p ≡ repeated_actor (view tree.now)) }
 {
-    let names = names_in(alloc, tree, Member::Actors)?;
-    let names = KeyIndex::new(alloc, names)?;
-    let number = first_repeated(&names);
-    drop(names);
-    Ok(item(Member::Actors, number))
+    repeated(alloc, tree, Member::Actors)
 }
 
 /// The place of a name among these.
@@ -171,17 +183,6 @@ pub(crate) fn place_of_name(names: &KeyIndex<&str>, name: &str) -> Option<usize>
     ensures within { IfSome result (λ i. i < length names.now) }
 {
     names.place(&name)
-}
-
-/// The number of the device of a name.
-pub(crate) fn device_at(names: &KeyIndex<&str>, name: &str) -> Option<u32>
-    requires { length names.now ≤ 1000 }
-    ensures { result ≡ position (bytes_eq name.now) (texts names.now) }
-{
-    match place_of_name(names, name) {
-        Some(place) => Some(place as u32),
-        None => None,
-    }
 }
 
 /// Whether a name is one of these.

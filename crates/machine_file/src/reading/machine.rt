@@ -7,7 +7,7 @@ ghost use Rattle.machine_file.specs.Members.{list_in};
 ghost use Rattle.machine_file.specs.Places.{first_not_after};
 ghost use Rattle.machine_file.specs.Devices.{closes_no_cycle};
 ghost use Rattle.machine_file.specs.Knows.{Knows};
-ghost use Rattle.machine_file.specs.Kept.{IsSound, first_in_order, broken_form, broken_devices, broken_cycle, broken_rest};
+ghost use Rattle.machine_file.specs.Kept.{IsSound, first_in_order, broken_form, broken_devices, broken_ends, broken_cycle, broken_rest};
 ghost use Rattle.machine_file.specs.Seen.{AreEnds, ArePlaced};
 ghost use Rattle.machine_file.specs.Broken.{broken_view};
 
@@ -15,7 +15,7 @@ use crate::names::known::Known;
 use crate::rules::cycles::{Linking, linking_of};
 use crate::rules::pairs::{EndPlaces, Ends, ends_in, places_in};
 use crate::rules::{
-    Broken, answer_broken, device_broken, form_broken, operation_broken, thing_broken,
+    Broken, answer_broken, end_broken, form_broken, operation_broken, thing_broken,
 };
 use crate::value::place::{Member, Place};
 use borrowed_json::Value;
@@ -30,20 +30,18 @@ pub(crate) fn first_of_form(tree: &Value<'_>) -> Option<Broken>
     form_broken(tree)
 }
 
-#[tactic(auto, unfolding(crate::specs::Kept::broken_devices))]
-fn first_of_devices(
+#[tactic(auto, unfolding(crate::specs::Kept::broken_ends))]
+fn first_of_ends(
     alloc: Global,
     tree: &Value<'_>,
-    known: &Known<'_>,
     ends: &[Ends<'_>],
     places: &[EndPlaces],
 ) -> Result<Option<Broken>, Mem>
-    requires knows { Knows known.now (view tree.now) }
     requires ends { AreEnds ends.now (view tree.now) }
     requires placed { ArePlaced places.now (view tree.now) }
-    ensures { IfOk result (λ b. option_map broken_view b ≡ broken_devices (view tree.now)) }
+    ensures { IfOk result (λ b. option_map broken_view b ≡ broken_ends (view tree.now)) }
 {
-    device_broken(alloc, tree, known, ends, places)
+    end_broken(alloc, tree, ends, places)
 }
 
 #[tactic(auto, unfolding(crate::specs::Kept::broken_cycle))]
@@ -94,31 +92,33 @@ pub(crate) fn linked(
     known: &Known<'_>,
 ) -> Result<Result<Linking, Broken>, Mem>
     requires form { broken_form (view tree.now) ≡ None }
+    requires devices { broken_devices (view tree.now) ≡ None }
     requires knows { Knows known.now (view tree.now) }
     ensures sound { IfOk result (λ r. IfOk r (IsSound (view tree.now) known.now)) }
     ensures broken { IfOk result (λ r. IfErr r (λ b. first_in_order (view tree.now) ≡ Some (broken_view b))) }
 {
-    match ends_of_devices(alloc, tree, known)? {
+    match ends_of_links(alloc, tree, known)? {
         Ok(places) => linked_by(alloc, tree, known, &places),
         Err(broken) => Ok(Err(broken)),
     }
 }
 
-/// The places of the ends of links, or the first rule on devices and on those ends that is broken.
-fn ends_of_devices(
+/// The places of the ends of links, or the first rule on those ends that is broken.
+fn ends_of_links(
     alloc: Global,
     tree: &Value<'_>,
     known: &Known<'_>,
 ) -> Result<Result<Vec<EndPlaces>, Broken>, Mem>
     requires form { broken_form (view tree.now) ≡ None }
+    requires devices { broken_devices (view tree.now) ≡ None }
     requires knows { Knows known.now (view tree.now) }
     ensures placed { IfOk result (λ r. IfOk r (λ places. ArePlaced places.items (view tree.now))) }
-    ensures sound { IfOk result (λ r. IfOk r (λ _. broken_devices (view tree.now) ≡ None)) }
-    ensures broken { IfOk result (λ r. IfErr r (λ b. broken_devices (view tree.now) ≡ Some (broken_view b))) }
+    ensures sound { IfOk result (λ r. IfOk r (λ _. broken_ends (view tree.now) ≡ None)) }
+    ensures broken { IfOk result (λ r. IfErr r (λ b. broken_ends (view tree.now) ≡ Some (broken_view b))) }
 {
     let ends = ends_in(alloc, tree)?;
     let places = places_in(alloc, tree, known, &ends)?;
-    match first_of_devices(alloc, tree, known, &ends, &places)? {
+    match first_of_ends(alloc, tree, &ends, &places)? {
         Some(broken) => Ok(Err(broken)),
         None => Ok(Ok(places)),
     }
@@ -133,6 +133,7 @@ fn linked_by(
 ) -> Result<Result<Linking, Broken>, Mem>
     requires form { broken_form (view tree.now) ≡ None }
     requires devices { broken_devices (view tree.now) ≡ None }
+    requires ends { broken_ends (view tree.now) ≡ None }
     requires knows { Knows known.now (view tree.now) }
     requires placed { ArePlaced places.now (view tree.now) }
     ensures sound { IfOk result (λ r. IfOk r (IsSound (view tree.now) known.now)) }

@@ -12,6 +12,7 @@ ghost use Rattle.sleep_model.specs.Answers.{errors};
 ghost use Rattle.machine_file.specs.Fitting.{FitsAt, HasPlainRet, FitsAnswer};
 ghost use Rattle.machine_file.specs.Knows.{texts, AreFew};
 
+use crate::names::devices::device_named;
 use crate::names::known::Known;
 use crate::reading::scripts::{ms_of, says, small_at, thing_at};
 use crate::rules::answers::is_of_device;
@@ -58,7 +59,10 @@ fn thing_of(answer: &Value<'_>, known: &Known<'_>) -> What
     ensures { result ≡ thing_seen known.now (view answer.now) }
 {
     if is_of_device(answer) {
-        return What::Device(thing_at(answer, "name", &known.devices), phase_of(answer));
+        return What::Device(
+            device_named(answer, "name", &known.devices),
+            phase_of(answer),
+        );
     }
     if has_text(answer, "what", SYSCORE) {
         return What::Syscore(thing_at(answer, "name", &known.syscore));

@@ -13,6 +13,7 @@ ghost use Rattle.machine_file.specs.Fitting.{FitsAt, FitsStep, FitsScript};
 ghost use Rattle.machine_file.specs.Spelled.{place_among};
 ghost use Rattle.machine_file.specs.Knows.{texts, AreFew, known_seen};
 
+use crate::names::devices::device_named;
 use crate::names::known::Known;
 use crate::reading::texts::{name_of_text, text_from};
 use crate::rules::cycles::place_among;
@@ -78,7 +79,7 @@ fn runtime_of(operation: &Value<'_>, known: &Known<'_>) -> Op
     ensures { result ≡ op_spelled word.Runtime (known_seen known.now) (view operation.now) }
 {
     Op::Runtime {
-        device: thing_at(operation, "device", &known.devices),
+        device: device_named(operation, "device", &known.devices),
         to_suspended: has_text(operation, "to", runtime_word(true)),
     }
 }
@@ -88,8 +89,8 @@ fn link_of(operation: &Value<'_>, known: &Known<'_>) -> Op
     ensures { result ≡ op_spelled word.Link (known_seen known.now) (view operation.now) }
 {
     Op::Link {
-        supplier: thing_at(operation, "supplier", &known.devices),
-        consumer: thing_at(operation, "consumer", &known.devices),
+        supplier: device_named(operation, "supplier", &known.devices),
+        consumer: device_named(operation, "consumer", &known.devices),
     }
 }
 
@@ -98,8 +99,8 @@ fn link_state_of(operation: &Value<'_>, known: &Known<'_>) -> Op
     ensures { result ≡ op_spelled word.LinkState (known_seen known.now) (view operation.now) }
 {
     Op::LinkState {
-        supplier: thing_at(operation, "supplier", &known.devices),
-        consumer: thing_at(operation, "consumer", &known.devices),
+        supplier: device_named(operation, "supplier", &known.devices),
+        consumer: device_named(operation, "consumer", &known.devices),
         active: !has_text(operation, "to", link_word(false)),
     }
 }

@@ -1,4 +1,4 @@
-//! The devices and the notifiers that a file spells.
+//! The flags of devices, and the notifiers, that a file spells.
 
 ghost use Rattle.std.specs.Prelude.{◌≡◌, ◌≤◌, All, Some, map, length, codes, IfOk, option_and_then, true};
 ghost use Rattle.borrowed_json.specs.View.{view};
@@ -10,14 +10,11 @@ ghost use Rattle.machine_file.specs.Whole.{priority_of, whole_notifier};
 ghost use Rattle.machine_file.specs.Fitting.{HasShortName, FitsNotifier};
 ghost use Rattle.machine_file.specs.Knows.{texts};
 
-use crate::names::known::Known;
 use crate::reading::texts::name_of_text;
-use crate::rules::cycles::parent_of;
 use crate::value::look::{has_text, text_at, truth_at};
 use crate::value::place::{Member, items};
 use bitflags::Flags;
 use borrowed_json::{Value, as_i64, get};
-use key_index::KeyIndex;
 use sleep_base::Mem;
 use sleep_model::{Device, DeviceFlags, Notifier, runtime_word};
 use std::alloc::Global;
@@ -28,41 +25,14 @@ fn flag(set: bool, value: u8) -> u8
     if set { value } else { 0 }
 }
 
-fn flags_of(device: &Value<'_>) -> DeviceFlags
+/// What a file says of a device's driver.
+pub(crate) fn flags_of(device: &Value<'_>) -> DeviceFlags
     ensures { result ≡ flags_of (view device.now) }
 {
     let asynchronous = truth_at(device, "async").unwrap_or(false);
     let wakeup = truth_at(device, "wakeup").unwrap_or(false);
     let suspended = has_text(device, "runtime", runtime_word(true));
     DeviceFlags::from_bits_retain(flag(asynchronous, 1) + flag(wakeup, 2) + flag(suspended, 4))
-}
-
-fn device_of(device: &Value<'_>, names: &KeyIndex<&str>) -> Device
-    requires few { length names.now ≤ 1000 }
-    requires fits { HasShortName (view device.now) }
-    ensures { result ≡ whole_device (texts names.now) (view device.now) }
-{
-    Device {
-        name: name_of_text(text_at(device, "name")),
-        parent: parent_of(device, names),
-        flags: flags_of(device),
-    }
-}
-
-pub(crate) fn devices_of(
-    alloc: Global,
-    devices: &[Value<'_>],
-    names: &KeyIndex<&str>,
-) -> Result<Vec<Device>, Mem>
-    requires few { length names.now ≤ 1000 }
-    requires fit { All HasShortName (map view devices.now) }
-    ensures { IfOk result (λ v. v.items ≡ map (whole_device (texts names.now)) (map view devices.now)) }
-{
-    let mut all = Vec::with_capacity(alloc, devices.len())?;
-    for device in devices {
-        all.push(device_of(device, names))?;
-    }
-    Ok(all)
 }
 
 // A number from -1000 to 1000.

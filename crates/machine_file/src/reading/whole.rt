@@ -18,7 +18,7 @@ use crate::names::known::Known;
 use crate::reading::replies::answers_of;
 use crate::reading::scripts::{scripts_of, small_or};
 use crate::reading::texts::names_of_texts;
-use crate::reading::things::{devices_of, notifiers_of};
+use crate::reading::things::notifiers_of;
 use crate::rules::cycles::{Added, Linking};
 use crate::value::look::number_at;
 use crate::value::place::{Member, items};
@@ -26,16 +26,6 @@ use borrowed_json::Value;
 use sleep_base::{Mem, lost};
 use sleep_model::{Answer, Device, Link, ListOf, Machine, Name, Notifier, Script};
 use std::alloc::Global;
-
-fn devices_in(alloc: Global, tree: &Value<'_>, known: &Known<'_>) -> Result<Vec<Device>, Mem>
-    requires knows { Knows known.now (view tree.now) }
-    requires few { AreFew known.now }
-    requires fits { FitsFile (view tree.now) }
-    ensures { IfOk result (λ v. v.items ≡ whole_devices (view tree.now)) }
-{
-    let devices = devices_of(alloc, items(tree, Member::Devices), &known.devices)?;
-    Ok(devices)
-}
 
 fn syscore_in(alloc: Global, _tree: &Value<'_>, known: &Known<'_>) -> Result<Vec<Name>, Mem>
     requires knows { Knows known.now (view _tree.now) }
@@ -104,7 +94,7 @@ fn things_in(alloc: Global, tree: &Value<'_>, known: &Known<'_>) -> Result<Thing
     ensures syscore { IfOk result (λ t. t.1.items ≡ texts_in (codes "syscore") (view tree.now)) }
     ensures notifiers { IfOk result (λ t. t.2.items ≡ map whole_notifier (list_in (codes "notifiers") (view tree.now))) }
 {
-    let devices = devices_in(alloc, tree, known)?;
+    let devices = Vec::from_slice(alloc, known.devices.all())?;
     let Ok(syscore) = syscore_in(alloc, tree, known) else {
         return Err(lost(devices));
     };

@@ -18,6 +18,7 @@ ghost use Rattle.machine_file.specs.AnswerTests.{answer_test, kind_names};
 ghost use Rattle.machine_file.specs.Seen.{answer_seen, answer_written, same_answer};
 ghost use Rattle.machine_file.specs.Broken.{place_of};
 
+use crate::names::devices::is_device;
 use crate::names::known::{Known, contains, item};
 use crate::names::places::first_repeated;
 use crate::rules::operations::names_one_of;
@@ -75,7 +76,7 @@ fn is_there(answer: &Value<'_>, known: &Known<'_>) -> bool
 {
     let name = text_at(answer, "name");
     if is_of_device(answer) {
-        return contains(&known.devices, name);
+        return is_device(&known.devices, name);
     }
     if has_text(answer, "what", SYSCORE) {
         return contains(&known.syscore, name);

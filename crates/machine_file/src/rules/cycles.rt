@@ -2,25 +2,25 @@
 
 ghost use Rattle.std.specs.Prelude.{◌≡◌, ◌≤◌, [], map, reverse, length, position, bytes_eq, codes, IfOk, None};
 ghost use Rattle.borrowed_json.specs.View.{view};
-ghost use Rattle.machine_file.specs.Spelled.{parent_of, place_among, link_of};
+ghost use Rattle.machine_file.specs.Spelled.{place_among};
 ghost use Rattle.sleep_model.specs.Order.{EachAfterParent, parents_of};
 ghost use Rattle.machine_file.specs.Members.{list_in};
 ghost use Rattle.machine_file.specs.Devices.{whole_devices, whole_links, closes_no_cycle};
 ghost use Rattle.machine_file.specs.Joined.{AreJoined};
 ghost use Rattle.machine_file.specs.Places.{first_not_after};
 ghost use Rattle.machine_file.specs.Fresh.{AreFresh, closes_nothing};
-ghost use Rattle.machine_file.specs.Seen.{ends_written, end_places, ArePlaced};
+ghost use Rattle.machine_file.specs.Seen.{ArePlaced, link_at, links_between};
 ghost use Rattle.machine_file.specs.Knows.{Knows, texts};
 
-use crate::names::known::{Known, device_at, place_of_name};
+use crate::names::known::{Known, place_of_name};
 use crate::rules::pairs::EndPlaces;
-use crate::value::look::{has_text, word_at};
+use crate::value::look::has_text;
 use crate::value::place::{Member, items};
 use borrowed_json::Value;
 use device_links::{LinkFault, Links};
 use key_index::KeyIndex;
 use sleep_base::{Mem, lost};
-use sleep_model::{Link, link_word};
+use sleep_model::{Link, link_word, parents_of};
 use std::alloc::Global;
 
 /// The place of a name among these, and 0 where it is none of them.
@@ -31,38 +31,10 @@ pub(crate) fn place_among(names: &KeyIndex<&str>, name: &str) -> usize
     place_of_name(names, name).unwrap_or(0)
 }
 
-/// The place of a device's parent.
-pub(crate) fn parent_of(device: &Value<'_>, names: &KeyIndex<&str>) -> Option<u32>
-    requires { length names.now ≤ 1000 }
-    ensures { result ≡ parent_of (texts names.now) (view device.now) }
+/// A link between these places.
+fn link_of(link: &Value<'_>, places: EndPlaces) -> Link
+    ensures { result ≡ link_at places (view link.now) }
 {
-    match word_at(device, "parent") {
-        Some(parent) => device_at(names, parent),
-        None => None,
-    }
-}
-
-/// The parents of these devices.
-pub(crate) fn parents_of(
-    alloc: Global,
-    devices: &[Value<'_>],
-    names: &KeyIndex<&str>,
-) -> Result<Vec<Option<u32>>, Mem>
-    requires { length names.now ≤ 1000 }
-    ensures { IfOk result (λ v. v.items ≡ map (parent_of (texts names.now)) (map view devices.now)) }
-{
-    let mut parents = Vec::with_capacity(alloc, devices.len())?;
-    for device in devices {
-        parents.push(parent_of(device, names))?;
-    }
-    Ok(parents)
-}
-
-fn link_of(link: &Value<'_>, places: EndPlaces, names: &KeyIndex<&str>) -> Link
-    requires { places ≡ end_places (texts names.now) (ends_written (view link.now)) }
-    ensures { result ≡ link_of (texts names.now) (view link.now) }
-{
-    let _ = names;
     Link {
         supplier: places.supplier.unwrap_or(0),
         consumer: places.consumer.unwrap_or(0),
@@ -70,19 +42,18 @@ fn link_of(link: &Value<'_>, places: EndPlaces, names: &KeyIndex<&str>) -> Link
     }
 }
 
-/// The links of a file.
+/// The links of a file, whose ends stand at these places.
 pub(crate) fn links_of(
     alloc: Global,
     links: &[Value<'_>],
     places: &[EndPlaces],
-    names: &KeyIndex<&str>,
 ) -> Result<Vec<Link>, Mem>
-    requires { places.now ≡ map (end_places (texts names.now)) (map ends_written (map view links.now)) }
-    ensures { IfOk result (λ v. v.items ≡ map (link_of (texts names.now)) (map view links.now)) }
+    requires { length places.now ≡ length links.now }
+    ensures { IfOk result (λ v. v.items ≡ links_between places.now (map view links.now)) }
 {
     let mut all = Vec::with_capacity(alloc, links.len())?;
     for i in 0..links.len() {
-        all.push(link_of(&links[i], places[i], names))?;
+        all.push(link_of(&links[i], places[i]))?;
     }
     Ok(all)
 }
@@ -156,32 +127,16 @@ pub(crate) fn linking_of(
     ensures added { IfOk result (λ l. l.added.cycle ≡ None → l.added.links ≡
         record { parents = parents_of (whole_devices (view tree.now)); links = reverse (whole_links (view tree.now)) }) }
 {
-    let parents = parents_in(alloc, tree, known)?;
-    let links = links_in(alloc, tree, known, places)?;
+    let parents = parents_of(alloc, known.devices.all())?;
+    let links = links_in(alloc, tree, places)?;
     let added = add_links(alloc, &parents, &links)?;
     Ok(Linking { links, added })
 }
 
-fn parents_in(alloc: Global, tree: &Value<'_>, known: &Known<'_>) -> Result<Vec<Option<u32>>, Mem>
-    requires knows { Knows known.now (view tree.now) }
-    requires joined { AreJoined (view tree.now) }
-    ensures { IfOk result (λ v. v.items ≡ parents_of (whole_devices (view tree.now))) }
-{
-    let parents = parents_of(alloc, items(tree, Member::Devices), &known.devices)?;
-    Ok(parents)
-}
-
-fn links_in(
-    alloc: Global,
-    tree: &Value<'_>,
-    known: &Known<'_>,
-    places: &[EndPlaces],
-) -> Result<Vec<Link>, Mem>
-    requires knows { Knows known.now (view tree.now) }
-    requires placed { ArePlaced places.now (view tree.now) }
-    requires joined { AreJoined (view tree.now) }
+fn links_in(alloc: Global, tree: &Value<'_>, places: &[EndPlaces]) -> Result<Vec<Link>, Mem>
+    requires { ArePlaced places.now (view tree.now) }
     ensures { IfOk result (λ v. v.items ≡ whole_links (view tree.now)) }
 {
-    let links = links_of(alloc, items(tree, Member::Links), places, &known.devices)?;
+    let links = links_of(alloc, items(tree, Member::Links), places)?;
     Ok(links)
 }

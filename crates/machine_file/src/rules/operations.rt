@@ -11,9 +11,10 @@ ghost use Rattle.machine_file.specs.Places.{first_not, first_operation, first_op
 ghost use Rattle.machine_file.specs.Names.{is_among_names};
 ghost use Rattle.machine_file.specs.Operations.{is_formed, is_allowed, has_count, has_short_text, is_state_form, has_length, has_mark, is_runtime_form, has_ends_named, is_link_state_form, changes_links, has_source, is_event_form, row_of, fits_row, names_source, names_device, unformed_operation, forbidden_operation, sourceless_operation, deviceless_operation};
 ghost use Rattle.machine_file.specs.OperationRows.{op_row, first_version, word_changes_links, row_named, operation_test};
-ghost use Rattle.machine_file.specs.Knows.{Knows, texts};
+ghost use Rattle.machine_file.specs.Knows.{Knows, names, texts};
 ghost use Rattle.machine_file.specs.Broken.{place_of};
 
+use crate::names::devices::{Devices, is_device};
 use crate::names::known::{Known, contains};
 use crate::rules::form::{DAY, has_ends, link_states, statuses};
 use crate::rules::items::must_be_name;
@@ -281,12 +282,22 @@ fn is_of_version(second: bool, word: Word) -> bool
 }
 
 // Whether the devices that it names, if it names any, are of these.
-fn names_devices(operation: &Value<'_>, names: &KeyIndex<&str>) -> bool
-    ensures { result ≡ names_device (texts names.now) (view operation.now) }
+fn names_devices(operation: &Value<'_>, devices: &Devices) -> bool
+    ensures { result ≡ names_device (names devices.now) (view operation.now) }
 {
-    names_one_of(operation, "device", names)
-        && names_one_of(operation, "supplier", names)
-        && names_one_of(operation, "consumer", names)
+    names_one_device(operation, "device", devices)
+        && names_one_device(operation, "supplier", devices)
+        && names_one_device(operation, "consumer", devices)
+}
+
+// Whether the device that it names there, if it names one, is of these.
+fn names_one_device(operation: &Value<'_>, member: &str, devices: &Devices) -> bool
+    ensures { result ≡ is_none_or (is_among_names (names devices.now)) (word_at member.now (view operation.now)) }
+{
+    match word_at(operation, member) {
+        Some(name) => is_device(devices, name),
+        None => true,
+    }
 }
 
 // Whether what the word asks for is given.

@@ -1,4 +1,4 @@
-//! The parents of devices and the ends of links.
+//! The ends of links.
 
 ghost use Rattle.std.specs.Prelude.{◌≡◌, ◌≤◌, ◌&&◌, [], not, map, take, bytes_eq, codes, is_some, length, IfOk, position};
 ghost use Rattle.std.specs.List.{list_any};
@@ -6,18 +6,18 @@ ghost use Rattle.borrowed_json.specs.View.{view};
 ghost use Rattle.machine_file.specs.Look.{is_none_or, text_at};
 ghost use Rattle.machine_file.specs.Members.{list_in, word_at};
 ghost use Rattle.machine_file.specs.Places.{first_not, first_not_after};
-ghost use Rattle.machine_file.specs.Devices.{has_parent_before, orphan, loose_link, repeated_link};
+ghost use Rattle.machine_file.specs.Devices.{loose_link, repeated_link};
 ghost use Rattle.machine_file.specs.Rules.{name_of};
-ghost use Rattle.machine_file.specs.Knows.{Knows, AreFew, texts};
+ghost use Rattle.machine_file.specs.Knows.{Knows, names};
 ghost use Rattle.machine_file.specs.Seen.{ends_seen, ends_written, differ, same_ends, end_places, are_devices, AreEnds, ArePlaced};
 ghost use Rattle.machine_file.specs.Broken.{place_of};
 
-use crate::names::known::{Known, device_at, item};
+use crate::names::devices::Devices;
+use crate::names::known::{Known, item};
 use crate::value::look::{text_at, word_at};
 use crate::value::place::{Member, Place, items};
 use borrowed_json::Value;
 use indexmap::IndexMap;
-use key_index::KeyIndex;
 use sleep_base::{Mem, lost};
 use std::alloc::Global;
 
@@ -26,46 +26,6 @@ use std::alloc::Global;
 pub(crate) struct Ends<'v> {
     pub(crate) supplier: &'v str,
     pub(crate) consumer: &'v str,
-}
-
-// Whether the parent, where one is named, stands among the first `count` devices.
-fn has_parent_before(device: &Value<'_>, names: &KeyIndex<&str>, count: usize) -> bool
-    ensures { result ≡ is_none_or (λ p. list_any (bytes_eq p) (take count (texts names.now)))
-        (word_at (codes "parent") (view device.now)) }
-{
-    match word_at(device, "parent") {
-        Some(parent) => is_before(names, parent, count),
-        None => true,
-    }
-}
-
-fn is_before(names: &KeyIndex<&str>, name: &str, count: usize) -> bool
-    ensures { result ≡ list_any (bytes_eq name.now) (take count (texts names.now)) }
-{
-    crate::names::places::is_before(names, &name, count)
-}
-
-fn first_orphan(devices: &[Value<'_>], names: &KeyIndex<&str>) -> Option<usize>
-    requires { texts names.now ≡ map name_of (map view devices.now) }
-    ensures { result ≡ first_not_after (λ before v. has_parent_before (map view before) (view v)) [] 0 devices.now }
-{
-    for i in 0..devices.len() {
-        if !has_parent_before(&devices[i], names, i) {
-            return Some(i);
-        }
-    }
-    None
-}
-
-/// The first device whose parent is no earlier one.
-pub(crate) fn orphan(tree: &Value<'_>, known: &Known<'_>) -> Option<Place>
-    requires { Knows known.now (view tree.now) }
-    ensures { place_of result ≡ orphan (view tree.now) }
-{
-    item(
-        Member::Devices,
-        first_orphan(items(tree, Member::Devices), &known.devices),
-    )
 }
 
 fn ends_of<'v>(alloc: Global, links: &[Value<'v>]) -> Result<Vec<Ends<'v>>, Mem>
@@ -96,27 +56,21 @@ pub(crate) struct EndPlaces {
     pub(crate) consumer: Option<u32>,
 }
 
-fn place_of(ends: &Ends<'_>, names: &KeyIndex<&str>) -> EndPlaces
-    requires { length names.now ≤ 1000 }
-    ensures { result ≡ end_places (texts names.now) (ends_seen ends.now) }
+fn place_of(ends: &Ends<'_>, devices: &Devices) -> EndPlaces
+    ensures { result ≡ end_places (names devices.now) (ends_seen ends.now) }
 {
     EndPlaces {
-        supplier: device_at(names, ends.supplier),
-        consumer: device_at(names, ends.consumer),
+        supplier: devices.find(ends.supplier),
+        consumer: devices.find(ends.consumer),
     }
 }
 
-fn places_of(
-    alloc: Global,
-    ends: &[Ends<'_>],
-    names: &KeyIndex<&str>,
-) -> Result<Vec<EndPlaces>, Mem>
-    requires { length names.now ≤ 1000 }
-    ensures { IfOk result (λ v. v.items ≡ map (end_places (texts names.now)) (map ends_seen ends.now)) }
+fn places_of(alloc: Global, ends: &[Ends<'_>], devices: &Devices) -> Result<Vec<EndPlaces>, Mem>
+    ensures { IfOk result (λ v. v.items ≡ map (end_places (names devices.now)) (map ends_seen ends.now)) }
 {
     let mut places = Vec::with_capacity(alloc, ends.len())?;
     for link in ends {
-        places.push(place_of(link, names))?;
+        places.push(place_of(link, devices))?;
     }
     Ok(places)
 }
@@ -129,7 +83,6 @@ pub(crate) fn places_in(
     ends: &[Ends<'_>],
 ) -> Result<Vec<EndPlaces>, Mem>
     requires knows { Knows known.now (view _tree.now) }
-    requires few { AreFew known.now }
     requires ends { AreEnds ends.now (view _tree.now) }
     ensures { IfOk result (λ v. ArePlaced v.items (view _tree.now)) }
 {

@@ -22,6 +22,7 @@ impl Written for Name {
     ghost value = { λ m name. string name };
 
     fn write_to(&self, machine: &Machine, out: &mut JsonWriter) -> Result<(), Mem> {
+        // A name is written alike in every machine.
         let _ = machine;
         out.put_text(self.bytes())
     }
@@ -86,6 +87,7 @@ impl Written for Notifier {
     ghost value = { λ m x. notifier_value x };
 
     fn write_to(&self, machine: &Machine, out: &mut JsonWriter) -> Result<(), Mem> {
+        // A notifier names nothing else of the machine.
         let _ = machine;
         out.open_object()?;
         out.text("name", self.name.bytes())?;

@@ -3,12 +3,12 @@ use Rattle.std.specs.Option.{option_or, option_map}
 use Rattle.borrowed_json.specs.View.{view}
 use Rattle.machine_file.specs.Whole.{Broken}
 use Rattle.machine_file.specs.Broken.{broken_view}
-use Rattle.machine_file.specs.Kept.{broken_devices, broken_cycle, broken_rest}
+use Rattle.machine_file.specs.Kept.{broken_devices, broken_ends, broken_cycle, broken_rest}
 use Rattle.machine_file.proofs.Grouping.{joined, few_known, no_cycle, or_none}
 use Rattle.machine_file.proofs.reading.machine.linked_by.Goals as goal
 
 pub linking_of-requires-clause-joined : goal.linking_of-requires-clause-joined
-linking_of-requires-clause-joined c = joined (view c.args.tree.now) c.requires.form c.requires.devices
+linking_of-requires-clause-joined c = joined (view c.args.tree.now) c.requires.form c.requires.devices c.requires.ends
 
 pub returns-in-None-clause-sound : goal.returns-in-None-clause-sound
 returns-in-None-clause-sound c =
@@ -17,8 +17,9 @@ returns-in-None-clause-sound c =
     let none : behind ≡ None = sym c.in-Ok.ensures ∙ ap (option_map broken_view) c.in-None.is in
     record {
       unbroken =
-          ap (λ (o : Option Broken). option_or o (option_or (broken_devices d) behind)) c.requires.form
-          ∙ ap (λ (o : Option Broken). option_or o behind) c.requires.devices
+          ap (λ (o : Option Broken). option_or o (option_or (broken_devices d) (option_or (broken_ends d) behind))) c.requires.form
+          ∙ ap (λ (o : Option Broken). option_or o (option_or (broken_ends d) behind)) c.requires.devices
+          ∙ ap (λ (o : Option Broken). option_or o behind) c.requires.ends
           ∙ none;
       knows = c.requires.knows;
       few = few_known c.args.known.now d c.requires.knows c.requires.form;

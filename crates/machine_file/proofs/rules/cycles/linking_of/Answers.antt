@@ -15,7 +15,7 @@ as_linked ps ls = record { parents = ps; links = reverse ls }
 pub add_links-requires : goal.add_links-requires
 add_links-requires c =
     let file = view c.args.tree.now in
-    let ps : c.deref.result.now ≡ parents_of (whole_devices file) = c.deref.ensures.value ∙ c.in_ok-parents.ensures in
+    let ps : c.deref.result.now ≡ parents_of (whole_devices file) = c.deref.ensures.value ∙ c.in_ok-parents.ensures ∙ ap parents_of (c.all.ensures ∙ c.requires.knows.registered) in
     let ls : c.deref-2.result.now ≡ whole_links file = c.deref-2.ensures.value ∙ c.in_ok-links.ensures in
     record {
       after = subst (EachAfterParent 0) (sym ps) (file_after file c.requires.joined);
@@ -26,7 +26,7 @@ add_links-requires c =
 pub returns : goal.returns
 returns c =
     let file = view c.args.tree.now in
-    let ps : c.deref.result.now ≡ parents_of (whole_devices file) = c.deref.ensures.value ∙ c.in_ok-parents.ensures in
+    let ps : c.deref.result.now ≡ parents_of (whole_devices file) = c.deref.ensures.value ∙ c.in_ok-parents.ensures ∙ ap parents_of (c.all.ensures ∙ c.requires.knows.registered) in
     let ls : c.deref-2.result.now ≡ whole_links file = c.deref-2.ensures.value ∙ c.in_ok-links.ensures in
     record {
       links = c.in_ok-links.ensures;

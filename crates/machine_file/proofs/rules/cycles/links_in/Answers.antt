@@ -1,12 +1,20 @@
-use Rattle.std.proofs.Common.{◌∙◌, List, ℕ, sym, ap, map, codes}
+use Rattle.std.proofs.Common.{◌∙◌, List, length, sym, ap, codes}
+use Rattle.std.proofs.lemmas.List.{length-map}
+use Rattle.machine_file.specs.declared.rules.pairs.EndPlaces.{EndPlaces}
 use Rattle.borrowed_json.specs.View.{view}
 use Rattle.serde_json.specs.Data.{Data}
 use Rattle.machine_file.specs.Members.{list_in}
-use Rattle.machine_file.specs.Knows.{texts}
-use Rattle.machine_file.specs.Seen.{ends_written, end_places}
+use Rattle.machine_file.specs.Names.{devices_named}
+use Rattle.machine_file.specs.Seen.{links_between}
+use Rattle.machine_file.proofs.Pairing.{as_many, all_between}
 use Rattle.machine_file.proofs.rules.cycles.links_in.Goals as goal
 
 pub links_of-requires : goal.links_of-requires
-links_of-requires c =
-    c.requires.placed ∙ ap (λ (ns : List (List ℕ)). map (end_places ns) (map ends_written (list_in (codes "links") (view c.args.tree.now)))) (sym c.requires.knows.devices)
-    ∙ ap (λ (ds : List Data). map (end_places (texts c.args.known.now.devices)) (map ends_written ds)) (sym c.items.ensures)
+links_of-requires c = as_many _ _ _ c.requires ∙ ap (length {A = Data}) (sym c.items.ensures) ∙ length-map _ view
+
+pub returns : goal.returns
+returns c =
+    let file = view c.args.tree.now in
+    let names = devices_named file in
+    let ds = list_in (codes "links") file in
+    c.in_ok-links.ensures ∙ ap (links_between c.args.places.now) c.items.ensures ∙ ap (λ (ps : List EndPlaces). links_between ps ds) c.requires ∙ all_between names ds

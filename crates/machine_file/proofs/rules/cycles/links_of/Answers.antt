@@ -1,22 +1,21 @@
-use Rattle.std.proofs.Common.{◌<◌, length, get_or, None, arith}
-use Rattle.std.proofs.lemmas.Grind.{common_steps}
-use Rattle.std.proofs.lemmas.List.{get_or_default}
+use Rattle.std.proofs.Common.{◌<◌, ◌∙◌, ◌++◌, ◌∷◌, [], List, length, get_or, map, take, None, ap, arith}
+use Rattle.borrowed_json.specs.View.{view}
+use Rattle.std.proofs.lemmas.List.{get_or_default, take_all}
+use Rattle.sleep_model.specs.declared.machine.Link.{Link}
 use Rattle.machine_file.specs.declared.rules.pairs.EndPlaces.{EndPlaces}
-use Rattle.machine_file.specs.Knows.{texts}
-use Rattle.machine_file.proofs.Pairing.{as_many, place_at}
+use Rattle.machine_file.specs.Seen.{links_between}
+use Rattle.machine_file.proofs.Pairing.{between_more}
 use Rattle.machine_file.proofs.rules.cycles.links_of.Goals as goal
 
 abbrev unset : EndPlaces
 unset = record { supplier = None; consumer = None }
 
-pub link_of-requires : goal.link_of-requires
-link_of-requires c =
+pub loop-i-preserved : goal.loop-i-preserved
+loop-i-preserved c =
     let inside : c.loop-i.i < length c.args.links.now = omega arith in
-    let sizes = as_many (texts c.args.names.now) c.args.places.now c.args.links.now c.requires in
     let within : c.loop-i.i < length c.args.places.now = omega arith in
     let p = get_or c.args.places.now c.loop-i.i unset in
-    place_at (texts c.args.names.now) c.args.places.now c.args.links.now c.loop-i.i p c.index-links-i.result within inside
-    (get_or_default c.args.places.now c.loop-i.i unset p within) c.index-links-i.is c.requires
-
-pub loop-i-preserved : goal.loop-i-preserved
-loop-i-preserved c = grind (arith, common_steps)
+    c.in_ok-push.ensures.items ∙ ap (λ (xs : List Link). xs ++ c.link_of.result ∷ []) c.loop-i.invariant
+    ∙ ap (λ (l : Link). links_between (take c.loop-i.i c.args.places.now) (map view (take c.loop-i.i c.args.links.now)) ++ l ∷ []) c.link_of.ensures
+    ∙ between_more c.args.places.now c.args.links.now c.loop-i.i p c.index-links-i.result within inside
+    (get_or_default c.args.places.now c.loop-i.i unset p within) c.index-links-i.is

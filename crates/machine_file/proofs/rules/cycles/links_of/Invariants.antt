@@ -1,8 +1,7 @@
 use Rattle.std.proofs.Common.{◌≡◌, map, take}
 use Rattle.borrowed_json.specs.View.{view}
-use Rattle.machine_file.specs.Spelled.{link_of}
-use Rattle.machine_file.specs.Knows.{texts}
+use Rattle.machine_file.specs.Seen.{links_between}
 use Rattle.machine_file.proofs.rules.cycles.links_of.Given as goal
 
 abbrev pub invariant-loop-i : goal.invariant-loop-i
-invariant-loop-i l = l.all.items ≡ map (link_of (texts l.names)) (map view (take l.i l.links))
+invariant-loop-i l = l.all.items ≡ links_between (take l.i l.places) (map view (take l.i l.links))

@@ -1,0 +1,29 @@
+use Rattle.std.proofs.Common.{◌≡◌, ◌∙◌, List, length, sym, ap, subst, codes, arith}
+use Rattle.std.specs.List.{All}
+use Rattle.std.proofs.lemmas.List.{length-map}
+use Rattle.serde_json.specs.Data.{Data}
+use Rattle.borrowed_json.specs.View.{view}
+use Rattle.machine_file.specs.Fitting.{HasShortName}
+use Rattle.machine_file.specs.Members.{list_in}
+use Rattle.machine_file.specs.Registered.{AreRegistered, Stops}
+use Rattle.machine_file.proofs.FittedFile.{fits_devices}
+use Rattle.machine_file.proofs.Grouping.{few_in}
+use Rattle.machine_file.proofs.Registering.{none_broken}
+use Rattle.machine_file.proofs.names.devices.devices_in.Goals as goal
+
+pub register_all-requires : goal.register_all-requires
+register_all-requires c =
+    let file = view c.args.tree.now in
+    record {
+      empty = c.new-devices.ensures;
+      few =
+          let n = length-map c.items.result.now view in
+          let m = ap (length {A = Data}) c.items.ensures in
+          let f = (few_in file c.requires).devices in
+          omega arith;
+      short = subst (All HasShortName) (sym c.items.ensures) (fits_devices file c.requires);
+    }
+
+pub returns-in-Ok-clause-unbroken : goal.returns-in-Ok-clause-unbroken
+returns-in-Ok-clause-unbroken c =
+    none_broken (view c.args.tree.now) c.register_all.new.devices (subst (λ (ds : List Data). AreRegistered ds c.register_all.new.devices) c.items.ensures c.in-Ok.ensures.registered)

@@ -1,0 +1,19 @@
+use Rattle.std.proofs.Common.{◌∙◌, ap, codes}
+use Rattle.borrowed_json.specs.View.{view}
+use Rattle.machine_file.specs.Knows.{names}
+use Rattle.machine_file.specs.Members.{list_in}
+use Rattle.machine_file.specs.Names.{devices_named}
+use Rattle.machine_file.proofs.Registering.{names_whole}
+use Rattle.machine_file.proofs.names.known.known_in.Goals as goal
+
+pub returns : goal.returns
+returns c =
+    let file = view c.args.tree.now in
+    record {
+      registered = c.requires;
+      devices = ap names c.requires ∙ names_whole (devices_named file) (list_in (codes "devices") file);
+      syscore = c.in-Ok.ensures;
+      notifiers = c.in-Ok-named_in.ensures;
+      sources = c.in-Ok-told_in.ensures;
+      marks = c.in-Ok-marked_in.ensures;
+    }

@@ -1,6 +1,0 @@
-use Rattle.std.proofs.Common.{arith}
-use Rattle.std.proofs.lemmas.Grind.{common_steps}
-use Rattle.machine_file.proofs.rules.cycles.parents_of.Goals as goal
-
-pub loop-device-preserved : goal.loop-device-preserved
-loop-device-preserved c = grind (arith, common_steps)
