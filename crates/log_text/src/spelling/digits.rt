@@ -1,95 +1,126 @@
-ghost use Rattle.std.specs.Prelude.{decimal};
+//! Numbers in decimal, whose digits are written where they stay, two at a time.
+
+ghost use Rattle.std.specs.Prelude.{◌≡◌, ◌+◌, ◌/◌, ◌%◌, ◌<◌, ◌≤◌, ◌∷◌, ◌++◌, [], decimal, length, take};
 
 use itoa::write_digits;
-use std::marker::Model;
 
-/// The most bytes that the text has.
-const MOST: usize = 88;
+/// The two digits of each number below 100.
+static PAIRS: [u8; 200] =
+    *b"00010203040506070809101112131415161718192021222324252627282930313233343536373839404142434445464748495051525354555657585960616263646566676869707172737475767778798081828384858687888990919293949596979899";
 
-/// A short text of numbers that grows at its front, and that contracts see as the list of its bytes.
-#[derive(Drop)]
-pub struct Digits {
-    bytes: [u8; 88],
-    start: usize,
+/// Puts two digits behind the first bytes of a room, and answers where they end.
+#[inline(always)]
+fn put_pair(room: &mut [u8], used: usize, pair: u64) -> usize
+    requires pair { pair < 100 }
+    requires room { used + 2 ≤ length room.old }
+    ensures text { take result room.new ≡ take used room.old ++ (48 + pair / 10) ∷ (48 + pair % 10) ∷ [] }
+    ensures end { result ≡ used + 2 }
+{
+    let from = pair as usize * 2;
+    let (tens, ones) = (PAIRS[from], PAIRS[from + 1]);
+    room[used] = tens;
+    room[used + 1] = ones;
+    used + 2
 }
 
-impl Model for Digits {
-    ghost use Rattle.std.specs.Prelude.{ℕ, List, drop, ◌≤◌};
-
-    ghost Value = { List ℕ };
-
-    ghost view = { λ d. drop d.start d.bytes };
-
-    ghost invariant = { λ d. d.start ≤ 88 };
+/// Puts a digit behind the first bytes of a room, and answers where it ends.
+#[inline(always)]
+fn put_digit(room: &mut [u8], used: usize, digit: u64) -> usize
+    requires digit { digit < 10 }
+    requires room { used + 1 ≤ length room.old }
+    ensures text { take result room.new ≡ take used room.old ++ decimal digit }
+    ensures end { result ≡ used + 1 }
+{
+    room[used] = b'0' + digit as u8;
+    used + 1
 }
 
-impl Digits {
-    ghost use Rattle.std.specs.Prelude.{◌≡◌, ◌+◌, ◌<◌, ◌≤◌, ◌∷◌, ◌++◌, [], length};
-
-    /// An empty text.
-    pub fn new() -> Self
-        ensures text { result ≡ [] }
-        ensures len { length result ≡ 0 }
-    {
-        Digits {
-            bytes: [0; 88],
-            start: MOST,
-        }
+/// Puts a number below 100 behind the first bytes of a room, and answers where it ends.
+#[inline(always)]
+fn put_two(room: &mut [u8], used: usize, number: u64) -> usize
+    requires number { number < 100 }
+    requires room { used + length (decimal number) ≤ length room.old }
+    ensures text { take result room.new ≡ take used room.old ++ decimal number }
+    ensures end { result ≡ used + length (decimal number) }
+{
+    if number < 10 {
+        put_digit(room, used, number)
+    } else {
+        put_pair(room, used, number)
     }
+}
 
-    /// Puts a byte before the text.
-    #[inline]
-    pub fn put(&mut self, byte: u8)
-        requires { length self.old < 88 }
-        ensures text { self.new ≡ byte ∷ self.old }
-        ensures len { length self.new ≡ length self.old + 1 }
-    {
-        self.start -= 1;
-        self.bytes[self.start] = byte;
+/// Puts a number below 10,000 behind the first bytes of a room, and answers where it ends.
+#[inline(always)]
+fn put_four(room: &mut [u8], used: usize, number: u64) -> usize
+    requires number { number < 10000 }
+    requires room { used + length (decimal number) ≤ length room.old }
+    ensures text { take result room.new ≡ take used room.old ++ decimal number }
+    ensures end { result ≡ used + length (decimal number) }
+{
+    if number < 100 {
+        return put_two(room, used, number);
     }
+    let end = put_two(room, used, number / 100);
+    put_pair(room, end, number % 100)
+}
 
-    /// Puts the number in decimal before the text.
-    #[inline]
-    #[tactic(auto, using(crate::proofs::Decimals::decimal_short))]
-    pub fn put_number(&mut self, number: u64)
-        requires { length self.old + 20 ≤ 88 }
-        ensures text { self.new ≡ decimal number ++ self.old }
-        ensures len { length self.new ≤ length self.old + 20 }
-    {
-        self.start = write_digits(number, &mut self.bytes, self.start);
+/// Puts a number below 100,000,000 behind the first bytes of a room, and answers where it ends.
+#[inline(always)]
+fn put_eight(room: &mut [u8], used: usize, number: u64) -> usize
+    requires number { number < 100000000 }
+    requires room { used + length (decimal number) ≤ length room.old }
+    ensures text { take result room.new ≡ take used room.old ++ decimal number }
+    ensures end { result ≡ used + length (decimal number) }
+{
+    if number < 10_000 {
+        return put_four(room, used, number);
     }
+    let four = number % 10_000;
+    let end = put_four(room, used, number / 10_000);
+    let end = put_pair(room, end, four / 100);
+    put_pair(room, end, four % 100)
+}
 
-    /// Puts the number of 32 bits in decimal before the text.
-    #[inline]
-    #[tactic(auto, using(std::proofs::lemmas::Fmt::decimal_digit))]
-    pub fn put_short(&mut self, number: u32)
-        requires { length self.old + 10 ≤ 88 }
-        ensures text { self.new ≡ decimal number ++ self.old }
-        ensures len { length self.new ≤ length self.old + 10 }
-    {
-        // Most numbers of a word have one digit.
-        if number < 10 {
-            self.put(b'0' + number as u8);
-        } else {
-            self.put_digits(u64::from(number));
-        }
+/// How many digits a number has.
+fn digits_of(number: u64) -> usize
+    ensures { result ≡ length (decimal number) }
+{
+    let mut left = number;
+    let mut count = 1;
+    while left >= 10 {
+        left /= 10;
+        count += 1;
     }
+    count
+}
 
-    /// Puts a number that fits 32 bits in decimal before the text, also where it is long.
-    fn put_digits(&mut self, number: u64)
-        requires room { length self.old + 10 ≤ 88 }
-        requires fits { number < 4294967296 }
-        ensures text { self.new ≡ decimal number ++ self.old }
-        ensures len { length self.new ≤ length self.old + 10 }
-    {
-        self.start = write_digits(number, &mut self.bytes, self.start);
+/// Puts a number in decimal behind the first bytes of a room, and answers where it ends.
+#[inline(always)]
+pub fn put_decimal(room: &mut [u8], used: usize, number: u64) -> usize
+    requires { used + length (decimal number) ≤ length room.old }
+    ensures text { take result room.new ≡ take used room.old ++ decimal number }
+    ensures end { result ≡ used + length (decimal number) }
+{
+    // Most numbers of a log have one digit.
+    if number < 10 {
+        return put_digit(room, used, number);
     }
+    if number < 100_000_000 {
+        return put_eight(room, used, number);
+    }
+    put_long(room, used, number)
+}
 
-    /// The text.
-    #[inline]
-    pub fn as_bytes(&self) -> &[u8]
-        ensures { result.now ≡ self.now }
-    {
-        &self.bytes[self.start..]
-    }
+/// Puts a number behind the first bytes of a room, also where it is long, and answers where it ends.
+#[cold]
+#[inline(never)]
+fn put_long(room: &mut [u8], used: usize, number: u64) -> usize
+    requires { used + length (decimal number) ≤ length room.old }
+    ensures text { take result room.new ≡ take used room.old ++ decimal number }
+    ensures end { result ≡ used + length (decimal number) }
+{
+    let end = used + digits_of(number);
+    write_digits(number, room, end);
+    end
 }

@@ -2,7 +2,6 @@ ghost use Rattle.std.specs.Prelude.{◌≡◌, ◌≤◌, length, true};
 ghost use Rattle.sleep_model.specs.Fits.{fits_word, is_word64};
 ghost use Rattle.log_text.specs.Front.{front_text};
 
-use crate::spelling::digits::Digits;
 use crate::spelling::short::ShortText;
 use sleep_model::EventNow;
 
@@ -21,11 +20,9 @@ impl LineFront {
         ensures time { result.time ≡ time }
         ensures word { result.word ≡ word }
     {
-        LineFront {
-            time,
-            word,
-            text: ShortText::of(spell(time, word).as_bytes()),
-        }
+        let mut text = ShortText::of(b"");
+        spell(&mut text, time, word);
+        LineFront { time, word, text }
     }
 
     /// The front of lines at the beginning, where nothing was registered.
@@ -55,7 +52,9 @@ impl LineFront {
         ensures time { self.new.time ≡ time }
         ensures word { self.new.word ≡ word }
     {
-        *self = LineFront::of(time, word);
+        spell(&mut self.text, time, word);
+        self.time = time;
+        self.word = word;
     }
 
     /// Its moment, in ms.
@@ -94,20 +93,19 @@ fn word_of(inpr: u32, count: u32, hard: u32) -> EventNow
     EventNow { inpr, count, hard }
 }
 
-/// Spells the moment and the word, each with the space behind it.
-#[tactic(auto, using(std::proofs::Common::append_assoc))]
-fn spell(time: u64, word: EventNow) -> Digits
-    ensures text { result ≡ front_text time word }
-    ensures few { length result ≤ 56 }
+/// Spells the moment and the word, each with the space behind it, in place of what the text was.
+#[inline(always)]
+#[tactic(auto, using(std::proofs::Common::append_assoc, crate::proofs::Decimals::decimal_short, crate::proofs::Decimals::decimal_short32))]
+fn spell(text: &mut ShortText, time: u64, word: EventNow)
+    ensures { text.new ≡ front_text time word }
 {
-    let mut text = Digits::new();
-    text.put(b' ');
-    text.put_short(word.hard);
-    text.put(b'/');
-    text.put_short(word.count);
-    text.put(b'/');
-    text.put_short(word.inpr);
-    text.put(b' ');
-    text.put_number(time);
-    text
+    text.clear();
+    text.push_number(time);
+    text.push_byte(b' ');
+    text.push_number(u64::from(word.inpr));
+    text.push_byte(b'/');
+    text.push_number(u64::from(word.count));
+    text.push_byte(b'/');
+    text.push_number(u64::from(word.hard));
+    text.push_byte(b' ');
 }

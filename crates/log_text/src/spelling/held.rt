@@ -1,10 +1,11 @@
 //! Bytes that are held in place, until there is no room for one more line.
 
-ghost use Rattle.std.specs.Prelude.{◌≡◌, ◌+◌, ◌≤◌, ◌++◌, take};
+ghost use Rattle.std.specs.Prelude.{◌≡◌, ◌+◌, ◌≤◌, ◌++◌, decimal, take};
 
+use crate::spelling::digits::put_decimal;
+use crate::spelling::piece::Piece;
 use crate::spelling::short::ShortText;
 use crate::writing::device_words::DeviceWords;
-use itoa::Buffer;
 use std::marker::Model;
 
 /// How many bytes are held at most.
@@ -98,30 +99,61 @@ impl HeldBytes {
     }
 
     /// Puts the number in decimal behind the others.
-    #[inline]
-    #[tactic(auto, using(std::proofs::lemmas::Fmt::decimal_digit))]
+    #[inline(always)]
     pub fn put_number(&mut self, number: u64)
         requires { length self.old + 20 ≤ 32768 }
         ensures text { self.new ≡ self.old ++ decimal number }
         ensures few { length self.new ≤ length self.old + 20 }
     {
-        // Most numbers of a log have one digit.
-        if number < 10 {
-            self.put_byte(b'0' + number as u8);
-        } else {
-            self.put_digits(number);
-        }
+        self.used = put_digits(&mut self.room, self.used, number);
     }
 
-    /// Puts the number in decimal behind the others, also where it is long.
-    #[tactic(auto, using(crate::proofs::Decimals::decimal_short))]
-    fn put_digits(&mut self, number: u64)
-        requires { length self.old + 20 ≤ 32768 }
-        ensures text { self.new ≡ self.old ++ decimal number }
-        ensures few { length self.new ≤ length self.old + 20 }
+    /// Puts a piece behind the others.
+    #[inline(always)]
+    pub fn put_piece(&mut self, piece: &Piece)
+        requires { length self.old + 16 ≤ 32768 }
+        ensures text { self.new ≡ self.old ++ piece.now }
+        ensures few { length self.new ≤ length self.old + 16 }
     {
-        let mut digits = Buffer::new();
-        self.put(digits.format(number).as_bytes());
+        self.used = copy_room(&mut self.room, self.used, piece.room(), piece.len());
+    }
+
+    /// Puts the front of a line behind the others, and who makes the entry.
+    #[inline(always)]
+    pub fn put_start(&mut self, front: &ShortText, maker: &ShortText)
+        requires { length self.old + 112 ≤ 32768 }
+        ensures text { self.new ≡ self.old ++ (front.now ++ maker.now) }
+        ensures few { length self.new ≤ length self.old + 112 }
+    {
+        let room = &mut self.room;
+        let end = copy_room(room, self.used, front.room(), front.len());
+        self.used = copy_room(room, end, maker.room(), maker.len());
+    }
+
+    /// Puts a verb and a name behind the others, and what follows the name.
+    #[inline(always)]
+    pub fn put_named(&mut self, verb: &Piece, name: &ShortText, last: &Piece)
+        requires { length self.old + 88 ≤ 32768 }
+        ensures text { self.new ≡ self.old ++ (verb.now ++ name.now ++ last.now) }
+        ensures few { length self.new ≤ length self.old + 88 }
+    {
+        let room = &mut self.room;
+        let end = copy_room(room, self.used, verb.room(), verb.len());
+        let end = copy_room(room, end, name.room(), name.len());
+        self.used = copy_room(room, end, last.room(), last.len());
+    }
+
+    /// Puts a verb and a number behind the others, and what follows the number.
+    #[inline(always)]
+    pub fn put_numbered(&mut self, verb: &Piece, number: u64, last: &Piece)
+        requires { length self.old + 52 ≤ 32768 }
+        ensures text { self.new ≡ self.old ++ (verb.now ++ decimal number ++ last.now) }
+        ensures few { length self.new ≤ length self.old + 52 }
+    {
+        let room = &mut self.room;
+        let end = copy_room(room, self.used, verb.room(), verb.len());
+        let end = put_digits(room, end, number);
+        self.used = copy_room(room, end, last.room(), last.len());
     }
 
     /// Puts a text behind the others.
@@ -175,4 +207,14 @@ fn copy_room<const N: usize>(
     let bytes = *room;
     held[used..used + N].copy_from_slice(&bytes);
     used + len
+}
+
+/// Puts a number in decimal behind the first bytes that are held. Returns where it ends.
+#[inline(always)]
+fn put_digits(held: &mut [u8; 32768], used: usize, number: u64) -> usize
+    requires { used + 20 ≤ 32768 }
+    ensures text { take result held.new ≡ take used held.old ++ decimal number }
+    ensures end { result ≤ used + 20 }
+{
+    put_decimal(held, used, number)
 }

@@ -2,6 +2,7 @@
 
 ghost use Rattle.std.specs.Prelude.{take};
 
+use crate::spelling::digits::put_decimal;
 use std::marker::Model;
 
 /// A short text at the beginning of its room, that contracts see as the list of its bytes.
@@ -22,7 +23,7 @@ impl Model for ShortText {
 }
 
 impl ShortText {
-    ghost use Rattle.std.specs.Prelude.{◌≡◌, ◌+◌, ◌≤◌, ◌++◌, length, take};
+    ghost use Rattle.std.specs.Prelude.{◌≡◌, ◌+◌, ◌≤◌, ◌∷◌, ◌++◌, [], decimal, length, take};
 
     /// The text of these bytes.
     pub fn of(bytes: &[u8]) -> Self
@@ -45,6 +46,35 @@ impl ShortText {
         let len = self.len + bytes.len();
         self.room[self.len..len].copy_from_slice(bytes);
         self.len = len;
+    }
+
+    /// Forgets the text.
+    #[inline(always)]
+    pub fn clear(&mut self)
+        ensures { self.new ≡ [] }
+    {
+        self.len = 0;
+    }
+
+    /// Puts a byte behind the text.
+    #[inline(always)]
+    pub fn push_byte(&mut self, byte: u8)
+        requires { length self.old + 1 ≤ 56 }
+        ensures text { self.new ≡ self.old ++ byte ∷ [] }
+        ensures len { length self.new ≡ length self.old + 1 }
+    {
+        self.room[self.len] = byte;
+        self.len += 1;
+    }
+
+    /// Puts the number in decimal behind the text.
+    #[inline(always)]
+    pub fn push_number(&mut self, number: u64)
+        requires { length self.old + length (decimal number) ≤ 56 }
+        ensures text { self.new ≡ self.old ++ decimal number }
+        ensures len { length self.new ≡ length self.old + length (decimal number) }
+    {
+        self.len = put_decimal(&mut self.room, self.len, number);
     }
 
     /// The text.

@@ -1,17 +1,19 @@
-ghost use Rattle.std.specs.Prelude.{◌≡◌, ◌+◌, ◌≤◌, ◌++◌, length, slice_get};
-ghost use Rattle.log_text.specs.Front.{maker_text};
-ghost use Rattle.sleep_model.specs.Text.{script_text, waiting_text, entry_line, source_line, counts_text, times_text, waiting_line};
+ghost use Rattle.std.specs.Prelude.{◌≡◌, ◌+◌, ◌≤◌, ◌++◌, codes, decimal, length, slice_get};
+ghost use Rattle.log_text.specs.Front.{front_text, maker_text};
+ghost use Rattle.sleep_model.specs.Text.{body, hard_word, newline, space, script_text, waiting_text, entry_line, source_line, counts_text, times_text, waiting_line};
 
 use crate::spelling::fixed::{AUTO, DEVICE, TIME, TIMER};
 use crate::spelling::front::LineFront;
 use crate::spelling::held::HeldBytes;
+use crate::spelling::piece::Piece;
+use crate::spelling::short::ShortText;
 use crate::spelling::spelled::{Spelled, put};
 use crate::spelling::verb::Verb;
 use crate::spelling::words::script_word;
 use crate::writing::body::put_body;
 use crate::writing::device_words::device_words;
 use crate::writing::ready::ReadyNames;
-use sleep_model::{Actor, Entry, Stats, Waiting, Why};
+use sleep_model::{Actor, Entry, Kind, Stats, Waiting, Why};
 
 /// Writes who makes an entry, with the space behind it.
 #[inline(always)]
@@ -49,17 +51,88 @@ fn put_script(out: &mut HeldBytes, names: &ReadyNames, index: u32)
 }
 
 /// Writes the line of an entry part by part, whose front is given.
-fn put_parts(out: &mut HeldBytes, names: &ReadyNames, front: &LineFront, entry: Entry)
-    requires time { front.now.time ≡ entry.time }
-    requires word { front.now.word ≡ entry.now }
+#[cold]
+#[inline(never)]
+fn put_parts(out: &mut HeldBytes, names: &ReadyNames, front: &LineFront, actor: Actor, kind: Kind)
     requires room { length out.old + 1024 ≤ 32768 }
-    ensures text { out.new ≡ out.old ++ entry_line names.now entry }
+    ensures text { out.new ≡ out.old ++ (front_text front.now.time front.now.word ++ maker_text names.now actor ++ body names.now kind ++ newline) }
     ensures few { length out.new ≤ length out.old + 1024 }
 {
     put!(out; front.text());
-    put_maker(out, names, entry.actor);
-    put_body(out, names, entry.kind);
+    put_maker(out, names, actor);
+    put_body(out, names, kind);
     put!(out; b'\n')
+}
+
+/// Writes what an entry says, to the end of its line.
+#[inline(never)]
+fn put_said(out: &mut HeldBytes, names: &ReadyNames, kind: Kind)
+    requires room { length out.old + 576 ≤ 32768 }
+    ensures text { out.new ≡ out.old ++ (body names.now kind ++ newline) }
+    ensures few { length out.new ≤ length out.old + 576 }
+{
+    put_body(out, names, kind);
+    put!(out; b'\n')
+}
+
+/// Writes what an entry of an event says, to the end of its line.
+#[inline(always)]
+fn put_event(out: &mut HeldBytes, source: &ShortText, ms: u32, hard: bool)
+    requires room { length out.old + 140 ≤ 32768 }
+    ensures text { out.new ≡ out.old ++ (codes "event " ++ source.now ++ space ++ decimal ms ++ space ++ hard_word hard ++ newline) }
+    ensures few { length out.new ≤ length out.old + 140 }
+{
+    let last = if hard {
+        Piece::of(b" hard\n          ", 6)
+    } else {
+        Piece::of(b" soft\n          ", 6)
+    };
+    out.put_named(
+        &Piece::of(b"event           ", 6),
+        source,
+        &Piece::of(b"                ", 1),
+    );
+    out.put_numbered(&Piece::none(), u64::from(ms), &last);
+}
+
+/// Writes what an entry says, to the end of its line: of sleeping, of sources and of time what is ready, else part by part.
+#[inline(always)]
+fn put_rest(out: &mut HeldBytes, names: &ReadyNames, entry: Entry)
+    requires room { length out.old + 576 ≤ 32768 }
+    ensures text { out.new ≡ out.old ++ (body names.now entry.kind ++ newline) }
+    ensures few { length out.new ≤ length out.old + 576 }
+{
+    match entry.kind {
+        Kind::Sleep(ms) => out.put_numbered(
+            &Piece::of(b"sleep           ", 6),
+            ms,
+            &Piece::newline(),
+        ),
+        Kind::Slept => out.put_piece(&Piece::of(b"slept\n          ", 6)),
+        Kind::Event { source, ms, hard } => put_event(out, names.source(source), ms, hard),
+        Kind::Expire(index) => out.put_named(
+            &Piece::of(b"expire          ", 7),
+            names.source(index),
+            &Piece::newline(),
+        ),
+        Kind::Start(index) => out.put_named(
+            &Piece::of(b"start           ", 6),
+            names.source(index),
+            &Piece::newline(),
+        ),
+        Kind::Finish(index) => out.put_named(
+            &Piece::of(b"finish          ", 7),
+            names.source(index),
+            &Piece::newline(),
+        ),
+        Kind::Hard(index) => out.put_named(
+            &Piece::of(b"hard            ", 5),
+            names.source(index),
+            &Piece::newline(),
+        ),
+        Kind::Jump => out.put_piece(&Piece::of(b"jump\n           ", 5)),
+        _ => put_said(out, names, entry.kind),
+    }
 }
 
 /// Writes the line of an entry, whose front is given.
@@ -71,12 +144,16 @@ pub fn spell_entry(out: &mut HeldBytes, names: &ReadyNames, front: &LineFront, e
     ensures text { out.new ≡ out.old ++ entry_line names.now entry }
     ensures few { length out.new ≤ length out.old + 1024 }
 {
-    if let Some(maker) = names.maker(entry.actor)
-        && let Some(words) = device_words(entry.kind)
+    let Some(maker) = names.maker(entry.actor) else {
+        return put_parts(out, names, front, entry.actor, entry.kind);
+    };
+    if let Some(words) = device_words(entry.kind)
+        && let Some(device) = names.known_device(words.device)
     {
-        out.put_line(front.text(), maker, &words, names.device(words.device));
+        out.put_line(front.text(), maker, &words, device);
     } else {
-        put_parts(out, names, front, entry);
+        out.put_start(front.text(), maker);
+        put_rest(out, names, entry);
     }
 }
 

@@ -28,6 +28,9 @@ pub struct ReadyNames<'a> {
     none: ShortText,
     makers: Vec<ShortText>,
     scripts: Vec<ShortText>,
+    timers: Vec<ShortText>,
+    auto: ShortText,
+    time: ShortText,
     devices: Vec<ShortText>,
     syscore: Vec<ShortText>,
     notifiers: Vec<ShortText>,
@@ -45,7 +48,7 @@ impl<'a> Model for ReadyNames<'a> {
 
     ghost view = { λ r. r.machine.now };
 
-    ghost invariant = { λ r. IsReady r.machine.now r.none r.makers.items r.scripts.items r.devices.items r.syscore.items r.notifiers.items r.sources.items r.marks.items r.tasks.items };
+    ghost invariant = { λ r. IsReady r.machine.now r.none r.auto r.time r.makers.items r.scripts.items r.timers.items r.devices.items r.syscore.items r.notifiers.items r.sources.items r.marks.items r.tasks.items };
 }
 
 impl<'a> ReadyNames<'a> {
@@ -64,7 +67,7 @@ impl<'a> ReadyNames<'a> {
         let Ok(tasks) = texts_of_tasks(alloc, machine) else {
             return Err(lost((actors, things)));
         };
-        let (makers, scripts) = actors;
+        let (makers, scripts, timers) = actors;
         let (devices, syscore, notifiers) = things;
         let (sources, marks, tasks) = tasks;
         Ok(ReadyNames {
@@ -72,6 +75,9 @@ impl<'a> ReadyNames<'a> {
             none: ShortText::of(b""),
             makers,
             scripts,
+            timers,
+            auto: ShortText::of(b"auto "),
+            time: ShortText::of(b"time "),
             devices,
             syscore,
             notifiers,
@@ -95,6 +101,15 @@ impl<'a> ReadyNames<'a> {
         ensures { result.now ≡ device self.now index }
     {
         name_at(self.devices.as_slice(), &self.none, index)
+    }
+
+    /// The name of the device with that number, where it is there.
+    #[inline(always)]
+    #[tactic(auto, using(crate::proofs::Lists::device_at))]
+    pub fn known_device(&self, index: u32) -> Option<&ShortText>
+        ensures { IfSome result (λ t. t.now ≡ device self.now index) }
+    {
+        self.devices.as_slice().get(index as usize)
     }
 
     /// The name of the syscore step with that number, empty past the end.
@@ -142,7 +157,9 @@ impl<'a> ReadyNames<'a> {
         match who {
             Actor::Script(index) => self.scripts.as_slice().get(index as usize),
             Actor::Dev(index) => self.makers.as_slice().get(index as usize),
-            _ => None,
+            Actor::Timer(index) => self.timers.as_slice().get(index as usize),
+            Actor::Auto => Some(&self.auto),
+            Actor::Time => Some(&self.time),
         }
     }
 }
@@ -243,7 +260,7 @@ fn texts_of_tasks(alloc: Global, machine: &Machine) -> Result<ThreeTexts, Mem>
 
 /// Who makes an entry, of that kind and that name, with the space behind it.
 fn maker(kind: &[u8], name: &[u8]) -> ShortText
-    requires kind { length kind.now ≤ 5 }
+    requires kind { length kind.now ≤ 6 }
     requires name { length name.now ≤ 32 }
     ensures { result ≡ (kind.now ++ name.now) ++ space }
 {
@@ -253,16 +270,20 @@ fn maker(kind: &[u8], name: &[u8]) -> ShortText
     text
 }
 
-/// Devices and scripts as who makes an entry.
-fn makers_of(alloc: Global, machine: &Machine) -> Result<(Vec<ShortText>, Vec<ShortText>), Mem>
+/// Devices, scripts and the timers of sources as who makes an entry.
+fn makers_of(alloc: Global, machine: &Machine) -> Result<ThreeTexts, Mem>
     ensures makers { IfOk result (λ t. (i : ℕ) → ForSome (slice_get t.0.items i) (λ t. t ≡ maker_text machine.now (actor.Dev i))) }
     ensures scripts { IfOk result (λ t. (i : ℕ) → ForSome (slice_get t.1.items i) (λ t. t ≡ maker_text machine.now (actor.Script i))) }
+    ensures timers { IfOk result (λ t. (i : ℕ) → ForSome (slice_get t.2.items i) (λ t. t ≡ maker_text machine.now (actor.Timer i))) }
 {
     let makers = device_makers(alloc, machine.devices.as_slice())?;
     let Ok(scripts) = script_makers(alloc, machine.actors.as_slice()) else {
         return Err(lost(makers));
     };
-    Ok((makers, scripts))
+    let Ok(timers) = timer_makers(alloc, machine) else {
+        return Err(lost((makers, scripts)));
+    };
+    Ok((makers, scripts, timers))
 }
 
 /// Devices as who makes an entry. `Mem` also where a name has more bytes than a name may have.
@@ -294,6 +315,30 @@ fn script_makers(alloc: Global, scripts: &[Script]) -> Result<Vec<ShortText>, Me
         }
         let word = script_word(script.kind).as_bytes();
         texts.push(maker(word, name))?;
+    }
+    Ok(texts)
+}
+
+/// The timers of sources as who makes an entry. `Mem` also where a name has more bytes than a name may have.
+fn timer_makers(alloc: Global, machine: &Machine) -> Result<Vec<ShortText>, Mem>
+    ensures { IfOk result (λ v. (i : ℕ) → ForSome (slice_get v.items i) (λ t. t ≡ maker_text machine.now (actor.Timer i))) }
+{
+    let names = names_of_sources(alloc, machine.sources.as_slice())?;
+    timer_texts(alloc, names.as_slice())
+}
+
+/// The timers of sources of these names as who makes an entry. `Mem` also where a name has more bytes than a name may have.
+fn timer_texts(alloc: Global, names: &[Name]) -> Result<Vec<ShortText>, Mem>
+    ensures { IfOk result (λ v. (i : ℕ) → ForSome (slice_get v.items i)
+        (λ t. t ≡ (codes "timer:" ++ name_in (slice_get names.now i)) ++ space)) }
+{
+    let mut texts = Vec::with_capacity(alloc, names.len())?;
+    for name in names {
+        let name = name.bytes();
+        if name.len() > LONGEST {
+            return Err(Mem);
+        }
+        texts.push(maker(b"timer:", name))?;
     }
     Ok(texts)
 }
