@@ -45,7 +45,7 @@ pub or_none : {A : Type 0} (a b : Option A) → option_or a b ≡ None → (a �
 or_none None b e = (refl, e)
 or_none (Some x) b e = cc
 
-none_left : {A B : Type 0} (f : A → B) (o : Option A) → option_map f o ≡ None → o ≡ None
+pub none_left : {A B : Type 0} (f : A → B) (o : Option A) → option_map f o ≡ None → o ≡ None
 none_left f None e = refl
 none_left f (Some x) e = cc
 

@@ -4,6 +4,7 @@ pub mod Trees
 pub mod Placing
 pub mod Pairing
 mod Registering
+mod Keeping
 pub mod Answered
 pub mod Cycling
 pub mod Freshly

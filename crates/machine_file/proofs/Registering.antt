@@ -1,5 +1,5 @@
 -- Devices that are registered in turn: what holds while none is refused, and what a refusal tells.
-use Rattle.std.proofs.Common.{◌≡◌, ◌<◌, ◌≤◌, ◌+◌, ◌∙◌, ◌++◌, ◌||◌, ℕ, zero, suc, Bool, true, false, not, cond, nat_le, List, [], ◌∷◌, length, map, take, reverse, get_or, position, bytes_eq, codes, is_some, unwrap_or, option_and_then, drop, IfSome, Option, Some, None, Result, Ok, Err, refl, sym, ap, subst, arith}
+use Rattle.std.proofs.Common.{◌≡◌, ◌<◌, ◌≤◌, ◌+◌, ◌∙◌, ◌++◌, ◌||◌, ℕ, zero, suc, Bool, true, false, not, cond, nat_le, List, [], ◌∷◌, length, map, take, reverse, get_or, position, bytes_eq, codes, is_some, unwrap_or, option_and_then, drop, IfSome, Option, Some, None, Ok, Err, refl, sym, ap, subst, arith}
 use Rattle.std.specs.List.{list_any}
 use Rattle.std.specs.Option.{option_map, option_or}
 use Rattle.std.specs.Cmp.Lexicographic.{bytes_decides}
@@ -17,7 +17,6 @@ use Rattle.machine_file.specs.Members.{list_in, word_at}
 use Rattle.machine_file.specs.Rules.{name_of}
 use Rattle.machine_file.specs.Devices.{has_parent_before, whole_device}
 use Rattle.machine_file.specs.Knows.{names}
-use Rattle.machine_file.specs.Spelled.{parent_of}
 use Rattle.machine_file.specs.Registered.{AreRegistered, AreShort, Stops, device_behind, parent_behind}
 use Rattle.machine_file.specs.Fitting.{IsShort}
 use Rattle.machine_file.specs.Groups.{device_rules}

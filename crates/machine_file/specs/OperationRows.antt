@@ -1,5 +1,5 @@
 -- The rows of the table of operations, and the tests of operations, by name.
-use Rattle.std.specs.Prelude.{ℕ, ◌==◌, List, Bool, not, codes, [], ◌∷◌, bytes_eq, Option}
+use Rattle.std.specs.Prelude.{ℕ, ◌==◌, ◌&&◌, List, Bool, true, false, not, codes, [], ◌∷◌, bytes_eq, Option}
 use Rattle.std.specs.List.{find}
 use Rattle.serde_json.specs.Data.{Data}
 use Rattle.sleep_model.specs.declared.machine.Op.{Op}
@@ -69,8 +69,27 @@ op_spelled word.Awake names o = Awake (thing_at (codes "source") names.sources o
 op_spelled word.Relax names o = Relax (thing_at (codes "source") names.sources o)
 op_spelled word.Event names o = Event (thing_at (codes "source") names.sources o) (ms_of o) (says (codes "hard") o)
 
+-- an operation of that word names a source
+abbrev pub word_names_source : Word → Bool
+word_names_source word.Awake = true
+word_names_source word.Relax = true
+word_names_source word.Event = true
+word_names_source _ = false
+
+-- an operation of that word names a device, or two
+abbrev pub word_names_device : Word → Bool
+word_names_device word.Runtime = true
+word_names_device word.Link = true
+word_names_device word.LinkState = true
+word_names_device _ = false
+
+-- it keeps each rule on one operation, beside its actor and the names of sources and devices
+abbrev pub is_kept : Bool → List (List ℕ) → List (List ℕ) → Data → Data → Bool
+is_kept second sources devices actor o = is_formed second actor o && is_allowed actor o && names_source sources o && names_device devices o
+
 -- a test of an operation beside its actor
 abbrev pub operation_test : OperationTest → Known → Data → Data → Bool
+operation_test (test.Kept second) k actor = is_kept second (texts k.sources) (names k.devices) actor
 operation_test (test.Formed second) k actor = is_formed second actor
 operation_test test.Allowed k actor = is_allowed actor
 operation_test test.Source k actor = names_source (texts k.sources)

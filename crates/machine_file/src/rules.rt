@@ -13,10 +13,12 @@ ghost use Rattle.machine_file.specs.Whole.{broken_at, first_of};
 ghost use Rattle.machine_file.specs.Look.{has_only};
 ghost use Rattle.std.specs.Option.{option_or};
 ghost use Rattle.machine_file.specs.Members.{file_members};
-ghost use Rattle.machine_file.specs.Rules.{has_version};
+ghost use Rattle.machine_file.specs.Rules.{has_version, is_second};
 ghost use Rattle.machine_file.specs.Operations.{unformed_operation, sourceless_operation, deviceless_operation};
 ghost use Rattle.machine_file.specs.Answering.{sourceless_report, thingless_answer};
-ghost use Rattle.machine_file.specs.Places.{unless};
+ghost use Rattle.machine_file.specs.Places.{first_operation, unless};
+ghost use Rattle.machine_file.specs.Names.{devices_named, sources_named};
+ghost use Rattle.machine_file.specs.OperationRows.{is_kept};
 ghost use Rattle.machine_file.specs.Groups.{form_rules, end_rules, thing_rules, operation_rules, answer_rules};
 ghost use Rattle.machine_file.specs.Knows.{Knows};
 ghost use Rattle.machine_file.specs.Seen.{AreEnds, ArePlaced};
@@ -174,8 +176,27 @@ fn sourceless(tree: &Value<'_>, known: &Known<'_>) -> Option<Place>
     }
 }
 
-/// The first rule of operations that is broken.
+// The first operation that breaks one of the rules on one operation.
+fn unkept_operation(tree: &Value<'_>, known: &Known<'_>) -> Option<Place>
+    requires { Knows known.now (view tree.now) }
+    ensures { place_of result ≡ first_operation (is_kept (is_second (view tree.now)) (sources_named (view tree.now)) (devices_named (view tree.now))) (view tree.now) }
+{
+    first_operation(OperationTest::Kept(is_second(tree)), known, tree)
+}
+
+/// The first rule of operations that is broken: it is searched for rule by rule only where one pass finds an operation that
+/// breaks any of them.
 pub(crate) fn operation_broken(tree: &Value<'_>, known: &Known<'_>) -> Option<Broken>
+    requires { Knows known.now (view tree.now) }
+    ensures { option_map broken_view result ≡ first_of operation_rules (view tree.now) }
+{
+    match unkept_operation(tree, known) {
+        Some(_) => first_operation_rule(tree, known),
+        None => breaks(18, sourceless_report(tree, known)),
+    }
+}
+
+fn first_operation_rule(tree: &Value<'_>, known: &Known<'_>) -> Option<Broken>
     requires { Knows known.now (view tree.now) }
     ensures { option_map broken_view result ≡ first_of operation_rules (view tree.now) }
 {

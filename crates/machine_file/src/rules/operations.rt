@@ -1,6 +1,6 @@
 //! The operations of scripts: their form, who may make them, and what they name.
 
-ghost use Rattle.std.specs.Prelude.{◌≡◌, Some, bytes_eq, ◌||◌, ◌&&◌, not, map, position, option_map, codes, ◌∷◌, nat_le, length};
+ghost use Rattle.std.specs.Prelude.{true, ◌≡◌, Some, bytes_eq, ◌||◌, ◌&&◌, not, map, position, option_map, codes, ◌∷◌, nat_le, length};
 ghost use Rattle.std.specs.List.{list_any};
 ghost use Rattle.borrowed_json.specs.View.{view};
 ghost use Rattle.serde_json.specs.Find.{as_str};
@@ -10,7 +10,7 @@ ghost use Rattle.machine_file.specs.Members.{must_have, may_have, list_in, word_
 ghost use Rattle.machine_file.specs.Places.{first_not, first_operation, first_operation_of};
 ghost use Rattle.machine_file.specs.Names.{is_among_names};
 ghost use Rattle.machine_file.specs.Operations.{is_formed, is_allowed, has_count, has_short_text, is_state_form, has_length, has_mark, is_runtime_form, has_ends_named, is_link_state_form, changes_links, has_source, is_event_form, row_of, fits_row, names_source, names_device, unformed_operation, forbidden_operation, sourceless_operation, deviceless_operation};
-ghost use Rattle.machine_file.specs.OperationRows.{op_row, first_version, word_changes_links, row_named, operation_test};
+ghost use Rattle.machine_file.specs.OperationRows.{op_row, first_version, is_kept, word_changes_links, word_names_device, word_names_source, row_named, operation_test};
 ghost use Rattle.machine_file.specs.Knows.{Knows, names, texts};
 ghost use Rattle.machine_file.specs.Broken.{place_of};
 
@@ -53,6 +53,8 @@ const MOST_TIMES: u64 = 20_000;
 /// A test of an operation beside its actor.
 #[derive(Clone, Copy)]
 pub(crate) enum OperationTest {
+    /// Each of the others, in a file of version 2, or of version 1.
+    Kept(bool),
     /// In a file of version 2, or of version 1.
     Formed(bool),
     Allowed,
@@ -358,10 +360,83 @@ pub(crate) fn names_one_of(operation: &Value<'_>, member: &str, names: &KeyIndex
     }
 }
 
+// Whether operations of that word name a source.
+fn word_names_source(word: Word) -> bool
+    ensures { result ≡ word_names_source word }
+{
+    matches!(word, Word::Awake | Word::Relax | Word::Event)
+}
+
+// Whether operations of that word name devices.
+fn word_names_device(word: Word) -> bool
+    ensures { result ≡ word_names_device word }
+{
+    matches!(word, Word::Runtime | Word::Link | Word::LinkState)
+}
+
+// Whether the source that an operation of that word names, if it names one, is known.
+fn names_its_source(word: Word, operation: &Value<'_>, sources: &KeyIndex<&str>) -> bool
+    requires { fits_row (view operation.now) (op_row word) ≡ true }
+    ensures { result ≡ names_source (texts sources.now) (view operation.now) }
+{
+    if !word_names_source(word) {
+        return true;
+    }
+    names_one_of(operation, "source", sources)
+}
+
+// Whether the devices that an operation of that word names, if it names any, are known.
+fn names_its_devices(word: Word, operation: &Value<'_>, devices: &Devices) -> bool
+    requires { fits_row (view operation.now) (op_row word) ≡ true }
+    ensures { result ≡ names_device (names devices.now) (view operation.now) }
+{
+    if !word_names_device(word) {
+        return true;
+    }
+    names_devices(operation, devices)
+}
+
+// Whether the source and the devices that an operation of that word names are known.
+fn names_things(word: Word, known: &Known<'_>, operation: &Value<'_>) -> bool
+    requires { fits_row (view operation.now) (op_row word) ≡ true }
+    ensures { result ≡ (names_source (texts known.now.sources) (view operation.now) && names_device (names known.now.devices) (view operation.now)) }
+{
+    names_its_source(word, operation, &known.sources)
+        && names_its_devices(word, operation, &known.devices)
+}
+
+// Whether an operation of that word keeps each rule on one operation.
+fn is_kept_as(
+    second: bool,
+    word: Word,
+    known: &Known<'_>,
+    actor: &Value<'_>,
+    operation: &Value<'_>,
+) -> bool
+    requires { Some (op_row word) ≡ row_of (view operation.now) }
+    ensures { result ≡ is_kept second (texts known.now.sources) (names known.now.devices) (view actor.now) (view operation.now) }
+{
+    if !is_formed_as(second, word, operation) {
+        return false;
+    }
+    is_allowed(text_at(actor, "kind"), word) && names_things(word, known, operation)
+}
+
+// Whether an operation keeps each rule on one operation.
+fn is_kept(second: bool, known: &Known<'_>, actor: &Value<'_>, operation: &Value<'_>) -> bool
+    ensures { result ≡ is_kept second (texts known.now.sources) (names known.now.devices) (view actor.now) (view operation.now) }
+{
+    match word_of(operation) {
+        Some(word) => is_kept_as(second, word, known, actor, operation),
+        None => false,
+    }
+}
+
 fn passes(test: OperationTest, known: &Known<'_>, actor: &Value<'_>, operation: &Value<'_>) -> bool
     ensures { result ≡ operation_test test known.now (view actor.now) (view operation.now) }
 {
     match test {
+        OperationTest::Kept(second) => is_kept(second, known, actor, operation),
         OperationTest::Formed(second) => is_of_table(second, operation),
         OperationTest::Allowed => match word_of(operation) {
             Some(word) => is_allowed(text_at(actor, "kind"), word),

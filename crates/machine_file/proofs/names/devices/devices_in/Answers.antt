@@ -1,11 +1,10 @@
-use Rattle.std.proofs.Common.{◌≡◌, ◌∙◌, List, length, sym, ap, subst, codes, arith}
+use Rattle.std.proofs.Common.{List, length, sym, ap, subst, arith}
 use Rattle.std.specs.List.{All}
 use Rattle.std.proofs.lemmas.List.{length-map}
 use Rattle.serde_json.specs.Data.{Data}
 use Rattle.borrowed_json.specs.View.{view}
 use Rattle.machine_file.specs.Fitting.{HasShortName}
-use Rattle.machine_file.specs.Members.{list_in}
-use Rattle.machine_file.specs.Registered.{AreRegistered, Stops}
+use Rattle.machine_file.specs.Registered.{AreRegistered}
 use Rattle.machine_file.proofs.FittedFile.{fits_devices}
 use Rattle.machine_file.proofs.Grouping.{few_in}
 use Rattle.machine_file.proofs.Registering.{none_broken}

@@ -1,6 +1,6 @@
 use Rattle.std.proofs.Common.{◌<◌, ◌∙◌, ◌++◌, ◌∷◌, [], List, length, get_or, map, take, None, ap, arith}
 use Rattle.borrowed_json.specs.View.{view}
-use Rattle.std.proofs.lemmas.List.{get_or_default, take_all}
+use Rattle.std.proofs.lemmas.List.{get_or_default}
 use Rattle.sleep_model.specs.declared.machine.Link.{Link}
 use Rattle.machine_file.specs.declared.rules.pairs.EndPlaces.{EndPlaces}
 use Rattle.machine_file.specs.Seen.{links_between}
