@@ -5,11 +5,9 @@ pub(crate) mod marks;
 pub(crate) mod places;
 
 ghost use Rattle.std.specs.Prelude.{◌≡◌, ◌∷◌, [], not, map, bytes_eq, codes, IfOk};
-ghost use Rattle.std.specs.List.{list_any};
 ghost use Rattle.borrowed_json.specs.View.{view};
 ghost use Rattle.machine_file.specs.Look.{text_of};
 ghost use Rattle.machine_file.specs.Rules.{name_of};
-ghost use Rattle.machine_file.specs.Members.{list_in};
 ghost use Rattle.machine_file.specs.Places.{first_not_after};
 ghost use Rattle.machine_file.specs.Names.{names_in, texts_in, is_among_names};
 ghost use Rattle.machine_file.specs.Broken.{member_name};

@@ -13,18 +13,16 @@ ghost use Rattle.machine_file.specs.Whole.{broken_at, first_of};
 ghost use Rattle.machine_file.specs.Look.{has_only};
 ghost use Rattle.std.specs.Option.{option_or};
 ghost use Rattle.machine_file.specs.Members.{file_members};
-ghost use Rattle.machine_file.specs.Rules.{has_version, is_second};
+ghost use Rattle.machine_file.specs.Rules.{has_version};
 ghost use Rattle.machine_file.specs.Operations.{unformed_operation, sourceless_operation, deviceless_operation};
 ghost use Rattle.machine_file.specs.Answering.{sourceless_report, thingless_answer};
-ghost use Rattle.machine_file.specs.Places.{first_operation, unless};
-ghost use Rattle.machine_file.specs.Names.{devices_named, sources_named};
-ghost use Rattle.machine_file.specs.OperationRows.{is_kept};
+ghost use Rattle.machine_file.specs.Places.{unless};
 ghost use Rattle.machine_file.specs.Groups.{form_rules, end_rules, thing_rules, operation_rules, answer_rules};
 ghost use Rattle.machine_file.specs.Knows.{Knows};
 ghost use Rattle.machine_file.specs.Seen.{AreEnds, ArePlaced};
 ghost use Rattle.machine_file.specs.Broken.{place_of, broken_view};
 
-use crate::names::known::{Known, repeated_actor, repeated_callback, repeated_source};
+use crate::names::known::{Known, repeated, repeated_callback, repeated_source};
 use crate::rules::answers::{AnswerTest, first_answer, repeated_answer};
 use crate::rules::form::unformed_member;
 use crate::rules::items::{is_second, misspelled_item, unformed_item};
@@ -127,7 +125,7 @@ pub(crate) fn thing_broken(
     ensures { IfOk result (λ b. option_map broken_view b ≡ first_of thing_rules (view tree.now)) }
 {
     let source = repeated_source(alloc, tree)?;
-    let actor = repeated_actor(alloc, tree)?;
+    let actor = repeated(alloc, tree, Member::Actors)?;
     let callback = breaks(13, repeated_callback(tree, known));
     Ok(callback.or(breaks(14, source)).or(breaks(15, actor)))
 }
@@ -176,21 +174,13 @@ fn sourceless(tree: &Value<'_>, known: &Known<'_>) -> Option<Place>
     }
 }
 
-// The first operation that breaks one of the rules on one operation.
-fn unkept_operation(tree: &Value<'_>, known: &Known<'_>) -> Option<Place>
-    requires { Knows known.now (view tree.now) }
-    ensures { place_of result ≡ first_operation (is_kept (is_second (view tree.now)) (sources_named (view tree.now)) (devices_named (view tree.now))) (view tree.now) }
-{
-    first_operation(OperationTest::Kept(is_second(tree)), known, tree)
-}
-
 /// The first rule of operations that is broken: it is searched for rule by rule only where one pass finds an operation that
 /// breaks any of them.
 pub(crate) fn operation_broken(tree: &Value<'_>, known: &Known<'_>) -> Option<Broken>
     requires { Knows known.now (view tree.now) }
     ensures { option_map broken_view result ≡ first_of operation_rules (view tree.now) }
 {
-    match unkept_operation(tree, known) {
+    match first_operation(OperationTest::Kept(is_second(tree)), known, tree) {
         Some(_) => first_operation_rule(tree, known),
         None => breaks(18, sourceless_report(tree, known)),
     }

@@ -15,7 +15,7 @@ ghost use Rattle.machine_file.specs.Registered.{AreRegistered, Stops, device_beh
 ghost use Rattle.machine_file.specs.Spelled.{place_among};
 ghost use Rattle.machine_file.specs.Whole.{broken_at};
 
-use crate::names::known::repeated_device;
+use crate::names::known::repeated;
 use crate::reading::texts::name_of_text;
 use crate::reading::things::flags_of;
 use crate::rules::Broken;
@@ -169,7 +169,7 @@ fn rule_broken(alloc: Global, tree: &Value<'_>, refused: Refused) -> Result<Brok
 {
     match refused.fault {
         TreeFault::NameTaken => Ok(at(8, refused.number)),
-        TreeFault::NoParent => match repeated_device(alloc, tree)? {
+        TreeFault::NoParent => match repeated(alloc, tree, Member::Devices)? {
             Some(place) => Ok(Broken { rule: 8, place }),
             None => Ok(at(9, refused.number)),
         },

@@ -1,13 +1,9 @@
 //! The names of the things of a file, and the rules that tell them apart.
 
 ghost use Rattle.std.specs.Prelude.{◌≡◌, ◌≤◌, ◌-◌, ◌∷◌, [], not, map, take, bytes_eq, codes, length, ◌<◌, IfOk, IfSome, position, option_map};
-ghost use Rattle.std.specs.List.{list_any};
 ghost use Rattle.borrowed_json.specs.View.{view};
-ghost use Rattle.machine_file.specs.Look.{is_none_or, text_at};
-ghost use Rattle.machine_file.specs.Rules.{name_of};
-ghost use Rattle.machine_file.specs.Members.{list_in, word_at};
 ghost use Rattle.machine_file.specs.Places.{item_place, first_not, first_not_after};
-ghost use Rattle.machine_file.specs.Names.{names_in, texts_in, is_among_names, repeated, repeated_callback, repeated_device, repeated_source, repeated_actor};
+ghost use Rattle.machine_file.specs.Names.{names_in, texts_in, is_among_names, repeated, repeated_callback, repeated_source};
 ghost use Rattle.machine_file.specs.Devices.{whole_devices};
 ghost use Rattle.machine_file.specs.Operations.{whole_marks};
 ghost use Rattle.machine_file.specs.Knows.{Knows, texts};
@@ -154,27 +150,13 @@ fn one_less(number: Option<usize>) -> Option<usize>
 }
 
 /// The first of a list of objects that has another's name.
-fn repeated(alloc: Global, tree: &Value<'_>, list: Member) -> Result<Option<Place>, Mem>
+pub(crate) fn repeated(alloc: Global, tree: &Value<'_>, list: Member) -> Result<Option<Place>, Mem>
     ensures { IfOk result (λ p. place_of p ≡ repeated (member_name list) (names_in (member_name list) (view tree.now))) }
 {
     let names = named_in(alloc, tree, list)?;
     let number = first_repeated(&names);
     drop(names);
     Ok(item(list, number))
-}
-
-/// The first device that has another's name.
-pub(crate) fn repeated_device(alloc: Global, tree: &Value<'_>) -> Result<Option<Place>, Mem>
-    ensures { IfOk result (λ p. place_of p ≡ repeated_device (view tree.now)) }
-{
-    repeated(alloc, tree, Member::Devices)
-}
-
-/// The first actor that has another's name.
-pub(crate) fn repeated_actor(alloc: Global, tree: &Value<'_>) -> Result<Option<Place>, Mem>
-    ensures { IfOk result (λ p. place_of p ≡ repeated_actor (view tree.now)) }
-{
-    repeated(alloc, tree, Member::Actors)
 }
 
 /// The place of a name among these.

@@ -5,18 +5,16 @@ ghost use Rattle.borrowed_json.specs.View.{view};
 ghost use Rattle.serde_json.specs.Find.{as_number, as_integer};
 ghost use Rattle.machine_file.specs.Members.{may_have};
 ghost use Rattle.machine_file.specs.Form.{is_near};
-ghost use Rattle.machine_file.specs.Devices.{bit, flags_of, whole_device, whole_devices};
+ghost use Rattle.machine_file.specs.Devices.{bit, flags_of};
 ghost use Rattle.machine_file.specs.Whole.{priority_of, whole_notifier};
-ghost use Rattle.machine_file.specs.Fitting.{HasShortName, FitsNotifier};
-ghost use Rattle.machine_file.specs.Knows.{texts};
+ghost use Rattle.machine_file.specs.Fitting.{FitsNotifier};
 
 use crate::reading::texts::name_of_text;
 use crate::value::look::{has_text, text_at, truth_at};
-use crate::value::place::{Member, items};
 use bitflags::Flags;
 use borrowed_json::{Value, as_i64, get};
 use sleep_base::Mem;
-use sleep_model::{Device, DeviceFlags, Notifier, runtime_word};
+use sleep_model::{DeviceFlags, Notifier, runtime_word};
 use std::alloc::Global;
 
 fn flag(set: bool, value: u8) -> u8

@@ -5,7 +5,6 @@ ghost use Rattle.std.specs.List.{list_all};
 ghost use Rattle.borrowed_json.specs.View.{view};
 ghost use Rattle.machine_file.specs.Members.{may_have, must_have, list_in, link_members};
 ghost use Rattle.machine_file.specs.Look.{has_only};
-ghost use Rattle.machine_file.specs.Places.{first_not};
 ghost use Rattle.machine_file.specs.Form.{is_string, is_one_of, kinds, phases, statuses, link_states, is_device_form, is_link_form, is_notifier_form, is_actor_form, is_ret_form, is_plain_report, is_event_report, is_report_form, are_reports, is_answer_form, unformed_member, unformed_item};
 ghost use Rattle.machine_file.specs.Operations.{has_ends_named};
 ghost use Rattle.machine_file.specs.Broken.{place_of};

@@ -1,7 +1,6 @@
 //! The items of the file's lists: their form and their names.
 
 ghost use Rattle.std.specs.Prelude.{◌≡◌, not, position, length, nat_le, codes};
-ghost use Rattle.std.specs.List.{list_all};
 ghost use Rattle.borrowed_json.specs.View.{view};
 ghost use Rattle.machine_file.specs.Places.{first_not, first_item};
 ghost use Rattle.machine_file.specs.Form.{is_link_form, unformed_item};

@@ -396,40 +396,19 @@ fn names_its_devices(word: Word, operation: &Value<'_>, devices: &Devices) -> bo
     names_devices(operation, devices)
 }
 
-// Whether the source and the devices that an operation of that word names are known.
-fn names_things(word: Word, known: &Known<'_>, operation: &Value<'_>) -> bool
-    requires { fits_row (view operation.now) (op_row word) ≡ true }
-    ensures { result ≡ (names_source (texts known.now.sources) (view operation.now) && names_device (names known.now.devices) (view operation.now)) }
-{
-    names_its_source(word, operation, &known.sources)
-        && names_its_devices(word, operation, &known.devices)
-}
-
-// Whether an operation of that word keeps each rule on one operation.
-fn is_kept_as(
-    second: bool,
-    word: Word,
-    known: &Known<'_>,
-    actor: &Value<'_>,
-    operation: &Value<'_>,
-) -> bool
-    requires { Some (op_row word) ≡ row_of (view operation.now) }
-    ensures { result ≡ is_kept second (texts known.now.sources) (names known.now.devices) (view actor.now) (view operation.now) }
-{
-    if !is_formed_as(second, word, operation) {
-        return false;
-    }
-    is_allowed(text_at(actor, "kind"), word) && names_things(word, known, operation)
-}
-
 // Whether an operation keeps each rule on one operation.
 fn is_kept(second: bool, known: &Known<'_>, actor: &Value<'_>, operation: &Value<'_>) -> bool
     ensures { result ≡ is_kept second (texts known.now.sources) (names known.now.devices) (view actor.now) (view operation.now) }
 {
-    match word_of(operation) {
-        Some(word) => is_kept_as(second, word, known, actor, operation),
-        None => false,
+    let Some(word) = word_of(operation) else {
+        return false;
+    };
+    if !is_formed_as(second, word, operation) {
+        return false;
     }
+    is_allowed(text_at(actor, "kind"), word)
+        && names_its_source(word, operation, &known.sources)
+        && names_its_devices(word, operation, &known.devices)
 }
 
 fn passes(test: OperationTest, known: &Known<'_>, actor: &Value<'_>, operation: &Value<'_>) -> bool

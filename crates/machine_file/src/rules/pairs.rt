@@ -4,10 +4,8 @@ ghost use Rattle.std.specs.Prelude.{◌≡◌, ◌≤◌, ◌&&◌, [], not, map
 ghost use Rattle.std.specs.List.{list_any};
 ghost use Rattle.borrowed_json.specs.View.{view};
 ghost use Rattle.machine_file.specs.Look.{is_none_or, text_at};
-ghost use Rattle.machine_file.specs.Members.{list_in, word_at};
 ghost use Rattle.machine_file.specs.Places.{first_not, first_not_after};
 ghost use Rattle.machine_file.specs.Devices.{loose_link, repeated_link};
-ghost use Rattle.machine_file.specs.Rules.{name_of};
 ghost use Rattle.machine_file.specs.Knows.{Knows, names};
 ghost use Rattle.machine_file.specs.Seen.{ends_seen, ends_written, differ, same_ends, end_places, are_devices, AreEnds, ArePlaced};
 ghost use Rattle.machine_file.specs.Broken.{place_of};
