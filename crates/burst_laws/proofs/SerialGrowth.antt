@@ -47,5 +47,5 @@ bursts_grow moment machine machine_then sources sources_then tasks tasks_then b 
       arith,
       longer 0,
       entries_more (plain_sources sources) (plain_sources sources_then)
-      (omega (arith, count, length-map sources (λ (s : SeatedSourceState). s.source), length-map sources_then (λ (s : SeatedSourceState). s.source))) each,
+          (omega (arith, count, length-map sources (λ (s : SeatedSourceState). s.source), length-map sources_then (λ (s : SeatedSourceState). s.source))) each,
     )
