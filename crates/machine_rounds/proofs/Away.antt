@@ -21,12 +21,12 @@ use Rattle.run_world.specs.Acts.{actor_of}
 use Rattle.run_world.specs.Bursts.{IsBurst}
 use Rattle.world_workers.specs.declared.parts.Burst.{Burst}
 use Rattle.world_workers.specs.Bursts.{AreReady, AreTasksIn, HaveTurns}
-use Rattle.machine_rounds.specs.BurstsOf.{IsAway, IsBack}
+use Rattle.machine_rounds.specs.BurstsOf.{IsAway, IsBack, entries_of}
 use Rattle.machine_rounds.specs.JobsOf.{AreAllJobs, JobsState, job_at}
 use Rattle.machine_rounds.specs.RunFields as fields
 use Rattle.machine_rounds.specs.TasksOf.{AreJobsOf, acts, all_actors, highest, jobs_in, tasks_of, timers}
 use Rattle.machine_rounds.proofs.BurstParts.{are_in, sources_back, timely_all, turns_left}
-use Rattle.machine_rounds.proofs.Bursting.{all_back, back, goes_on_after}
+use Rattle.machine_rounds.proofs.Bursting.{all_back, back, goes_on_after, grown}
 use Rattle.machine_rounds.proofs.CameBack.{CameBack, same_jobs}
 use Rattle.machine_rounds.proofs.FirstTasks.{actors_are, named, timers_long}
 
@@ -110,6 +110,15 @@ module _ (m : Machine) (table : TableId) (floor : Stamp) (core : SeatedCoreState
       table_is = ready.table_is;
       seats = ready.seats;
     }
+
+    pub has_grown : entries_of core sources ≤ entries_of core_then sources_then
+    has_grown = grown m a.jobs floor a.all_jobs core core_then sources sources_then tasks_then (time_of (entries core.core.past)) a.running of_these refl sources_are
+
+  pub grown_of : (result : Result Burst Mem) → IfOk result (λ made. IsBurst (time_of (entries core.core.past)) core sources tasks made.parts.core made.parts.sources.items made.parts.tasks.items)
+      → IfOk result (λ made. AreReady m table made.parts.core made.parts.sources.items made.parts.tasks.items) → IfOk result (λ made. AreKept made.parts.sources.items)
+      → IfOk result (λ made. entries_of core sources ≤ entries_of made.parts.core made.parts.sources.items)
+  grown_of (Ok made) b ready kept = has_grown made.parts.core made.parts.sources.items made.parts.tasks.items b ready kept
+  grown_of (Err e) b ready kept = tt
 
   pub is_back_of : (result : Result Burst Mem) → IfOk result (λ made. IsBurst (time_of (entries core.core.past)) core sources tasks made.parts.core made.parts.sources.items made.parts.tasks.items)
       → IfOk result (λ made. AreReady m table made.parts.core made.parts.sources.items made.parts.tasks.items) → IfOk result (λ made. AreKept made.parts.sources.items)

@@ -74,7 +74,7 @@ same_id id n seat h g = let e : Some id ≡ Some n = sym h ∙ g in cc
 source_is : (base : ℕ) (xs : List SeatedSourceState) → AreKept xs → ((k : ℕ) (t : Token) → get_elem? (seats_of xs) k ≡ some t → number_of t ≡ Some (base + k))
     → (s : ℕ) (none : SourceState) → s < length (fields.sources_of xs) → IsSourceOf (base + s) (slice_index_or (fields.sources_of xs) s none)
 source_is base [] kept h s none l = absurd (omega arith)
-source_is base (x ∷ xs) kept h zero none l = record { number = same_id x.source.id (base + 0) x.seat kept.0.number (h 0 x.seat refl); settled = kept.0.settled }
+source_is base (x ∷ xs) kept h zero none l = record { number = same_id x.source.id (base + 0) x.seat kept.0.number (h 0 x.seat refl); settled = kept.0.settled; fresh = kept.0.fresh }
 source_is base (x ∷ xs) kept h (suc s) none l =
     let place : base + 1 + s ≡ base + suc s = omega arith in
     subst (λ (n : ℕ). IsSourceOf n (slice_index_or (fields.sources_of xs) s none)) place

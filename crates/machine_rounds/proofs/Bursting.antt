@@ -1,5 +1,5 @@
 -- After a burst a run goes on: its journal and its sources have what the burst made, and all actors know the greatest stamp.
-use Rattle.std.proofs.Common.{◌≡◌, ◌<◌, ◌+◌, ◌++◌, ◌∙◌, ℕ, zero, suc, Bool, true, false, List, [], ◌∷◌, length, map, Some, None, slice_get, slice_index_or, refl, sym, ap, subst, arith}
+use Rattle.std.proofs.Common.{◌≡◌, ◌≤◌, ◌<◌, ◌+◌, ◌++◌, ◌∙◌, ℕ, zero, suc, Bool, true, false, List, [], ◌∷◌, length, map, Some, None, slice_get, slice_index_or, refl, sym, ap, subst, arith}
 use Rattle.std.proofs.lemmas.List.{length-map}
 use Rattle.sleep_model.specs.declared.entry.Actor.{Actor}
 use Rattle.sleep_model.specs.declared.entry.Actor.TheVariants as actor
@@ -13,7 +13,7 @@ use Rattle.sleep_script.specs.Jobs.{IsJobOf, JobState, later}
 use Rattle.wakeup_source.specs.SourceStates.{SourceState}
 use Rattle.run_laws.proofs.Acts.{actor_is}
 use Rattle.run_objects.specs.Objects.{SeatedCoreState, SeatedSourceState}
-use Rattle.running_laws.specs.Running.{AreJobs, AreSources, IsGoing, IsRunning, calls_made}
+use Rattle.running_laws.specs.Running.{AreJobs, AreSources, IsGoing, IsRunning, calls_made, entry_count}
 use Rattle.running_laws.proofs.Turns as turns
 use Rattle.run_world.specs.declared.task.Task.{Task}
 use Rattle.run_world.specs.declared.task.Task.TheVariants as task
@@ -23,6 +23,7 @@ use Rattle.burst_laws.specs.Courses.{GoesOnAt, IsTaskOf, has_task}
 use Rattle.burst_laws.specs.Keeping.{GoesOnWith}
 use Rattle.burst_laws.specs.Serial.{plain_sources, standing_of}
 use Rattle.burst_laws.proofs.GoingBursts.{bursts_go_on}
+use Rattle.burst_laws.proofs.SerialGrowth.{bursts_grow}
 use Rattle.machine_rounds.specs.JobsOf.{AreAllJobs, JobsState, job_at}
 use Rattle.machine_rounds.specs.TasksOf.{highest, tasks_of}
 use Rattle.machine_rounds.proofs.CameBack.{CameBack, again, all_same, came_back}
@@ -170,10 +171,35 @@ module _ (m : Machine) (jobs : JobsState) (floor : Stamp) (all : AreAllJobs m jo
           let none : has_task these who ≡ false = sym (has_again who) ∙ h in
           subst (λ (s : Stamp). IsBelow s top) (sym (after.farther.others who none ∙ (floors_first m machine.core.past (plain_sources sources) jobs floor all r who ∙ known_else floor these who none))) (floor_below floor tasks_then)
 
+  -- ---- with as many entries at least, and no tick above their number
+
+  abbrev count : ℕ
+  count = entry_count journal (plain_sources sources_then)
+
+  pub grown : entry_count machine.core.past (plain_sources sources) ≤ count
+  grown =
+      bursts_grow moment machine machine_then sources sources_then these tasks_then b
+      (omega (
+        arith,
+        r.sources_are.count,
+        are.count,
+        length-map sources (λ (s : SeatedSourceState). s.source),
+        length-map sources_then (λ (s : SeatedSourceState). s.source),
+      ))
+
+  tasks_low : (floor : Stamp) (tasks : List Task) → floor.tick ≤ count → ((k : ℕ) (t : Task) → slice_get tasks k ≡ Some t → (known_by t).tick ≤ count) → (highest floor tasks).tick ≤ count
+  tasks_low floor [] l h = l
+  tasks_low floor (t ∷ tasks) l h = tasks_low (later (known_by t) floor) tasks (omega (arith, l, h 0 t refl)) (λ k u e. h (suc k) u e)
+
+  top_low : top.tick ≤ count
+  top_low =
+      tasks_low floor tasks_then (omega (arith, r.low.of_actors actor.Time, grown))
+      (λ k t e. subst (λ (s : Stamp). s.tick ≤ count) (known t (each k t e)) (going.low.of_actors (actor_of t)))
+
   -- the run goes on
   pub goes_on_after : IsRunning m journal (plain_sources sources_then) (job_at back.back) top
   goes_on_after =
-      turns.raised m journal (plain_sources sources_then) (job_at back.back) on.floors (λ who. top) (λ who. (all_below who).tick) (λ who. (all_below who).pos) (record {
+      turns.raised m journal (plain_sources sources_then) (job_at back.back) on.floors (λ who. top) (λ who. (all_below who).tick) (λ who. (all_below who).pos) (λ who. top_low) (record {
         accepted = going.accepted;
         own = going.own;
         held = going.held;
@@ -181,4 +207,11 @@ module _ (m : Machine) (jobs : JobsState) (floor : Stamp) (all : AreAllJobs m jo
         jobs_are = jobs_are;
         floors_know = going.floors_know;
         told = going.told;
+        low = record {
+          newest = going.low.newest;
+          of_each = going.low.of_each;
+          of_jobs = λ who a. subst (λ (j : JobState). j.floor.tick ≤ count) (job_is who a) (going.low.of_jobs who a);
+          of_actors = going.low.of_actors;
+        };
+        near = going.near;
       })

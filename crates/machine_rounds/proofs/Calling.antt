@@ -1,22 +1,18 @@
 -- A call on a source of a run.
-use Rattle.std.proofs.Common.{◌≡◌, ◌≤◌, ◌<◌, ◌+◌, ◌∙◌, ℕ, List, [], ◌∷◌, Bool, true, false, nat_lt, length, map, slice_set, slice_index_or, refl, sym, ap, subst, arith}
+use Rattle.std.proofs.Common.{◌≡◌, ◌≤◌, ◌<◌, ◌+◌, ◌∙◌, ℕ, List, Bool, true, false, nat_lt, length, map, slice_set, slice_index_or, refl, sym, ap, subst, arith}
 use Rattle.std.proofs.lemmas.Bool.Decides.{nat_tests}
 use Rattle.std.proofs.lemmas.List.{length-map}
-use Rattle.sleep_model.specs.declared.machine.SourceCall.{SourceCall}
-use Rattle.sleep_model.specs.declared.word.WordKind.{WordKind}
 use Rattle.sleep_model.specs.Merge.{of_source}
 use Rattle.sleep_model.specs.Numbers.{time_of}
-use Rattle.sleep_model.specs.Sources.{makes, since, most_entries}
+use Rattle.sleep_model.specs.Sources.{most_entries}
 use Rattle.sleep_state.specs.Places.{entries}
-use Rattle.event_word.specs.Seats.{IsSeatOf}
-use Rattle.wakeup_source.specs.declared.call_by.CallBy.{CallBy}
+use Rattle.event_word.specs.Seats.{AreAll, IsSeatOf}
 use Rattle.wakeup_source.specs.declared.fault.SourceFault.{SourceFault}
 use Rattle.wakeup_source.specs.declared.fault.SourceFault.TheVariants as source
-use Rattle.wakeup_source.specs.Called.{Calls, Scene, Steps, after_note, after_step}
 use Rattle.wakeup_source.specs.SourceStates.{SourceState, latest}
 use Rattle.wakeup_source.specs.SourceStates as states
-use Rattle.run_objects.specs.Objects.{SeatedSourceState}
-use Rattle.running_laws.specs.Running.{histories, of_sources}
+use Rattle.run_objects.specs.Objects.{SeatedSourceState, seats_of}
+use Rattle.running_laws.specs.Running.{IsRunning, entries_in, histories, of_sources}
 use Rattle.running_laws.proofs.Asked.{timely}
 use Rattle.running_laws.proofs.Lists.{history_at, source_at}
 use Rattle.machine_rounds.specs.declared.run.Run.TheInside.{Inside}
@@ -25,18 +21,8 @@ use Rattle.machine_rounds.specs.declared.run.RunFault.TheVariants as fault
 use Rattle.machine_rounds.specs.JobsOf.{job_at}
 use Rattle.machine_rounds.specs.Refused.{run_fault}
 use Rattle.machine_rounds.specs.RunFields.{KeepsRun, sources_of, state}
-use Rattle.machine_rounds.specs.Runs.{IsRefused, entries_in}
+use Rattle.machine_rounds.specs.Runs.{IsRefused}
 use Rattle.machine_rounds.proofs.SeatsKept.{put_back, seat_is, source_is, sources_set, more_set}
-
--- a call makes at least its note
-steps_more : (by : CallBy) (steps : List WordKind) (old new : Scene) → Steps by steps old new → length old.source.past ≤ length new.source.past
-steps_more by [] old new h = omega (arith, ap (λ (s : Scene). length s.source.past) h)
-steps_more by (x ∷ rest) old new h = omega (arith, steps_more by rest (after_step by x h.0 old) new h.3)
-
-pub call_more : (by : CallBy) (c : SourceCall) (old new : Scene) → Calls by c old new → length old.source.past < length new.source.past
-call_more by c old new h =
-    let is : h.0 ≡ after_note by c h.1.0 h.0.looked old = h.1.6 in
-    omega (arith, steps_more by (makes c (since (states.bare old.source.past))) h.0 new h.2, ap (λ (s : Scene). length s.source.past) is)
 
 module _ (r : Inside) (k : KeepsRun r) (s : ℕ) (there : s ≤ length r.machine.now.sources) (one : SeatedSourceState) (is : one ≡ slice_index_or r.sources.items s one) where
   abbrev sources : List SourceState
@@ -82,6 +68,16 @@ module _ (r : Inside) (k : KeepsRun r) (s : ℕ) (there : s ≤ length r.machine
   pub refused : (why : SourceFault) (given : RunFault) → given ≡ run_fault why s → (why ≡ source.Full → most_entries < length one.source.past + 4) → IsRefused (state r) given
   refused source.Full given so full = subst (IsRefused (state r)) (sym so) (there, omega (arith, full refl, counted))
   refused source.Mem given so full = subst (IsRefused (state r)) (sym so) tt
+
+  same_items : (new : SeatedSourceState) → new ≡ one → r.sources.items ≡ slice_set r.sources.items s new
+  same_items new same = sym (ap (slice_set r.sources.items s) same ∙ put_back r.sources.items s one is)
+
+  -- the run goes on, with its seats, if the source is put back as it was
+  pub put_running : (new : SeatedSourceState) → new ≡ one → IsRunning r.machine.now r.seated.core.past (sources_of (slice_set r.sources.items s new)) (job_at r.jobs) r.floor
+  put_running new same = subst (λ (xs : List SeatedSourceState). IsRunning r.machine.now r.seated.core.past (sources_of xs) (job_at r.jobs) r.floor) (same_items new same) k.running
+
+  pub put_seats : (new : SeatedSourceState) → new ≡ one → AreAll r.seated.seat (seats_of (slice_set r.sources.items s new))
+  put_seats new same = subst (λ (xs : List SeatedSourceState). AreAll r.seated.seat (seats_of xs)) (same_items new same) k.seats
 
   -- nothing of it has changed then
   pub refused_put : (new : SeatedSourceState) → new ≡ one → (given : RunFault) → IsRefused (state r) given

@@ -1,5 +1,5 @@
 -- The tasks of a burst before anything is done: whose each is, and that no two are of one actor.
-use Rattle.std.proofs.Common.{◌≡◌, ◌≤◌, ◌<◌, ◌+◌, ◌-◌, ◌++◌, ◌∙◌, ◌⊎◌, inl, inr, ℕ, zero, suc, Bool, true, false, ◌||◌, List, [], ◌∷◌, length, map, Some, None, slice_get, slice_index_or, cond, refl, sym, ap, subst, length-append, arith}
+use Rattle.std.proofs.Common.{◌≡◌, ◌≤◌, ◌<◌, ◌+◌, ◌++◌, ◌∙◌, ◌⊎◌, inl, inr, ℕ, zero, suc, Bool, true, false, ◌||◌, List, [], ◌∷◌, length, map, Some, None, slice_get, slice_index_or, cond, refl, sym, ap, subst, length-append, arith}
 use Rattle.std.proofs.lemmas.List.{length-map, map-append}
 use Rattle.sleep_model.specs.declared.entry.Actor.{Actor}
 use Rattle.sleep_model.specs.declared.entry.Actor.TheVariants as actor
@@ -12,7 +12,7 @@ use Rattle.sleep_script.specs.Jobs.{JobState, first_timer, later, raised, raised
 use Rattle.wakeup_source.specs.SourceStates.{SourceState}
 use Rattle.merge_laws.proofs.Calling.{same_actor}
 use Rattle.run_laws.proofs.Acts.{actor_is}
-use Rattle.running_laws.specs.Running.{AreJobs, IsGoing, IsRunning}
+use Rattle.running_laws.specs.Running.{AreJobs, IsGoing, IsRunning, entry_count}
 use Rattle.running_laws.proofs.Turns as turns
 use Rattle.run_world.specs.declared.task.Task.{Task}
 use Rattle.run_world.specs.declared.task.Task.TheVariants as task
@@ -253,6 +253,26 @@ module _ (m : Machine) (floor : Stamp) (jobs : JobsState) (all : AreAllJobs m jo
           let some = known_some floor these who h in
           subst (IsBelow floor) (sym some.4) (knows_at_least some.0 some.1 (is_at floor many jobs some.0 some.1 some.2))
 
+  -- no tick is above that number where neither that stamp's is nor a job's
+  module _ (n : ℕ) (low : floor.tick ≤ n) (jobs_low : (who : Actor) → IsActor m who → (job_at jobs who).floor.tick ≤ n) where
+    pub ready_low : (who : Actor) → IsActor m who → (ready_jobs who).floor.tick ≤ n
+    ready_low who a = omega (arith, low, jobs_low who a)
+
+    task_low : (k : ℕ) (t : Task) → IsAt floor many jobs k t → (known_by t).tick ≤ n
+    task_low k t (OfScript i l) = ready_low (actor.Script i) (omega (arith, l, all.scripts))
+    task_low k t OfWork = ready_low actor.Auto tt
+    task_low k t (OfDevice d l) = ready_low (actor.Dev d) (omega (arith, l, all.devices))
+    task_low k t (OfTimer s l) = omega (arith, low)
+
+    pub floors_low : (who : Actor) → (ready_floors who).tick ≤ n
+    floors_low who = by (has_task these who) refl
+      where
+        by : (b : Bool) → has_task these who ≡ b → (ready_floors who).tick ≤ n
+        by false h = subst (λ (s : Stamp). s.tick ≤ n) (sym (known_else floor these who h)) low
+        by true h =
+            let some = known_some floor these who h in
+            subst (λ (s : Stamp). s.tick ≤ n) (sym some.4) (task_low some.0 some.1 (is_at floor many jobs some.0 some.1 some.2))
+
 -- ---- where the burst begins
 
 module _ (m : Machine) (journal : List JournalEntry) (sources : List SourceState) (jobs : JobsState) (floor : Stamp) (all : AreAllJobs m jobs)
@@ -264,6 +284,12 @@ module _ (m : Machine) (journal : List JournalEntry) (sources : List SourceState
   jobs_are who a = let h = r.jobs_are who a in
       record { machine_is = h.machine_is; actor_is = h.actor_is; turns_are = h.turns_are; pending_is = h.pending_is; calls_are = h.calls_are; exited_is = h.exited_is; fits = h.fits }
 
+  abbrev count : ℕ
+  count = entry_count journal sources
+
+  low : floor.tick ≤ count
+  low = r.low.of_actors actor.Time
+
   told_jobs : IsGoing m journal sources (ready_jobs m floor jobs all named) (λ who. floor)
   told_jobs = record {
     accepted = r.accepted;
@@ -273,6 +299,8 @@ module _ (m : Machine) (journal : List JournalEntry) (sources : List SourceState
     jobs_are = jobs_are;
     floors_know = r.floors_know;
     told = r.told;
+    low = record { newest = r.low.newest; of_each = r.low.of_each; of_jobs = ready_low m floor jobs all named count low r.low.of_jobs; of_actors = r.low.of_actors };
+    near = r.near;
   }
 
   -- at first the run goes on with these tasks
@@ -282,7 +310,8 @@ module _ (m : Machine) (journal : List JournalEntry) (sources : List SourceState
     jobs = ready_jobs m floor jobs all named;
     floors = ready_floors m floor jobs all named;
     going = turns.raised m journal sources (ready_jobs m floor jobs all named) (λ who. floor) (ready_floors m floor jobs all named)
-        (λ who. (all_know m floor jobs all named who).tick) (λ who. (all_know m floor jobs all named who).pos) told_jobs;
+        (λ who. (all_know m floor jobs all named who).tick) (λ who. (all_know m floor jobs all named who).pos)
+        (floors_low m floor jobs all named count low r.low.of_jobs) told_jobs;
     lists_are = λ s. ap (lists_of journal sources) (let is : 1 + s ≡ suc s = omega arith in is);
     tasks_are = are_tasks m floor jobs all named;
   }

@@ -1,11 +1,10 @@
 -- Where a run rests, and how it ends.
-use Rattle.std.proofs.Common.{◌≡◌, ◌≤◌, ◌<◌, ◌+◌, ◌++◌, ◌∙◌, ◌⊎◌, inl, inr, ℕ, zero, suc, Bool, true, false, not, ◌&&◌, ◌||◌, List, [], ◌∷◌, length, reverse, drop, Option, Some, None, is_none, slice_get, Ok, refl, sym, ap, ap₂, subst, cond, append_assoc, arith}
+use Rattle.std.proofs.Common.{◌≡◌, ◌≤◌, ◌<◌, ◌+◌, ◌++◌, ◌∙◌, ◌⊎◌, inl, inr, ℕ, zero, suc, Bool, true, false, not, ◌&&◌, ◌||◌, List, [], ◌∷◌, length, reverse, drop, Option, Some, None, is_none, slice_get, Result, Ok, Err, refl, sym, ap, ap₂, subst, cond, append_assoc, arith}
 use Rattle.std.specs.List.{list_all}
-use Rattle.std.proofs.lemmas.List.{length-set, length-replicate, drop_all}
+use Rattle.std.proofs.lemmas.List.{length-reverse, length-set, length-replicate, drop_all}
 use Rattle.sleep_model.specs.declared.entry.Actor.{Actor}
 use Rattle.sleep_model.specs.declared.entry.Actor.TheVariants as actor
 use Rattle.sleep_model.specs.declared.entry.Entry.{Entry}
-use Rattle.sleep_model.specs.declared.entry.JournalEntry.{JournalEntry}
 use Rattle.sleep_model.specs.declared.log.Log.{Log}
 use Rattle.sleep_model.specs.declared.log.LogEnd.{LogEnd}
 use Rattle.sleep_model.specs.declared.log.LogEnd.TheVariants.{Finished, Stuck}
@@ -35,30 +34,24 @@ use Rattle.sleep_laws.proofs.Closing.{ends_closed}
 use Rattle.sleep_laws.proofs.Held.{guarded_sleep}
 use Rattle.sleep_laws.proofs.Lawful.{laws_of_legal}
 use Rattle.end_laws.proofs.Attempts.{all_end}
+use Rattle.end_laws.proofs.Bounding.{all_bounded}
 use Rattle.end_laws.proofs.Waking.{events_first, time_forward}
 use Rattle.fit_laws.specs.Ranged.{is_told}
 use Rattle.fit_laws.proofs.Fitted.{log_fits}
 use Rattle.wakeup_source.specs.SourceStates.{SourceState}
+use Rattle.machine_rounds.specs.declared.rest.Rest.{Rest}
 use Rattle.machine_rounds.specs.declared.run.RunFault.{RunFault}
 use Rattle.machine_rounds.specs.declared.run.RunFault.TheVariants as fault
-use Rattle.running_laws.specs.Running.{histories, kept_histories, of_sources}
-use Rattle.running_laws.proofs.Few.{of_all}
+use Rattle.running_laws.specs.Running.{entry_count, histories, kept_histories, of_sources}
 use Rattle.running_laws.proofs.Ends.{running_ends, running_keeps, stats_are, told_all}
 use Rattle.machine_rounds.specs.Waits.{all_stats, waits_of}
-use Rattle.machine_rounds.specs.Runs.{AfterTry, EndsSo, Fails, IsClosed, IsHalted, IsRefused, IsRun, IsSame, IsSeen, RunState, entries_in, entries_made, is_resting}
-
--- ---- entries
-
--- the entries of sources, as the laws count them
-pub made_is : (sources : List SourceState) → entries_in sources ≡ of_all sources
-made_is [] = refl
-made_is (s ∷ sources) = ap (λ n. length s.past + n) (made_is sources)
+use Rattle.machine_rounds.specs.Runs.{AfterStretches, AfterTry, EndsSo, Fails, IsClosed, IsHalted, IsRefused, IsRun, IsSame, IsSeen, RunState, entries_made, is_resting}
 
 -- ---- tries
 
 -- where nothing was made there are as many entries
 pub made_same : (old new : RunState) → IsSame old new → entries_made new ≡ entries_made old
-made_same old new h = ap₂ (λ (j : List JournalEntry) (s : List SourceState). length j + entries_in s) h.journal h.sources
+made_same old new h = ap₂ entry_count h.journal h.sources
 
 pub same_then : (first second third : RunState) → IsSame first second → IsSame second third → IsSame first third
 same_then first second third h g = record {
@@ -67,6 +60,12 @@ same_then first second third h g = record {
   sources = g.sources ∙ h.sources;
   floor = g.floor ∙ h.floor;
 }
+
+-- what stretches came to, where none fewer entries were made before them
+pub stretched : (first second third : RunState) (n : ℕ) (came : Result (Option Rest) RunFault) → entries_made first ≤ entries_made second → AfterStretches n second third came → AfterStretches n first third came
+stretched first second third n (Ok None) more h = omega (arith, more, h)
+stretched first second third n (Ok (Some rest)) more h = h
+stretched first second third n (Err fault) more h = h
 
 -- a try behind another
 pub try_then : (first second third : RunState) (x y : Bool) → AfterTry first second (Ok x) → AfterTry second third (Ok y) → AfterTry first third (Ok (y || x))
@@ -103,6 +102,7 @@ run_of m log acc legal over told ranged = record {
   laws = laws_of_legal m (reverse log.entries) legal.legal;
   guarded = guarded_sleep m acc.sources (reverse log.entries) legal.legal;
   closed = ends_closed m acc log legal over;
+  few = omega (arith, all_bounded m acc (reverse log.entries) legal.legal, length-reverse log.entries);
   wakes = events_first m (reverse log.entries) legal.legal;
   forward = time_forward m (reverse log.entries) legal.legal;
   ends = all_end m acc log legal over;

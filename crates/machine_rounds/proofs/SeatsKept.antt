@@ -10,7 +10,7 @@ use Rattle.run_objects.specs.Closed.{histories_of}
 use Rattle.running_laws.specs.Running.{kept_histories}
 use Rattle.run_objects.specs.Objects.{AreUncalled, SeatedSourceState, seats_of}
 use Rattle.machine_rounds.specs.RunFields as fields
-use Rattle.machine_rounds.specs.Runs.{entries_in}
+use Rattle.running_laws.specs.Running.{entries_in}
 
 -- ---- lists
 

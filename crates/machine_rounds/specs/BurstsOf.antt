@@ -1,15 +1,19 @@
 -- A run around a burst: what goes in, and what comes back.
-use Rattle.std.specs.Prelude.{◌≡◌, ◌<◌, ◌+◌, ◌^◌, List, length}
+use Rattle.std.specs.Prelude.{◌≡◌, ◌<◌, ◌+◌, ◌^◌, ℕ, List, length}
 use Rattle.sleep_model.specs.declared.machine.Machine.{Machine}
 use Rattle.sleep_model.specs.declared.word.Stamp.{Stamp}
 use Rattle.atomic_table.specs.Seated.{TableId}
 use Rattle.event_word.specs.Seats.{AreAll}
 use Rattle.run_objects.specs.Objects.{SeatedCoreState, SeatedSourceState, seats_of}
-use Rattle.running_laws.specs.Running.{IsRunning}
+use Rattle.running_laws.specs.Running.{IsRunning, entry_count}
 use Rattle.run_world.specs.declared.task.Task.{Task}
 use Rattle.machine_rounds.specs.JobsOf.{AreAllJobs, JobsState, job_at}
 use Rattle.machine_rounds.specs.RunFields.{sources_of}
 use Rattle.machine_rounds.specs.TasksOf.{AreJobsOf, highest, jobs_in, tasks_of}
+
+-- how many entries a core and sources have
+abbrev pub entries_of : SeatedCoreState → List SeatedSourceState → ℕ
+entries_of core sources = entry_count core.core.past (sources_of sources)
 
 -- the core, the sources and the tasks are those of a run of the machine, whose actors all know that stamp
 pub record IsAway

@@ -1,5 +1,5 @@
 -- A run of a machine, as far as it has come.
-use Rattle.std.specs.Prelude.{◌≡◌, ◌≤◌, ◌<◌, ◌+◌, ◌⊎◌, Bool, true, false, not, ◌&&◌, ℕ, List, [], ◌∷◌, length, reverse, Option, Some, None, Result, Ok, Err}
+use Rattle.std.specs.Prelude.{◌≡◌, ◌≤◌, ◌<◌, ◌+◌, ◌⊎◌, Bool, true, false, not, ◌&&◌, ℕ, List, length, reverse, Option, Some, None, Result, Ok, Err}
 use Rattle.std.specs.List.{list_any}
 use Rattle.sleep_model.specs.declared.entry.Actor.{Actor}
 use Rattle.sleep_model.specs.declared.entry.Actor.TheVariants as actor
@@ -26,7 +26,7 @@ use Rattle.sleep_state.specs.Places.{entries}
 use Rattle.sleep_core.specs.Cores.{IsActor}
 use Rattle.wakeup_source.specs.SourceStates.{SourceState}
 use Rattle.sleep_script.specs.Jobs.{JobState}
-use Rattle.running_laws.specs.Running.{IsRunning, calls_made, histories, kept_histories, of_sources}
+use Rattle.running_laws.specs.Running.{IsRunning, calls_made, entry_count, histories, kept_histories, of_sources}
 use Rattle.end_laws.specs.Attempts.{attempts_end}
 use Rattle.end_laws.specs.Waking.{events_wake_first, time_goes_forward}
 use Rattle.run_objects.specs.Closed.{IsLaidTable}
@@ -43,14 +43,9 @@ pub record RunState : Type 0 where
   pub seat : Token
   pub floor : Stamp
 
--- how many entries these sources have
-abbrev pub entries_in : List SourceState → ℕ
-entries_in [] = 0
-entries_in (source ∷ sources) = length source.past + entries_in sources
-
 -- how many entries were made
 abbrev pub entries_made : RunState → ℕ
-entries_made run = length run.journal + entries_in run.sources
+entries_made run = entry_count run.journal run.sources
 
 -- a run goes on, as each actor's job does
 pub record IsGoingOn (run : RunState) : Type 0 where
@@ -148,17 +143,11 @@ AfterAll run (Ok (Finished word)) = IsSeen run word × (is_over run word ≡ tru
 AfterAll run (Ok (Stuck word)) = IsSeen run word × IsHalted run word
 AfterAll run (Err fault) = IsRefused run fault
 
--- after rounds and what comes behind them entries were made, or the run is over
-abbrev pub AfterStretch : RunState → RunState → Result (Option Rest) RunFault → Type 0
-AfterStretch old new (Ok None) = entries_made old < entries_made new
-AfterStretch old new (Ok (Some rest)) = AfterAll new (Ok rest)
-AfterStretch old new (Err fault) = IsRefused new fault
-
--- after rounds of the caller's own the run goes on, or is over
-abbrev pub AfterGoing : RunState → Result (Option Rest) RunFault → Type 0
-AfterGoing run (Ok None) = Unit {0}
-AfterGoing run (Ok (Some rest)) = AfterAll run (Ok rest)
-AfterGoing run (Err fault) = IsRefused run fault
+-- after n stretches at least n entries more were made, or the run is over
+abbrev pub AfterStretches : ℕ → RunState → RunState → Result (Option Rest) RunFault → Type 0
+AfterStretches n old new (Ok None) = entries_made old + n ≤ entries_made new
+AfterStretches n old new (Ok (Some rest)) = AfterAll new (Ok rest)
+AfterStretches n old new (Err fault) = IsRefused new fault
 
 -- the run is over, and ends so, by a word that was looked at last
 abbrev pub EndsSo : RunState → LogEnd → Type 0
@@ -166,13 +155,14 @@ EndsSo run end.Finished = (word : EventNow) × IsSeen run word × (is_over run w
 EndsSo run (end.Stuck those) =
     (word : EventNow) × IsSeen run word × IsHalted run word × (those ≡ waiting run.machine (entries run.journal) word)
 
--- the log of a whole run: it is legal, and over, and so the laws hold of it, and no attempt is open; an event wakes a sleeping machine before time passes, time goes forward, and each attempt ends; it fits the machine, so that its text tells it, and where it is stuck names somebody
+-- the log of a whole run: it is legal, and over, and so the laws hold of it, and no attempt is open; it has at most 37,585,025 entries; an event wakes a sleeping machine before time passes, time goes forward, and each attempt ends; it fits the machine, so that its text tells it, and if it is stuck names somebody
 pub record IsRun (m : Machine) (log : Log) : Type 0 where
   pub legal : IsLegalLog m log
   pub over : (IsFinishedLog m log) ⊎ (IsStuckLog m log)
   pub laws : Laws m (journal (reverse log.entries))
   pub guarded : GuardedSleep (reverse log.entries)
   pub closed : maker (journal (reverse log.entries)) ≡ None
+  pub few : length log.entries ≤ 37585025
   pub wakes : events_wake_first (reverse log.entries) ≡ true
   pub forward : time_goes_forward (reverse log.entries) ≡ true
   pub ends : attempts_end log.entries ≡ true

@@ -33,6 +33,16 @@ struct Away<'m> {
     waiters: Waiters,
 }
 
+/// The most entries that a log has, whatever the accepted machine is.
+const MOST_LOG: u64 = 37_585_025;
+
+/// A run that was brought on, and what came of it: how it is over, if it is, or why it gives nothing.
+#[derive(Drop)]
+struct Advance<'m> {
+    run: Run<'m>,
+    came: Result<Option<Rest>, RunFault>,
+}
+
 /// A run after a burst.
 #[derive(Drop)]
 struct AfterBurst<'m> {
@@ -47,7 +57,8 @@ struct AfterBurst<'m> {
 
 impl<'m> Away<'m> {
     ghost use Rattle.std.specs.Prelude.{◌≡◌, ◌≤◌, IfOk};
-    ghost use Rattle.machine_rounds.specs.BurstsOf.{IsAway, IsBack, IsJoined};
+    ghost use Rattle.machine_rounds.specs.BurstsOf.{IsAway, IsBack, IsJoined, entries_of};
+    ghost use Rattle.machine_rounds.specs.Runs.{entries_made};
 
     /// The burst of these parts.
     fn make<R: Threads + Wait + Sync, G: Gate + Sync>(
@@ -61,8 +72,9 @@ impl<'m> Away<'m> {
         requires away { IsAway self.now.machine.now self.now.table.desk.shared.table_id self.now.floor
             parts.core parts.sources.items parts.tasks.items }
         requires workers { 1 ≤ workers }
-        ensures { IfOk result (λ made. IsBack self.now.machine.now self.now.table.desk.shared.table_id self.now.floor
+        ensures back { IfOk result (λ made. IsBack self.now.machine.now self.now.table.desk.shared.table_id self.now.floor
             made.parts.core made.parts.sources.items made.parts.tasks.items) }
+        ensures grown { IfOk result (λ made. entries_of parts.entry.core parts.entry.sources.items ≤ entries_of made.parts.core made.parts.sources.items) }
     {
         let Ok(actors) = actors_of(
             alloc,
@@ -91,7 +103,8 @@ impl<'m> Away<'m> {
         floor: Stamp,
     ) -> Run<'m>
         requires { IsJoined self.machine.now self.table.desk.shared.table_id floor core sources.items jobs }
-        ensures { result.machine ≡ self.entry.machine.now }
+        ensures machine { result.machine ≡ self.entry.machine.now }
+        ensures entries { entries_made result ≡ entries_of core.entry sources.items }
     {
         let Away {
             machine,
@@ -115,7 +128,8 @@ impl<'m> Away<'m> {
     fn come_back(self, alloc: Global, parts: BurstParts<'m>) -> Result<Run<'m>, Mem>
         requires { IsBack self.machine.now self.table.desk.shared.table_id self.floor
             parts.core parts.sources.items parts.tasks.items }
-        ensures { IfOk result (λ run. run.machine ≡ self.entry.machine.now) }
+        ensures machine { IfOk result (λ run. run.machine ≡ self.entry.machine.now) }
+        ensures entries { IfOk result (λ run. entries_made run ≡ entries_of parts.entry.core parts.entry.sources.items) }
     {
         let BurstParts {
             core,
@@ -141,7 +155,8 @@ impl<'m> Away<'m> {
         requires away { IsAway self.machine.now self.table.desk.shared.table_id self.floor
             parts.core parts.sources.items parts.tasks.items }
         requires workers { 1 ≤ workers }
-        ensures { IfOk result (λ after. after.run.machine ≡ self.entry.machine.now) }
+        ensures machine { IfOk result (λ after. after.run.machine ≡ self.entry.machine.now) }
+        ensures grown { IfOk result (λ after. entries_of parts.entry.core parts.entry.sources.items ≤ entries_made after.run) }
     {
         let tasks = parts.tasks.len();
         let Ok(burst) = self.make(rt, alloc, parts, workers, gate) else {
@@ -166,8 +181,8 @@ impl<'m> Away<'m> {
 impl<'m> Run<'m> {
     ghost use Rattle.std.specs.Prelude.{◌≡◌, ◌≤◌, ◌<◌, ◌+◌, ◌^◌, length, IfOk, IfErr, IfSome};
     ghost use Rattle.std.specs.Bool.{OnTrue};
-    ghost use Rattle.machine_rounds.specs.BurstsOf.{IsAway};
-    ghost use Rattle.machine_rounds.specs.Runs.{AfterGoing, Fails, IsRefused, IsRun};
+    ghost use Rattle.machine_rounds.specs.BurstsOf.{IsAway, entries_of};
+    ghost use Rattle.machine_rounds.specs.Runs.{AfterStretches, Fails, IsRefused, IsRun, entries_made};
 
     /// Whether the journal is so short that no job comes to the end of its numbers in a burst.
     fn is_short(&self) -> bool
@@ -182,6 +197,7 @@ impl<'m> Run<'m> {
         ensures machine { IfOk result (λ parts. parts.0.machine.now ≡ self.entry.machine) }
         ensures away { IfOk result (λ parts. IsAway parts.0.machine.now parts.0.table.desk.shared.table_id parts.0.floor
             parts.1.core parts.1.sources.items parts.1.tasks.items) }
+        ensures entries { IfOk result (λ parts. entries_of parts.1.core parts.1.sources.items ≡ entries_made self.entry) }
     {
         let Run {
             machine,
@@ -219,7 +235,8 @@ impl<'m> Run<'m> {
         gate: &G,
     ) -> Result<AfterBurst<'m>, Mem>
         requires { 1 ≤ workers }
-        ensures { IfOk result (λ after. after.run.machine ≡ self.entry.machine) }
+        ensures machine { IfOk result (λ after. after.run.machine ≡ self.entry.machine) }
+        ensures grown { IfOk result (λ after. entries_made self.entry ≤ entries_made after.run) }
     {
         if !self.is_short() {
             return Err(lost(self));
@@ -249,95 +266,90 @@ impl<'m> Run<'m> {
         }
     }
 
-    /// A burst, and why the run gives nothing behind it, if it does not.
-    fn after_burst<R: Threads + Wait + Sync, G: Gate + Sync>(
-        self,
-        rt: &R,
-        alloc: Global,
-        workers: u8,
-        gate: &G,
-        pace: &mut Pace,
-    ) -> Result<(Run<'m>, Option<RunFault>), Mem>
-        requires { 1 ≤ workers }
-        ensures machine { IfOk result (λ after. after.0.machine ≡ self.entry.machine) }
-        ensures refused { IfOk result (λ after. IfSome after.1 (IsRefused after.0)) }
-    {
-        let workers = pace.workers(workers);
-        let AfterBurst {
-            run,
-            beside,
-            tasks,
-            stop,
-        } = self.burst(rt, alloc, workers, gate)?;
-        pace.note(beside, tasks, workers);
-        let refused = run.refused(stop);
-        Ok((run, refused))
-    }
-
-    /// Rounds of the caller's own, one behind a burst, else as many as make entries; where the last one made none, time
-    /// jumps or the run is over. How the run is over, if it is.
-    fn go_on<R: Wait>(&mut self, rt: &R, once: bool) -> Result<Option<Rest>, RunFault>
-        ensures machine { self.new.machine ≡ self.old.machine }
-        ensures after { AfterGoing self.new result }
-    {
-        let made = if once {
-            self.round(rt)?
-        } else {
-            self.rounds(rt)?
-        };
-        if made {
-            return Ok(None);
-        }
-        match self.rest(rt)? {
-            Rest::GoesOn => Ok(None),
-            end => Ok(Some(end)),
-        }
-    }
-
-    /// Makes `stretches` stretches of the caller's own rounds, each up to a jump of time. Answers how the run is over, if
-    /// it is. The run stays in its place, since it is large and most stretches make a few entries.
+    /// Makes `stretches` stretches of the caller's own rounds. Answers how the run is over, if it is.
     fn alone<R: Wait>(&mut self, rt: &R, stretches: u32) -> Result<Option<Rest>, RunFault>
         ensures machine { self.new.machine ≡ self.old.machine }
-        ensures after { AfterGoing self.new result }
+        ensures after { AfterStretches stretches self.old self.new result }
     {
-        for _ in 0..stretches {
-            if let Some(end) = self.go_on(rt, false)? {
+        for _stretch in 0..stretches {
+            if let Some(end) = self.stretch(rt, u64::MAX)? {
                 return Ok(Some(end));
             }
         }
         Ok(None)
     }
 
-    /// A burst and a round of the caller's own, or the stretches that the pace wants alone. The run as it then stands, and
-    /// what came of it; `Mem` where there is no memory for the burst.
-    fn stretch<R: Threads + Wait + Sync, G: Gate + Sync>(
+    /// Stretches of the caller's own rounds. The run stays in its place meanwhile, since it is large and most stretches
+    /// make a few entries.
+    fn advance_alone<R: Wait>(self, rt: &R, stretches: u32) -> Advance<'m>
+        ensures machine { result.run.machine ≡ self.entry.machine }
+        ensures after { AfterStretches stretches self.entry result.run result.came }
+    {
+        let mut run = self;
+        let came = run.alone(rt, stretches);
+        Advance { run, came }
+    }
+
+    /// A burst, and then a round of the caller's own.
+    fn advance_by_burst<R: Threads + Wait + Sync, G: Gate + Sync>(
         self,
         rt: &R,
         alloc: Global,
-        workers: u8,
         gate: &G,
         pace: &mut Pace,
-    ) -> Result<(Run<'m>, Result<Option<Rest>, RunFault>), Mem>
-        requires { 1 ≤ workers }
-        ensures machine { IfOk result (λ after. after.0.machine ≡ self.entry.machine) }
-        ensures after { IfOk result (λ after. AfterGoing after.0 after.1) }
+    ) -> Result<Advance<'m>, Mem>
+        ensures machine { IfOk result (λ next. next.run.machine ≡ self.entry.machine) }
+        ensures after { IfOk result (λ next. AfterStretches 1 self.entry next.run next.came) }
+    {
+        let workers = pace.workers();
+        let AfterBurst {
+            mut run,
+            beside,
+            tasks,
+            stop,
+        } = self.burst(rt, alloc, workers, gate)?;
+        pace.note(beside, tasks, workers);
+        if let Some(fault) = run.refused(stop) {
+            return Ok(Advance {
+                run,
+                came: Err(fault),
+            });
+        }
+        let came = run.stretch(rt, 1);
+        Ok(Advance { run, came })
+    }
+
+    /// Brings the run on, by as many stretches of the caller's own rounds as the pace wants, else by a burst: it makes an
+    /// entry at least, or the run is over.
+    fn advance<R: Threads + Wait + Sync, G: Gate + Sync>(
+        self,
+        rt: &R,
+        alloc: Global,
+        gate: &G,
+        pace: &mut Pace,
+    ) -> Result<Advance<'m>, Mem>
+        ensures machine { IfOk result (λ next. next.run.machine ≡ self.entry.machine) }
+        ensures after { IfOk result (λ next. AfterStretches 1 self.entry next.run next.came) }
     {
         let alone = pace.take_alone();
         if alone > 0 {
-            let mut run = self;
-            let came = run.alone(rt, alone);
-            return Ok((run, came));
+            Ok(self.advance_alone(rt, alone))
+        } else {
+            self.advance_by_burst(rt, alloc, gate, pace)
         }
-        let (mut run, refused) = self.after_burst(rt, alloc, workers, gate, pace)?;
-        if let Some(fault) = refused {
-            return Ok((run, Err(fault)));
-        }
-        let came = run.go_on(rt, true);
-        Ok((run, came))
     }
 
-    /// Bursts with rounds of the caller's own and jumps of time between them, to the end, and the log of all.
-    pub(crate) fn finish_by<R: Threads + Wait + Sync, G: Gate + Sync>(
+    /// A run has made no more entries than a log has at most. It does nothing.
+    fn entries_are_few(&self)
+        ensures { entries_made self.now ≤ 37585025 }
+    {
+        // A look at the field makes the invariant known here.
+        let _ = &self.machine;
+    }
+
+    /// The log of the whole run: one worker makes all rounds, several make bursts between rounds. Each turn of the loop
+    /// makes an entry or ends it, and no run has more entries than a log has at most.
+    pub fn to_end<R: Threads + Wait + Sync, G: Gate + Sync>(
         self,
         rt: &R,
         alloc: Global,
@@ -349,15 +361,16 @@ impl<'m> Run<'m> {
         ensures fault { IfErr result (Fails self.entry.machine) }
     {
         let mut run = self;
-        let mut pace = Pace::new();
-        for _ in rt.forever() {
-            let (after, came) = run.stretch(rt, alloc, workers, gate, &mut pace)?;
+        let mut pace = Pace::new(workers);
+        for _turn in 0..MOST_LOG + 1 {
+            let Advance { run: next, came } = run.advance(rt, alloc, gate, &mut pace)?;
             match came {
-                Ok(None) => run = after,
-                Ok(Some(end)) => return Ok(after.into_log(alloc, end)?),
-                Err(fault) => return Err(after.into_fault(rt, alloc, fault)?),
+                Ok(None) => run = next,
+                Ok(Some(end)) => return Ok(next.into_log(alloc, end)?),
+                Err(fault) => return Err(next.into_fault(rt, alloc, fault)?),
             }
         }
+        run.entries_are_few();
         unreachable!()
     }
 }

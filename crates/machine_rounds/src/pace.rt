@@ -22,6 +22,9 @@ const MOST_ALONE: u32 = 65_536;
 /// measured by a clock. No clause speaks of this.
 #[derive(Drop)]
 pub(crate) struct Pace {
+    /// How many workers there are: one makes no burst.
+    most: u8,
+    ghost least: { 1 ≤ most },
     /// How many bursts were made.
     made: u32,
     /// How many bursts in a row came to little.
@@ -33,9 +36,12 @@ pub(crate) struct Pace {
 }
 
 impl Pace {
-    /// At first bursts are made.
-    pub(crate) fn new() -> Self {
+    /// At first bursts are made, unless there is but one worker.
+    pub(crate) fn new(most: u8) -> Self
+        requires { 1 ≤ most }
+    {
         Pace {
+            most,
             made: 0,
             short: 0,
             alone: 0,
@@ -44,23 +50,24 @@ impl Pace {
     }
 
     /// For how many stretches the caller goes on alone before the next burst. They are taken: the next answer is none,
-    /// unless a burst comes to little in between.
+    /// unless a burst comes to little in between, or there is but one worker.
     pub(crate) fn take_alone(&mut self) -> u32 {
+        if self.most == 1 {
+            return MOST_ALONE;
+        }
         let alone = self.alone;
         self.alone = 0;
         alone
     }
 
-    /// How many of these workers make the next burst: all the first ones, then as many as the last one was worth, and two
-    /// at least.
-    pub(crate) fn workers(&self, most: u8) -> u8
-        requires { 1 ≤ most }
+    /// How many workers make the next burst: all the first ones, then as many as the last one was worth, and two at least.
+    pub(crate) fn workers(&self) -> u8
         ensures { 1 ≤ result }
     {
-        if self.made < WHOLE || self.worth >= u64::from(most) {
-            return most;
+        if self.made < WHOLE || self.worth >= u64::from(self.most) {
+            return self.most;
         }
-        most.min(2).max(self.worth as u8)
+        self.most.min(2).max(self.worth as u8)
     }
 
     /// A burst of `tasks` tasks by that many workers made `beside` calls on sources beside those of the busiest task.

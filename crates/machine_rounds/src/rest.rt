@@ -18,9 +18,6 @@ use sleep_model::{Actor, Due, EventNow, Journal, ListOf, LogEnd, SourceList, Sta
 use std::alloc::{AllocError, Global};
 use std::sync::Wait;
 
-/// The greatest moment of a run, in ms. A run that would come past it gives nothing.
-const LAST_MOMENT: u64 = 1 << 63;
-
 /// What comes after a round that did nothing.
 #[derive(Clone, Copy)]
 pub(crate) enum Rest {
@@ -172,8 +169,8 @@ impl<'m> Run<'m> {
         by_script & !works & by_device & by_timer
     }
 
-    /// Time jumps to the next pending moment, where nobody can make anything by the word that was looked at last. `Mem`
-    /// where there is no memory, and where the clock or the ticks of stamps come to their ends.
+    /// Time jumps to the next pending moment, where nobody can make anything by the word that was looked at last. A run
+    /// makes so few entries that the clock and the ticks of stamps stay in their range. `Mem` if there is no memory.
     fn jump(&mut self, word: EventNow, to: u64) -> Result<(), RunFault>
         requires least { JumpStep self.old.machine (entries self.old.journal) (histories self.old.sources) word to }
         requires seen { IsSeen self.old word }
@@ -182,12 +179,6 @@ impl<'m> Run<'m> {
         ensures made { OnOk result (entries_made self.old < entries_made self.new) }
         ensures fault { IfErr result (IsRefused self.new) }
     {
-        if to > LAST_MOMENT {
-            return Err(RunFault::Mem);
-        }
-        if self.floor.tick == u64::MAX {
-            return Err(RunFault::Mem);
-        }
         moments_are_ranged(to);
         self.floor = self.seated.jump(word, to, self.floor)?;
         self.waiters.wake_for_time();

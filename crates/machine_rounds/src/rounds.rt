@@ -1,21 +1,14 @@
-//! Rounds over the actors, and a whole run.
+//! Rounds over the actors, and what comes after them.
 
 use crate::rest::Rest;
 use crate::run::{Run, RunFault, Tried};
-use apart_log::ApartLog;
-use run_world::Gate;
 use sleep_model::{Actor, Want, Why};
-use std::alloc::Global;
 use std::sync::Wait;
-use std::thread::Threads;
-
-/// The most entries that a log has, whatever the accepted machine is.
-const MOST_LOG: u64 = 37_585_025;
 
 impl<'m> Run<'m> {
-    ghost use Rattle.std.specs.Prelude.{◌≡◌, ◌≤◌, ◌<◌, length, IfSome, IfOk, IfErr};
+    ghost use Rattle.std.specs.Prelude.{◌≡◌, ◌≤◌, ◌<◌, length, IfSome};
     ghost use Rattle.sleep_core.specs.Cores.{IsActor};
-    ghost use Rattle.machine_rounds.specs.Runs.{Fails, IsRefused, IsRun, IsSame, AfterTry, AfterAll, AfterRounds, AfterStretch, entries_made};
+    ghost use Rattle.machine_rounds.specs.Runs.{IsSame, AfterTry, AfterRounds, AfterStretches};
     ghost use Rattle.machine_rounds.specs.Tries.{AfterAsking};
 
     /// An actor's try in a round: its next call on a source, else its turn. What the core answers to a turn.
@@ -196,7 +189,7 @@ impl<'m> Run<'m> {
     /// One round: each actor that may have something to do gets one try, the scripts first, then the autosleep
     /// work, the devices and the timers. Whether entries were made.
     #[inline(always)]
-    pub(crate) fn round<R: Wait>(&mut self, rt: &R) -> Result<bool, RunFault>
+    fn round<R: Wait>(&mut self, rt: &R) -> Result<bool, RunFault>
         ensures machine { self.new.machine ≡ self.old.machine }
         ensures after { AfterTry self.old self.new result }
     {
@@ -208,13 +201,13 @@ impl<'m> Run<'m> {
         Ok(by_actor)
     }
 
-    /// Rounds, for as long as each makes entries. Whether the last one did.
-    pub(crate) fn rounds<R: Wait>(&mut self, rt: &R) -> Result<bool, RunFault>
+    /// Rounds for as long as each makes entries, `most` at most. Whether the last one did.
+    fn rounds<R: Wait>(&mut self, rt: &R, most: u64) -> Result<bool, RunFault>
         ensures machine { self.new.machine ≡ self.old.machine }
         ensures after { AfterRounds self.old self.new result }
     {
         let mut made = false;
-        for _ in 0..u64::MAX {
+        for _ in 0..most {
             if !self.round(rt)? {
                 return Ok(false);
             }
@@ -223,70 +216,18 @@ impl<'m> Run<'m> {
         Ok(made)
     }
 
-    /// A run has made no more entries than a log has at most. It does nothing.
-    fn entries_are_few(&self)
-        ensures { entries_made self.now ≤ 37585025 }
-    {
-        // A look at the field makes the invariant known here.
-        let _ = &self.machine;
-    }
-
-    /// Rounds for as long as each makes entries, and what comes behind the last: an entry, or the end of the run.
-    fn rounds_on<R: Wait>(&mut self, rt: &R) -> Result<Option<Rest>, RunFault>
+    /// A stretch: rounds, and where the last one made no entry what comes then, an entry or the end of the run. How the run
+    /// is over, if it is.
+    pub(crate) fn stretch<R: Wait>(&mut self, rt: &R, most: u64) -> Result<Option<Rest>, RunFault>
         ensures machine { self.new.machine ≡ self.old.machine }
-        ensures after { AfterStretch self.old self.new result }
+        ensures after { AfterStretches 1 self.old self.new result }
     {
-        if self.rounds(rt)? {
+        if self.rounds(rt, most)? {
             return Ok(None);
         }
         match self.rest(rt)? {
             Rest::GoesOn => Ok(None),
             end => Ok(Some(end)),
-        }
-    }
-
-    /// Rounds, and jumps of time between them, to the end. Each turn of the loop makes an entry or ends it, and no run has
-    /// more entries than a log has at most.
-    fn all_rounds<R: Wait>(&mut self, rt: &R) -> Result<Rest, RunFault>
-        ensures machine { self.new.machine ≡ self.old.machine }
-        ensures after { AfterAll self.new result }
-    {
-        for _turn in 0..MOST_LOG + 1 {
-            if let Some(end) = self.rounds_on(rt)? {
-                return Ok(end);
-            }
-        }
-        self.entries_are_few();
-        unreachable!()
-    }
-
-    /// All rounds, and the log of them.
-    fn finish<R: Wait>(mut self, rt: &R, alloc: Global) -> Result<ApartLog, RunFault>
-        ensures ok { IfOk result (λ log. IsRun self.entry.machine log) }
-        ensures fault { IfErr result (Fails self.entry.machine) }
-    {
-        match self.all_rounds(rt) {
-            Ok(rest) => Ok(self.into_log(alloc, rest)?),
-            Err(fault) => Err(self.into_fault(rt, alloc, fault)?),
-        }
-    }
-
-    /// The log of the whole run: one worker makes all rounds, several make bursts between rounds.
-    pub fn to_end<R: Threads + Wait + Sync, G: Gate + Sync>(
-        self,
-        rt: &R,
-        alloc: Global,
-        workers: u8,
-        gate: &G,
-    ) -> Result<ApartLog, RunFault>
-        requires { 1 ≤ workers }
-        ensures ok { IfOk result (λ log. IsRun self.entry.machine log) }
-        ensures fault { IfErr result (Fails self.entry.machine) }
-    {
-        if workers == 1 {
-            self.finish(rt, alloc)
-        } else {
-            self.finish_by(rt, alloc, workers, gate)
         }
     }
 }

@@ -298,6 +298,16 @@ impl<'m> Run<'m> {
         }
     }
 
+    /// A script that has begun to sleep is not asked again before its sleep ends.
+    #[inline(never)]
+    fn sleeps_until(&mut self, who: Actor, until: u64)
+        ensures { self.new ≡ self.old }
+    {
+        if until > self.core().time() {
+            self.waiters.sleeps(who);
+        }
+    }
+
     /// Wakes those that may have something to do by an actor's entry.
     #[inline(always)]
     pub(crate) fn wake_after(&mut self, who: Actor, kind: Kind)
@@ -320,6 +330,7 @@ impl<'m> Run<'m> {
             }
             Kind::Freeze(_) | Kind::Thaw(_) | Kind::Wake { .. } => self.waiters.wake_scripts(),
             Kind::Frozen | Kind::Exit => self.waiters.wake_for_word(),
+            Kind::Sleep(until) | Kind::SleepD(until) => self.sleeps_until(who, until),
             _ => {}
         }
     }

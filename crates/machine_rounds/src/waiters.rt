@@ -35,6 +35,8 @@ pub(crate) struct Waiters {
     asleep: Asks,
     frozen: Asks,
     auto: bool,
+    /// The work has nothing to do until it is queued.
+    unqueued: bool,
     devices: Asks,
     /// The asynchronous devices.
     asynchronous: Asks,
@@ -93,6 +95,7 @@ impl Waiters {
             asleep: Asks::new(alloc, scripts)?,
             frozen: Asks::new(alloc, scripts)?,
             auto: true,
+            unqueued: false,
             devices: Asks::new(alloc, devices.len())?,
             asynchronous: asynchronous_of(alloc, devices)?,
             timers: false,
@@ -187,8 +190,25 @@ impl Waiters {
     /// The autosleep work waits, for that.
     fn auto_waits(&mut self, why: Why) {
         self.auto = false;
-        if let Why::Device(device) = why {
-            self.awaited = Some(device);
+        match why {
+            Why::Device(device) => self.awaited = Some(device),
+            Why::NoWork => self.unqueued = true,
+            _ => {}
+        }
+    }
+
+    /// Wakes the autosleep work, unless it has to be queued first.
+    fn wake_auto(&mut self) {
+        if !self.unqueued {
+            self.auto = true;
+        }
+    }
+
+    /// The script has begun to sleep, and is not asked again before its sleep ends.
+    pub(crate) fn sleeps(&mut self, who: Actor) {
+        if let Actor::Script(script) = who {
+            self.scripts.remove(script);
+            self.asleep.insert(script);
         }
     }
 
@@ -226,7 +246,7 @@ impl Waiters {
         if let Some(script) = self.maker {
             self.scripts.insert(script);
         }
-        self.auto = true;
+        self.wake_auto();
         self.awaited = None;
         self.maker = None;
     }
@@ -235,7 +255,7 @@ impl Waiters {
     #[inline(never)]
     pub(crate) fn wake_for_word(&mut self) {
         self.scripts.take(&mut self.for_word);
-        self.auto = true;
+        self.wake_auto();
     }
 
     /// Whether a reader of the count waits.
@@ -305,6 +325,7 @@ impl Waiters {
     /// lock, and the work, which may be queued.
     #[inline(never)]
     pub(crate) fn wake_for_lock(&mut self, who: Actor, many: u32) {
+        self.unqueued = false;
         self.auto = true;
         match who {
             Actor::Script(script) => self.pass_lock(script, many),
@@ -382,6 +403,7 @@ impl Waiters {
 
     /// Wakes everybody.
     pub(crate) fn wake_all(&mut self) {
+        self.unqueued = false;
         self.wake_scripts();
         self.timers = true;
         self.devices.add(&self.asynchronous);

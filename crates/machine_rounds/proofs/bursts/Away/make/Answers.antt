@@ -1,6 +1,6 @@
 use Rattle.std.proofs.Common.{◌+◌, ◌∙◌, ℕ, length, sym, ap, arith}
 use Rattle.machine_rounds.specs.TasksOf.{all_actors}
-use Rattle.machine_rounds.proofs.Away.{away_actors, away_few, away_ready, away_some, away_timely, away_turns, is_back_of}
+use Rattle.machine_rounds.proofs.Away.{away_actors, away_few, away_ready, away_some, away_timely, away_turns, grown_of, is_back_of}
 use Rattle.machine_rounds.proofs.bursts.Away.make.Goals as goal
 
 pub make_burst-requires-clause-ready : goal.make_burst-requires-clause-ready
@@ -27,5 +27,8 @@ make_burst-requires-clause-some g c = λ κs h. (omega (arith, c.requires.worker
 pub make_burst-requires-clause-few : goal.make_burst-requires-clause-few
 make_burst-requires-clause-few g c = λ κs h. away_few _ _ _ _ _ _ c.requires.away
 
-pub returns : goal.returns
-returns g c = is_back_of _ _ _ _ _ _ c.requires.away c.make_burst.result c.make_burst.ensures.burst c.make_burst.ensures.ready c.make_burst.ensures.kept
+pub returns-clause-grown : goal.returns-clause-grown
+returns-clause-grown g c = grown_of _ _ _ _ _ _ c.requires.away c.make_burst.result c.make_burst.ensures.burst c.make_burst.ensures.ready c.make_burst.ensures.kept
+
+pub returns-clause-back : goal.returns-clause-back
+returns-clause-back g c = is_back_of _ _ _ _ _ _ c.requires.away c.make_burst.result c.make_burst.ensures.burst c.make_burst.ensures.ready c.make_burst.ensures.kept

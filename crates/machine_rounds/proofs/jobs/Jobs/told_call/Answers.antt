@@ -1,4 +1,4 @@
-use Rattle.std.proofs.Common.{◌≡◌, ◌<◌, length, sym, subst}
+use Rattle.std.proofs.Common.{◌<◌, length, sym, subst}
 use Rattle.sleep_script.specs.Jobs.{after_call}
 use Rattle.machine_rounds.specs.JobsOf.{JobsState, job_at, HasJob}
 use Rattle.machine_rounds.proofs.Owing.{some_owing, call_counted}

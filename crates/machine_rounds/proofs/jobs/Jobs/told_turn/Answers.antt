@@ -1,4 +1,4 @@
-use Rattle.std.proofs.Common.{◌≡◌, ◌<◌, ◌+◌, ◌^◌, [], sym, subst}
+use Rattle.std.proofs.Common.{◌≡◌, [], sym, subst}
 use Rattle.sleep_script.specs.Jobs.{after_turn}
 use Rattle.machine_rounds.specs.JobsOf.{JobsState, job_at, HasJob}
 use Rattle.machine_rounds.proofs.Owing.{more_fits, turn_counted}

@@ -1,6 +1,5 @@
-use Rattle.std.proofs.Common.{◌≡◌, ◌⊎◌, inl, inr, ◌||◌, Bool, true, false, nat_lt, subst, sym, ◌∙◌, ap, refl, arith}
+use Rattle.std.proofs.Common.{◌≡◌, ◌⊎◌, inl, inr, ◌||◌, Bool, true, false, nat_lt, subst, ◌∙◌, refl, arith}
 use Rattle.std.proofs.lemmas.Bool.Decides.{nat_tests}
-use Rattle.sleep_model.specs.declared.log.Want.{Want}
 use Rattle.sleep_model.specs.declared.log.Want.TheVariants.{Core, Nothing}
 use Rattle.sleep_model.specs.Calls.{calls_due}
 use Rattle.sleep_model.specs.Due.{due}

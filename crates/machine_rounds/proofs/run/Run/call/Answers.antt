@@ -14,12 +14,13 @@ use Rattle.running_laws.specs.Running.{CallsNext, IsRunning, of_sources}
 use Rattle.running_laws.proofs.Asked.{call_is, call_left, call_may, call_there}
 use Rattle.running_laws.proofs.Calls.{IsCalledNow, running_call}
 use Rattle.running_laws.proofs.Kept.{actor_told}
+use Rattle.running_laws.proofs.Rising.{call_longer}
 use Rattle.machine_rounds.specs.declared.run.Run.TheInside.{Inside}
 use Rattle.machine_rounds.specs.declared.run.RunFault.TheVariants as fault
 use Rattle.machine_rounds.specs.JobsOf.{AreAllJobs, JobsState, job_at, with_job}
 use Rattle.machine_rounds.specs.RunFields.{KeepsRun, sources_of, state}
 use Rattle.machine_rounds.specs.Runs.{RunState, entries_made}
-use Rattle.machine_rounds.proofs.Calling.{at_table, call_more, more_entries, not_later, old_is, refused, refused_put, wanted, within}
+use Rattle.machine_rounds.proofs.Calling.{at_table, more_entries, not_later, old_is, put_running, put_seats, refused, refused_put, wanted, within}
 use Rattle.machine_rounds.proofs.JobsKept.{all_jobs_with, has_job, jobs_with}
 use Rattle.machine_rounds.proofs.SeatsKept.{seats_set, sources_set}
 use Rattle.machine_rounds.proofs.run.Run.call.Goals as goal
@@ -122,6 +123,20 @@ invariant_of-self g c =
       seats = seats_set r.seated.seat r.sources.items s one new k.seats (within r k s t one is) is c.in-Ok.ensures.table c.in-Ok.ensures.number.0;
     }
 
+pub invariant_of-self-in-Err : goal.invariant_of-self-in-Err
+invariant_of-self-in-Err g c =
+    let r = c.self.inside in
+    let k = c.self.invariant in
+    let t = there r k c.args.self.now c.self.view_is c.args.who c.args.source c.args.call c.requires.next in
+    let one = c.index_mut-one.result.now in
+    record {
+      machine_is = k.machine_is;
+      running = put_running r k c.args.source t one c.index_mut-one.ensures.value c.call.new.self c.in-Err.ensures.err;
+      all_jobs = k.all_jobs;
+      table = k.table;
+      seats = put_seats r k c.args.source t one c.index_mut-one.ensures.value c.call.new.self c.in-Err.ensures.err;
+    }
+
 pub returns-in-Ok-clause-made : goal.returns-in-Ok-clause-made
 returns-in-Ok-clause-made g c =
     let r = c.self.inside in
@@ -130,7 +145,7 @@ returns-in-Ok-clause-made g c =
     let new = c.call.new.self in
     let t = there r k c.args.self.now c.self.view_is c.args.who c.args.source c.args.call c.requires.next in
     let by : CallBy = record { actor = c.args.who; floor = r.floor; now = c.time.result } in
-    omega (arith, more_entries r k c.args.source t one c.index_mut-one.ensures.value new (call_more by c.args.call (scene_of one) (scene_of new) c.in-Ok.ensures.calls.1), ap entries_made c.self.view_is)
+    omega (arith, more_entries r k c.args.source t one c.index_mut-one.ensures.value new (call_longer by c.args.call (scene_of one) (scene_of new) c.in-Ok.ensures.calls.1), ap entries_made c.self.view_is)
 
 pub returns-in-Err-clause-fault : goal.returns-in-Err-clause-fault
 returns-in-Err-clause-fault g c =

@@ -1,12 +1,10 @@
-use Rattle.std.proofs.Common.{◌≡◌, ◌≤◌, subst, arith}
 use Rattle.running_laws.proofs.Few.{run_few}
 use Rattle.machine_rounds.specs.JobsOf.{job_at}
 use Rattle.machine_rounds.proofs.Fields.{goes_on}
-use Rattle.machine_rounds.proofs.Resting.{made_is}
 use Rattle.machine_rounds.proofs.run.Run.entries_are_few.Goals as goal
 
 pub returns : goal.returns
 returns c =
     let r = c.self.inside in
     let s = c.args.self.now in
-    omega (arith, run_few s.machine s.journal s.sources (job_at r.jobs) (goes_on r s c.self.view_is c.self.invariant), made_is s.sources)
+    run_few s.machine s.journal s.sources (job_at r.jobs) (goes_on r s c.self.view_is c.self.invariant)

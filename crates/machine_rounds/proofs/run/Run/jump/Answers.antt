@@ -1,5 +1,5 @@
-use Rattle.std.proofs.Common.{◌≡◌, ◌<◌, ◌∙◌, List, ◌∷◌, sym, ap, subst, arith, nat_lt, true}
-use Rattle.std.proofs.lemmas.Bool.Decides.{nat_tests}
+use Rattle.std.proofs.Common.{◌≡◌, ◌∙◌, List, ◌∷◌, sym, ap, subst, arith}
+use Rattle.sleep_model.specs.declared.entry.Actor.TheVariants as actor
 use Rattle.sleep_model.specs.declared.entry.JournalEntry.{JournalEntry}
 use Rattle.sleep_model.specs.Legal.{JumpStep}
 use Rattle.sleep_state.specs.Places.{entries}
@@ -7,13 +7,27 @@ use Rattle.event_word.specs.Seats.{AreAll, Token}
 use Rattle.sleep_core.specs.Cores.{CoreState, jump_entry}
 use Rattle.run_objects.specs.Objects.{seats_of}
 use Rattle.running_laws.specs.Running.{IsRunning, histories}
+use Rattle.running_laws.proofs.Few.{next_small, tick_small}
 use Rattle.running_laws.proofs.Kept.{last_known}
 use Rattle.running_laws.proofs.Turns.{running_jump}
 use Rattle.machine_rounds.specs.JobsOf.{job_at}
 use Rattle.machine_rounds.specs.RunFields.{sources_of}
 use Rattle.machine_rounds.specs.Runs.{IsSeen, RunState}
-use Rattle.machine_rounds.proofs.Turning.{legal_after}
+use Rattle.machine_rounds.proofs.Turning.{legal_after, looked_machine, looked_running}
 use Rattle.machine_rounds.proofs.run.Run.jump.Goals as goal
+
+pub invariant_of-self : goal.invariant_of-self
+invariant_of-self c =
+    let r = c.self.inside in
+    let k = c.self.invariant in
+    let new = c.jump.new.self in
+    record {
+      machine_is = looked_machine r k new c.in_err-self-inside.ensures.err;
+      running = looked_running r k new c.in_err-self-inside.ensures.err;
+      all_jobs = k.all_jobs;
+      table = ap (λ (t : Token). t.table_id) c.in_err-self-inside.ensures.seat ∙ k.table;
+      seats = subst (λ (t : Token). AreAll t (seats_of r.sources.items)) (sym c.in_err-self-inside.ensures.seat) k.seats;
+    }
 
 pub invariant_of-self-2 : goal.invariant_of-self-2
 invariant_of-self-2 c =
@@ -39,9 +53,22 @@ invariant_of-self-2 c =
       seats = subst (λ (t : Token). AreAll t (seats_of r.sources.items)) (sym c.in_ok-self-inside.ensures.seat) k.seats;
     }
 
+pub jump-requires-clause-tick : goal.jump-requires-clause-tick
+jump-requires-clause-tick c =
+    let r = c.self.inside in
+    tick_small r.machine.now r.seated.core.past (sources_of r.sources.items) (job_at r.jobs) c.self.invariant.running actor.Time
+
 pub jump-requires-clause-last_tick : goal.jump-requires-clause-last_tick
 jump-requires-clause-last_tick c =
     let r = c.self.inside in
-    let known = last_known r.machine.now r.seated.core.past (sources_of r.sources.items) (job_at r.jobs) c.self.invariant.running in
-    let few : r.floor.tick < 18446744073709551615 = grind (arith, nat_tests, c.if-self.false) in
-    omega (arith, known, few)
+    omega (
+      arith,
+      last_known r.machine.now r.seated.core.past (sources_of r.sources.items) (job_at r.jobs) c.self.invariant.running,
+      tick_small r.machine.now r.seated.core.past (sources_of r.sources.items) (job_at r.jobs) c.self.invariant.running actor.Time,
+    )
+
+pub jump-requires-clause-small : goal.jump-requires-clause-small
+jump-requires-clause-small c =
+    let r = c.self.inside in
+    let step = subst (λ (x : RunState). JumpStep x.machine (entries x.journal) (histories x.sources) c.args.word c.args.to) (sym c.self.view_is) c.requires.least in
+    next_small r.machine.now r.seated.core.past (sources_of r.sources.items) (job_at r.jobs) c.self.invariant.running c.args.word c.args.to step

@@ -1,7 +1,7 @@
 use Rattle.std.proofs.Common.{◌≡◌, ◌+◌, ◌∙◌, ℕ, length, sym, ap, arith}
 use Rattle.std.proofs.lemmas.List.{length-map}
 use Rattle.run_objects.specs.Objects.{SeatedSourceState}
-use Rattle.machine_rounds.specs.Runs.{RunState}
+use Rattle.machine_rounds.specs.Runs.{RunState, entries_made}
 use Rattle.machine_rounds.specs.TasksOf.{tasks_of}
 use Rattle.machine_rounds.proofs.run.Run.leave.Goals as goal
 
@@ -21,3 +21,6 @@ returns-clause-away c =
       table_is = k.table;
       seats = k.seats;
     }
+
+pub returns-clause-entries : goal.returns-clause-entries
+returns-clause-entries c = ap entries_made c.self.view_is

@@ -1,6 +1,5 @@
-use Rattle.std.proofs.Common.{◌≡◌, ◌∙◌, List, map, refl, reverse, ap, ap₂}
+use Rattle.std.proofs.Common.{◌∙◌, List, map, reverse, ap, ap₂}
 use Rattle.std.specs.List.{list_all}
-use Rattle.sleep_model.specs.declared.entry.Entry.{Entry}
 use Rattle.sleep_model.specs.declared.entry.JournalEntry.{JournalEntry}
 use Rattle.sleep_model.specs.declared.entry.SourceEntry.{SourceEntry}
 use Rattle.sleep_model.specs.Merge.{merge, of_source, rises}

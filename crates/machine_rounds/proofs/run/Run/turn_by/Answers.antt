@@ -19,7 +19,7 @@ use Rattle.machine_rounds.specs.JobsOf.{AreAllJobs, JobsState, job_at, with_job}
 use Rattle.machine_rounds.specs.RunFields.{sources_of, state}
 use Rattle.machine_rounds.specs.Runs.{IsSeen, RunState}
 use Rattle.machine_rounds.proofs.JobsKept.{all_jobs_with, jobs_with}
-use Rattle.machine_rounds.proofs.Turning.{few_turns, legal_after, last_low}
+use Rattle.machine_rounds.proofs.Turning.{few_turns, last_low, legal_after, looked_machine, looked_running}
 use Rattle.machine_rounds.proofs.run.Run.turn_by.Goals as goal
 
 actor : (r : Inside) (s : RunState) → state r ≡ s → (who : Actor) → IsActor s.machine who → IsActor r.machine.now who
@@ -71,4 +71,17 @@ invariant_of-self-in-Did g c =
       all_jobs = subst (AreAllJobs m) (sym c.told_turn.ensures) (all_jobs_with m r.jobs who job k.all_jobs);
       table = ap (λ (t : Token). t.table_id) c.in_ok-turn.ensures.seat ∙ k.table;
       seats = subst (λ (t : Token). AreAll t (seats_of r.sources.items)) (sym c.in_ok-turn.ensures.seat) k.seats;
+    }
+
+pub invariant_of-self : goal.invariant_of-self
+invariant_of-self g c =
+    let r = c.self.inside in
+    let k = c.self.invariant in
+    let new = c.turn_by.new.self in
+    record {
+      machine_is = looked_machine r k new c.in_err-turn.ensures.turn.2;
+      running = looked_running r k new c.in_err-turn.ensures.turn.2;
+      all_jobs = k.all_jobs;
+      table = ap (λ (t : Token). t.table_id) c.in_err-turn.ensures.seat ∙ k.table;
+      seats = subst (λ (t : Token). AreAll t (seats_of r.sources.items)) (sym c.in_err-turn.ensures.seat) k.seats;
     }

@@ -1,8 +1,8 @@
 use Rattle.std.proofs.Common.{◌∙◌, subst}
 use Rattle.sleep_model.specs.declared.machine.Machine.{Machine}
 use Rattle.machine_rounds.specs.Runs.{IsRun}
-use Rattle.machine_rounds.proofs.run.Run.finish_by.Goals as goal
+use Rattle.machine_rounds.proofs.run.Run.to_end.Goals as goal
 
 pub returns-in-Ok-Some-clause-ok : goal.returns-in-Ok-Some-clause-ok
 returns-in-Ok-Some-clause-ok g c =
-    subst (λ (m : Machine). IsRun m c.in_ok-into_log-in-Ok-Some.field-0) (c.in_ok-after.ensures.machine ∙ c.loop.invariant.machine) c.in_ok-into_log-in-Ok-Some.ensures
+    subst (λ (m : Machine). IsRun m c.in_ok-into_log-in-Ok-Some.field-0) (c.in_ok-next.ensures.machine ∙ c.loop-turn.invariant.machine) c.in_ok-into_log-in-Ok-Some.ensures

@@ -1,6 +1,0 @@
-use Rattle.std.proofs.Common.{◌≡◌, ◌≤◌}
-use Rattle.machine_rounds.specs.Runs.{entries_made}
-use Rattle.machine_rounds.proofs.run.Run.all_rounds.Given as goal
-
-abbrev pub invariant-loop-turn : goal.invariant-loop-turn
-invariant-loop-turn g l = record { machine : l.self.machine ≡ l.fn.self.machine; more : l._turn ≤ entries_made l.self }
