@@ -11,12 +11,13 @@ RECORDING = ROOT / "examples" / "real" / "irq-suspend-async"
 class Sample(unittest.TestCase):
     def test_the_printed_lines(self):
         text = (ROOT / "README.md").read_text()
-        shown = re.search(r"^```\n(Attempt 1.*?)^```\n", text, re.M | re.S)[1].splitlines()
+        shown = re.search(r"^```\n(examples/real/.*?)^```\n", text, re.M | re.S)[1].splitlines()
         words = [f"{RECORDING}.trace", *(word for name in ("devices", "links", "dmesg") for word in (f"--{name}", f"{RECORDING}.{name}"))]
         done = julampok("replay", *words)
         self.assertEqual(done.status, 0)
+        said = done.out.replace(f"{ROOT}/", "").splitlines()
         for line in shown:
-            self.assertIn(line, done.out.splitlines())
+            self.assertIn(line, said)
 
 
 if __name__ == "__main__":
