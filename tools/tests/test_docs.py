@@ -185,11 +185,10 @@ class Made(unittest.TestCase):
     """The wrong bodies of a crate on the page of crates."""
 
     def test_promises(self):
-        text = "What this is.\n\none\n    It does\n    this. Clauses: `f`,\n    `g`.\n\nother\n    That. Lemmas: `h`.\n\none\n    More. Clauses: `i`.\n"
-        self.assertEqual(heads.promises(text), {
-            "one": ["Promises: It does this.", "Clauses: `f`, `g`.", "Promises: More.", "Clauses: `i`."],
-            "other": ["Promises: That.", "Lemmas: `h`."]})
-        self.assertLessEqual(set(heads.promises(heads.PROMISES.read_text())), names.crates())
+        for crate in names.crates():
+            if not crate.endswith(("_trials", "_cases")):
+                with self.subTest(crate):
+                    self.assertTrue(any(part.startswith("Promises: ") for part in heads.head(crate)))
 
     def test_wrong_bodies(self):
         with tempfile.TemporaryDirectory() as folder:

@@ -134,6 +134,7 @@ impl Board {
     }
 
     /// Takes down what an entry does to its device.
+    #[inline(always)]
     #[tactic(auto, using(crate::proofs::Stood::stands_stay))]
     pub fn note(&mut self, kind: Kind)
         ensures { self.new ≡ board_after kind self.old }

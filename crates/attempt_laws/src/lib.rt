@@ -1,6 +1,11 @@
-//! How many places of its journal an attempt may still need. They are reserved where it begins, so that no entry of its maker,
-//! nor of the devices that it puts to sleep, ever wants memory. Each function here is a law of `needed` over all legal
-//! journals, and does nothing. `law_trials` tries the definitions on worked logs.
+//! How many places of its journal an attempt may still need. They are reserved where it begins, so that no entry of
+//! its maker, nor of the devices that it puts to sleep, ever wants memory. Each function here is a law of `needed`
+//! over all legal journals, and does nothing. `law_trials` tries the definitions on worked logs.
+//!
+//! Promises: An attempt's own entries fit the places that the attempt reserved. By the clauses of
+//! `attempt_needs_few`, `own_entry_spends`, `device_entry_spends`, `others_need_nothing`.
+//!
+//! Begin reading in `specs/Room.antt`.
 #![tactic(auto)]
 
 ghost use Rattle.attempt_laws.specs.Room.{NoneNeededOutside, AttemptNeedsFew, OwnEntrySpends, DeviceEntrySpends, OthersNeedNothing};

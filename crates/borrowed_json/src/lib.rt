@@ -1,8 +1,14 @@
 //! JSON values over the text that they are read from: what `serde_json` reads of a text, with nothing of it copied.
 //!
-//! The tree is that of the library `json`, whose members stand in a list, in the order of the text. What a value says is
-//! told in the words of `serde_json`: the same texts are refused, of equal members the last one counts, and a number is
-//! an integer of 64 bits or else a float. Its tests are in `part_cases`.
+//! The tree is that of the library `json`, whose members stand in a list, in the order of the text. What a value
+//! says is told in the words of `serde_json`: the same texts are refused, of equal members the last one counts, and
+//! a number is an integer of 64 bits or else a float. Its tests are in `part_cases`.
+//!
+//! Promises: Bytes are read exactly if they are UTF-8 and `serde_json` reads a value of them. The value answers
+//! each question as that one does. By the clauses of `read_value`: `read`, `none`; `get`, `as_str`, `as_bool`,
+//! `as_u64`, `as_i64`, `as_array`, `as_object`.
+//!
+//! Begin reading in `src/read.rt`, `src/look.rt`.
 #![tactic(auto)]
 
 mod look;

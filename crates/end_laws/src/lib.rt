@@ -1,6 +1,11 @@
-//! How logs end: no sleeping machine lets time pass over an event, time goes forward, each attempt ends, a log has a bound, and
-//! its end names whoever has not exited. Each function here is a law of all legal logs, and does nothing. `law_trials` tries
-//! the definitions on worked logs.
+//! How logs end: no sleeping machine lets time pass over an event, time goes forward, each attempt ends, a log has
+//! a bound, and its end names whoever has not exited. Each function here is a law of all legal logs, and does
+//! nothing. `law_trials` tries the definitions on worked logs.
+//!
+//! Promises: Every legal log of an accepted machine keeps these laws, whoever made it. Two legal logs of one
+//! machine with the same makers are the same log. By the clause of each function of `src/lib.rt`.
+//!
+//! Begin reading in `src/lib.rt`, `specs/Waking.antt`, `specs/Attempts.antt`, `specs/Bounds.antt`.
 #![tactic(auto)]
 
 ghost use Rattle.end_laws.specs.Attempts.{AttemptsAreShort, AttemptsEnd};

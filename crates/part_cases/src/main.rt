@@ -1,5 +1,7 @@
-//! Tries the parts of the core, of a run and of the program by cases. Each line of its input is a call of a part, and
-//! each line of its output is what that call answers.
+//! Tries the parts of the core, of a run and of the program by cases. Each line of its input is a call of a part,
+//! and each line of its output is what that call answers.
+//!
+//! Begin reading in `tools/worked/parts/`; `src/core_parts.rt`, `src/other_parts.rt`.
 #![tactic(auto)]
 
 mod answers;

@@ -1,5 +1,17 @@
-//! The laws of a run by workers: what each of them knows by itself is what the law of the one log asks (own: Linux keeps no
-//! such log). `law_trials` tries them on worked logs.
+//! The laws of a run by workers: what each of them knows by itself is what the law of the one log asks (own: Linux
+//! keeps no such log). `law_trials` tries them on worked logs.
+//!
+//! Promises: What is known of all that was made (each actor's steps, each source, each jump, stamps, times) is
+//! known again after each entry that may be made, so after a turn of the machine, a whole call on a source and a
+//! jump of time. What each source and the machine keep beside their seats lays the closed table of the word: steps
+//! without a gap, looks between them; and a look that no source's floor exceeds saw the last word. With that table,
+//! what is known at the end makes the merge a legal log, finished or stuck if the run is. A job follows each entry,
+//! and tells what its actor makes next. If each pass of the locks made entries of one actor, the journal has of
+//! each actor what its pass made. By the clauses of `what_is_held_grows`, `turns_keep_all_known`,
+//! `calls_keep_all_known`, `jumps_keep_all_known`, `seats_lay_the_table`, `what_is_held_ends`, `log_says_who` and
+//! the laws beside them.
+//!
+//! Begin reading in `src/laws.rt`, `specs/Held.antt`, `specs/Acts.antt`, `specs/Laid.antt`.
 #![tactic(auto)]
 
 mod laws;

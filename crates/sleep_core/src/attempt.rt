@@ -15,7 +15,7 @@ ghost use Rattle.sleep_core.specs.Steps.{woken_end};
 
 use crate::state::Core;
 use sleep_model::{Due, EventNow, FrozeEnd, Group, Kind, PlatDo, Sleep, Stage, What, Why, pos};
-use sleep_state::{behind, busy_error};
+use sleep_state::{busy_error, behind};
 use task_freezer::Round;
 
 impl<'m> Core<'m> {

@@ -1,7 +1,10 @@
-//! Runs the machine of a machine file through system sleep and prints the log of every step. Its other commands write and
-//! run machines that are made of a seed, lock names, count what a log says, and run suspend-to-idle.
+//! Runs the machine of a machine file through system sleep and prints the log of every step. Its other commands
+//! write and run machines that are made of a seed, lock names, count what a log says, and run suspend-to-idle.
 //!
-//! All but `main` and the reading of the words stands in `sleep_commands`. The stored run tries `main`, `row_trials` the rest.
+//! All but `main` and the reading of the words stands in `sleep_commands`. The stored run tries `main`,
+//! `row_trials` the rest.
+//!
+//! Begin reading in `src/main.rt`.
 #![tactic(auto)]
 
 use program_ending::{Ending, say};

@@ -20,84 +20,101 @@ use Rattle.sleep_model.specs.declared.place.Stage.{Stage}
 use Rattle.sleep_model.specs.declared.place.Stage.TheVariants as stage
 use Rattle.phase_table.specs.Phases.{is_down}
 
--- ---- the stages in order
+-- ---- the table of an attempt
 
--- the phase on the devices' way down that follows, or what follows the last (suspend_devices_and_enter, suspend_enter)
-abbrev pub behind_down : Phase → Stage
-behind_down phase.Suspend = stage.PlatformDown down.Prepare
-behind_down phase.Late = stage.Downs phase.Noirq
-behind_down _ = stage.PlatformDown down.PrepareLate
+-- where a stage leads: what follows it, and where a failure of it leads
+pub record Row : Type 0 where
+  pub next : Stage
+  pub failed : Stage
 
--- the phase on the devices' way up that follows, or what follows the last (suspend_enter, dpm_resume_end)
-abbrev pub behind_up : Phase → Stage
-behind_up phase.ResumeNoirq = stage.Ups phase.Early
-behind_up phase.Early = stage.PlatformUp undo.Finish
-behind_up _ = stage.Completes
+-- a stage that may fail leads to these two
+abbrev pub to : Stage → Stage → Row
+to next failed = record { next = next; failed = failed }
 
--- what follows a freeze that left none (suspend_freeze_processes)
-abbrev pub behind_freeze : Group → Stage
-behind_freeze group.User = stage.Freezes group.Kernel
-behind_freeze group.Kernel = stage.PlatformDown down.Begin
+-- a stage that does not fail, or whose failure changes nothing, leads there
+abbrev pub on : Stage → Row
+on next = record { next = next; failed = next }
 
--- what follows a step of the platform on the way down (suspend_devices_and_enter, suspend_enter)
-abbrev pub behind_platform_down : PlatDo → Stage
-behind_platform_down down.Begin = stage.Prepares
-behind_platform_down down.Prepare = stage.Downs phase.Late
-behind_platform_down down.PrepareLate = stage.StopsCpus
+-- the table: a stage, what follows, where a failure leads (enter_state, suspend_devices_and_enter, suspend_enter)
+abbrev pub row : Stage → Row
+row stage.Notifies = to (stage.Freezes group.User) stage.Posts
+row (stage.Freezes group.User) = to (stage.Freezes group.Kernel) (stage.Thaws thaw.All)
+row (stage.Freezes group.Kernel) = to (stage.PlatformDown down.Begin) (stage.Thaws thaw.Kernel)
+row (stage.PlatformDown down.Begin) = to stage.Prepares (stage.PlatformUp undo.End)
+row stage.Prepares = to (stage.Downs phase.Suspend) (stage.PlatformUp undo.Recover)
+row (stage.Downs phase.Suspend) = to (stage.PlatformDown down.Prepare) (stage.PlatformUp undo.Recover)
+row (stage.PlatformDown down.Prepare) = to (stage.Downs phase.Late) (stage.PlatformUp undo.Finish)
+row (stage.Downs phase.Late) = to (stage.Downs phase.Noirq) (stage.Ups phase.Early)
+row (stage.Downs phase.Noirq) = to (stage.PlatformDown down.PrepareLate) (stage.Ups phase.ResumeNoirq)
+row (stage.PlatformDown down.PrepareLate) = to stage.StopsCpus (stage.PlatformUp undo.Wake)
+row stage.StopsCpus = to stage.StopsIrqs stage.StartsCpus
+row stage.StopsIrqs = on stage.Checks
+row stage.Checks = to stage.StopsSyscore stage.StartsIrqs
+row stage.StopsSyscore = to stage.Enters stage.StartsSyscore
+row stage.Enters = on stage.StartsSyscore
+row stage.StartsSyscore = on stage.StartsIrqs
+row stage.StartsIrqs = on stage.StartsCpus
+row stage.StartsCpus = on (stage.PlatformUp undo.Wake)
+row (stage.PlatformUp undo.Wake) = on (stage.Ups phase.ResumeNoirq)
+row (stage.Ups phase.ResumeNoirq) = on (stage.Ups phase.Early)
+row (stage.Ups phase.Early) = on (stage.PlatformUp undo.Finish)
+row (stage.PlatformUp undo.Finish) = on (stage.Ups phase.Resume)
+row (stage.PlatformUp undo.Recover) = on (stage.Ups phase.Resume)
+row (stage.Ups _) = on stage.Completes
+row stage.Completes = on (stage.PlatformUp undo.End)
+row (stage.PlatformUp undo.End) = on stage.Clears
+row stage.Clears = on (stage.Thaws thaw.All)
+row (stage.Thaws thaw.Kernel) = on (stage.Thaws thaw.All)
+row (stage.Thaws thaw.All) = on stage.Posts
+row stage.Posts = on stage.Ends
+row stage.Ends = on stage.Ends
+row (stage.Downs _) = to (stage.PlatformDown down.PrepareLate) (stage.PlatformUp undo.Recover)
 
--- what follows a step of the platform on the way up (suspend_devices_and_enter, suspend_enter)
-abbrev pub behind_platform_up : PlatUndo → Stage
-behind_platform_up undo.Recover = stage.Ups phase.Resume
-behind_platform_up undo.Wake = stage.Ups phase.ResumeNoirq
-behind_platform_up undo.Finish = stage.Ups phase.Resume
-behind_platform_up undo.End = stage.Clears
+-- ---- its columns, by what a stage is of
 
--- what follows a thaw (suspend_freeze_processes, suspend_finish)
-abbrev pub behind_thaw : Thaw → Stage
-behind_thaw thaw.Kernel = stage.Thaws thaw.All
-behind_thaw thaw.All = stage.Posts
-
--- the stage behind a stage, where nothing fails (enter_state, suspend_devices_and_enter, suspend_enter)
+-- the stage after a stage, where nothing fails (enter_state, suspend_devices_and_enter, suspend_enter)
 abbrev pub behind : Stage → Stage
-behind stage.Notifies = stage.Freezes group.User
-behind (stage.Freezes g) = behind_freeze g
-behind (stage.PlatformDown step) = behind_platform_down step
-behind stage.Prepares = stage.Downs phase.Suspend
-behind (stage.Downs p) = behind_down p
-behind stage.StopsCpus = stage.StopsIrqs
-behind stage.StopsIrqs = stage.Checks
-behind stage.Checks = stage.StopsSyscore
-behind stage.StopsSyscore = stage.Enters
-behind stage.Enters = stage.StartsSyscore
-behind stage.StartsSyscore = stage.StartsIrqs
-behind stage.StartsIrqs = stage.StartsCpus
-behind stage.StartsCpus = stage.PlatformUp undo.Wake
-behind (stage.PlatformUp step) = behind_platform_up step
-behind (stage.Ups p) = behind_up p
-behind stage.Completes = stage.PlatformUp undo.End
-behind stage.Clears = stage.Thaws thaw.All
-behind (stage.Thaws those) = behind_thaw those
-behind stage.Posts = stage.Ends
-behind stage.Ends = stage.Ends
+behind s = (row s).next
 
--- ---- where a failure leads
+-- the stage after a stage that failed (enter_state, suspend_devices_and_enter, suspend_enter)
+abbrev pub failed_at : Stage → Stage
+failed_at s = (row s).failed
+
+-- after a phase on the devices' way down (suspend_devices_and_enter, suspend_enter)
+abbrev pub behind_down : Phase → Stage
+behind_down p = (row (stage.Downs p)).next
+
+-- after a phase on the devices' way up (suspend_enter, dpm_resume_end)
+abbrev pub behind_up : Phase → Stage
+behind_up p = (row (stage.Ups p)).next
+
+-- after a freeze that left none (suspend_freeze_processes)
+abbrev pub behind_freeze : Group → Stage
+behind_freeze g = (row (stage.Freezes g)).next
+
+-- after a step of the platform on the way down (suspend_devices_and_enter, suspend_enter)
+abbrev pub behind_platform_down : PlatDo → Stage
+behind_platform_down step = (row (stage.PlatformDown step)).next
+
+-- after a step of the platform on the way up (suspend_devices_and_enter, suspend_enter)
+abbrev pub behind_platform_up : PlatUndo → Stage
+behind_platform_up step = (row (stage.PlatformUp step)).next
+
+-- after a thaw (suspend_freeze_processes, suspend_finish)
+abbrev pub behind_thaw : Thaw → Stage
+behind_thaw those = (row (stage.Thaws those)).next
 
 -- after a step of the platform that failed (platform_resume_end, platform_resume_finish, platform_resume_noirq)
 abbrev pub failed_platform_down : PlatDo → Stage
-failed_platform_down down.Begin = stage.PlatformUp undo.End
-failed_platform_down down.Prepare = stage.PlatformUp undo.Finish
-failed_platform_down down.PrepareLate = stage.PlatformUp undo.Wake
+failed_platform_down step = (row (stage.PlatformDown step)).failed
 
 -- after a freeze that left tasks (suspend_freeze_processes)
 abbrev pub failed_freeze : Group → Stage
-failed_freeze group.User = stage.Thaws thaw.All
-failed_freeze group.Kernel = stage.Thaws thaw.Kernel
+failed_freeze g = (row (stage.Freezes g)).failed
 
 -- after a phase that failed: a failed prepare or suspend tells the platform first (suspend_devices_and_enter, Recover_platform)
 abbrev pub failed_phase : Phase → Stage
-failed_phase phase.Late = stage.Ups phase.Early
-failed_phase phase.Noirq = stage.Ups phase.ResumeNoirq
-failed_phase _ = stage.PlatformUp undo.Recover
+failed_phase p = (row (stage.Downs p)).failed
 
 -- ---- the stage after an entry
 

@@ -1,14 +1,21 @@
-//! What the core reads from its journal, kept up to date entry by entry: where the attempt is, the tasks and the devices. Its
-//! tests are in `part_cases`.
+//! What the core reads from its journal, kept up to date entry by entry: where the attempt is, the tasks and the
+//! devices. Its tests are in `part_cases`.
+//!
+//! Promises: After an entry each part stands where the definitions say; the least end of the scripts' sleeps. By
+//! the clauses of `note` of each; `Tasks::seat`, `raised`, `all_exited`, `least_end`, `are_still`.
+//!
+//! Begin reading in `src/path.rt`, `src/devices.rt`, `src/tasks.rt`.
 #![tactic(auto)]
 
 mod devices;
+mod ladder;
 mod moments;
 mod path;
 mod seats;
 mod tasks;
 
 pub use devices::{Devices, is_device};
+pub use ladder::behind;
 pub use moments::sooner;
-pub use path::{Path, behind, busy_error};
+pub use path::{Path, busy_error};
 pub use tasks::Tasks;

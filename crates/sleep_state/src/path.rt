@@ -2,10 +2,12 @@ ghost use Rattle.std.specs.Prelude.{◌≡◌, ◌<◌, ◌^◌};
 ghost use Rattle.sleep_model.specs.Path.{attempts_after, maker_after};
 ghost use Rattle.sleep_model.specs.Attempt.{freeze_since_after, sleep_after, failed_after, freeze_error, busy_error};
 ghost use Rattle.sleep_model.specs.Walk.{or_else};
-ghost use Rattle.sleep_model.specs.Table.{stage_after, behind, behind_down, behind_up, behind_platform_down, failed_platform_down, behind_platform_up, behind_freeze, failed_freeze, by_froze, behind_thaw, after_done, failed_phase, by_error, by_case};
+ghost use Rattle.sleep_model.specs.declared.place.Stage.{Stage};
+ghost use Rattle.sleep_model.specs.Table.{stage_after, after_done, by_froze, by_case};
 
+use crate::ladder::{failed, leave, behind, stay};
 use sleep_base::Errno;
-use sleep_model::{Actor, FrozeEnd, Group, Kind, Phase, PlatDo, PlatUndo, Sleep, Stage, Thaw};
+use sleep_model::{Actor, FrozeEnd, Kind, Phase, Sleep, Stage};
 use std::marker::Model;
 
 /// Where the open attempt stands: who makes it, its number, the stage under way, its error, since when a
@@ -35,164 +37,25 @@ impl Model for Path {
     } };
 }
 
-/// The stage behind a step of the platform on the way down.
-fn behind_platform_down(step: PlatDo) -> Stage
-    ensures { result ≡ behind_platform_down step }
-{
-    match step {
-        PlatDo::Begin => Stage::Prepares,
-        PlatDo::Prepare => Stage::Downs(Phase::Late),
-        PlatDo::PrepareLate => Stage::StopsCpus,
-    }
-}
-
-/// The stage behind a step of the platform on the way down that failed.
-fn failed_platform_down(step: PlatDo) -> Stage
-    ensures { result ≡ failed_platform_down step }
-{
-    match step {
-        PlatDo::Begin => Stage::PlatformUp(PlatUndo::End),
-        PlatDo::Prepare => Stage::PlatformUp(PlatUndo::Finish),
-        PlatDo::PrepareLate => Stage::PlatformUp(PlatUndo::Wake),
-    }
-}
-
-/// The stage behind a step of the platform on the way up.
-fn behind_platform_up(step: PlatUndo) -> Stage
-    ensures { result ≡ behind_platform_up step }
-{
-    match step {
-        PlatUndo::Recover | PlatUndo::Finish => Stage::Ups(Phase::Resume),
-        PlatUndo::Wake => Stage::Ups(Phase::ResumeNoirq),
-        PlatUndo::End => Stage::Clears,
-    }
-}
-
-/// The stage behind a freeze that left none.
-fn behind_freeze(group: Group) -> Stage
-    ensures { result ≡ behind_freeze group }
-{
-    match group {
-        Group::User => Stage::Freezes(Group::Kernel),
-        Group::Kernel => Stage::PlatformDown(PlatDo::Begin),
-    }
-}
-
-/// The stage behind a freeze.
-fn after_freeze(group: Group, end: FrozeEnd) -> Stage
-    ensures { result ≡ by_froze end (behind_freeze group) (failed_freeze group) }
-{
-    match (end, group) {
-        (FrozeEnd::AllFrozen, _) => behind_freeze(group),
-        (_, Group::User) => Stage::Thaws(Thaw::All),
-        (_, Group::Kernel) => Stage::Thaws(Thaw::Kernel),
-    }
-}
-
-/// The stage behind a thaw.
-fn behind_thaw(those: Thaw) -> Stage
-    ensures { result ≡ behind_thaw those }
-{
-    match those {
-        Thaw::Kernel => Stage::Thaws(Thaw::All),
-        Thaw::All => Stage::Posts,
-    }
-}
-
-/// The first where there is no error, else the second.
-fn by_error(r: Option<Errno>, good: Stage, failed: Stage) -> Stage
-    ensures { result ≡ by_error r good failed }
-{
-    match r {
-        None => good,
-        Some(_) => failed,
-    }
-}
-
-/// The first where it is so, else the second.
-fn by_case(so: bool, here: Stage, there: Stage) -> Stage
-    ensures { result ≡ by_case so here there }
-{
-    if so { here } else { there }
-}
-
-/// The phase or step behind a phase on the devices' way down.
-fn behind_down(phase: Phase) -> Stage
-    ensures { result ≡ behind_down phase }
-{
-    match phase {
-        Phase::Suspend => Stage::PlatformDown(PlatDo::Prepare),
-        Phase::Late => Stage::Downs(Phase::Noirq),
-        _ => Stage::PlatformDown(PlatDo::PrepareLate),
-    }
-}
-
-/// The phase or step behind a phase on the devices' way up.
-fn behind_up(phase: Phase) -> Stage
-    ensures { result ≡ behind_up phase }
-{
-    match phase {
-        Phase::ResumeNoirq => Stage::Ups(Phase::Early),
-        Phase::Early => Stage::PlatformUp(PlatUndo::Finish),
-        _ => Stage::Completes,
-    }
-}
-
-/// The stage behind a phase that failed: a failed prepare or suspend tells the platform first
-/// (`suspend_devices_and_enter`, `Recover_platform`).
-fn failed_phase(phase: Phase) -> Stage
-    ensures { result ≡ failed_phase phase }
-{
-    match phase {
-        Phase::Late => Stage::Ups(Phase::Early),
-        Phase::Noirq => Stage::Ups(Phase::ResumeNoirq),
-        _ => Stage::PlatformUp(PlatUndo::Recover),
-    }
-}
-
-/// The stage behind a phase that is done.
+/// The stage after a phase that is done. The core's own phases and those on the way up do not fail.
 fn after_done(phase: Phase, r: Option<Errno>) -> Stage
     ensures { result ≡ after_done phase r }
 {
     match phase {
-        Phase::Prepare => by_error(r, Stage::Downs(Phase::Suspend), failed_phase(phase)),
-        Phase::Suspend | Phase::Late | Phase::Noirq => {
-            by_error(r, behind_down(phase), failed_phase(phase))
-        }
+        Phase::Prepare => leave(Stage::Prepares, r.is_some()),
+        Phase::Suspend | Phase::Late | Phase::Noirq => leave(Stage::Downs(phase), r.is_some()),
         Phase::Syscore => Stage::Enters,
-        Phase::SyscoreResume => Stage::StartsIrqs,
-        Phase::ResumeNoirq | Phase::Early | Phase::Resume => behind_up(phase),
-        Phase::Complete => Stage::PlatformUp(PlatUndo::End),
+        Phase::SyscoreResume => behind(Stage::StartsSyscore),
+        Phase::ResumeNoirq | Phase::Early | Phase::Resume => behind(Stage::Ups(phase)),
+        Phase::Complete => behind(Stage::Completes),
     }
 }
 
-/// The stage behind a stage, where nothing fails (`enter_state`, `suspend_devices_and_enter`,
-/// `suspend_enter`).
-pub fn behind(stage: Stage) -> Stage
-    ensures { result ≡ behind stage }
+/// Whether a freeze left tasks.
+fn is_broken(end: FrozeEnd) -> bool
+    ensures { (good : Stage) (failed : Stage) → by_froze end good failed ≡ by_case result failed good }
 {
-    match stage {
-        Stage::Notifies => Stage::Freezes(Group::User),
-        Stage::Freezes(group) => behind_freeze(group),
-        Stage::PlatformDown(step) => behind_platform_down(step),
-        Stage::Prepares => Stage::Downs(Phase::Suspend),
-        Stage::Downs(phase) => behind_down(phase),
-        Stage::StopsCpus => Stage::StopsIrqs,
-        Stage::StopsIrqs => Stage::Checks,
-        Stage::Checks => Stage::StopsSyscore,
-        Stage::StopsSyscore => Stage::Enters,
-        Stage::Enters => Stage::StartsSyscore,
-        Stage::StartsSyscore => Stage::StartsIrqs,
-        Stage::StartsIrqs => Stage::StartsCpus,
-        Stage::StartsCpus => Stage::PlatformUp(PlatUndo::Wake),
-        Stage::PlatformUp(step) => behind_platform_up(step),
-        Stage::Ups(phase) => behind_up(phase),
-        Stage::Completes => Stage::PlatformUp(PlatUndo::End),
-        Stage::Clears => Stage::Thaws(Thaw::All),
-        Stage::Thaws(those) => behind_thaw(those),
-        Stage::Posts => Stage::Ends,
-        Stage::Ends => Stage::Ends,
-    }
+    !matches!(end, FrozeEnd::AllFrozen)
 }
 
 /// The stage of the open attempt after an entry (`enter_state`).
@@ -201,25 +64,24 @@ fn stage_after(kind: Kind, before: Option<Stage>) -> Option<Stage>
 {
     Some(match kind {
         Kind::Attempt { .. } => Stage::Notifies,
-        Kind::NotifyPrepare(_, r) => by_error(r, Stage::Notifies, Stage::Posts),
+        Kind::NotifyPrepare(_, r) => stay(Stage::Notifies, r.is_some()),
         Kind::Freeze(group) => Stage::Freezes(group),
-        Kind::Froze(group, end) => after_freeze(group, end),
-        Kind::PlatformDo(step, r) => by_error(
-            r,
-            behind_platform_down(step),
-            failed_platform_down(step),
-        ),
+        Kind::Froze(group, end) => leave(Stage::Freezes(group), is_broken(end)),
+        Kind::PlatformDo(step, r) => leave(Stage::PlatformDown(step), r.is_some()),
         Kind::Done(phase, r) => after_done(phase, r),
         Kind::CpuOff(_) => Stage::StopsCpus,
-        Kind::CpuBusy(_) | Kind::CpuOn(_) => Stage::StartsCpus,
-        Kind::Irqs { on } => by_case(on, Stage::StartsCpus, Stage::Checks),
-        Kind::SyscoreCheck(r) => by_error(r, Stage::StopsSyscore, Stage::StartsIrqs),
-        Kind::SyscoreSuspend(_, r) => by_error(r, Stage::StopsSyscore, Stage::StartsSyscore),
-        Kind::Enter { busy } => by_case(busy, Stage::StartsSyscore, Stage::Enters),
-        Kind::Wake { .. } | Kind::SyscoreResume(_) => Stage::StartsSyscore,
-        Kind::PlatformUndo(step) => behind_platform_up(step),
-        Kind::Clear => Stage::Thaws(Thaw::All),
-        Kind::Thaw(those) => behind_thaw(those),
+        Kind::CpuBusy(_) => failed(Stage::StopsCpus),
+        Kind::Irqs { on: false } => behind(Stage::StopsIrqs),
+        Kind::SyscoreCheck(r) => leave(Stage::Checks, r.is_some()),
+        Kind::SyscoreSuspend(_, r) => stay(Stage::StopsSyscore, r.is_some()),
+        Kind::Enter { busy } => stay(Stage::Enters, busy),
+        Kind::Wake { .. } => behind(Stage::Enters),
+        Kind::SyscoreResume(_) => Stage::StartsSyscore,
+        Kind::Irqs { on: true } => behind(Stage::StartsIrqs),
+        Kind::CpuOn(_) => Stage::StartsCpus,
+        Kind::PlatformUndo(step) => behind(Stage::PlatformUp(step)),
+        Kind::Clear => behind(Stage::Clears),
+        Kind::Thaw(those) => behind(Stage::Thaws(those)),
         Kind::NotifyPost(_) => Stage::Posts,
         Kind::Over { .. } => return None,
         _ => return before,

@@ -1,8 +1,7 @@
 """The page of crates, made of crates.txt and of the head of each crate's lib.rt.
 
 docs/CRATES.md has the groups of crates.txt in their order. Each crate has its head, as its author wrote it, what it uses, and the
-wrong bodies that its contracts refuse, by the names of their files. A crate without a head is refused. What a crate promises and its
-head does not say yet stands in promises.txt.
+wrong bodies that its contracts refuse, by the names of their files. A crate without a head is refused.
 """
 
 import pathlib
@@ -15,23 +14,9 @@ from maintain.places import CRATES, DOCS, TOP
 HEAD = """# Crates
 
 Each crate with what it is for, in the order of `crates.txt`: a crate uses only crates above it. `tools/dev docs` makes this page of
-`crates.txt`, of the head of each crate's `lib.rt`, of what it promises, and of the names of its
-[wrong bodies](PROMISES.md#wrong-bodies).
+`crates.txt`, of the head of each crate's `lib.rt`, and of the names of its [wrong bodies](PROMISES.md#wrong-bodies).
 [ARCHITECTURE](ARCHITECTURE.md) has the picture and the way of the data.
 """
-
-
-PROMISES = pathlib.Path(__file__).with_name("promises.txt")
-
-
-def promises(text):
-    """What crates promise by such a text: the paragraphs of each, the promise and its clauses. A crate may have two blocks."""
-    found = {}
-    for block in text.strip().split("\n\n")[1:]:
-        name, said = block.split("\n", 1)
-        promise, clauses = re.fullmatch(r"(.*?) ((?:Clauses|Lemmas)\b.*)", " ".join(said.split())).groups()
-        found.setdefault(name, []).extend((f"Promises: {promise}", clauses))
-    return found
 
 
 def groups():
@@ -81,11 +66,11 @@ def tried(crate):
             yield f"Wrong bodies {what}: {names}."
 
 
-def entry(crate, used, promised=()):
+def entry(crate, used):
     """The lines of a crate."""
     first, *others = head(crate)
     stands = f"Uses {', '.join(f'`{other}`' for other in used)}." if used else "Uses no crate."
-    for paragraph in (f"**`{crate}`**: {first}", *others, *promised, f"*{' '.join([stands, *tried(crate)])}*"):
+    for paragraph in (f"**`{crate}`**: {first}", *others, f"*{' '.join([stands, *tried(crate)])}*"):
         yield f"\n{wrapped(paragraph)}"
 
 
@@ -99,9 +84,7 @@ def heading(comment):
 
 def page():
     """The page, with its file."""
-    lines, promised = [HEAD.rstrip("\n")], promises(PROMISES.read_text())
+    lines = [HEAD.rstrip("\n")]
     for comment, crates in groups():
-        lines += ["", *heading(comment), *(line for crate, used in crates for line in entry(crate, used, promised.pop(crate, ())))]
-    for crate in promised:
-        raise CannotError(f"no crate {crate}", PROMISES)
+        lines += ["", *heading(comment), *(line for crate, used in crates for line in entry(crate, used))]
     return DOCS / "CRATES.md", "\n".join(lines) + "\n"

@@ -1,0 +1,83 @@
+//! The ladder of an attempt as one table (`enter_state`, `suspend_devices_and_enter`, `suspend_enter`).
+
+ghost use Rattle.std.specs.Prelude.{◌≡◌};
+ghost use Rattle.sleep_model.specs.Table.{behind, by_case, failed_at};
+
+use sleep_model::{Group, Phase, PlatDo, PlatUndo, Stage, Thaw};
+
+/// Picks one column of the ladder: each stage, what follows it, and where its failure leads. A stage that does not fail
+/// has what follows it in both.
+macro_rules! ladder {
+    (@next $from:expr; $($stage:pat => $next:expr, $failed:expr;)*) => {
+        match $from { $($stage => $next,)* }
+    };
+    (@failed $from:expr; $($stage:pat => $next:expr, $failed:expr;)*) => {
+        match $from { $($stage => $failed,)* }
+    };
+    ($column:ident of $from:expr) => {
+        ladder! { @$column $from;
+            Stage::Notifies => Stage::Freezes(Group::User), Stage::Posts;
+            Stage::Freezes(Group::User) => Stage::Freezes(Group::Kernel), Stage::Thaws(Thaw::All);
+            Stage::Freezes(Group::Kernel) => Stage::PlatformDown(PlatDo::Begin), Stage::Thaws(Thaw::Kernel);
+            Stage::PlatformDown(PlatDo::Begin) => Stage::Prepares, Stage::PlatformUp(PlatUndo::End);
+            Stage::Prepares => Stage::Downs(Phase::Suspend), Stage::PlatformUp(PlatUndo::Recover);
+            Stage::Downs(Phase::Suspend) => Stage::PlatformDown(PlatDo::Prepare), Stage::PlatformUp(PlatUndo::Recover);
+            Stage::PlatformDown(PlatDo::Prepare) => Stage::Downs(Phase::Late), Stage::PlatformUp(PlatUndo::Finish);
+            Stage::Downs(Phase::Late) => Stage::Downs(Phase::Noirq), Stage::Ups(Phase::Early);
+            Stage::Downs(Phase::Noirq) => Stage::PlatformDown(PlatDo::PrepareLate), Stage::Ups(Phase::ResumeNoirq);
+            Stage::PlatformDown(PlatDo::PrepareLate) => Stage::StopsCpus, Stage::PlatformUp(PlatUndo::Wake);
+            Stage::StopsCpus => Stage::StopsIrqs, Stage::StartsCpus;
+            Stage::StopsIrqs => Stage::Checks, Stage::Checks;
+            Stage::Checks => Stage::StopsSyscore, Stage::StartsIrqs;
+            Stage::StopsSyscore => Stage::Enters, Stage::StartsSyscore;
+            Stage::Enters => Stage::StartsSyscore, Stage::StartsSyscore;
+            Stage::StartsSyscore => Stage::StartsIrqs, Stage::StartsIrqs;
+            Stage::StartsIrqs => Stage::StartsCpus, Stage::StartsCpus;
+            Stage::StartsCpus => Stage::PlatformUp(PlatUndo::Wake), Stage::PlatformUp(PlatUndo::Wake);
+            Stage::PlatformUp(PlatUndo::Wake) => Stage::Ups(Phase::ResumeNoirq), Stage::Ups(Phase::ResumeNoirq);
+            Stage::Ups(Phase::ResumeNoirq) => Stage::Ups(Phase::Early), Stage::Ups(Phase::Early);
+            Stage::Ups(Phase::Early) => Stage::PlatformUp(PlatUndo::Finish), Stage::PlatformUp(PlatUndo::Finish);
+            Stage::PlatformUp(PlatUndo::Finish) => Stage::Ups(Phase::Resume), Stage::Ups(Phase::Resume);
+            Stage::PlatformUp(PlatUndo::Recover) => Stage::Ups(Phase::Resume), Stage::Ups(Phase::Resume);
+            Stage::Ups(Phase::Resume) => Stage::Completes, Stage::Completes;
+            Stage::Completes => Stage::PlatformUp(PlatUndo::End), Stage::PlatformUp(PlatUndo::End);
+            Stage::PlatformUp(PlatUndo::End) => Stage::Clears, Stage::Clears;
+            Stage::Clears => Stage::Thaws(Thaw::All), Stage::Thaws(Thaw::All);
+            Stage::Thaws(Thaw::Kernel) => Stage::Thaws(Thaw::All), Stage::Thaws(Thaw::All);
+            Stage::Thaws(Thaw::All) => Stage::Posts, Stage::Posts;
+            Stage::Posts => Stage::Ends, Stage::Ends;
+            Stage::Ends => Stage::Ends, Stage::Ends;
+            // No walk has another phase.
+            Stage::Downs(_) => Stage::PlatformDown(PlatDo::PrepareLate), Stage::PlatformUp(PlatUndo::Recover);
+            Stage::Ups(_) => Stage::Completes, Stage::Completes;
+        }
+    };
+}
+
+/// The stage that follows a stage, if nothing fails.
+pub fn behind(stage: Stage) -> Stage
+    ensures { result ≡ behind stage }
+{
+    ladder!(next of stage)
+}
+
+/// The stage that follows a stage that failed.
+pub(crate) fn failed(stage: Stage) -> Stage
+    ensures { result ≡ failed_at stage }
+{
+    ladder!(failed of stage)
+}
+
+/// The stage after one that is over, failed or not.
+pub(crate) fn leave(stage: Stage, fails: bool) -> Stage
+    ensures { result ≡ by_case fails (failed_at stage) (behind stage) }
+{
+    if fails { failed(stage) } else { behind(stage) }
+}
+
+/// The stage after an entry that leaves its stage only if it fails.
+pub(crate) fn stay(stage: Stage, fails: bool) -> Stage
+    ensures { result ≡ by_case fails (failed_at stage) stage }
+{
+    if fails { failed(stage) } else { stage }
+}
