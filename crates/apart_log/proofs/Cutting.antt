@@ -1,14 +1,14 @@
--- The entries of a range are those of its two halves, one behind the other.
+-- The entries of a range are those of its two halves, one after the other.
 use Rattle.std.proofs.Common.{◌≡◌, ◌∙◌, ◌≤◌, ◌<◌, ℕ, Bool, true, false, ◌&&◌, nat_le, nat_lt, List, [], ◌∷◌, ◌++◌, map, filter, flat_map, cond, if◌then◌else◌, Option, Some, None, refl, sym, ap, ap₂, arith}
 use Rattle.std.proofs.lemmas.Bool.Decides.{nat_tests}
 use Rattle.std.proofs.lemmas.List.{map-append}
 use Rattle.std.proofs.lemmas.List.Concat.{flat_map-append}
 use Rattle.sleep_model.specs.declared.entry.JournalEntry.{JournalEntry}
 use Rattle.sleep_model.specs.declared.machine.Machine.{Machine}
-use Rattle.sleep_model.specs.Merge.{before_or, in_order, put_in_order, stands_before}
+use Rattle.sleep_model.specs.Merge.{before_or, in_order, put_in_order, precedes}
 use Rattle.sleep_model.specs.Text.{entry_line}
 use Rattle.apart_log.specs.declared.range.Range.{Range}
-use Rattle.apart_log.specs.Slices.{IsUpTo, is_before, is_in, slice, slice_lines}
+use Rattle.apart_log.specs.Slices.{IsUpTo, is_before_end, is_in, slice, slice_lines}
 
 -- ---- positions order entries
 
@@ -30,7 +30,7 @@ AreFrom p (e ∷ entries) = (p ≤ e.stamp.pos) × AreFrom p entries
 put_below : (p : ℕ) (x : JournalEntry) (ys : List JournalEntry) → x.stamp.pos < p → AreBelow p ys → AreBelow p (put_in_order x ys)
 unfolding AreBelow
 put_below p x [] h a = (h, tt)
-put_below p x (y ∷ ys) h a = by (stands_before y x) (put_below p x ys h a.1)
+put_below p x (y ∷ ys) h a = by (precedes y x) (put_below p x ys h a.1)
   where
     by : (b : Bool) → AreBelow p (put_in_order x ys) → AreBelow p (if b then y ∷ put_in_order x ys else x ∷ y ∷ ys)
     by true rest = (a.0, rest)
@@ -39,7 +39,7 @@ put_below p x (y ∷ ys) h a = by (stands_before y x) (put_below p x ys h a.1)
 put_from : (p : ℕ) (x : JournalEntry) (ys : List JournalEntry) → p ≤ x.stamp.pos → AreFrom p ys → AreFrom p (put_in_order x ys)
 unfolding AreFrom
 put_from p x [] h a = (h, tt)
-put_from p x (y ∷ ys) h a = by (stands_before y x) (put_from p x ys h a.1)
+put_from p x (y ∷ ys) h a = by (precedes y x) (put_from p x ys h a.1)
   where
     by : (b : Bool) → AreFrom p (put_in_order x ys) → AreFrom p (if b then y ∷ put_in_order x ys else x ∷ y ∷ ys)
     by true rest = (a.0, rest)
@@ -61,19 +61,19 @@ unfolding AreFrom
 put_front p x [] [] h a = refl
 put_front p x [] (y ∷ ys) h a =
     ap (λ (b : Bool). if b then y ∷ put_in_order x ys else x ∷ y ∷ ys) (not_first y.stamp.pos x.stamp.pos _ (omega (arith, h, a.0)))
-put_front p x (e ∷ xs) ys h a = by (stands_before e x) (put_front p x xs ys h a)
+put_front p x (e ∷ xs) ys h a = by (precedes e x) (put_front p x xs ys h a)
   where
     by : (b : Bool) → put_in_order x (xs ++ ys) ≡ put_in_order x xs ++ ys
         → (if b then e ∷ put_in_order x (xs ++ ys) else x ∷ e ∷ (xs ++ ys)) ≡ (if b then e ∷ put_in_order x xs else x ∷ e ∷ xs) ++ ys
     by true rest = ap (λ (l : List JournalEntry). e ∷ l) rest
     by false rest = refl
 
-put_behind : (p : ℕ) (x : JournalEntry) (xs ys : List JournalEntry) → p ≤ x.stamp.pos → AreBelow p xs → put_in_order x (xs ++ ys) ≡ xs ++ put_in_order x ys
+put_after : (p : ℕ) (x : JournalEntry) (xs ys : List JournalEntry) → p ≤ x.stamp.pos → AreBelow p xs → put_in_order x (xs ++ ys) ≡ xs ++ put_in_order x ys
 unfolding AreBelow
-put_behind p x [] ys h a = refl
-put_behind p x (e ∷ xs) ys h a =
+put_after p x [] ys h a = refl
+put_after p x (e ∷ xs) ys h a =
     ap (λ (b : Bool). if b then e ∷ put_in_order x (xs ++ ys) else x ∷ e ∷ (xs ++ ys)) (first e.stamp.pos x.stamp.pos _ (omega (arith, h, a.0)))
-    ∙ ap (λ (l : List JournalEntry). e ∷ l) (put_behind p x xs ys h a.1)
+    ∙ ap (λ (l : List JournalEntry). e ∷ l) (put_after p x xs ys h a.1)
 
 -- ---- halves
 
@@ -83,19 +83,19 @@ data Side (whole low high : Bool) (pos middle : ℕ) : Type 0 where
   Low : whole ≡ true → low ≡ true → high ≡ false → pos < middle → Side whole low high pos middle
   High : whole ≡ true → low ≡ false → high ≡ true → middle ≤ pos → Side whole low high pos middle
 
-up_to : (pos middle : ℕ) (to : Option ℕ) → pos < middle → IsUpTo middle to → is_before pos to ≡ true
+up_to : (pos middle : ℕ) (to : Option ℕ) → pos < middle → IsUpTo middle to → is_before_end pos to ≡ true
 up_to pos middle None h u = refl
 up_to pos middle (Some end) h u = grind (arith, nat_tests)
 
 side : (from middle pos : ℕ) (to : Option ℕ) → from ≤ middle → IsUpTo middle to
-    → Side (nat_le from pos && is_before pos to) (nat_le from pos && nat_lt pos middle) (nat_le middle pos && is_before pos to) pos middle
-side from middle pos to f u = by (nat_le from pos) refl (nat_lt pos middle) refl (is_before pos to) refl
+    → Side (nat_le from pos && is_before_end pos to) (nat_le from pos && nat_lt pos middle) (nat_le middle pos && is_before_end pos to) pos middle
+side from middle pos to f u = by (nat_le from pos) refl (nat_lt pos middle) refl (is_before_end pos to) refl
   where
     is : (a b c d : Bool) → a ≡ c → b ≡ d → (a && b) ≡ (c && d)
     is a b c d e g = ap₂ (λ (x y : Bool). x && y) e g
 
-    by : (a : Bool) → nat_le from pos ≡ a → (b : Bool) → nat_lt pos middle ≡ b → (c : Bool) → is_before pos to ≡ c
-        → Side (nat_le from pos && is_before pos to) (nat_le from pos && nat_lt pos middle) (nat_le middle pos && is_before pos to) pos middle
+    by : (a : Bool) → nat_le from pos ≡ a → (b : Bool) → nat_lt pos middle ≡ b → (c : Bool) → is_before_end pos to ≡ c
+        → Side (nat_le from pos && is_before_end pos to) (nat_le from pos && nat_lt pos middle) (nat_le middle pos && is_before_end pos to) pos middle
     by true a true b c d =
         let below : pos < middle = grind (arith, nat_tests) in
         let before = up_to pos middle to below u in
@@ -159,7 +159,7 @@ module _ (from middle : ℕ) (to : Option ℕ) (f : from ≤ middle) (u : IsUpTo
           ∙ sym (ap₂ (λ (a b : Bool). one x xs low a ++ one x xs high b) l h)))
       by (High w l h behind) rest =
           ap (one x xs whole) w ∙ (ap (put_in_order x) rest
-          ∙ (put_behind middle x (in_order (filter (is_in low) xs)) (in_order (filter (is_in high) xs)) behind (order_below middle (filter (is_in low) xs) (all_below xs))
+          ∙ (put_after middle x (in_order (filter (is_in low) xs)) (in_order (filter (is_in high) xs)) behind (order_below middle (filter (is_in low) xs) (all_below xs))
           ∙ sym (ap₂ (λ (a b : Bool). one x xs low a ++ one x xs high b) l h)))
 
   -- their lines too
@@ -169,7 +169,7 @@ module _ (from middle : ℕ) (to : Option ℕ) (f : from ≤ middle) (u : IsUpTo
       ∙ (ap (flat_map (entry_line m)) (map-append (λ (e : JournalEntry). e.entry) (in_order (filter (is_in low) xs)) (in_order (filter (is_in high) xs)))
       ∙ flat_map-append (entry_line m) (slice low xs) (slice high xs)))
 
--- lines of both halves, one behind the other
+-- lines of both halves, one after the other
 pub halves_joined : (m : Machine) (xs : List JournalEntry) (range low high : Range) (middle : ℕ) → range.from ≤ middle → IsUpTo middle range.to
     → low ≡ record { from = range.from; to = Some middle } → high ≡ record { from = middle; to = range.to } → (front back : List ℕ)
     → front ≡ slice_lines m low xs → back ≡ slice_lines m high xs → front ++ back ≡ slice_lines m range xs

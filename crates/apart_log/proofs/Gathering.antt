@@ -8,7 +8,7 @@ use Rattle.sleep_model.specs.declared.entry.SourceEntry.{SourceEntry}
 use Rattle.sleep_model.specs.declared.machine.Machine.{Machine}
 use Rattle.sleep_model.specs.Merge.{all_entries, in_order, of_source}
 use Rattle.sleep_model.specs.Text.{entry_line}
-use Rattle.log_merge.specs.Rests.{seen, sources_entries}
+use Rattle.log_merge.specs.Remainders.{seen, sources_entries}
 use Rattle.log_text.specs.Referred.{referred}
 use Rattle.apart_log.specs.declared.range.Range.{Range}
 use Rattle.apart_log.specs.Slices.{is_in, slice_lines}
@@ -68,10 +68,10 @@ slice_told m range journal histories entries others ordered are =
 pub told_of_range : (m : Machine) (range : Range) (past : List JournalEntry) (histories : List (List SourceEntry)) (kept among : List SourceEntry)
     → map of_source kept ≡ filter (is_in range) past → among ≡ kept
     → slice_lines m range (all_entries (map of_source among) histories) ≡ slice_lines m range (all_entries past histories)
-told_of_range m range past histories kept among of_kept is_kept =
+told_of_range m range past histories kept among of_preserved is_in_journal =
     let behind = sources_entries histories in
     let test = is_in range in
     let journal : filter test (map of_source among) ≡ filter test past =
-    ap (λ (l : List SourceEntry). filter test (map of_source l)) is_kept ∙ (ap (filter test) of_kept ∙ filter_again test past) in
+    ap (λ (l : List SourceEntry). filter test (map of_source l)) is_in_journal ∙ (ap (filter test) of_preserved ∙ filter_again test past) in
     ap (λ (l : List JournalEntry). flat_map (entry_line m) (map (λ e. e.entry) (in_order l)))
     (filter_both test (map of_source among) behind ∙ (ap (λ (l : List JournalEntry). l ++ filter test behind) journal ∙ sym (filter_both test past behind)))

@@ -5,51 +5,51 @@ use Rattle.std.specs.List.Sorted.{IsNonDecreasingBy, IsPartitionPoint}
 use Rattle.std.proofs.lemmas.Bool.Decides.{nat_tests}
 use Rattle.std.proofs.lemmas.List.Sorted.{IsNonDecreasingBy-from_all_adjacent}
 use Rattle.sleep_model.specs.declared.entry.SourceEntry.{SourceEntry}
-use Rattle.sleep_model.specs.Merge.{of_source, position_behind, rises, rises_behind}
+use Rattle.sleep_model.specs.Merge.{of_source, next_position, rises, rises_after}
 use Rattle.log_merge.proofs.Reading.{both_left, both_right}
 use Rattle.apart_log.specs.Slices.{is_in}
 
 -- ---- what a test keeps
 
--- nothing, where nothing passes
-none_kept : {A : Type 0} (test : A → Bool) (xs : List A) → AllWithin (λ x. test x ≡ false) xs 0 (length xs) → filter test xs ≡ []
-none_kept test [] h = refl
-none_kept test (x ∷ xs) h =
+-- nothing if nothing passes
+none_preserved : {A : Type 0} (test : A → Bool) (xs : List A) → AllWithin (λ x. test x ≡ false) xs 0 (length xs) → filter test xs ≡ []
+none_preserved test [] h = refl
+none_preserved test (x ∷ xs) h =
     ap (λ (b : Bool). cond b (x ∷ filter test xs) (filter test xs)) (h 0 x (omega arith) (omega arith))
-    ∙ none_kept test xs (λ k d low lt. h (suc k) d (omega arith) (omega (arith, lt)))
+    ∙ none_preserved test xs (λ k d low lt. h (suc k) d (omega arith) (omega (arith, lt)))
 
 -- all, where all passes
-all_kept : {A : Type 0} (test : A → Bool) (xs : List A) → AllWithin (λ x. test x ≡ true) xs 0 (length xs) → filter test xs ≡ xs
-all_kept test [] h = refl
-all_kept {A = A} test (x ∷ xs) h =
+all_preserved : {A : Type 0} (test : A → Bool) (xs : List A) → AllWithin (λ x. test x ≡ true) xs 0 (length xs) → filter test xs ≡ xs
+all_preserved test [] h = refl
+all_preserved {A = A} test (x ∷ xs) h =
     ap (λ (b : Bool). cond b (x ∷ filter test xs) (filter test xs)) (h 0 x (omega arith) (omega arith))
-    ∙ ap (λ (l : List A). x ∷ l) (all_kept test xs (λ k d low lt. h (suc k) d (omega arith) (omega (arith, lt))))
+    ∙ ap (λ (l : List A). x ∷ l) (all_preserved test xs (λ k d low lt. h (suc k) d (omega arith) (omega (arith, lt))))
 
--- the front, where it passes and nothing behind it
-pub front_kept : {A : Type 0} (test : A → Bool) (xs : List A) (k : ℕ) → IsPartitionPoint (λ x. test x ≡ true) (λ x. test x ≡ false) xs k → take k xs ≡ filter test xs
-front_kept test [] zero point = refl
-front_kept test [] (suc k) point = refl
-front_kept test (x ∷ xs) zero point = sym (none_kept test (x ∷ xs) point.1)
-front_kept {A = A} test (x ∷ xs) (suc k) point =
-    ap (λ (l : List A). x ∷ l) (front_kept test xs k (
+-- the front, where it passes and nothing after it
+pub front_preserved : {A : Type 0} (test : A → Bool) (xs : List A) (k : ℕ) → IsPartitionPoint (λ x. test x ≡ true) (λ x. test x ≡ false) xs k → take k xs ≡ filter test xs
+front_preserved test [] zero point = refl
+front_preserved test [] (suc k) point = refl
+front_preserved test (x ∷ xs) zero point = sym (none_preserved test (x ∷ xs) point.1)
+front_preserved {A = A} test (x ∷ xs) (suc k) point =
+    ap (λ (l : List A). x ∷ l) (front_preserved test xs k (
       λ j d low lt. point.0 (suc j) d (omega arith) (omega (arith, lt)),
       λ j d low lt. point.1 (suc j) d (omega (arith, low)) (omega (arith, lt)),
     ))
     ∙ sym (ap (λ (b : Bool). cond b (x ∷ filter test xs) (filter test xs)) (point.0 0 x (omega arith) (omega arith)))
 
 -- the back, where it passes and nothing before it
-pub back_kept : {A : Type 0} (test : A → Bool) (xs : List A) (k : ℕ) → IsPartitionPoint (λ x. test x ≡ false) (λ x. test x ≡ true) xs k → drop k xs ≡ filter test xs
-back_kept test [] zero point = refl
-back_kept test [] (suc k) point = refl
-back_kept test (x ∷ xs) zero point = sym (all_kept test (x ∷ xs) point.1)
-back_kept test (x ∷ xs) (suc k) point =
-    back_kept test xs k (
+pub back_preserved : {A : Type 0} (test : A → Bool) (xs : List A) (k : ℕ) → IsPartitionPoint (λ x. test x ≡ false) (λ x. test x ≡ true) xs k → drop k xs ≡ filter test xs
+back_preserved test [] zero point = refl
+back_preserved test [] (suc k) point = refl
+back_preserved test (x ∷ xs) zero point = sym (all_preserved test (x ∷ xs) point.1)
+back_preserved test (x ∷ xs) (suc k) point =
+    back_preserved test xs k (
       λ j d low lt. point.0 (suc j) d (omega arith) (omega (arith, lt)),
       λ j d low lt. point.1 (suc j) d (omega (arith, low)) (omega (arith, lt)),
     )
     ∙ sym (ap (λ (b : Bool). cond b (x ∷ filter test xs) (filter test xs)) (point.0 0 x (omega arith) (omega arith)))
 
--- what two tests keep, one behind the other, is what both pass
+-- what two tests keep, one after the other, is what both pass
 pub filter_two : {A : Type 0} (one other whole : A → Bool) → ((x : A) → (one x && other x) ≡ whole x) → (xs : List A) → filter other (filter one xs) ≡ filter whole xs
 filter_two one other whole is [] = refl
 filter_two {A = A} one other whole is (x ∷ xs) =
@@ -92,16 +92,16 @@ filter_again test xs = filter_two test test test (λ x. twice (test x)) xs
 -- ---- positions
 
 -- one entry and the next
-adjacent : (e : SourceEntry) (h : List SourceEntry) → rises_behind (of_source e) (map of_source h) ≡ true → (k : ℕ) (d : SourceEntry) → k < length h
+adjacent : (e : SourceEntry) (h : List SourceEntry) → rises_after (of_source e) (map of_source h) ≡ true → (k : ℕ) (d : SourceEntry) → k < length h
     → (get_or (e ∷ h) k d).stamp.pos ≤ (get_or (e ∷ h) (suc k) d).stamp.pos
 adjacent e [] r k d l = absurd (omega (arith, l))
 adjacent e (x ∷ h) r zero d l =
     let ticks = nat_lt e.stamp.tick x.stamp.tick in
-    let positions = nat_le (position_behind (of_source e)) x.stamp.pos in
-    let first : positions ≡ true = both_right ticks positions (both_left (ticks && positions) (rises_behind (of_source x) (map of_source h)) r) in
+    let positions = nat_le (next_position (of_source e)) x.stamp.pos in
+    let first : positions ≡ true = both_right ticks positions (both_left (ticks && positions) (rises_after (of_source x) (map of_source h)) r) in
     grind (arith, nat_tests)
 adjacent e (x ∷ h) r (suc k) d l =
-    adjacent x h (both_right (nat_lt e.stamp.tick x.stamp.tick && nat_le (position_behind (of_source e)) x.stamp.pos) (rises_behind (of_source x) (map of_source h)) r) k d (omega (arith, l))
+    adjacent x h (both_right (nat_lt e.stamp.tick x.stamp.tick && nat_le (next_position (of_source e)) x.stamp.pos) (rises_after (of_source x) (map of_source h)) r) k d (omega (arith, l))
 
 -- they never fall along a history that rises
 pub rising : (h : List SourceEntry) → rises (map of_source h) ≡ true → IsNonDecreasingBy (λ (one : SourceEntry). one.stamp.pos) h

@@ -6,10 +6,10 @@ use Rattle.sleep_model.specs.Merge.{merge, of_source, rises}
 use Rattle.apart_log.specs.declared.log.ApartLog.TheInside.{Inside}
 
 -- the log that contracts see
-abbrev pub whole : Inside → Log
-whole l = record { entries = merge (reverse l.journal.past) l.histories.items; stats = l.stats; end = l.end }
+abbrev pub whole_log : Inside → Log
+whole_log l = record { entries = merge (reverse l.journal.past) l.histories.items; stats = l.stats; end = l.end }
 
 -- the journal is in order, and so is each history
-pub record IsKept (l : Inside) : Type 0 where
+pub record LogInvariant (l : Inside) : Type 0 where
   pub journal : rises (reverse l.journal.past) ≡ true
   pub histories : list_all (λ history. rises (map of_source history)) l.histories.items ≡ true

@@ -9,13 +9,13 @@ use Rattle.sleep_model.specs.Text.{entry_line}
 use Rattle.apart_log.specs.declared.range.Range.{Range}
 
 -- a position stands before the end of a range, if it has one
-abbrev pub is_before : ℕ → Option ℕ → Bool
-is_before pos None = true
-is_before pos (Some end) = nat_lt pos end
+abbrev pub is_before_end : ℕ → Option ℕ → Bool
+is_before_end pos None = true
+is_before_end pos (Some end) = nat_lt pos end
 
 -- the entry's position is one of the range
 abbrev pub is_in : Range → JournalEntry → Bool
-is_in range e = nat_le range.from e.stamp.pos && is_before e.stamp.pos range.to
+is_in range e = nat_le range.from e.stamp.pos && is_before_end e.stamp.pos range.to
 
 -- the entries of a range, as they stand in the one log
 abbrev pub slice : Range → List JournalEntry → List Entry
@@ -30,6 +30,6 @@ abbrev pub IsUpTo : ℕ → Option ℕ → Type 0
 IsUpTo pos None = Unit {0}
 IsUpTo pos (Some end) = pos ≤ end
 
--- texts one behind the other
-abbrev pub joined : List (Vec ℕ Global) → List ℕ
-joined texts = flat_map (λ text. text.items) texts
+-- texts one after the other
+abbrev pub joined_texts : List (Vec ℕ Global) → List ℕ
+joined_texts texts = flat_map (λ text. text.items) texts

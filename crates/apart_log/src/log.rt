@@ -2,7 +2,7 @@
 
 ghost use Rattle.std.specs.Prelude.{◌≡◌};
 
-use crate::cut::{Parts, texts};
+use crate::cut::{TextSource, texts};
 use crate::range::Range;
 use log_merge::merge_journal;
 use sleep_base::Mem;
@@ -25,11 +25,11 @@ impl Model for ApartLog {
 
     ghost Value = { Log };
 
-    ghost use Rattle.apart_log.specs.LogFields.{whole, IsKept};
+    ghost use Rattle.apart_log.specs.LogFields.{whole_log, LogInvariant};
 
-    ghost view = { whole };
+    ghost view = { whole_log };
 
-    ghost invariant = { IsKept };
+    ghost invariant = { LogInvariant };
 }
 
 /// How many entries of sources a log has for each one of the journal where slices are worth their threads, at least.
@@ -74,7 +74,7 @@ impl ApartLog {
     ghost use Rattle.std.specs.List.{list_all};
     ghost use Rattle.sleep_model.specs.Merge.{merge, of_source, rises};
     ghost use Rattle.sleep_model.specs.Text.{entry_line};
-    ghost use Rattle.apart_log.specs.Slices.{joined};
+    ghost use Rattle.apart_log.specs.Slices.{joined_texts};
 
     /// The log of a journal and of the sources' histories, along each of which ticks and positions rise, with the sources'
     /// statistics and how the run ended.
@@ -104,7 +104,7 @@ impl ApartLog {
         MANY <= entries && self.journal.len() <= entries / FEW
     }
 
-    /// The log in one list. `Mem` where there is no memory.
+    /// The log in one list. `Mem` if there is no memory.
     pub fn into_log(self, alloc: Global) -> Result<Log, Mem>
         ensures { IfOk result (λ log. log ≡ self) }
     {
@@ -122,8 +122,8 @@ impl ApartLog {
         })
     }
 
-    /// The texts of slices of the entries; one behind the other they are the text of all. Workers make them, each on a thread
-    /// of its own where one can be made; there are twice as many workers for each `halvings`. `Mem` where there is no memory.
+    /// The texts of slices of the entries; one after the other they are the text of all. Workers make them, each on a thread
+    /// of its own where one can be made; there are twice as many workers for each `halvings`. `Mem` if there is no memory.
     #[tactic(auto, using(crate::proofs::Cutting::lines_all))]
     pub(crate) fn texts<R: Threads + Sync>(
         &self,
@@ -132,16 +132,16 @@ impl ApartLog {
         machine: &Machine,
         halvings: u32,
     ) -> Result<Vec<Vec<u8>>, Mem>
-        ensures { IfOk result (λ texts. joined texts.items ≡ flat_map (entry_line machine.now) self.now.entries) }
+        ensures { IfOk result (λ texts. joined_texts texts.items ≡ flat_map (entry_line machine.now) self.now.entries) }
     {
-        let parts = Parts {
+        let source = TextSource {
             machine,
             journal: &self.journal,
             histories: self.histories.as_slice(),
             last: last_position(&self.histories),
             in_row: halvings_in_row(entries_of(&self.histories), halvings),
         };
-        texts(rt, alloc, &parts, Range::all(), halvings)
+        texts(rt, alloc, &source, Range::all(), halvings)
     }
 
     /// The sources' statistics, and how the run ended.

@@ -13,7 +13,7 @@ pub(crate) struct Range {
 
 impl Range {
     ghost use Rattle.std.specs.Prelude.{◌≡◌, ◌≤◌, ◌&&◌, nat_le, None, Some};
-    ghost use Rattle.apart_log.specs.Slices.{IsUpTo, is_before};
+    ghost use Rattle.apart_log.specs.Slices.{IsUpTo, is_before_end};
 
     /// All positions.
     pub(crate) fn all() -> Self
@@ -25,7 +25,7 @@ impl Range {
     /// Whether the position of that stamp is among them.
     #[inline(always)]
     pub(crate) fn holds(self, stamp: Stamp) -> bool
-        ensures { result ≡ nat_le self.from stamp.pos && is_before stamp.pos self.to }
+        ensures { result ≡ nat_le self.from stamp.pos && is_before_end stamp.pos self.to }
     {
         if stamp.pos < self.from {
             return false;

@@ -4,10 +4,10 @@ ghost use Rattle.std.specs.Prelude.{◌≡◌, ◌++◌, true, IfOk, OnOk, filte
 ghost use Rattle.std.specs.List.{list_all};
 ghost use Rattle.std.specs.List.Sorted.{IsNonDecreasingBy};
 ghost use Rattle.sleep_model.specs.Merge.{all_entries, in_order, of_source, rises};
-ghost use Rattle.log_merge.specs.Rests.{seen, sources_entries};
+ghost use Rattle.log_merge.specs.Remainders.{seen, sources_entries};
 ghost use Rattle.apart_log.specs.Slices.{is_in, slice_lines};
 
-use crate::cut::Parts;
+use crate::cut::TextSource;
 use crate::range::Range;
 use log_merge::{in_order, with_history};
 use log_text::write_entries;
@@ -15,7 +15,7 @@ use sleep_base::Mem;
 use sleep_model::{Journal, JournalEntry, SourceEntry, SourceList};
 use std::alloc::{AllocError, Global};
 
-/// Puts an entry of the journal behind others, where it is of that range.
+/// Puts an entry of the journal after others, where it is of that range.
 #[inline(always)]
 fn push_in(those: &mut Vec<SourceEntry>, one: JournalEntry, range: Range) -> Result<(), AllocError>
     ensures { OnOk result (map of_source those.new.items ≡ map of_source those.old.items ++ filter (is_in range) (one ∷ [])) }
@@ -27,7 +27,7 @@ fn push_in(those: &mut Vec<SourceEntry>, one: JournalEntry, range: Range) -> Res
     Ok(())
 }
 
-/// The entries of a journal that are of that range. `Mem` where there is no memory.
+/// The entries of a journal that are of that range. `Mem` if there is no memory.
 pub(crate) fn journal_in(
     alloc: Global,
     journal: &Journal,
@@ -43,7 +43,7 @@ pub(crate) fn journal_in(
     Ok(those)
 }
 
-/// Puts an entry behind others, where it is of that range.
+/// Puts an entry after others, where it is of that range.
 #[inline(always)]
 fn push_ref_in<'a>(
     entries: &mut Vec<&'a SourceEntry>,
@@ -58,7 +58,7 @@ fn push_ref_in<'a>(
     Ok(())
 }
 
-/// Those of these entries that are of that range. `Mem` where there is no memory.
+/// Those of these entries that are of that range. `Mem` if there is no memory.
 fn those_in(alloc: Global, entries: &[SourceEntry], range: Range) -> Result<Vec<&SourceEntry>, Mem>
     ensures { IfOk result (λ those. seen those.items ≡ filter (is_in range) (map of_source entries.now)) }
 {
@@ -89,7 +89,7 @@ fn from_on(history: &[SourceEntry], pos: u64) -> &[SourceEntry]
 }
 
 /// Those of that range.
-fn part_in(history: &[SourceEntry], range: Range) -> &[SourceEntry]
+fn range_in(history: &[SourceEntry], range: Range) -> &[SourceEntry]
     requires { rises (map of_source history.now) ≡ true }
     ensures { map of_source result.now ≡ filter (is_in range) (map of_source history.now) }
 {
@@ -100,7 +100,7 @@ fn part_in(history: &[SourceEntry], range: Range) -> &[SourceEntry]
     }
 }
 
-/// These entries, and behind them those of all histories that are of that range. `Mem` where there is no memory.
+/// These entries, and after them those of all histories that are of that range. `Mem` if there is no memory.
 fn gathered<'a>(
     mut entries: Vec<&'a SourceEntry>,
     histories: &'a [SourceList],
@@ -110,12 +110,12 @@ fn gathered<'a>(
     ensures { IfOk result (λ all. seen all.items ≡ seen entries.entry.items ++ filter (is_in range) (sources_entries histories.now)) }
 {
     for history in histories {
-        entries = with_history(entries, part_in(history.as_slice(), range))?;
+        entries = with_history(entries, range_in(history.as_slice(), range))?;
     }
     Ok(entries)
 }
 
-/// The entries of a log that are of that range, in order. `Mem` where there is no memory.
+/// The entries of a log that are of that range, in order. `Mem` if there is no memory.
 fn entries_in<'a>(
     alloc: Global,
     journal: &'a [SourceEntry],
@@ -129,15 +129,15 @@ fn entries_in<'a>(
     in_order(gathered(entries, histories, range)?)
 }
 
-/// The lines of the entries of that range, of that journal and the histories. `Mem` where there is no memory.
+/// The lines of the entries of that range, of that journal and the histories. `Mem` if there is no memory.
 pub(crate) fn slice_text(
     alloc: Global,
-    parts: &Parts<'_>,
+    source: &TextSource<'_>,
     journal: &[SourceEntry],
     range: Range,
 ) -> Result<Vec<u8>, Mem>
-    ensures { IfOk result (λ text. text.items ≡ slice_lines parts.now.machine.now range (all_entries (map of_source journal.now) parts.now.histories.now)) }
+    ensures { IfOk result (λ text. text.items ≡ slice_lines source.now.machine.now range (all_entries (map of_source journal.now) source.now.histories.now)) }
 {
-    let entries = entries_in(alloc, journal, parts.histories, range)?;
-    write_entries(alloc, parts.machine, entries.as_slice())
+    let entries = entries_in(alloc, journal, source.histories, range)?;
+    write_entries(alloc, source.machine, entries.as_slice())
 }

@@ -3,7 +3,7 @@
 ghost use Rattle.std.specs.Prelude.{◌≡◌, ◌≤◌, ◌++◌, IfOk};
 ghost use Rattle.sleep_base.specs.Whole.{WriteAll};
 ghost use Rattle.sleep_model.specs.Text.{end_text, source_lines, source_names};
-ghost use Rattle.apart_log.specs.Slices.{joined};
+ghost use Rattle.apart_log.specs.Slices.{joined_texts};
 
 use crate::log::ApartLog;
 use log_text::write_log;
@@ -17,17 +17,17 @@ use std::thread::Threads;
 #[derive(Drop)]
 pub struct SlicedText {
     slices: Vec<Vec<u8>>,
-    /// The lines behind those of the entries.
+    /// The lines after those of the entries.
     behind: Vec<u8>,
 }
 
 impl Model for SlicedText {
     ghost use Rattle.std.specs.Prelude.{ℕ, List, ◌++◌};
-    ghost use Rattle.apart_log.specs.Slices.{joined};
+    ghost use Rattle.apart_log.specs.Slices.{joined_texts};
 
     ghost Value = { List ℕ };
 
-    ghost view = { λ t. joined t.slices.items ++ t.behind.items };
+    ghost view = { λ t. joined_texts t.slices.items ++ t.behind.items };
 }
 
 /// How often the log is halved, so that each worker has a part of it.
@@ -35,8 +35,8 @@ fn halvings(workers: u8) -> u32 {
     u32::from(workers).next_power_of_two().trailing_zeros()
 }
 
-/// The lines behind those of the entries: the sources', and the end.
-fn lines_behind(
+/// The lines after those of the entries: the sources', and the end.
+fn closing_lines(
     alloc: Global,
     machine: &Machine,
     stats: ListOf<Stats>,
@@ -52,10 +52,10 @@ fn lines_behind(
     write_log(alloc, machine, &rest)
 }
 
-/// Writes these texts one behind the other. `Failed` at the first write that fails: a front of all was written.
+/// Writes these texts one after the other. `Failed` at the first write that fails: a front of all was written.
 #[tactic(auto, using(sleep_base::proofs::Written::one_failed, sleep_base::proofs::Written::both_written))]
 fn write_texts<K: ByteSink>(sink: &mut K, texts: &[Vec<u8>]) -> Result<(), Failed>
-    ensures bytes { WriteAll (K.written sink.old) (K.written sink.new) (K.faults sink.old) (K.faults sink.new) (joined texts.now) result }
+    ensures bytes { WriteAll (K.written sink.old) (K.written sink.new) (K.faults sink.old) (K.faults sink.new) (joined_texts texts.now) result }
     ensures faults { K.faults sink.old ≤ K.faults sink.new }
 {
     match texts.split_first() {
@@ -85,7 +85,7 @@ impl SlicedText {
     {
         let slices = log.texts(rt, alloc, machine, halvings(workers))?;
         let (stats, end) = log.into_ending();
-        let behind = lines_behind(alloc, machine, stats, end)?;
+        let behind = closing_lines(alloc, machine, stats, end)?;
         Ok(SlicedText { slices, behind })
     }
 

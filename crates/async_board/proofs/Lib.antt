@@ -2,9 +2,9 @@ pub mod Counting
 pub mod Layouts
 pub mod Moved
 pub mod Picked
-pub mod Places
+pub mod Indices
 pub mod Rested
 pub mod Searched
 pub mod Stood
-pub mod Told
+pub mod Agreement
 pub mod Waiting

@@ -2,9 +2,9 @@
 use Rattle.std.proofs.Common.{◌≡◌, ◌<◌, ◌≤◌, ◌∙◌, ap, ℕ, Bool, true, false, ◌⊎◌, inl, inr, List, length, get_or, subst, sym, arith}
 use Rattle.std.specs.Prelude.{not, ◌&&◌}
 use Rattle.std.proofs.Math.Bool.{and-false}
-use Rattle.sleep_model.specs.Stands.{stand_at, is_down_in}
+use Rattle.sleep_model.specs.PhaseStates.{state_at, is_down_in}
 use Rattle.std.proofs.lemmas.Bool.{cases_eq}
-use Rattle.sleep_model.specs.declared.place.Stand.{Stand}
+use Rattle.sleep_model.specs.declared.progress.PhaseState.{PhaseState}
 use Rattle.async_board.specs.declared.pick.Pick.{Pick}
 use Rattle.async_board.specs.declared.pick.Pick.TheVariants as pick
 use Rattle.async_board.specs.declared.cursors.Moved.{Moved}
@@ -12,10 +12,10 @@ use Rattle.async_board.specs.Picks.{picks, is_picked, IsPassed, IsAhead}
 use Rattle.async_board.specs.Cursors.{IsPassedBut, IsAheadBut, IsMoved}
 
 -- the device that moved is looked for by where it stands now
-pub moved_here : (asynchronous : List Bool) (stands : List Stand) (order : List ℕ) (m : Moved) (what : Pick) → IsMoved asynchronous stands order m
-    → is_picked what asynchronous stands (get_or order m.place 0) ≡ picks what m.after m.asynchronous
+pub moved_here : (asynchronous : List Bool) (states : List PhaseState) (order : List ℕ) (m : Moved) (what : Pick) → IsMoved asynchronous states order m
+    → is_picked what asynchronous states (get_or order m.place 0) ≡ picks what m.after m.asynchronous
 unfolding is_picked
-moved_here asynchronous stands order m what h = sym (ap (λ s. picks what s m.asynchronous) h.after ∙ ap (λ b. picks what (stand_at stands (get_or order m.place 0)) b) h.asynchronous)
+moved_here asynchronous states order m what h = sym (ap (λ s. picks what s m.asynchronous) h.after ∙ ap (λ b. picks what (state_at states (get_or order m.place 0)) b) h.asynchronous)
 
 -- none passes, where the one that moved does not either
 pub passed_now : (k : ℕ) (was : Bool) (p : ℕ → Bool) (xs : List ℕ) (at : ℕ) → IsPassedBut k was p xs at → p (get_or xs k 0) ≡ false → IsPassed p xs at
@@ -48,16 +48,16 @@ ahead_still k was p xs at h e = record { fits = h.fits; behind = λ i l m. by_pl
     by_place i l m (inr other) = h.behind i l m other
 
 -- an asynchronous device is never taken up by the walk itself, a synchronous one never scheduled
-pub up_apart : (asynchronous : List Bool) (stands : List Stand) (order : List ℕ) (m : Moved) (was : Bool) (at : ℕ) → IsMoved asynchronous stands order m → m.asynchronous ≡ true
-    → IsPassedBut m.place was (is_picked pick.Up asynchronous stands) order at → IsPassed (is_picked pick.Up asynchronous stands) order at
+pub up_apart : (asynchronous : List Bool) (states : List PhaseState) (order : List ℕ) (m : Moved) (was : Bool) (at : ℕ) → IsMoved asynchronous states order m → m.asynchronous ≡ true
+    → IsPassedBut m.place was (is_picked pick.Up asynchronous states) order at → IsPassed (is_picked pick.Up asynchronous states) order at
 unfolding picks
-up_apart asynchronous stands order m was at h e but =
-    passed_now m.place was (is_picked pick.Up asynchronous stands) order at but
-    (moved_here asynchronous stands order m pick.Up h ∙ (ap (λ b. is_down_in m.after && not b) e ∙ and-false (is_down_in m.after)))
+up_apart asynchronous states order m was at h e but =
+    passed_now m.place was (is_picked pick.Up asynchronous states) order at but
+    (moved_here asynchronous states order m pick.Up h ∙ (ap (λ b. is_down_in m.after && not b) e ∙ and-false (is_down_in m.after)))
 
-pub to_schedule_apart : (asynchronous : List Bool) (stands : List Stand) (order : List ℕ) (m : Moved) (was : Bool) (at : ℕ) → IsMoved asynchronous stands order m → m.asynchronous ≡ false
-    → IsPassedBut m.place was (is_picked pick.ToSchedule asynchronous stands) order at → IsPassed (is_picked pick.ToSchedule asynchronous stands) order at
+pub to_schedule_apart : (asynchronous : List Bool) (states : List PhaseState) (order : List ℕ) (m : Moved) (was : Bool) (at : ℕ) → IsMoved asynchronous states order m → m.asynchronous ≡ false
+    → IsPassedBut m.place was (is_picked pick.ToSchedule asynchronous states) order at → IsPassed (is_picked pick.ToSchedule asynchronous states) order at
 unfolding picks
-to_schedule_apart asynchronous stands order m was at h e but =
-    passed_now m.place was (is_picked pick.ToSchedule asynchronous stands) order at but
-    (moved_here asynchronous stands order m pick.ToSchedule h ∙ (ap (λ b. is_down_in m.after && b) e ∙ and-false (is_down_in m.after)))
+to_schedule_apart asynchronous states order m was at h e but =
+    passed_now m.place was (is_picked pick.ToSchedule asynchronous states) order at but
+    (moved_here asynchronous states order m pick.ToSchedule h ∙ (ap (λ b. is_down_in m.after && b) e ∙ and-false (is_down_in m.after)))

@@ -5,10 +5,10 @@ use Rattle.std.specs.List.{find, list_all}
 use Rattle.std.proofs.lemmas.Bool.{eqb-true}
 use Rattle.std.proofs.Math.Dec.{eqb-suc-zero}
 use Rattle.sleep_model.specs.declared.machine.Link.{Link}
-use Rattle.sleep_model.specs.declared.place.Stand.{Stand}
-use Rattle.sleep_model.specs.Links.{first_places}
+use Rattle.sleep_model.specs.declared.progress.PhaseState.{PhaseState}
+use Rattle.sleep_model.specs.Links.{first_occurrences}
 use Rattle.sleep_model.specs.Order.{active_of, dependents, superiors}
-use Rattle.sleep_model.specs.Stands.{stand_at, is_not_down, is_not_up}
+use Rattle.sleep_model.specs.PhaseStates.{state_at, is_not_down, is_not_up}
 use Rattle.sleep_model.specs.Walk.{first_where}
 use Rattle.sleep_model.proofs.Searches.{find_is_first}
 use Rattle.async_board.specs.Counts.{IsCount}
@@ -23,17 +23,17 @@ first_others p x (y ∷ ys) e = by_test (first_others p x ys e) (y == x) refl
     by_test rest true f = rest ∙ ap (λ b. cond b (Some y) (first_where p ys)) (sym (ap p (eqb-true y x f) ∙ e))
     by_test rest false f = ap (λ o. cond (p y) (Some y) o) rest
 
-pub first_once : (p : ℕ → Bool) (xs : List ℕ) → first_where p (first_places xs) ≡ first_where p xs
+pub first_once : (p : ℕ → Bool) (xs : List ℕ) → first_where p (first_occurrences xs) ≡ first_where p xs
 first_once p [] = refl
 first_once p (x ∷ xs) = by_test (first_once p xs) (p x) refl
   where
-    by_test : first_where p (first_places xs) ≡ first_where p xs → (b : Bool) → p x ≡ b → cond b (Some x) (first_where p (filter (λ y. not (y == x)) (first_places xs))) ≡ cond b (Some x) (first_where p xs)
+    by_test : first_where p (first_occurrences xs) ≡ first_where p xs → (b : Bool) → p x ≡ b → cond b (Some x) (first_where p (filter (λ y. not (y == x)) (first_occurrences xs))) ≡ cond b (Some x) (first_where p xs)
     by_test rest true e = refl
-    by_test rest false e = first_others p x (first_places xs) e ∙ rest
+    by_test rest false e = first_others p x (first_occurrences xs) e ∙ rest
 
 -- a search in the row that has each once
-pub found_once : (p : ℕ → Bool) (xs row : List ℕ) → row ≡ first_places xs → find p row ≡ first_where p xs
-found_once p xs row e = ap (find p) e ∙ (find_is_first p (first_places xs) ∙ first_once p xs)
+pub found_once : (p : ℕ → Bool) (xs row : List ℕ) → row ≡ first_occurrences xs → find p row ≡ first_where p xs
+found_once p xs row e = ap (find p) e ∙ (find_is_first p (first_occurrences xs) ∙ first_once p xs)
 
 -- a device that passes may be left out
 all_others : (p : ℕ → Bool) (x : ℕ) (ys : List ℕ) → p x ≡ true → list_all p (filter (λ y. not (y == x)) ys) ≡ list_all p ys
@@ -44,12 +44,12 @@ all_others p x (y ∷ ys) e = by_test (all_others p x ys e) (y == x) refl
     by_test rest true f = rest ∙ ap (λ b. b && list_all p ys) (sym (ap p (eqb-true y x f) ∙ e))
     by_test rest false f = ap (λ b. p y && b) rest
 
-pub all_once : (p : ℕ → Bool) (xs : List ℕ) → list_all p (first_places xs) ≡ list_all p xs
+pub all_once : (p : ℕ → Bool) (xs : List ℕ) → list_all p (first_occurrences xs) ≡ list_all p xs
 all_once p [] = refl
 all_once p (x ∷ xs) = by_test (all_once p xs) (p x) refl
   where
-    by_test : list_all p (first_places xs) ≡ list_all p xs → (b : Bool) → p x ≡ b → (b && list_all p (filter (λ y. not (y == x)) (first_places xs))) ≡ (b && list_all p xs)
-    by_test rest true e = all_others p x (first_places xs) e ∙ rest
+    by_test : list_all p (first_occurrences xs) ≡ list_all p xs → (b : Bool) → p x ≡ b → (b && list_all p (filter (λ y. not (y == x)) (first_occurrences xs))) ≡ (b && list_all p xs)
+    by_test rest true e = all_others p x (first_occurrences xs) e ∙ rest
     by_test rest false e = refl
 
 -- where none passes, none is found
@@ -61,8 +61,8 @@ none_found p (x ∷ xs) e = by_test (none_found p xs) (p x) refl e
     by_test rest true f g = absurd (omega arith)
     by_test rest false f g = rest g
 
-none_counted : (n : ℕ) (p : ℕ → Bool) (row : ℕ → List ℕ) (counts : List ℕ) (d : ℕ) → IsCount n p (λ x. first_places (row x)) counts → (get_or counts d 1 == 0) ≡ true → first_where p (row d) ≡ None
-none_counted n p row counts d h z = sym (first_once p (row d)) ∙ none_found p (first_places (row d)) (sym (h.each d (omega (arith, within, h.size))) ∙ zero_at)
+none_counted : (n : ℕ) (p : ℕ → Bool) (row : ℕ → List ℕ) (counts : List ℕ) (d : ℕ) → IsCount n p (λ x. first_occurrences (row x)) counts → (get_or counts d 1 == 0) ≡ true → first_where p (row d) ≡ None
+none_counted n p row counts d h z = sym (first_once p (row d)) ∙ none_found p (first_occurrences (row d)) (sym (h.each d (omega (arith, within, h.size))) ∙ zero_at)
   where
     read : (xs : List ℕ) (i : ℕ) → get_or xs i 1 ≡ 0 → (i < length xs) × (get_or xs i 0 ≡ 0)
     read [] i e = absurd (omega arith)
@@ -75,15 +75,15 @@ none_counted n p row counts d h z = sym (first_once p (row d)) ∙ none_found p 
     zero_at : get_or counts d 0 ≡ 0
     zero_at = (read counts d (eqb-true (get_or counts d 1) 0 z)).1
 
-pub below_none : (ps : List (Option ℕ)) (ls : List Link) (stands : List Stand) (counts : List ℕ) (d : ℕ) → IsBelow ps ls stands counts → (get_or counts d 1 == 0) ≡ true
-    → first_where (λ e. is_not_down (stand_at stands e)) (dependents ps (active_of ls) d) ≡ None
-below_none ps ls stands counts d h z = none_counted (length ps) (λ e. is_not_down (stand_at stands e)) (dependents ps (active_of ls)) counts d h z
+pub below_none : (ps : List (Option ℕ)) (ls : List Link) (states : List PhaseState) (counts : List ℕ) (d : ℕ) → IsBelow ps ls states counts → (get_or counts d 1 == 0) ≡ true
+    → first_where (λ e. is_not_down (state_at states e)) (dependents ps (active_of ls) d) ≡ None
+below_none ps ls states counts d h z = none_counted (length ps) (λ e. is_not_down (state_at states e)) (dependents ps (active_of ls)) counts d h z
 
-pub above_none : (ps : List (Option ℕ)) (ls : List Link) (stands : List Stand) (counts : List ℕ) (d : ℕ) → IsAbove ps ls stands counts → (get_or counts d 1 == 0) ≡ true
-    → first_where (λ e. is_not_up (stand_at stands e)) (superiors ps (active_of ls) d) ≡ None
-above_none ps ls stands counts d h z = none_counted (length ps) (λ e. is_not_up (stand_at stands e)) (superiors ps (active_of ls)) counts d h z
+pub above_none : (ps : List (Option ℕ)) (ls : List Link) (states : List PhaseState) (counts : List ℕ) (d : ℕ) → IsAbove ps ls states counts → (get_or counts d 1 == 0) ≡ true
+    → first_where (λ e. is_not_up (state_at states e)) (superiors ps (active_of ls) d) ≡ None
+above_none ps ls states counts d h z = none_counted (length ps) (λ e. is_not_up (state_at states e)) (superiors ps (active_of ls)) counts d h z
 
--- none passes exactly where none is found
+-- none passes exactly if none is found
 none_or_found : (p : ℕ → Bool) (xs : List ℕ) → (length (filter p xs) == 0) ≡ is_none (first_where p xs)
 none_or_found p [] = refl
 none_or_found p (x ∷ xs) = by_test (none_or_found p xs) (p x) refl
@@ -92,6 +92,6 @@ none_or_found p (x ∷ xs) = by_test (none_or_found p xs) (p x) refl
     by_test rest true e = eqb-suc-zero (length (filter p xs))
     by_test rest false e = rest
 
--- none of the row that has each once passes exactly where none is found
-pub free : (p : ℕ → Bool) (xs : List ℕ) → (length (filter p (first_places xs)) == 0) ≡ is_none (first_where p xs)
-free p xs = none_or_found p (first_places xs) ∙ ap is_none (first_once p xs)
+-- none of the row that has each once passes exactly if none is found
+pub free : (p : ℕ → Bool) (xs : List ℕ) → (length (filter p (first_occurrences xs)) == 0) ≡ is_none (first_where p xs)
+free p xs = none_or_found p (first_occurrences xs) ∙ ap is_none (first_once p xs)

@@ -3,22 +3,22 @@ use Rattle.std.proofs.Common.{◌≡◌, ◌<◌, ◌≤◌, ◌+◌, ◌∙◌,
 use Rattle.std.proofs.lemmas.Bool.{false≢true, true≢false, eqb-true, eqb-false, or_cases}
 use Rattle.sleep_model.specs.declared.machine.Link.{Link}
 use Rattle.sleep_model.specs.Order.{is_among, children_from, consumers_of, suppliers_of, parent_of, dependents, superiors, is_parent}
-use Rattle.sleep_model.specs.Links.{first_places, IsOrder}
+use Rattle.sleep_model.specs.Links.{first_occurrences, IsOrder}
 use Rattle.sleep_model.proofs.Walks.{AllDifferent, same_eq}
 use Rattle.sleep_model.proofs.Dependents.{among_app, among_first, among_rest, within_of}
-use Rattle.sleep_model.proofs.Ordering.{different_filter, kept_passes}
+use Rattle.sleep_model.proofs.Ordering.{different_filter, preserved_passes}
 use Rattle.sleep_model.proofs.Acyclic.{few, among_filter}
-use Rattle.sleep_model.proofs.FirstPlaces.{among_first_places, among_children, among_parent, consumers_linked, suppliers_linked}
+use Rattle.sleep_model.proofs.FirstOccurrences.{among_first_occurrences, among_children, among_parent, consumers_linked, suppliers_linked}
 use Rattle.async_board.specs.Counts.{one, AreShifted, IsCount}
 
 -- ---- rows of devices, each once
 
 -- first places are different
-pub first_different : (xs : List ℕ) → AllDifferent (first_places xs)
+pub first_different : (xs : List ℕ) → AllDifferent (first_occurrences xs)
 first_different [] = tt
 first_different (x ∷ xs) = (
-  kept_passes (λ y. not (y == x)) (first_places xs) x (ap not (same_eq x)),
-  different_filter (λ y. not (y == x)) (first_places xs) (first_different xs),
+  preserved_passes (λ y. not (y == x)) (first_occurrences xs) x (ap not (same_eq x)),
+  different_filter (λ y. not (y == x)) (first_occurrences xs) (first_different xs),
 )
 
 -- who is above e is who e is below of, where e is a device
@@ -33,11 +33,11 @@ across ps ls d e l =
     here : 0 + e ≡ e
     here = omega arith
 
-pub above_across : (ps : List (Option ℕ)) (ls : List Link) (d e : ℕ) → e < length ps → is_among (first_places (superiors ps ls e)) d ≡ is_among (first_places (dependents ps ls d)) e
-above_across ps ls d e l = among_first_places (superiors ps ls e) d ∙ (across ps ls d e l ∙ sym (among_first_places (dependents ps ls d) e))
+pub above_across : (ps : List (Option ℕ)) (ls : List Link) (d e : ℕ) → e < length ps → is_among (first_occurrences (superiors ps ls e)) d ≡ is_among (first_occurrences (dependents ps ls d)) e
+above_across ps ls d e l = among_first_occurrences (superiors ps ls e) d ∙ (across ps ls d e l ∙ sym (among_first_occurrences (dependents ps ls d) e))
 
-pub below_across : (ps : List (Option ℕ)) (ls : List Link) (d e : ℕ) → d < length ps → is_among (first_places (dependents ps ls e)) d ≡ is_among (first_places (superiors ps ls d)) e
-below_across ps ls d e l = among_first_places (dependents ps ls e) d ∙ (sym (across ps ls e d l) ∙ sym (among_first_places (superiors ps ls d) e))
+pub below_across : (ps : List (Option ℕ)) (ls : List Link) (d e : ℕ) → d < length ps → is_among (first_occurrences (dependents ps ls e)) d ≡ is_among (first_occurrences (superiors ps ls d)) e
+below_across ps ls d e l = among_first_occurrences (dependents ps ls e) d ∙ (sym (across ps ls e d l) ∙ sym (among_first_occurrences (superiors ps ls d) e))
 
 -- who depends on a device of the order stands in the order
 pub order_depends : (dependents_of : ℕ → List ℕ) (xs : List ℕ) → IsOrder dependents_of xs → (d x : ℕ) → is_among xs d ≡ true → is_among (dependents_of d) x ≡ true → is_among xs x ≡ true
@@ -111,7 +111,7 @@ passes_of p xs d m = by_test (p d) refl
   where
     by_test : (b : Bool) → p d ≡ b → b ≡ true
     by_test true e = refl
-    by_test false e = absurd (true≢false (sym m ∙ kept_passes p xs d e))
+    by_test false e = absurd (true≢false (sym m ∙ preserved_passes p xs d e))
 
 -- fewer than n pass before one of numbers below n passes too
 pub few_pass : (n : ℕ) (p q : ℕ → Bool) (xs : List ℕ) (e : ℕ) → AllDifferent xs → ((x : ℕ) → (x ≡ e → ⊥) → q x ≡ p x)

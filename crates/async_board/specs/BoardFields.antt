@@ -9,14 +9,14 @@ board_of b = record {
   parents = b.layout.links.parents;
   links = b.layout.links.links;
   asynchronous = b.layout.asynchronous.items;
-  suspend = b.suspend.stands.items;
-  late = b.late.stands.items;
-  noirq = b.noirq.stands.items;
+  suspend = b.suspend.states.items;
+  late = b.late.states.items;
+  noirq = b.noirq.states.items;
 }
 
 -- each of the three walks is one over the layout
-pub record AreKept (b : Inside) : Type 0 where
-  pub laid : IsLayout b.layout
+pub record BoardInvariant (b : Inside) : Type 0 where
+  pub closed_over : IsLayout b.layout
   pub suspend : IsWalk b.layout b.suspend
   pub late : IsWalk b.layout b.late
   pub noirq : IsWalk b.layout b.noirq

@@ -1,4 +1,4 @@
-pub mod AtPlaces
+pub mod AtPoints
 pub mod BoardFields
 pub mod Boards
 pub mod Counts

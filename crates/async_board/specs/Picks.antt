@@ -1,24 +1,24 @@
 -- What is looked for among devices, and places in their order.
 use Rattle.std.specs.Prelude.{◌≡◌, ◌<◌, ◌≤◌, ◌-◌, ℕ, Bool, true, false, not, ◌&&◌, List, length, slice_index_or}
-use Rattle.sleep_model.specs.declared.place.Stand.{Stand}
-use Rattle.sleep_model.specs.Stands.{stand_at, is_unprepared, is_prepared, is_ready, is_going_down, is_down_in, is_not_up}
+use Rattle.sleep_model.specs.declared.progress.PhaseState.{PhaseState}
+use Rattle.sleep_model.specs.PhaseStates.{state_at, is_unprepared, is_prepared, is_ready, is_going_down, is_down_in, is_not_up}
 use Rattle.sleep_model.specs.Walk.{is_so}
 use Rattle.async_board.specs.declared.pick.Pick.{Pick}
 use Rattle.async_board.specs.declared.pick.Pick.TheVariants as pick
 
 -- a device that stands there, asynchronous or not, is looked for
-unfoldable pub picks : Pick → Stand → Bool → Bool
-picks pick.Unprepared stand asynchronous = is_unprepared stand
-picks pick.Prepared stand asynchronous = is_prepared stand
-picks pick.Ready stand asynchronous = is_ready stand
-picks pick.Going stand asynchronous = is_going_down stand
-picks pick.ToSchedule stand asynchronous = is_down_in stand && asynchronous
-picks pick.Up stand asynchronous = is_down_in stand && not asynchronous
-picks pick.NotUp stand asynchronous = is_not_up stand
+unfoldable pub picks : Pick → PhaseState → Bool → Bool
+picks pick.Unprepared state asynchronous = is_unprepared state
+picks pick.Prepared state asynchronous = is_prepared state
+picks pick.Ready state asynchronous = is_ready state
+picks pick.Going state asynchronous = is_going_down state
+picks pick.ToSchedule state asynchronous = is_down_in state && asynchronous
+picks pick.Up state asynchronous = is_down_in state && not asynchronous
+picks pick.NotUp state asynchronous = is_not_up state
 
 -- a device is looked for, by which are asynchronous and where each stands
-unfoldable pub is_picked : Pick → List Bool → List Stand → ℕ → Bool
-is_picked what asynchronous stands d = picks what (stand_at stands d) (is_so asynchronous d)
+unfoldable pub is_picked : Pick → List Bool → List PhaseState → ℕ → Bool
+is_picked what asynchronous states d = picks what (state_at states d) (is_so asynchronous d)
 
 -- none of the places before this one passes
 pub record IsPassed (p : ℕ → Bool) (xs : List ℕ) (at : ℕ) : Type 0 where

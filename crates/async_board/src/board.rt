@@ -1,18 +1,18 @@
 ghost use Rattle.std.specs.Prelude.{◌≡◌, Some, length, replicate};
-ghost use Rattle.sleep_model.specs.Stands.{stand_at, stands_after, device_of};
+ghost use Rattle.sleep_model.specs.PhaseStates.{state_at, phase_states_after, device_of};
 ghost use Rattle.sleep_model.specs.Walk.{is_so};
 ghost use Rattle.async_board.specs.Cursors.{AreCursors};
-ghost use Rattle.sleep_model.specs.declared.place.Stand.TheVariants as stand;
+ghost use Rattle.sleep_model.specs.declared.progress.PhaseState.TheVariants as state;
 ghost use Rattle.async_board.specs.Walks.{IsWalk, IsBelow, IsAbove, MayRestart};
 
 use crate::moves::put;
-use crate::pick::{Look, Pick, first_picked, is_so, last_picked, stand_at};
+use crate::phase_state::{ended_by, is_at_work, skipped_for, work_in};
+use crate::pick::{Pick, WalkLook, first_picked, is_so, last_picked, state_at};
 use crate::rows::{all_direct_complete, count_at, first_not_down, first_not_up, is_none};
-use crate::stand::{ended_by, is_at_work, skipped_for, work_in};
-use crate::walk::{Layout, Walk, places_of, refill_places};
+use crate::walk::{Layout, Walk, indices_of, refill_indices};
 use device_links::Links;
 use sleep_base::{Mem, lost};
-use sleep_model::{AsyncWork, Kind, Phase, Stand};
+use sleep_model::{AsyncWork, Kind, Phase, PhaseState};
 use std::alloc::Global;
 use std::marker::Model;
 
@@ -35,11 +35,11 @@ impl Model for Board {
 
     ghost Value = { BoardState };
 
-    ghost use Rattle.async_board.specs.BoardFields.{board_of, AreKept};
+    ghost use Rattle.async_board.specs.BoardFields.{board_of, BoardInvariant};
 
     ghost view = { board_of };
 
-    ghost invariant = { AreKept };
+    ghost invariant = { BoardInvariant };
 }
 
 // Begins anew, no device prepared, over links that have changed right below this supplier alone.
@@ -47,9 +47,9 @@ fn begin_anew(layout: &Layout, supplier: u32, suspend: &mut Walk, late: &mut Wal
     requires suspend { MayRestart layout.now supplier suspend.old }
     requires late { MayRestart layout.now supplier late.old }
     requires noirq { MayRestart layout.now supplier noirq.old }
-    ensures suspend_anew { suspend.new.stands.items ≡ replicate (length layout.now.links.parents) stand.Unprepared }
-    ensures late_anew { late.new.stands.items ≡ replicate (length layout.now.links.parents) stand.Unprepared }
-    ensures noirq_anew { noirq.new.stands.items ≡ replicate (length layout.now.links.parents) stand.Unprepared }
+    ensures suspend_anew { suspend.new.states.items ≡ replicate (length layout.now.links.parents) state.Unprepared }
+    ensures late_anew { late.new.states.items ≡ replicate (length layout.now.links.parents) state.Unprepared }
+    ensures noirq_anew { noirq.new.states.items ≡ replicate (length layout.now.links.parents) state.Unprepared }
     ensures suspend { IsWalk layout.now suspend.new }
     ensures late { IsWalk layout.now late.new }
     ensures noirq { IsWalk layout.now noirq.new }
@@ -62,19 +62,19 @@ fn begin_anew(layout: &Layout, supplier: u32, suspend: &mut Walk, late: &mut Wal
 impl Board {
     ghost use Rattle.std.specs.Prelude.{◌≡◌, ◌<◌, IfOk, OnOk, OnErr, None, is_none, length};
     ghost use Rattle.sleep_model.specs.Order.{links_added, links_set};
-    ghost use Rattle.async_board.specs.Boards.{first_board, board_after, put_in_all, put_in, skip_in, stands_on, order_on, next_prepared_on, next_completed_on, next_down_on, waits_down_on, next_to_schedule_on, next_up_on, waits_up_on, waits_below_on, waits_above_on, all_direct_complete_on, work_on};
+    ghost use Rattle.async_board.specs.Boards.{first_board, board_after, put_in_all, put_in, skip_in, states_on, order_on, next_prepared_on, next_completed_on, next_down_on, waits_down_on, next_to_schedule_on, next_up_on, waits_up_on, waits_below_on, waits_above_on, all_direct_complete_on, work_on};
 
     /// A board over these links, on which no device is prepared; `asynchronous` says for each device
     /// whether it is asynchronous. `Mem` if there is no memory for it.
     pub fn wired(alloc: Global, links: Links, asynchronous: Vec<bool>) -> Result<Board, Mem>
         ensures { IfOk result (λ b. b ≡ first_board links.parents links.links asynchronous.items) }
     {
-        let Ok(places) = places_of(alloc, links.order()) else {
+        let Ok(indices) = indices_of(alloc, links.order()) else {
             return Err(lost((links, asynchronous)));
         };
         let layout = Layout {
             links,
-            places,
+            indices,
             asynchronous,
         };
         let Ok(suspend) = Walk::new(alloc, &layout) else {
@@ -95,7 +95,7 @@ impl Board {
     }
 
     // Puts a device there in each pair of phases.
-    fn put_in_all(&mut self, device: u32, after: Stand)
+    fn put_in_all(&mut self, device: u32, after: PhaseState)
         ensures { self.new ≡ put_in_all device after self.old }
     {
         put(&mut self.suspend, &self.layout, device, after);
@@ -105,8 +105,8 @@ impl Board {
 
     // Puts a device there, in the pair of phases that this one is of: on the way down or on the way up.
     #[inline(always)]
-    #[tactic(auto, using(crate::proofs::Stood::stands_stay))]
-    fn put_in(&mut self, q: Phase, device: u32, down: Stand, up: Stand)
+    #[tactic(auto, using(crate::proofs::Stood::states_stay))]
+    fn put_in(&mut self, q: Phase, device: u32, down: PhaseState, up: PhaseState)
         ensures { self.new ≡ put_in q device down up self.old }
     {
         match q {
@@ -121,8 +121,8 @@ impl Board {
     }
 
     // Puts a device there that a phase on the way down skips.
-    #[tactic(auto, using(crate::proofs::Stood::stands_stay))]
-    fn skip_in(&mut self, q: Phase, device: u32, down: Stand)
+    #[tactic(auto, using(crate::proofs::Stood::states_stay))]
+    fn skip_in(&mut self, q: Phase, device: u32, down: PhaseState)
         ensures { self.new ≡ skip_in q device down self.old }
     {
         match q {
@@ -135,22 +135,27 @@ impl Board {
 
     /// Takes down what an entry does to its device.
     #[inline(always)]
-    #[tactic(auto, using(crate::proofs::Stood::stands_stay))]
+    #[tactic(auto, using(crate::proofs::Stood::states_stay))]
     pub fn note(&mut self, kind: Kind)
         ensures { self.new ≡ board_after kind self.old }
     {
         match kind {
             Kind::Prepare { device, r } => {
                 if r >= 0 {
-                    self.put_in_all(device, Stand::Prepared);
+                    self.put_in_all(device, PhaseState::Prepared);
                 }
             }
-            Kind::Complete(device) => self.put_in_all(device, Stand::Unprepared),
+            Kind::Complete(device) => self.put_in_all(device, PhaseState::Unprepared),
             Kind::Schedule(q, device) => {
-                self.put_in(q, device, Stand::Scheduled, Stand::Rescheduled)
+                self.put_in(q, device, PhaseState::Scheduled, PhaseState::Rescheduled)
             }
-            Kind::Begin(q, device) => self.put_in(q, device, Stand::Suspending, Stand::Resuming),
-            Kind::End(q, device, r) => self.put_in(q, device, ended_by(r), Stand::Resumed),
+            Kind::Begin(q, device) => self.put_in(
+                q,
+                device,
+                PhaseState::Suspending,
+                PhaseState::Resuming,
+            ),
+            Kind::End(q, device, r) => self.put_in(q, device, ended_by(r), PhaseState::Resumed),
             Kind::Skip(q, device, cause) => self.skip_in(q, device, skipped_for(cause)),
             _ => (),
         }
@@ -171,10 +176,10 @@ impl Board {
         ensures err { OnErr result (self.new ≡ self.old) }
     {
         let _devices = self.layout.links.order().len();
-        match self.layout.links.add_telling(supplier, consumer, true) {
+        match self.layout.links.add_noting_order(supplier, consumer, true) {
             Ok(stays) => {
                 let layout = &mut self.layout;
-                refill_places(&mut layout.places, layout.links.order(), stays);
+                refill_indices(&mut layout.indices, layout.links.order(), stays);
                 begin_anew(
                     layout,
                     supplier,
@@ -189,7 +194,7 @@ impl Board {
     }
 
     /// Sets the state of a link, after which no device is prepared (`struct device_link`, `status`).
-    /// `Mem` where there is no such link; nothing has changed then.
+    /// `Mem` if there is no such link; nothing has changed then.
     pub fn set_link(&mut self, supplier: u32, consumer: u32, active: bool) -> Result<(), Mem>
         ensures ok { OnOk result (self.new ≡ first_board self.old.parents
             (links_set supplier consumer active None self.old.links) self.old.asynchronous) }
@@ -213,14 +218,14 @@ impl Board {
 
     // The walk of a phase on the way down and its mirror.
     fn walk(&self, p: Phase) -> &Walk
-        ensures stands { result.now.stands.items ≡ stands_on self.now p }
-        ensures size { length result.now.stands.items ≡ length self.now.parents }
-        ensures cursors { AreCursors self.now.asynchronous result.now.stands.items
+        ensures states { result.now.states.items ≡ states_on self.now p }
+        ensures size { length result.now.states.items ≡ length self.now.parents }
+        ensures cursors { AreCursors self.now.asynchronous result.now.states.items
             (order_on self.now) result.now.cursors }
         ensures below { IsBelow self.now.parents self.now.links
-            result.now.stands.items result.now.open_below.items }
+            result.now.states.items result.now.open_below.items }
         ensures above { IsAbove self.now.parents self.now.links
-            result.now.stands.items result.now.open_above.items }
+            result.now.states.items result.now.open_above.items }
     {
         match p {
             Phase::Late => &self.late,
@@ -230,23 +235,23 @@ impl Board {
     }
 
     // The devices in order, as they stand in that walk.
-    fn look<'a>(&'a self, walk: &'a Walk) -> Look<'a>
+    fn look<'a>(&'a self, walk: &'a Walk) -> WalkLook<'a>
         ensures order { result.order.now ≡ order_on self.now }
-        ensures stands { result.stands.now ≡ walk.now.stands.items }
+        ensures states { result.states.now ≡ walk.now.states.items }
         ensures asynchronous { result.asynchronous.now ≡ self.now.asynchronous }
     {
-        Look {
+        WalkLook {
             order: self.layout.links.order(),
-            stands: walk.stands.as_slice(),
+            states: walk.states.as_slice(),
             asynchronous: self.layout.asynchronous.as_slice(),
         }
     }
 
-    /// Where a device stands in a phase and its mirror; unprepared where there is no such device.
-    pub fn stand(&self, p: Phase, device: u32) -> Stand
-        ensures { result ≡ stand_at (stands_on self.now p) device }
+    /// Where a device stands in a phase and its mirror; unprepared if there is no such device.
+    pub fn state(&self, p: Phase, device: u32) -> PhaseState
+        ensures { result ≡ state_at (states_on self.now p) device }
     {
-        stand_at(&self.walk(p).stands, device)
+        state_at(&self.walk(p).states, device)
     }
 
     /// The device that is prepared next, the first that is not (`dpm_prepare`).
@@ -325,7 +330,7 @@ impl Board {
         if is_none(&walk.open_below, device) {
             None
         } else {
-            first_not_down(&walk.stands, &self.layout.links, device)
+            first_not_down(&walk.states, &self.layout.links, device)
         }
     }
 
@@ -338,7 +343,7 @@ impl Board {
         if is_none(&walk.open_above, device) {
             None
         } else {
-            first_not_up(&walk.stands, &self.layout.links, device)
+            first_not_up(&walk.states, &self.layout.links, device)
         }
     }
 
@@ -352,7 +357,7 @@ impl Board {
         if (device as usize) < walk.open_below.len() {
             count_at(&walk.open_below, device) == 0
         } else {
-            first_not_down(&walk.stands, &self.layout.links, device).is_none()
+            first_not_down(&walk.states, &self.layout.links, device).is_none()
         }
     }
 
@@ -366,7 +371,7 @@ impl Board {
         if (device as usize) < walk.open_above.len() {
             count_at(&walk.open_above, device) == 0
         } else {
-            first_not_up(&walk.stands, &self.layout.links, device).is_none()
+            first_not_up(&walk.states, &self.layout.links, device).is_none()
         }
     }
 
@@ -374,7 +379,7 @@ impl Board {
     pub fn all_direct_complete(&self, device: u32) -> bool
         ensures { result ≡ all_direct_complete_on self.now device }
     {
-        all_direct_complete(&self.suspend.stands, &self.layout.links, device)
+        all_direct_complete(&self.suspend.states, &self.layout.links, device)
     }
 
     /// Whether a device is asynchronous (`power.async_suspend`); not where there is no such device.
@@ -392,15 +397,15 @@ impl Board {
         if !self.is_asynchronous(device) {
             return AsyncWork::Idle;
         }
-        let suspend = self.stand(Phase::Suspend, device);
+        let suspend = self.state(Phase::Suspend, device);
         if is_at_work(suspend) {
             return work_in(Phase::Suspend, suspend, AsyncWork::Idle);
         }
-        let late = self.stand(Phase::Late, device);
+        let late = self.state(Phase::Late, device);
         if is_at_work(late) {
             return work_in(Phase::Late, late, AsyncWork::Idle);
         }
-        let noirq = self.stand(Phase::Noirq, device);
+        let noirq = self.state(Phase::Noirq, device);
         work_in(Phase::Noirq, noirq, AsyncWork::Idle)
     }
 }

@@ -4,8 +4,8 @@ ghost use Rattle.async_board.specs.Picks.{picks, is_picked, IsPassed, IsAhead};
 ghost use Rattle.async_board.specs.declared.pick.Pick.TheVariants as pick;
 ghost use Rattle.async_board.specs.Cursors.{IsPassedBut, IsAheadBut, IsMoved, AreCursors, AreCursorsBut};
 
-use crate::pick::{Look, Pick, first_from, last_before, picks};
-use sleep_model::Stand;
+use crate::pick::{Pick, WalkLook, first_from, last_before, picks};
+use sleep_model::PhaseState;
 
 /// A place in the order for each search: no device before it is looked for or, where the last one
 /// is looked for, none from it on.
@@ -25,8 +25,8 @@ pub(crate) struct Cursors {
 #[derive(Clone, Copy)]
 pub(crate) struct Moved {
     pub(crate) place: usize,
-    pub(crate) before: Stand,
-    pub(crate) after: Stand,
+    pub(crate) before: PhaseState,
+    pub(crate) after: PhaseState,
     pub(crate) asynchronous: bool,
 }
 
@@ -34,11 +34,11 @@ pub(crate) struct Moved {
 // device is looked for as little, or as much, as before.
 #[inline(always)]
 #[tactic(auto, using(crate::proofs::Moved::passed_now, crate::proofs::Moved::passed_still, crate::proofs::Moved::moved_here))]
-fn move_first(at: &mut usize, look: &Look<'_>, what: Pick, moved: Moved)
-    requires here { IsMoved look.now.asynchronous.now look.now.stands.now look.now.order.now moved }
+fn move_first(at: &mut usize, look: &WalkLook<'_>, what: Pick, moved: Moved)
+    requires here { IsMoved look.now.asynchronous.now look.now.states.now look.now.order.now moved }
     requires but { IsPassedBut moved.place (picks what moved.before moved.asynchronous)
-        (is_picked what look.now.asynchronous.now look.now.stands.now) look.now.order.now at.old }
-    ensures { IsPassed (is_picked what look.now.asynchronous.now look.now.stands.now)
+        (is_picked what look.now.asynchronous.now look.now.states.now) look.now.order.now at.old }
+    ensures { IsPassed (is_picked what look.now.asynchronous.now look.now.states.now)
         look.now.order.now at.new }
 {
     let was = picks(what, moved.before, moved.asynchronous);
@@ -58,11 +58,11 @@ fn move_first(at: &mut usize, look: &Look<'_>, what: Pick, moved: Moved)
 // and nobody asks before.
 #[inline(always)]
 #[tactic(auto, using(crate::proofs::Moved::passed_now, crate::proofs::Moved::passed_still, crate::proofs::Moved::moved_here))]
-fn move_going(at: &mut usize, look: &Look<'_>, moved: Moved, is_over: bool)
-    requires here { IsMoved look.now.asynchronous.now look.now.stands.now look.now.order.now moved }
+fn move_going(at: &mut usize, look: &WalkLook<'_>, moved: Moved, is_over: bool)
+    requires here { IsMoved look.now.asynchronous.now look.now.states.now look.now.order.now moved }
     requires but { IsPassedBut moved.place (picks pick.Going moved.before moved.asynchronous)
-        (is_picked pick.Going look.now.asynchronous.now look.now.stands.now) look.now.order.now at.old }
-    ensures { IsPassed (is_picked pick.Going look.now.asynchronous.now look.now.stands.now)
+        (is_picked pick.Going look.now.asynchronous.now look.now.states.now) look.now.order.now at.old }
+    ensures { IsPassed (is_picked pick.Going look.now.asynchronous.now look.now.states.now)
         look.now.order.now at.new }
 {
     let was = picks(Pick::Going, moved.before, moved.asynchronous);
@@ -80,15 +80,15 @@ fn move_going(at: &mut usize, look: &Look<'_>, moved: Moved, is_over: bool)
 // Moves the cursors of the devices that are down, after a device has moved. One of the two alone looks
 // for it: the first if it is asynchronous, else the second.
 #[inline(always)]
-fn move_down(to_schedule: &mut usize, up: &mut usize, look: &Look<'_>, moved: Moved)
-    requires here { IsMoved look.now.asynchronous.now look.now.stands.now look.now.order.now moved }
+fn move_down(to_schedule: &mut usize, up: &mut usize, look: &WalkLook<'_>, moved: Moved)
+    requires here { IsMoved look.now.asynchronous.now look.now.states.now look.now.order.now moved }
     requires to_schedule { IsPassedBut moved.place (picks pick.ToSchedule moved.before moved.asynchronous)
-        (is_picked pick.ToSchedule look.now.asynchronous.now look.now.stands.now) look.now.order.now to_schedule.old }
+        (is_picked pick.ToSchedule look.now.asynchronous.now look.now.states.now) look.now.order.now to_schedule.old }
     requires up { IsPassedBut moved.place (picks pick.Up moved.before moved.asynchronous)
-        (is_picked pick.Up look.now.asynchronous.now look.now.stands.now) look.now.order.now up.old }
-    ensures to_schedule { IsPassed (is_picked pick.ToSchedule look.now.asynchronous.now look.now.stands.now)
+        (is_picked pick.Up look.now.asynchronous.now look.now.states.now) look.now.order.now up.old }
+    ensures to_schedule { IsPassed (is_picked pick.ToSchedule look.now.asynchronous.now look.now.states.now)
         look.now.order.now to_schedule.new }
-    ensures up { IsPassed (is_picked pick.Up look.now.asynchronous.now look.now.stands.now)
+    ensures up { IsPassed (is_picked pick.Up look.now.asynchronous.now look.now.states.now)
         look.now.order.now up.new }
 {
     if moved.asynchronous {
@@ -101,11 +101,11 @@ fn move_down(to_schedule: &mut usize, up: &mut usize, look: &Look<'_>, moved: Mo
 // Moves the cursor of a last device, after a device has moved. Most moves leave it where it is.
 #[inline(always)]
 #[tactic(auto, using(crate::proofs::Moved::ahead_now, crate::proofs::Moved::ahead_still, crate::proofs::Moved::moved_here))]
-fn move_last(at: &mut usize, look: &Look<'_>, what: Pick, moved: Moved)
-    requires here { IsMoved look.now.asynchronous.now look.now.stands.now look.now.order.now moved }
+fn move_last(at: &mut usize, look: &WalkLook<'_>, what: Pick, moved: Moved)
+    requires here { IsMoved look.now.asynchronous.now look.now.states.now look.now.order.now moved }
     requires but { IsAheadBut moved.place (picks what moved.before moved.asynchronous)
-        (is_picked what look.now.asynchronous.now look.now.stands.now) look.now.order.now at.old }
-    ensures { IsAhead (is_picked what look.now.asynchronous.now look.now.stands.now)
+        (is_picked what look.now.asynchronous.now look.now.states.now) look.now.order.now at.old }
+    ensures { IsAhead (is_picked what look.now.asynchronous.now look.now.states.now)
         look.now.order.now at.new }
 {
     let was = picks(what, moved.before, moved.asynchronous);
@@ -123,11 +123,11 @@ fn move_last(at: &mut usize, look: &Look<'_>, what: Pick, moved: Moved)
 /// Moves the cursors after a device has moved. `failed`: a device has failed on the way down, so that
 /// the walk schedules no more.
 #[inline(always)]
-pub(crate) fn move_cursors(cursors: &mut Cursors, look: &Look<'_>, moved: Moved, failed: bool)
-    requires here { IsMoved look.now.asynchronous.now look.now.stands.now look.now.order.now moved }
-    requires but { AreCursorsBut moved look.now.asynchronous.now look.now.stands.now
+pub(crate) fn move_cursors(cursors: &mut Cursors, look: &WalkLook<'_>, moved: Moved, failed: bool)
+    requires here { IsMoved look.now.asynchronous.now look.now.states.now look.now.order.now moved }
+    requires but { AreCursorsBut moved look.now.asynchronous.now look.now.states.now
         look.now.order.now cursors.old }
-    ensures { AreCursors look.now.asynchronous.now look.now.stands.now look.now.order.now cursors.new }
+    ensures { AreCursors look.now.asynchronous.now look.now.states.now look.now.order.now cursors.new }
 {
     move_first(&mut cursors.unprepared, look, Pick::Unprepared, moved);
     move_last(&mut cursors.prepared, look, Pick::Prepared, moved);

@@ -1,4 +1,4 @@
-//! What a board tells of a machine, from the definitions alone.
+//! What a board tells of a machine, only from the definitions.
 
 ghost use Rattle.std.specs.Prelude.{◌≡◌, ◌∷◌, [], List, map, reverse};
 ghost use Rattle.sleep_model.specs.declared.entry.Entry.{Entry};
@@ -6,16 +6,16 @@ ghost use Rattle.sleep_model.specs.declared.machine.Machine.{Machine};
 ghost use Rattle.sleep_model.specs.Order.{links_after, links_at, parents_of};
 ghost use Rattle.sleep_model.specs.Runtime.{is_async};
 ghost use Rattle.async_board.specs.Boards.{first_board, board_after};
-ghost use Rattle.async_board.specs.AtPlaces.{board_at, Tells};
+ghost use Rattle.async_board.specs.AtPoints.{board_at, Agrees};
 
 /// A board that is wired for a machine and notes each entry is the board at that place, as long as no
 /// link changes, and tells what the definitions tell there.
-#[tactic(auto, using(crate::proofs::Told::board_first, crate::proofs::Told::board_next))]
-pub fn board_tells()
+#[tactic(auto, using(crate::proofs::Agreement::board_first, crate::proofs::Agreement::board_next))]
+pub fn board_agrees()
     ensures first { (m : Machine) → first_board (parents_of m.devices) (reverse m.links)
         (map is_async m.devices) ≡ board_at m [] }
     ensures next { (m : Machine) (past : List Entry) (e : Entry) →
         links_after e.kind (links_at m past) ≡ links_at m past →
         board_after e.kind (board_at m past) ≡ board_at m (e ∷ past) }
-    ensures tells { (m : Machine) (past : List Entry) → Tells m past (board_at m past) }
+    ensures agrees { (m : Machine) (past : List Entry) → Agrees m past (board_at m past) }
 {}

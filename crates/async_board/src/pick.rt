@@ -1,12 +1,12 @@
 //! What is looked for among the devices, and the search for it in their order.
 
 ghost use Rattle.std.specs.Prelude.{◌≡◌, ◌<◌, length, slice_get};
-ghost use Rattle.sleep_model.specs.Stands.{stand_at};
+ghost use Rattle.sleep_model.specs.PhaseStates.{state_at};
 ghost use Rattle.sleep_model.specs.Walk.{is_so, first_where, last_where};
 ghost use Rattle.async_board.specs.Picks.{picks, is_picked, IsPassed, IsFirst, IsAhead, IsLast};
 
-use crate::stand;
-use sleep_model::Stand;
+use crate::phase_state;
+use sleep_model::PhaseState;
 
 /// What is looked for.
 #[derive(Clone, Copy)]
@@ -29,36 +29,36 @@ pub(crate) enum Pick {
 
 /// The devices in order, where each stands, and which are asynchronous.
 #[derive(Clone, Copy)]
-pub(crate) struct Look<'a> {
+pub(crate) struct WalkLook<'a> {
     pub(crate) order: &'a [u32],
-    pub(crate) stands: &'a [Stand],
+    pub(crate) states: &'a [PhaseState],
     pub(crate) asynchronous: &'a [bool],
 }
 
 /// Whether a device that stands there, asynchronous or not, is looked for.
 #[inline(always)]
 #[tactic(auto, unfolding(crate::specs::Picks::picks))]
-pub(crate) fn picks(pick: Pick, stand: Stand, asynchronous: bool) -> bool
-    ensures { result ≡ picks pick stand asynchronous }
+pub(crate) fn picks(pick: Pick, state: PhaseState, asynchronous: bool) -> bool
+    ensures { result ≡ picks pick state asynchronous }
 {
     match pick {
-        Pick::Unprepared => stand::is_unprepared(stand),
-        Pick::Prepared => stand::is_prepared(stand),
-        Pick::Ready => stand::is_ready(stand),
-        Pick::Going => stand::is_going_down(stand),
-        Pick::ToSchedule => stand::is_down_in(stand) && asynchronous,
-        Pick::Up => stand::is_down_in(stand) && !asynchronous,
-        Pick::NotUp => stand::is_not_up(stand),
+        Pick::Unprepared => phase_state::is_unprepared(state),
+        Pick::Prepared => phase_state::is_prepared(state),
+        Pick::Ready => phase_state::is_ready(state),
+        Pick::Going => phase_state::is_going_down(state),
+        Pick::ToSchedule => phase_state::is_down_in(state) && asynchronous,
+        Pick::Up => phase_state::is_down_in(state) && !asynchronous,
+        Pick::NotUp => phase_state::is_not_up(state),
     }
 }
 
 /// Where a device stands among others.
-pub(crate) fn stand_at(stands: &[Stand], device: u32) -> Stand
-    ensures { result ≡ stand_at stands.now device }
+pub(crate) fn state_at(states: &[PhaseState], device: u32) -> PhaseState
+    ensures { result ≡ state_at states.now device }
 {
-    match stands.get(device as usize) {
-        Some(stand) => *stand,
-        None => Stand::Unprepared,
+    match states.get(device as usize) {
+        Some(state) => *state,
+        None => PhaseState::Unprepared,
     }
 }
 
@@ -75,18 +75,18 @@ pub(crate) fn is_so(flags: &[bool], device: u32) -> bool
 /// Whether the device is looked for.
 #[inline]
 #[tactic(auto, unfolding(crate::specs::Picks::is_picked))]
-pub(crate) fn is_picked(look: &Look<'_>, pick: Pick, device: u32) -> bool
-    ensures { result ≡ is_picked pick look.now.asynchronous.now look.now.stands.now device }
+pub(crate) fn is_picked(look: &WalkLook<'_>, pick: Pick, device: u32) -> bool
+    ensures { result ≡ is_picked pick look.now.asynchronous.now look.now.states.now device }
 {
-    let stand = stand_at(look.stands, device);
-    picks(pick, stand, is_so(look.asynchronous, device))
+    let state = state_at(look.states, device);
+    picks(pick, state, is_so(look.asynchronous, device))
 }
 
 /// The first place from this one on whose device is looked for, else the number of places.
-pub(crate) fn first_from(look: &Look<'_>, pick: Pick, from: usize) -> usize
-    requires { IsPassed (is_picked pick look.now.asynchronous.now look.now.stands.now)
+pub(crate) fn first_from(look: &WalkLook<'_>, pick: Pick, from: usize) -> usize
+    requires { IsPassed (is_picked pick look.now.asynchronous.now look.now.states.now)
         look.now.order.now from }
-    ensures { IsFirst (is_picked pick look.now.asynchronous.now look.now.stands.now)
+    ensures { IsFirst (is_picked pick look.now.asynchronous.now look.now.states.now)
         look.now.order.now result }
 {
     for at in from..look.order.len() {
@@ -98,10 +98,10 @@ pub(crate) fn first_from(look: &Look<'_>, pick: Pick, from: usize) -> usize
 }
 
 /// One more than the last place before this one whose device is looked for, else 0.
-pub(crate) fn last_before(look: &Look<'_>, pick: Pick, from: usize) -> usize
-    requires { IsAhead (is_picked pick look.now.asynchronous.now look.now.stands.now)
+pub(crate) fn last_before(look: &WalkLook<'_>, pick: Pick, from: usize) -> usize
+    requires { IsAhead (is_picked pick look.now.asynchronous.now look.now.states.now)
         look.now.order.now from }
-    ensures { IsLast (is_picked pick look.now.asynchronous.now look.now.stands.now)
+    ensures { IsLast (is_picked pick look.now.asynchronous.now look.now.states.now)
         look.now.order.now result }
 {
     let mut at = from;
@@ -123,10 +123,10 @@ fn device_at(order: &[u32], at: usize) -> Option<u32>
 
 /// The first device that is looked for, where none before this place is.
 #[tactic(auto, using(crate::proofs::Picked::first_is))]
-pub(crate) fn first_picked(look: &Look<'_>, pick: Pick, from: usize) -> Option<u32>
-    requires { IsPassed (is_picked pick look.now.asynchronous.now look.now.stands.now)
+pub(crate) fn first_picked(look: &WalkLook<'_>, pick: Pick, from: usize) -> Option<u32>
+    requires { IsPassed (is_picked pick look.now.asynchronous.now look.now.states.now)
         look.now.order.now from }
-    ensures { result ≡ first_where (is_picked pick look.now.asynchronous.now look.now.stands.now)
+    ensures { result ≡ first_where (is_picked pick look.now.asynchronous.now look.now.states.now)
         look.now.order.now }
 {
     let at = first_from(look, pick, from);
@@ -135,10 +135,10 @@ pub(crate) fn first_picked(look: &Look<'_>, pick: Pick, from: usize) -> Option<u
 
 /// The last device that is looked for, where none from this place on is.
 #[tactic(auto, using(crate::proofs::Picked::last_is, crate::proofs::Picked::last_none))]
-pub(crate) fn last_picked(look: &Look<'_>, pick: Pick, from: usize) -> Option<u32>
-    requires { IsAhead (is_picked pick look.now.asynchronous.now look.now.stands.now)
+pub(crate) fn last_picked(look: &WalkLook<'_>, pick: Pick, from: usize) -> Option<u32>
+    requires { IsAhead (is_picked pick look.now.asynchronous.now look.now.states.now)
         look.now.order.now from }
-    ensures { result ≡ last_where (is_picked pick look.now.asynchronous.now look.now.stands.now)
+    ensures { result ≡ last_where (is_picked pick look.now.asynchronous.now look.now.states.now)
         look.now.order.now }
 {
     match last_before(look, pick, from) {

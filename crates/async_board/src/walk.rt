@@ -4,15 +4,15 @@ ghost use Rattle.std.specs.Prelude.{◌≡◌, ◌≢◌, ◌<◌, ℕ, true, If
 ghost use Rattle.std.specs.Bool.{OnTrue};
 ghost use Rattle.sleep_model.specs.Order.{active_of, is_among, dependents};
 ghost use Rattle.sleep_model.proofs.Walks.{AllDifferent};
-ghost use Rattle.sleep_model.specs.Links.{first_places};
-ghost use Rattle.sleep_model.specs.declared.place.Stand.TheVariants as stand;
-ghost use Rattle.async_board.specs.Walks.{IsPlaced, IsLayout, IsWalk, MayRestart};
+ghost use Rattle.sleep_model.specs.Links.{first_occurrences};
+ghost use Rattle.sleep_model.specs.declared.progress.PhaseState.TheVariants as state;
+ghost use Rattle.async_board.specs.Walks.{AreIndices, IsLayout, IsWalk, MayRestart};
 ghost use Rattle.async_board.specs.Counts.{IsLengths};
 
 use crate::cursors::Cursors;
 use device_links::Links;
 use sleep_base::Mem;
-use sleep_model::Stand;
+use sleep_model::PhaseState;
 use std::alloc::Global;
 
 /// What no attempt changes: the links, the place of each device in their order, and which devices are
@@ -20,7 +20,7 @@ use std::alloc::Global;
 #[derive(Drop)]
 pub(crate) struct Layout {
     pub(crate) links: Links,
-    pub(crate) places: Vec<usize>,
+    pub(crate) indices: Vec<usize>,
     pub(crate) asynchronous: Vec<bool>,
 }
 
@@ -29,7 +29,7 @@ pub(crate) struct Layout {
 /// above it that are not up.
 #[derive(Drop)]
 pub(crate) struct Walk {
-    pub(crate) stands: Vec<Stand>,
+    pub(crate) states: Vec<PhaseState>,
     pub(crate) cursors: Cursors,
     pub(crate) failed: bool,
     pub(crate) open_below: Vec<usize>,
@@ -37,49 +37,49 @@ pub(crate) struct Walk {
 }
 
 /// Gives each device its place in an order that has each once.
-pub(crate) fn fill_places(places: &mut [usize], order: &[u32])
-    requires size { length places.old ≡ length order.now }
+pub(crate) fn fill_indices(indices: &mut [usize], order: &[u32])
+    requires size { length indices.old ≡ length order.now }
     requires different { AllDifferent order.now }
     requires covers { (d : ℕ) → d < length order.now → is_among order.now d ≡ true }
     requires within { (d : ℕ) → is_among order.now d ≡ true → d < length order.now }
-    ensures { IsPlaced order.now places.new }
+    ensures { AreIndices order.now indices.new }
 {
     for (place, device) in order.iter().enumerate() {
-        places[*device as usize] = place;
+        indices[*device as usize] = place;
     }
 }
 
 /// Gives each device its place in an order that has each once, unless it is known to have it.
-pub(crate) fn refill_places(places: &mut [usize], order: &[u32], are_kept: bool)
-    requires size { length places.old ≡ length order.now }
+pub(crate) fn refill_indices(indices: &mut [usize], order: &[u32], are_unchanged: bool)
+    requires size { length indices.old ≡ length order.now }
     requires different { AllDifferent order.now }
     requires covers { (d : ℕ) → d < length order.now → is_among order.now d ≡ true }
     requires within { (d : ℕ) → is_among order.now d ≡ true → d < length order.now }
-    requires kept { OnTrue are_kept (IsPlaced order.now places.old) }
-    ensures { IsPlaced order.now places.new }
+    requires kept { OnTrue are_unchanged (AreIndices order.now indices.old) }
+    ensures { AreIndices order.now indices.new }
 {
-    if !are_kept {
-        fill_places(places, order);
+    if !are_unchanged {
+        fill_indices(indices, order);
     }
 }
 
 /// The place of each device in an order that has each once.
-pub(crate) fn places_of(alloc: Global, order: &[u32]) -> Result<Vec<usize>, Mem>
+pub(crate) fn indices_of(alloc: Global, order: &[u32]) -> Result<Vec<usize>, Mem>
     requires different { AllDifferent order.now }
     requires covers { (d : ℕ) → d < length order.now → is_among order.now d ≡ true }
     requires within { (d : ℕ) → is_among order.now d ≡ true → d < length order.now }
-    ensures { IfOk result (λ v. IsPlaced order.now v.items) }
+    ensures { IfOk result (λ v. AreIndices order.now v.items) }
 {
-    let mut places = vec![in alloc; 0; order.len()]?;
-    fill_places(&mut places, order);
-    Ok(places)
+    let mut indices = vec![in alloc; 0; order.len()]?;
+    fill_indices(&mut indices, order);
+    Ok(indices)
 }
 
 // Counts how many devices depend directly on each.
 fn count_below(counts: &mut [usize], links: &Links)
     requires size { length counts.old ≡ length links.now.parents }
     ensures { IsLengths (length links.now.parents)
-        (λ d. first_places (dependents links.now.parents (active_of links.now.links) d)) counts.new }
+        (λ d. first_occurrences (dependents links.now.parents (active_of links.now.links) d)) counts.new }
 {
     let order = links.order();
     for device in order {
@@ -91,7 +91,7 @@ fn count_below(counts: &mut [usize], links: &Links)
 fn recount_below(counts: &mut Vec<usize>, links: &Links)
     requires size { length counts.old.items ≡ length links.now.parents }
     ensures { IsLengths (length links.now.parents)
-        (λ d. first_places (dependents links.now.parents (active_of links.now.links) d)) counts.new.items }
+        (λ d. first_occurrences (dependents links.now.parents (active_of links.now.links) d)) counts.new.items }
 {
     count_below(counts, links);
 }
@@ -101,9 +101,9 @@ fn recount_at(counts: &mut Vec<usize>, links: &Links, device: u32)
     requires size { length counts.old.items ≡ length links.now.parents }
     requires others { (d : ℕ) → d < length links.now.parents → d ≢ device →
         slice_index_or counts.old.items d 0
-        ≡ length (first_places (dependents links.now.parents (active_of links.now.links) d)) }
+        ≡ length (first_occurrences (dependents links.now.parents (active_of links.now.links) d)) }
     ensures { IsLengths (length links.now.parents)
-        (λ d. first_places (dependents links.now.parents (active_of links.now.links) d)) counts.new.items }
+        (λ d. first_occurrences (dependents links.now.parents (active_of links.now.links) d)) counts.new.items }
 {
     let number = device as usize;
     if number < counts.len() {
@@ -114,7 +114,7 @@ fn recount_at(counts: &mut Vec<usize>, links: &Links, device: u32)
 // How many devices depend directly on each.
 fn counts_below(alloc: Global, links: &Links) -> Result<Vec<usize>, Mem>
     ensures { IfOk result (λ v. IsLengths (length links.now.parents)
-        (λ d. first_places (dependents links.now.parents (active_of links.now.links) d)) v.items) }
+        (λ d. first_occurrences (dependents links.now.parents (active_of links.now.links) d)) v.items) }
 {
     let mut counts = vec![in alloc; 0; links.order().len()]?;
     recount_below(&mut counts, links);
@@ -141,13 +141,13 @@ impl Walk {
     /// No device is prepared. `Mem` if there is no memory for it.
     pub(crate) fn new(alloc: Global, layout: &Layout) -> Result<Walk, Mem>
         requires { IsLayout layout.now }
-        ensures stands { IfOk result (λ w. w.stands.items
-            ≡ replicate (length layout.now.links.parents) stand.Unprepared) }
+        ensures states { IfOk result (λ w. w.states.items
+            ≡ replicate (length layout.now.links.parents) state.Unprepared) }
         ensures kept { IfOk result (λ w. IsWalk layout.now w) }
     {
         let count = layout.links.order().len();
         Ok(Walk {
-            stands: vec![in alloc; Stand::Unprepared; count]?,
+            states: vec![in alloc; PhaseState::Unprepared; count]?,
             cursors: first_cursors(count),
             failed: false,
             open_below: counts_below(alloc, &layout.links)?,
@@ -159,10 +159,10 @@ impl Walk {
     // cursor tells, only what depends on the supplier has changed.
     fn settle(&mut self, layout: &Layout, supplier: u32)
         requires { MayRestart layout.now supplier self.old }
-        ensures stands { self.new.stands.items
-            ≡ replicate (length layout.now.links.parents) stand.Unprepared }
+        ensures states { self.new.states.items
+            ≡ replicate (length layout.now.links.parents) state.Unprepared }
         ensures below { IsLengths (length layout.now.links.parents)
-            (λ d. first_places (dependents layout.now.links.parents (active_of layout.now.links.links) d))
+            (λ d. first_occurrences (dependents layout.now.links.parents (active_of layout.now.links.links) d))
             self.new.open_below.items }
         ensures above { self.new.open_above.items ≡ replicate (length layout.now.links.parents) 0 }
     {
@@ -170,7 +170,7 @@ impl Walk {
         if self.cursors.prepared == 0 {
             recount_at(&mut self.open_below, links, supplier);
         } else {
-            self.stands.fill(Stand::Unprepared);
+            self.states.fill(PhaseState::Unprepared);
             recount_below(&mut self.open_below, links);
             self.open_above.fill(0);
         }
@@ -179,8 +179,8 @@ impl Walk {
     /// Begins anew, no device prepared, over links that have changed right below this supplier alone.
     pub(crate) fn restart(&mut self, layout: &Layout, supplier: u32)
         requires { MayRestart layout.now supplier self.old }
-        ensures stands { self.new.stands.items
-            ≡ replicate (length layout.now.links.parents) stand.Unprepared }
+        ensures states { self.new.states.items
+            ≡ replicate (length layout.now.links.parents) state.Unprepared }
         ensures kept { IsWalk layout.now self.new }
     {
         self.settle(layout, supplier);

@@ -9,10 +9,10 @@ use Rattle.sleep_model.specs.declared.machine.Answer.{Answer}
 use Rattle.sleep_model.specs.declared.machine.Machine.{Machine}
 use Rattle.sleep_model.specs.declared.machine.What.{What}
 use Rattle.sleep_model.specs.declared.machine.What.TheVariants as what
-use Rattle.sleep_model.specs.declared.place.Due.{Due}
-use Rattle.sleep_model.specs.declared.place.Due.TheVariants.{Makes}
-use Rattle.sleep_model.specs.declared.place.Stage.{Stage}
-use Rattle.sleep_model.specs.declared.place.Stage.TheVariants as stage
+use Rattle.sleep_model.specs.declared.progress.Due.{Due}
+use Rattle.sleep_model.specs.declared.progress.Due.TheVariants.{Makes}
+use Rattle.sleep_model.specs.declared.progress.Stage.{Stage}
+use Rattle.sleep_model.specs.declared.progress.Stage.TheVariants as stage
 use Rattle.sleep_model.specs.declared.word.EventNow.{EventNow}
 use Rattle.phase_table.specs.declared.phase.Phase.TheVariants as phase
 use Rattle.sleep_model.specs.Accepted.{IsAccepted, AreAnswers, is_ret_of}
@@ -23,7 +23,7 @@ use Rattle.sleep_model.specs.Due.{due, own_due}
 use Rattle.sleep_model.specs.Legal.{JournalPart}
 use Rattle.sleep_model.specs.Order.{order, links_at, is_among, parents_of}
 use Rattle.sleep_model.specs.Path.{attempts, maker, is_actor}
-use Rattle.sleep_model.specs.Table.{stage_of, behind}
+use Rattle.sleep_model.specs.Table.{stage_of, next_stage}
 use Rattle.sleep_model.proofs.Acyclic.{order_within}
 use Rattle.sleep_laws.proofs.Linking.{links_stand}
 use Rattle.sleep_laws.proofs.Made.{Made, Comes, AtOnce}
@@ -77,7 +77,7 @@ prepare_fits m acc past now who d r due_is a s f n =
     let thing : What = what.Device d phase.Prepare in
     let one : due m past who now ≡ due_at m past now (stage_of past) = ap (λ b. cond b (attempt_due m past now) (own_due m past who now)) a in
     let two : due_at m past now (stage_of past) ≡ due_at m past now (Some stage.Prepares) = ap (due_at m past now) s in
-    let rest : Due = stage_due m past now (behind stage.Prepares) in
+    let rest : Due = stage_due m past now (next_stage stage.Prepares) in
     let three : due_at m past now (Some stage.Prepares) ≡ or_next (prepare_due m past None (next_prepared m past)) rest = ap (λ o. or_next (prepare_due m past o (next_prepared m past)) rest) f in
     let four : or_next (prepare_due m past None (next_prepared m past)) rest ≡ Makes (kind.Prepare d (answer_number (answer m thing (attempts past)))) = ap (λ o. or_next (prepare_due m past None o) rest) n in
     let same : Makes (kind.Prepare d r) ≡ Makes (kind.Prepare d (answer_number (answer m thing (attempts past)))) = sym due_is ∙ (one ∙ (two ∙ (three ∙ four))) in

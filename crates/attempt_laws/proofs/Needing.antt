@@ -8,29 +8,29 @@ use Rattle.sleep_model.specs.declared.entry.Kind.{Kind}
 use Rattle.sleep_model.specs.declared.entry.Kind.TheVariants as kind
 use Rattle.sleep_model.specs.declared.machine.Machine.{Machine}
 use Rattle.sleep_model.specs.declared.machine.Op.{Op}
-use Rattle.sleep_model.specs.declared.place.Due.TheVariants.{Makes}
-use Rattle.sleep_model.specs.declared.place.Seat.{Seat}
-use Rattle.sleep_model.specs.declared.place.Stage.{Stage}
-use Rattle.sleep_model.specs.declared.place.Stand.{Stand}
-use Rattle.sleep_model.specs.declared.place.Stand.TheVariants as stand
-use Rattle.sleep_model.specs.declared.place.Work.{Work}
+use Rattle.sleep_model.specs.declared.progress.Due.TheVariants.{Makes}
+use Rattle.sleep_model.specs.declared.progress.ScriptPosition.{ScriptPosition}
+use Rattle.sleep_model.specs.declared.progress.Stage.{Stage}
+use Rattle.sleep_model.specs.declared.progress.PhaseState.{PhaseState}
+use Rattle.sleep_model.specs.declared.progress.PhaseState.TheVariants as state
+use Rattle.sleep_model.specs.declared.progress.Work.{Work}
 use Rattle.sleep_model.specs.declared.word.EventNow.{EventNow}
 use Rattle.phase_table.specs.declared.phase.Phase.TheVariants as phase
 use Rattle.sleep_model.specs.Accepted.{IsAccepted}
 use Rattle.sleep_model.specs.Devices.{is_device}
 use Rattle.sleep_model.specs.Due.{due}
 use Rattle.sleep_model.specs.Legal.{JournalPart, JournalStep}
-use Rattle.sleep_model.specs.Notifiers.{told, cpus_off, stopped}
-use Rattle.sleep_model.specs.Parts.{Part, OfJournal, Notes, Moves, OfTime, part_of}
+use Rattle.sleep_model.specs.Notifiers.{notified_flags, cpus_off, stopped}
+use Rattle.sleep_model.specs.EntryClasses.{EntryClass, OfJournal, Notes, Moves, OfTime, class_of}
 use Rattle.sleep_model.specs.Path.{maker, is_actor}
 use Rattle.sleep_model.specs.Table.{stage_of, stage_after}
 use Rattle.sleep_laws.proofs.Boards.{Three, all_three, three}
-use Rattle.sleep_laws.proofs.Holding.{StageMaker, held, stage_none, entry_of, Aside, Moved, Opens, Makes, Beside, Owns, entry_moved}
+use Rattle.sleep_laws.proofs.LockHolding.{StageMaker, lock_agrees, stage_none, entry_of, Outside, Moved, Opens, Makes, Beside, Owns, entry_moved}
 use Rattle.sleep_laws.proofs.Made.{InSuspend, InLate, InNoirq, Made, Comes, TaskMade, StepMade, WorkMade, DeviceMade, EntryMade, ByMaker, ByTask, ByWork, ByDevice, ByTime}
 use Rattle.sleep_laws.proofs.MakingOwn.{made, entry_made, by_maker}
 use Rattle.sleep_laws.proofs.Moods.{when_empty}
-use Rattle.sleep_laws.proofs.Passing.{standing, standing_made}
-use Rattle.sleep_laws.proofs.Standing.{Standing}
+use Rattle.sleep_laws.proofs.Passing.{device_phases, device_phases_made}
+use Rattle.sleep_laws.proofs.DevicePhases.{DevicePhases}
 use Rattle.attempt_laws.specs.Room.{needed, needed_at, enough, is_attempt, devices_need, NoneNeededOutside, AttemptNeedsFew, OwnEntrySpends, DeviceEntrySpends, OthersNeedNothing}
 use Rattle.attempt_laws.proofs.Falling.{FitsKind}
 use Rattle.attempt_laws.proofs.Fitting.{order_inside, due_fits}
@@ -68,7 +68,7 @@ makes_no_device _ h = absurd (true≢false (sym h))
 
 module _ (m : Machine) (past : List Entry) (h : JournalPart m past) where
   maker_is : (who : Actor) → is_actor who (maker past) ≡ true → makes_attempts who ≡ true
-  maker_is who a = maker_task who (maker past) (stage_of past) a (held m past h).2
+  maker_is who a = maker_task who (maker past) (stage_of past) a (lock_agrees m past h).2
 
   -- ---- where none is open
 
@@ -84,7 +84,7 @@ module _ (m : Machine) (past : List Entry) (h : JournalPart m past) where
     by_the_maker acc who here there k a e c x f =
         by_maker m past now k here there (λ s. needed_at m past s ≤ needed_at m past (stage_of past)) (λ s. needed_at m (entry_of time now who k ∷ past) s + 1 ≤ needed_at m past (stage_of past)) e c x
         (λ before. let less = comes_less m past here there c in omega (arith, before, less))
-        (λ before. let falls = maker_spends m past time now who (order_inside m acc past h) there k x f (standing_made m past h here there e c) in omega (arith, before, falls))
+        (λ before. let falls = maker_spends m past time now who (order_inside m acc past h) there k x f (device_phases_made m past h here there e c) in omega (arith, before, falls))
         (omega arith)
 
     spends_made : IsAccepted m → (who : Actor) (k : Kind) → due m past who now ≡ Makes k → is_actor who (maker past) ≡ true → EntryMade m past now who k → needed m (entry_of time now who k ∷ past) + 1 ≤ needed m past
@@ -105,7 +105,7 @@ module _ (m : Machine) (past : List Entry) (h : JournalPart m past) where
     device_spends_made who k a (ByMaker _ here there _ b e c x) = absurd (true≢false (sym (maker_is who b) ∙ makes_no_device who a))
     device_spends_made _ k a (ByTask i _ b x) = absurd (true≢false (sym a))
     device_spends_made _ k a (ByWork w _ b s o e x) = absurd (true≢false (sym a))
-    device_spends_made _ k a (ByDevice d _ b x) = own_spends m past time now d k (stage_of past) x (standing m past h)
+    device_spends_made _ k a (ByDevice d _ b x) = own_spends m past time now d k (stage_of past) x (device_phases m past h)
     device_spends_made _ _ a ByTime = absurd (true≢false (sym a))
 
     -- what is due of a device spends a place
@@ -122,11 +122,11 @@ module _ (m : Machine) (past : List Entry) (h : JournalPart m past) where
 
     -- ---- anybody else
 
-    step_needs : (i : ℕ) (seat : Seat) (asked : Bool) (o : Option Op) (k : Kind) (s : Option Stage) → StepMade m past now seat asked o k → is_attempt k ≡ false → needed_at m (entry_of time now (actor.Script i) k ∷ past) (stage_after k s) ≡ needed_at m past s
-    step_needs i seat asked _ _ s (StepMade.Attempts text if_saved f o) n = absurd (true≢false n)
-    step_needs i seat asked _ _ None StepMade.Exits n = refl
-    step_needs i seat asked _ _ None _ n = refl
-    step_needs i seat asked _ _ (Some here) _ n = refl
+    step_needs : (i : ℕ) (position : ScriptPosition) (asked : Bool) (o : Option Op) (k : Kind) (s : Option Stage) → StepMade m past now position asked o k → is_attempt k ≡ false → needed_at m (entry_of time now (actor.Script i) k ∷ past) (stage_after k s) ≡ needed_at m past s
+    step_needs i position asked _ _ s (StepMade.Attempts text if_saved f o) n = absurd (true≢false n)
+    step_needs i position asked _ _ None StepMade.Exits n = refl
+    step_needs i position asked _ _ None _ n = refl
+    step_needs i position asked _ _ (Some here) _ n = refl
 
     work_needs : (w : Work) (k : Kind) (s : Option Stage) → WorkMade m past now w k → is_attempt k ≡ false → needed_at m (entry_of time now actor.Auto k ∷ past) (stage_after k s) ≡ needed_at m past s
     work_needs _ _ s (WorkMade.Attempts c o) n = absurd (true≢false n)
@@ -165,9 +165,9 @@ module _ (m : Machine) (past : List Entry) (h : JournalPart m past) where
     made_none _ _ (Made.Notifies x e) n = true≢false (sym n)
     made_none _ _ _ n = true≢false (sym n)
 
-    aside_none : (k : Kind) {s : Option Stage} → Aside s k → is_attempt k ≡ true → ⊥
-    aside_none _ Aside.Frozen n = true≢false (sym n)
-    aside_none _ _ n = true≢false (sym n)
+    outside_none : (k : Kind) {s : Option Stage} → Outside s k → is_attempt k ≡ true → ⊥
+    outside_none _ Outside.Frozen n = true≢false (sym n)
+    outside_none _ _ n = true≢false (sym n)
 
     own_none : (d : ℕ) (k : Kind) → DeviceMade m past now d k → is_attempt k ≡ true → ⊥
     own_none d _ (DeviceMade.OwnFails p r i g f) n = true≢false (sym n)
@@ -177,22 +177,22 @@ module _ (m : Machine) (past : List Entry) (h : JournalPart m past) where
     opens_outside : (who : Actor) (k : Kind) → Moved m past now who k → is_attempt k ≡ true → stage_of past ≡ None
     opens_outside who _ (Opens _ n guarded f e) a = e
     opens_outside who k (Makes _ here there _ b e c x) a = absurd (made_none there k x a)
-    opens_outside who k (Beside _ _ b x) a = absurd (aside_none k x a)
+    opens_outside who k (Beside _ _ b x) a = absurd (outside_none k x a)
     opens_outside _ k (Owns d _ x) a = absurd (own_none d k x a)
 
-    unprepared : (s : Stand) → when_empty s ≡ true → s ≡ stand.Unprepared
-    unprepared stand.Unprepared e = refl
+    unprepared : (s : PhaseState) → when_empty s ≡ true → s ≡ state.Unprepared
+    unprepared state.Unprepared e = refl
     unprepared _ e = absurd (true≢false (sym e))
 
-    all_unprepared : Standing m past None → (d : ℕ) → three m past d ≡ all_three stand.Unprepared
+    all_unprepared : DevicePhases m past None → (d : ℕ) → three m past d ≡ all_three state.Unprepared
     all_unprepared s d = same (unprepared _ ((s.0 d).allowed phase.Suspend InSuspend)) (unprepared _ ((s.0 d).allowed phase.Late InLate)) (unprepared _ ((s.0 d).allowed phase.Noirq InNoirq))
       where
-        same : {a b c x y z : Stand} → a ≡ x → b ≡ y → c ≡ z → ◌≡◌ {A = Three} (record { suspend = a; late = b; noirq = c }) (record { suspend = x; late = y; noirq = z })
+        same : {a b c x y z : PhaseState} → a ≡ x → b ≡ y → c ≡ z → ◌≡◌ {A = Three} (record { suspend = a; late = b; noirq = c }) (record { suspend = x; late = y; noirq = z })
         same f g i = cc
 
-    opens_few : (who : Actor) (k : Kind) (s : Option Stage) → is_attempt k ≡ true → Standing m past None → needed_at m (entry_of time now who k ∷ past) (stage_after k s) + 1 ≤ enough m
+    opens_few : (who : Actor) (k : Kind) (s : Option Stage) → is_attempt k ≡ true → DevicePhases m past None → needed_at m (entry_of time now who k ∷ past) (stage_after k s) + 1 ≤ enough m
     opens_few who (kind.Attempt n guarded) s a x =
-        let tells = things_most (length m.notifiers) (told m past) true in
+        let tells = things_most (length m.notifiers) (notified_flags m past) true in
         let cpus = things_most m.cpus (cpus_off m.cpus past) true in
         let parts = things_most (length m.syscore) (stopped (length m.syscore) past) true in
         let devices : devices_need m true past ≤ 20 * length m.devices = devices_most m past true (all_unprepared x) in
@@ -201,7 +201,7 @@ module _ (m : Machine) (past : List Entry) (h : JournalPart m past) where
 
     few_made : (who : Actor) (k : Kind) → is_attempt k ≡ true → EntryMade m past now who k → needed m (entry_of time now who k ∷ past) + 1 ≤ enough m
     unfolding needed
-    few_made who k a x = opens_few who k (stage_of past) a (subst (Standing m past) (opens_outside who k (entry_moved m past now who k x (held m past h)) a) (standing m past h))
+    few_made who k a x = opens_few who k (stage_of past) a (subst (DevicePhases m past) (opens_outside who k (entry_moved m past now who k x (lock_agrees m past h)) a) (device_phases m past h))
 
     -- an attempt that is due finds enough
     pub due_attempt_needs : (who : Actor) (k : Kind) → due m past who now ≡ Makes k → is_attempt k ≡ true → needed m (entry_of time now who k ∷ past) + 1 ≤ enough m
@@ -210,7 +210,7 @@ module _ (m : Machine) (past : List Entry) (h : JournalPart m past) where
 -- ---- the laws
 
 -- an entry of the journal that is no jump is due of its actor
-step_due : (m : Machine) (past : List Entry) (e : Entry) (p : Part) → JournalStep m past e p → (e.actor ≡ actor.Time → ⊥) → due m past e.actor e.now ≡ Makes e.kind
+step_due : (m : Machine) (past : List Entry) (e : Entry) (p : EntryClass) → JournalStep m past e p → (e.actor ≡ actor.Time → ⊥) → due m past e.actor e.now ≡ Makes e.kind
 step_due m past e OfJournal h n = h.0
 step_due m past e OfTime h n = absurd (n h.0)
 step_due m past e (Notes s call) h n = absurd h
@@ -225,7 +225,7 @@ attempt_needs_few m past e h a = few_made m past h.1 e.time e.now e.actor e.kind
 pub own_entry_spends : OwnEntrySpends
 own_entry_spends m past e acc h a =
     due_spends m past h.1 e.time e.now acc e.actor e.kind
-    (step_due m past e (part_of e.kind) h.0 (λ t. true≢false (sym (maker_is m past h.1 e.actor a) ∙ ap makes_attempts t))) a
+    (step_due m past e (class_of e.kind) h.0 (λ t. true≢false (sym (maker_is m past h.1 e.actor a) ∙ ap makes_attempts t))) a
 
 pub device_entry_spends : DeviceEntrySpends
 device_entry_spends m past e h a = device_spends_made m past h.1 e.time e.now e.actor e.kind a (entry_made m past e h)

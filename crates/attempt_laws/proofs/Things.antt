@@ -22,7 +22,7 @@ thing_less false a false h = omega arith
 thing_less false true true h = omega arith
 thing_less false false true h = absurd (true≢false (sym h))
 
--- things that are behind need no more
+-- things that are after need no more
 pub things_less : (n : ℕ) (flags : List Bool) (a b : Bool) → leads b a ≡ true → things_need n b flags ≤ things_need n a flags
 things_less n flags a b h = sum_less n (λ x. thing_needs (is_so flags x) a) (λ x. thing_needs (is_so flags x) b) (λ x. thing_less (is_so flags x) a b h)
 

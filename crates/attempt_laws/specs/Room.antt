@@ -8,16 +8,16 @@ use Rattle.sleep_model.specs.declared.entry.Thaw.TheVariants as thaw
 use Rattle.sleep_model.specs.declared.machine.Machine.{Machine}
 use Rattle.sleep_model.specs.declared.machine.PlatDo.TheVariants as down
 use Rattle.sleep_model.specs.declared.machine.PlatUndo.TheVariants as undo
-use Rattle.sleep_model.specs.declared.place.Stage.{Stage}
-use Rattle.sleep_model.specs.declared.place.Stage.TheVariants as stage
-use Rattle.sleep_model.specs.declared.place.Stand.{Stand}
-use Rattle.sleep_model.specs.declared.place.Stand.TheVariants as stand
+use Rattle.sleep_model.specs.declared.progress.Stage.{Stage}
+use Rattle.sleep_model.specs.declared.progress.Stage.TheVariants as stage
+use Rattle.sleep_model.specs.declared.progress.PhaseState.{PhaseState}
+use Rattle.sleep_model.specs.declared.progress.PhaseState.TheVariants as state
 use Rattle.phase_table.specs.declared.phase.Phase.TheVariants as phase
 use Rattle.sleep_model.specs.Accepted.{IsAccepted}
 use Rattle.sleep_model.specs.Attempt.{freeze_since, sleep_of}
-use Rattle.sleep_model.specs.Devices.{is_device, phase_failed, stand_in}
+use Rattle.sleep_model.specs.Devices.{is_device, phase_failed, state_in}
 use Rattle.sleep_model.specs.Legal.{JournalPart}
-use Rattle.sleep_model.specs.Notifiers.{told, cpus_off, stopped}
+use Rattle.sleep_model.specs.Notifiers.{notified_flags, cpus_off, stopped}
 use Rattle.sleep_model.specs.Path.{is_actor, maker}
 use Rattle.sleep_model.specs.Table.{stage_of}
 use Rattle.sleep_model.specs.Walk.{is_so}
@@ -82,9 +82,9 @@ abbrev pub things_need : ℕ → Bool → List Bool → ℕ
 things_need n ahead flags = sum_below n (λ x. thing_needs (is_so flags x) ahead)
 
 -- notifiers may still be told (PM_SUSPEND_PREPARE)
-abbrev pub tells_ahead : Stage → Bool
-tells_ahead stage.Notifies = true
-tells_ahead _ = false
+abbrev pub notifies_ahead : Stage → Bool
+notifies_ahead stage.Notifies = true
+notifies_ahead _ = false
 
 -- the way down to the stopping of processors (freeze_secondary_cpus)
 abbrev pub cpus_ahead : Stage → Bool
@@ -97,39 +97,39 @@ cpus_ahead stage.StopsCpus = true
 cpus_ahead _ = false
 
 -- the way down to the suspending of the core's parts (syscore_suspend)
-abbrev pub parts_ahead : Stage → Bool
-parts_ahead stage.StopsIrqs = true
-parts_ahead stage.Checks = true
-parts_ahead stage.StopsSyscore = true
-parts_ahead here = cpus_ahead here
+abbrev pub syscore_ahead : Stage → Bool
+syscore_ahead stage.StopsIrqs = true
+syscore_ahead stage.Checks = true
+syscore_ahead stage.StopsSyscore = true
+syscore_ahead here = cpus_ahead here
 
 -- ---- devices
 
 -- the entries that a device may still make in a phase and its mirror (__device_suspend, device_resume)
-abbrev pub stand_needs : Stand → ℕ
-stand_needs stand.Prepared = 6
-stand_needs stand.Scheduled = 5
-stand_needs stand.Suspending = 4
-stand_needs stand.Suspended = 3
-stand_needs stand.Rescheduled = 2
-stand_needs stand.Resuming = 1
-stand_needs _ = 0
+abbrev pub state_needs : PhaseState → ℕ
+state_needs state.Prepared = 6
+state_needs state.Scheduled = 5
+state_needs state.Suspending = 4
+state_needs state.Suspended = 3
+state_needs state.Rescheduled = 2
+state_needs state.Resuming = 1
+state_needs _ = 0
 
 -- a prepared device is to be completed; where more may be prepared another needs all that a device does (device_prepare, device_complete)
-abbrev pub prepared_needs : Stand → Bool → ℕ
-prepared_needs stand.Unprepared true = 20
-prepared_needs stand.Unprepared false = 0
+abbrev pub prepared_needs : PhaseState → Bool → ℕ
+prepared_needs state.Unprepared true = 20
+prepared_needs state.Unprepared false = 0
 prepared_needs _ ahead = 1
 
 -- what a device needs that stands so in suspend, late and noirq, and their mirrors
-abbrev pub device_needs : Bool → Stand → Stand → Stand → ℕ
+abbrev pub device_needs : Bool → PhaseState → PhaseState → PhaseState → ℕ
 device_needs ahead suspend late noirq =
-    prepared_needs suspend ahead + (stand_needs suspend + (stand_needs late + stand_needs noirq))
+    prepared_needs suspend ahead + (state_needs suspend + (state_needs late + state_needs noirq))
 
 -- what device d needs
 abbrev pub device_need : Machine → Bool → List Entry → ℕ → ℕ
 device_need m ahead past d =
-    device_needs ahead (stand_in m past phase.Suspend d) (stand_in m past phase.Late d) (stand_in m past phase.Noirq d)
+    device_needs ahead (state_in m past phase.Suspend d) (state_in m past phase.Late d) (state_in m past phase.Noirq d)
 
 -- what the devices need
 abbrev pub devices_need : Machine → Bool → List Entry → ℕ
@@ -150,12 +150,12 @@ abbrev pub needed_at : Machine → List Entry → Option Stage → ℕ
 needed_at m past None = 0
 needed_at m past (Some here) =
     rows_from here (is_some (freeze_since past)) (is_some (sleep_of past))
-    + (things_need (length m.notifiers) (tells_ahead here) (told m past)
+    + (things_need (length m.notifiers) (notifies_ahead here) (notified_flags m past)
     + (things_need m.cpus (cpus_ahead here) (cpus_off m.cpus past)
-    + (things_need (length m.syscore) (parts_ahead here) (stopped (length m.syscore) past)
+    + (things_need (length m.syscore) (syscore_ahead here) (stopped (length m.syscore) past)
     + devices_need m (prepares_ahead here (is_some (phase_failed past))) past)))
 
--- the places of the journal that the open attempt may still need: 0 where none is open (enter_state)
+-- the places of the journal that the open attempt may still need: 0 if none is open (enter_state)
 unfoldable pub needed : Machine → List Entry → ℕ
 needed m past = needed_at m past (stage_of past)
 

@@ -10,7 +10,7 @@
 
 ghost use Rattle.attempt_laws.specs.Room.{NoneNeededOutside, AttemptNeedsFew, OwnEntrySpends, DeviceEntrySpends, OthersNeedNothing};
 
-/// Where no attempt is open no place is needed.
+/// If no attempt is open no place is needed.
 #[tactic(auto, using(crate::proofs::Needing::none_needed_outside))]
 pub fn none_needed_outside()
     ensures { NoneNeededOutside }

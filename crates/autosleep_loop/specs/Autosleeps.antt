@@ -4,10 +4,10 @@ use Rattle.sleep_model.specs.declared.entry.Actor.{Actor}
 use Rattle.sleep_model.specs.declared.entry.Kind.{Kind}
 use Rattle.sleep_model.specs.declared.entry.Kind.TheVariants as kind
 use Rattle.sleep_model.specs.declared.log.Why.TheVariants as why
-use Rattle.sleep_model.specs.declared.place.Due.{Due}
-use Rattle.sleep_model.specs.declared.place.Due.TheVariants.{Makes, Waits}
-use Rattle.sleep_model.specs.declared.place.Work.{Work}
-use Rattle.sleep_model.specs.declared.place.Work.TheVariants.{Resting, Reading, Saving, Attempting, Looking, Napping, Closing}
+use Rattle.sleep_model.specs.declared.progress.Due.{Due}
+use Rattle.sleep_model.specs.declared.progress.Due.TheVariants.{Makes, Waits}
+use Rattle.sleep_model.specs.declared.progress.Work.{Work}
+use Rattle.sleep_model.specs.declared.progress.Work.TheVariants.{Resting, Reading, Saving, Attempting, Looking, Napping, Closing}
 use Rattle.sleep_model.specs.declared.word.EventNow.{EventNow}
 use Rattle.sleep_model.specs.Autosleep.{work_after, queued_after, runs_after, auto_save, seen_count}
 use Rattle.sleep_model.specs.Lock.{holder_after, on_after}
@@ -22,8 +22,8 @@ pub record AutosleepState : Type 0 where
   pub runs : ℕ
 
 -- nobody holds the lock, autosleep is off, and the work rests
-abbrev pub resting : AutosleepState
-resting = record { holder = None; on = false; work = Resting; queued = false; runs = 0 }
+abbrev pub idle_work : AutosleepState
+idle_work = record { holder = None; on = false; work = Resting; queued = false; runs = 0 }
 
 -- what an entry of that actor does (pm_autosleep_set_state, try_to_suspend)
 abbrev pub autosleep_after : Kind → Actor → AutosleepState → AutosleepState

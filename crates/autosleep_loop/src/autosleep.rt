@@ -158,11 +158,11 @@ fn runs_after(kind: Kind, before: u32) -> u32
 impl Autosleep {
     ghost use Rattle.std.specs.Prelude.{◌≡◌, ◌<◌, ◌^◌};
     ghost use Rattle.sleep_model.specs.Autosleep.{runs_after};
-    ghost use Rattle.autosleep_loop.specs.Autosleeps.{autosleep_after, resting};
+    ghost use Rattle.autosleep_loop.specs.Autosleeps.{autosleep_after, idle_work};
 
     /// Nobody holds the lock, autosleep is off, and the work rests.
     pub fn new() -> Self
-        ensures { result ≡ resting }
+        ensures { result ≡ idle_work }
     {
         Autosleep {
             holder: None,

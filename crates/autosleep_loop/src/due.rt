@@ -1,7 +1,7 @@
 //! What the autosleep work does next (`try_to_suspend`).
 
 ghost use Rattle.std.specs.Prelude.{◌≡◌, ◌≤◌, ◌^◌};
-ghost use Rattle.sleep_model.specs.declared.place.Due.TheVariants.{Makes};
+ghost use Rattle.sleep_model.specs.declared.progress.Due.TheVariants.{Makes};
 ghost use Rattle.sleep_model.specs.Autosleep.{auto_save, seen_count, naps_until};
 ghost use Rattle.autosleep_loop.specs.Autosleeps.{saving_due, nap_due, turn_due};
 

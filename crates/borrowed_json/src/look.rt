@@ -12,14 +12,14 @@ use crate::numbers::number_of;
 use json::Value;
 use serde_json::Number;
 
-/// The text that it is; None where it is none.
+/// The text that it is; None if it is none.
 pub fn as_str<'a>(value: &Value<'a>) -> Option<&'a str>
     ensures { option_map (λ s. s.now) result ≡ as_str (view value.now) }
 {
     value.as_str()
 }
 
-/// The truth value that it is; None where it is none.
+/// The truth value that it is; None if it is none.
 pub fn as_bool(value: &Value<'_>) -> Option<bool>
     ensures { result ≡ as_bool (view value.now) }
 {
@@ -32,21 +32,21 @@ fn number_in(value: &Value<'_>) -> Option<Number>
     number_of(value.as_number()?)
 }
 
-/// The whole number of 64 bits that it is, without sign, fraction and exponent; None where it is none.
+/// The whole number of 64 bits that it is, without sign, fraction and exponent; None if it is none.
 pub fn as_u64(value: &Value<'_>) -> Option<u64>
     ensures { result ≡ option_and_then as_u64 (as_number (view value.now)) }
 {
     number_in(value)?.as_u64()
 }
 
-/// The whole number of 64 bits and a sign that it is, without fraction and exponent; None where it is none. `-0` is none.
+/// The whole number of 64 bits and a sign that it is, without fraction and exponent; None if it is none. `-0` is none.
 pub fn as_i64(value: &Value<'_>) -> Option<i64>
     ensures { result ≡ option_and_then as_i64 (as_number (view value.now)) }
 {
     number_in(value)?.as_i64()
 }
 
-/// The items of the array that it is; None where it is none.
+/// The items of the array that it is; None if it is none.
 #[tactic(auto, unfolding(crate::specs::View::view))]
 pub fn as_array<'v, 'a>(value: &'v Value<'a>) -> Option<&'v [Value<'a>]>
     ensures { option_map (λ items. items_view items.now) result ≡ as_array (view value.now) }
@@ -58,7 +58,7 @@ pub fn as_array<'v, 'a>(value: &'v Value<'a>) -> Option<&'v [Value<'a>]>
 }
 
 /// The members of the object that it is, as they stand in the text: a name may stand twice, and the last one counts.
-/// None where it is none.
+/// None if it is none.
 #[tactic(auto, unfolding(crate::specs::View::view))]
 pub fn as_object<'v, 'a>(value: &'v Value<'a>) -> Option<&'v [(&'a str, Value<'a>)]>
     ensures { option_map (λ members. members_view members.now) result ≡ as_object (view value.now) }
@@ -69,7 +69,7 @@ pub fn as_object<'v, 'a>(value: &'v Value<'a>) -> Option<&'v [(&'a str, Value<'a
     }
 }
 
-/// What is at the name in the object that it is; None where it is none, or where the name is none of its members.
+/// What is at the name in the object that it is; None if it is none, or where the name is none of its members.
 pub fn get<'v, 'a>(value: &'v Value<'a>, name: &str) -> Option<&'v Value<'a>>
     ensures { option_map (λ v. view v.now) result ≡ get name.now (view value.now) }
 {

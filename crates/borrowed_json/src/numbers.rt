@@ -10,7 +10,7 @@ use fast_float::Numeral;
 use json::Value;
 use serde_json::Number;
 
-/// The number that a number's text says. None where no float is that large.
+/// The number that a number's text says. None if no float is that large.
 pub(crate) fn number_of(text: &str) -> Option<Number>
     ensures { option_map number_view result ≡ number_of text.now }
 {

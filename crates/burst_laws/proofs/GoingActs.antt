@@ -16,7 +16,7 @@ use Rattle.sleep_model.specs.Legal.{JournalPart}
 use Rattle.sleep_model.specs.Numbers.{time_of}
 use Rattle.sleep_model.specs.Path.{is_same}
 use Rattle.sleep_model.specs.Word.{position}
-use Rattle.sleep_state.specs.Places.{entries}
+use Rattle.sleep_state.specs.JournalRooms.{entries}
 use Rattle.sleep_core.specs.Cores.{IsActor, made_entry, next_stamp}
 use Rattle.sleep_script.specs.Jobs.{IsJobOf, IsWanted, JobState, TimerState, after_call, after_expiry, after_turn}
 use Rattle.sleep_script.proofs.Following.{wanted_source}
@@ -26,18 +26,18 @@ use Rattle.fit_laws.specs.Ranged.{is_ranged}
 use Rattle.merge_laws.proofs.Calling.{same_actor}
 use Rattle.turn_lock.specs.declared.view.Made.{Made}
 use Rattle.run_laws.specs.Passes.{Noted}
-use Rattle.run_world.specs.Told.{IsReport, IsTurn}
+use Rattle.run_world.specs.Outcomes.{IsReport, IsTurn}
 use Rattle.running_laws.specs.Running.{CallsNext, IsGoing, IsMoved, IsWith, calls_made}
 use Rattle.running_laws.proofs.Asked.{call_is, call_there}
 use Rattle.running_laws.proofs.Calls.{going_call, going_expire}
-use Rattle.running_laws.proofs.Kept.{actor_told}
-use Rattle.running_laws.proofs.Rising.{time_kept}
+use Rattle.running_laws.proofs.Invariant.{actor_told}
+use Rattle.running_laws.proofs.Rising.{time_preserved}
 use Rattle.running_laws.proofs.Turns.{going_turn}
 use Rattle.run_world.specs.declared.task.Task.{Task}
 use Rattle.run_world.specs.declared.task.Task.TheVariants as task
 use Rattle.run_world.specs.Acts.{Does, actor_of}
 use Rattle.run_world.specs.Acts as acts
-use Rattle.burst_laws.specs.Courses.{AreTasks, GoesOnAt, IsTaskOf, Lands, Standing}
+use Rattle.burst_laws.specs.Courses.{AreTasks, GoesOnAt, IsTaskOf, Lands, BurstState}
 use Rattle.burst_laws.proofs.GoingLanding.{HasLanded, lands_nowhere, lands_there}
 use Rattle.burst_laws.proofs.GoingReports.{HasReported, after, before, called_now, going_before, has_reported, lists_after}
 use Rattle.burst_laws.proofs.GoingTasks.{tasks_go}
@@ -104,18 +104,18 @@ no_timer m s (actor.Timer t) h = absurd h
 no_timer m s actor.Time h = refl
 
 -- the machine's list is no source's
-behind_it : (s : ℕ) → (0 == 1 + s) ≡ false
-behind_it s = grind (arith, nat_tests)
+after_it : (s : ℕ) → (0 == 1 + s) ≡ false
+after_it s = grind (arith, nat_tests)
 
 -- ---- an act
 
 -- the run goes on, at the same moment, and all but one actor know what they knew
-pub record GoesOnBy (m : Machine) (moment : ℕ) (who : Actor) (floors : Actor → Stamp) (new : Standing) : Type 0 where
+pub record GoesOnBy (m : Machine) (moment : ℕ) (who : Actor) (floors : Actor → Stamp) (new : BurstState) : Type 0 where
   pub on : GoesOnAt m new
   pub others : (other : Actor) → is_same who other ≡ false → on.floors other ≡ floors other
   pub time : moment ≡ time_of (entries (new.lists 0))
 
-module _ (m : Machine) (moment : ℕ) (old new : Standing) (g : GoesOnAt m old) (timed : is_word64 moment ≡ true) (now : moment ≡ time_of (entries (old.lists 0))) where
+module _ (m : Machine) (moment : ℕ) (old new : BurstState) (g : GoesOnAt m old) (timed : is_word64 moment ≡ true) (now : moment ≡ time_of (entries (old.lists 0))) where
   -- nothing
   none_on : (t : Task) (place : ℕ) → slice_get old.tasks place ≡ Some t → new.tasks ≡ slice_set old.tasks place t → Lands [] old.lists new.lists → GoesOnBy m moment (actor_of t) g.floors new
   none_on t place there tasks l =
@@ -150,7 +150,7 @@ module _ (m : Machine) (moment : ℕ) (old new : Standing) (g : GoesOnAt m old) 
           jobs = put job.who (after_turn stamp k attempt job) g.jobs;
           floors = put job.who stamp g.floors;
           going = subst (λ (xs : List JournalEntry). IsGoing m xs g.sources (put job.who (after_turn stamp k attempt job) g.jobs) (put job.who stamp g.floors)) (sym landed.is) goes;
-          lists_are = λ s. landed.others (1 + s) (behind_it s) ∙ g.lists_are s;
+          lists_are = λ s. landed.others (1 + s) (after_it s) ∙ g.lists_are s;
           tasks_are =
               subst (AreTasks m (put job.who (after_turn stamp k attempt job) g.jobs) (put job.who stamp g.floors)) (sym tasks)
               (tasks_go m g.jobs (put job.who (after_turn stamp k attempt job) g.jobs) g.floors (put job.who stamp g.floors) old.tasks place (task.Acts job) (task.Acts (after_turn stamp k attempt job)) g.tasks_are there refl
@@ -158,7 +158,7 @@ module _ (m : Machine) (moment : ℕ) (old new : Standing) (g : GoesOnAt m old) 
               (others_keep m g.jobs g.floors job.who (after_turn stamp k attempt job) stamp));
         };
         others = put_other job.who stamp g.floors;
-        time = still ∙ (sym (time_kept k (time_of (entries t.past))) ∙ ap (λ (xs : List JournalEntry). time_of (entries xs)) (sym landed.is));
+        time = still ∙ (sym (time_preserved k (time_of (entries t.past))) ∙ ap (λ (xs : List JournalEntry). time_of (entries xs)) (sym landed.is));
       }
 
   -- a call

@@ -3,7 +3,7 @@ use Rattle.std.proofs.Common.{◌≡◌, ◌∙◌, ◌+◌, ℕ, Bool, true, fa
 use Rattle.std.proofs.lemmas.Bool.Decides.{nat_tests}
 use Rattle.sleep_model.specs.declared.entry.JournalEntry.{JournalEntry}
 use Rattle.turn_lock.specs.declared.view.Made.{Made}
-use Rattle.turn_lock.specs.Books.{placed}
+use Rattle.turn_lock.specs.Bookings.{placed}
 use Rattle.run_laws.specs.Passes.{Noted}
 use Rattle.run_world.specs.Roots.{notes_on}
 use Rattle.burst_laws.specs.Courses.{Lands}
@@ -64,7 +64,7 @@ some_noted past e added = length-append (notes_on past added) (record { entry = 
 
 -- ---- two ways to say what was added
 
--- they stand at one object, behind one list, and leave one list
+-- they stand at one object, after one list, and leave one list
 record IsOne (object object' : ℕ) (past past' with with' : List JournalEntry) : Type 0 where
   objects : object ≡ object'
   pasts : past ≡ past'

@@ -3,20 +3,20 @@ use Rattle.std.proofs.Common.{◌≡◌, ◌∙◌, ℕ, true, List, refl, ap}
 use Rattle.sleep_model.specs.declared.machine.Machine.{Machine}
 use Rattle.sleep_model.specs.Fits.{is_word64}
 use Rattle.sleep_model.specs.Numbers.{time_of}
-use Rattle.sleep_state.specs.Places.{entries}
+use Rattle.sleep_state.specs.JournalRooms.{entries}
 use Rattle.run_world.specs.declared.task.Task.{Task}
 use Rattle.run_world.specs.Acts.{actor_of}
-use Rattle.burst_laws.specs.Courses.{Begins, Course, CoursesGoOn, Goes, GoesFarther, GoesOnAt, IsAct, Standing, has_task}
+use Rattle.burst_laws.specs.Courses.{Begins, Course, CoursesGoOn, Goes, GoesFarther, GoesOnAt, IsAct, BurstState, has_task}
 use Rattle.burst_laws.proofs.GoingActs.{GoesOnBy, acted, actor_stays}
 use Rattle.burst_laws.proofs.GoingTasks.{has_none, has_same}
 
 -- at a later standing the run goes on, at the same moment
-record GoesTo (m : Machine) (moment : ℕ) (first last : Standing) (g : GoesOnAt m first) : Type 0 where
+record GoesTo (m : Machine) (moment : ℕ) (first last : BurstState) (g : GoesOnAt m first) : Type 0 where
   far : GoesFarther m first last g
   time : moment ≡ time_of (entries (last.lists 0))
 
-module _ (m : Machine) (count moment : ℕ) (first : Standing) (timed : is_word64 moment ≡ true) (now : moment ≡ time_of (entries (first.lists 0))) (g : GoesOnAt m first) where
-  one_more : (old new : Standing) → GoesTo m moment first old g → IsAct count moment old new → GoesTo m moment first new g
+module _ (m : Machine) (count moment : ℕ) (first : BurstState) (timed : is_word64 moment ≡ true) (now : moment ≡ time_of (entries (first.lists 0))) (g : GoesOnAt m first) where
+  one_more : (old new : BurstState) → GoesTo m moment first old g → IsAct count moment old new → GoesTo m moment first new g
   one_more old new to act =
       let on : GoesOnBy m moment (actor_of act.was) to.far.on.floors new = acted m moment old new to.far.on timed to.time count act.was act.gains act.is act.does act.place act.there act.tasks act.lands in
       record {
@@ -30,7 +30,7 @@ module _ (m : Machine) (count moment : ℕ) (first : Standing) (timed : is_word6
         time = on.time;
       }
 
-  goes_to : (last : Standing) → Course count moment first last → GoesTo m moment first last g
+  goes_to : (last : BurstState) → Course count moment first last → GoesTo m moment first last g
   goes_to last Begins = record { far = record { on = g; same = λ who. refl; others = λ who none. refl }; time = now }
   goes_to last (Goes old new before act) = one_more old new (goes_to old before) act
 

@@ -11,17 +11,17 @@ use Rattle.sleep_model.specs.Calls.{calls_of, note}
 use Rattle.sleep_model.specs.Fits.{fits_actor, is_word64}
 use Rattle.sleep_model.specs.Merge.{of_source}
 use Rattle.sleep_model.specs.Numbers.{time_of}
-use Rattle.sleep_state.specs.Places.{entries}
+use Rattle.sleep_state.specs.JournalRooms.{entries}
 use Rattle.sleep_script.specs.Jobs.{JobState}
 use Rattle.wakeup_source.specs.declared.call_by.CallBy.{CallBy}
 use Rattle.wakeup_source.specs.SourceStates.{SourceState}
 use Rattle.fit_laws.specs.Ranged.{is_ranged}
 use Rattle.merge_laws.specs.Apart.{IsCall}
 use Rattle.turn_lock.specs.declared.view.Made.{Made}
-use Rattle.turn_lock.specs.Books.{placed}
+use Rattle.turn_lock.specs.Bookings.{placed}
 use Rattle.run_laws.specs.Passes.{Noted}
 use Rattle.run_world.specs.Roots.{notes_on}
-use Rattle.run_world.specs.Told.{IsReport}
+use Rattle.run_world.specs.Outcomes.{IsReport}
 use Rattle.running_laws.specs.Running.{IsGoing, calls_made, of_sources}
 use Rattle.running_laws.proofs.Calls.{IsCalledNow}
 use Rattle.running_laws.proofs.Lists.{set_same, source_other, source_set}

@@ -9,12 +9,12 @@ use Rattle.sleep_model.specs.Calls.{made}
 use Rattle.sleep_model.specs.Merge.{of_source}
 use Rattle.sleep_model.specs.Numbers.{time_of}
 use Rattle.sleep_model.specs.Sources.{expiry}
-use Rattle.sleep_state.specs.Places.{entries}
+use Rattle.sleep_state.specs.JournalRooms.{entries}
 use Rattle.sleep_script.specs.Jobs.{IsJobOf, JobState}
 use Rattle.wakeup_source.specs.SourceStates.{SourceState}
-use Rattle.fit_laws.specs.Ranged.{is_told}
-use Rattle.run_laws.specs.Acts.{bare}
-use Rattle.run_laws.specs.Held.{AllOf, Held}
+use Rattle.fit_laws.specs.Ranged.{is_ranged_entry}
+use Rattle.run_laws.specs.Acts.{unstamped}
+use Rattle.run_laws.specs.Invariant.{AllOf, RunInvariant}
 use Rattle.run_laws.specs.Turned.{newest_stamp}
 use Rattle.running_laws.specs.Running.{AreSources, FloorsKnow, IsGoing, IsSourceOf, entry_count, made_so, of_sources}
 use Rattle.running_laws.proofs.Lists.{source_other, source_set, sources_set}
@@ -31,12 +31,12 @@ swapped m journal sources others jobs floors are same g =
     record {
       accepted = g.accepted;
       own = g.own;
-      held = subst (Held m) made_is g.held;
+      held = subst (RunInvariant m) made_is g.held;
       sources_are = are;
       jobs_are = λ who a.
-          subst (λ (of : ℕ → List JournalEntry). IsJobOf m who (entries journal) (made (length m.sources + 1) (λ s. bare (of s)) who) (jobs who)) lists (g.jobs_are who a);
+          subst (λ (of : ℕ → List JournalEntry). IsJobOf m who (entries journal) (made (length m.sources + 1) (λ s. unstamped (of s)) who) (jobs who)) lists (g.jobs_are who a);
       floors_know = subst (FloorsKnow floors) made_is g.floors_know;
-      told = subst (AllOf (λ e. is_told m e.entry)) made_is g.told;
+      shown = subst (AllOf (λ e. is_ranged_entry m e.entry)) made_is g.shown;
       low = record {
         newest = omega (arith, more, g.low.newest);
         of_each = λ s. omega (arith, more, g.low.of_each s, ap (λ (l : List JournalEntry). (newest_stamp l).tick) (same s));
@@ -45,7 +45,7 @@ swapped m journal sources others jobs floors are same g =
       };
       near = record {
         time = g.near.time;
-        expiries = λ s. subst (λ (l : List JournalEntry). EndsBy (time_of (entries journal) + 86400000) (expiry (bare l))) (sym (same s)) (g.near.expiries s);
+        expiries = λ s. subst (λ (l : List JournalEntry). EndsBy (time_of (entries journal) + 86400000) (expiry (unstamped l))) (sym (same s)) (g.near.expiries s);
       };
     }
 

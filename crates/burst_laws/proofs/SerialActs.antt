@@ -13,10 +13,10 @@ use Rattle.sleep_core.specs.Cores.{made_entry}
 use Rattle.sleep_core.specs.Histories.{last_stamp}
 use Rattle.wakeup_source.specs.declared.call_by.CallBy.{CallBy}
 use Rattle.turn_lock.specs.declared.view.Made.{Made}
-use Rattle.turn_lock.specs.Books.{placed}
+use Rattle.turn_lock.specs.Bookings.{placed}
 use Rattle.run_laws.specs.Passes.{Noted}
 use Rattle.run_world.specs.Roots.{notes_on}
-use Rattle.run_world.specs.Told.{IsReport, IsTurn}
+use Rattle.run_world.specs.Outcomes.{IsReport, IsTurn}
 use Rattle.run_world.specs.declared.task.Task.{Task}
 use Rattle.run_world.specs.Acts.{Does, Nothing, Turns, Calls, Expires, Plays, all_gains, known_by}
 use Rattle.run_world.specs.Bursts.{AllPlayed}
@@ -45,7 +45,7 @@ turn_planned : (count : ℕ) (m : Machine) (who : Actor) (calls : ℕ) (floor st
 turn_planned count m who calls floor stamp k attempt gains h =
     let e : JournalEntry = made_entry h.past who h.word floor k in
     let last : newest 0 h.past ≡ (last_stamp h.past).tick = newest_is h.past in
-    let told : stamp.tick ≡ e.stamp.tick = ap (λ (s : Stamp). s.tick) h.stamp_is in
+    let shown : stamp.tick ≡ e.stamp.tick = ap (λ (s : Stamp). s.tick) h.stamp_is in
     record {
       plan = record { object = 0; past = h.past; entry = e; others = [] };
       is = h.gained;
@@ -60,7 +60,7 @@ call_planned count by call s stamp gains less h =
     let c : HasClimbed by.floor.tick h.old.source.past h.new.source = call_climbs by call h.old h.new h.settled.in_order h.calls in
     let added : h.added ≡ c.entry ∷ c.others = added_are by.floor.tick h.old.source.past h.added h.new.source c h.grown in
     let past : List JournalEntry = map of_source h.old.source.past in
-    let told : stamp.tick ≡ h.new.source.floor.tick = ap (λ (x : Stamp). x.tick) h.stamp_is in
+    let shown : stamp.tick ≡ h.new.source.floor.tick = ap (λ (x : Stamp). x.tick) h.stamp_is in
     let known : c.entry.stamp.tick ≤ h.new.source.floor.tick = c.known in
     record {
       plan = record { object = 1 + s; past = map of_source h.old.source.past; entry = of_source c.entry; others = map of_source c.others };

@@ -2,7 +2,7 @@
 use Rattle.std.proofs.Common.{◌≡◌, ◌<◌, ◌≤◌, ◌+◌, ◌==◌, ◌∙◌, ℕ, suc, Bool, true, false, cond, List, [], ◌∷◌, ◌++◌, length, refl, sym, ap, arith}
 use Rattle.std.proofs.lemmas.Bool.Decides.{nat_tests}
 use Rattle.turn_lock.specs.declared.view.Made.{Made}
-use Rattle.turn_lock.specs.Books.{all_by, bare, made, made_by, of_object, placed}
+use Rattle.turn_lock.specs.Bookings.{all_by, empty, made, made_by, of_object, placed}
 use Rattle.run_laws.specs.Passes.{Noted}
 use Rattle.burst_laws.proofs.SerialNotes.{Ascends}
 
@@ -24,7 +24,7 @@ front_place k i p (e ∷ es) m ms h = by (front_place k i (p + 1) es m ms) (e.0 
     by rest false g = let l : p + 1 ≤ m.place = rest g in omega arith
 
 -- and their ticks are above those before them
-front_tick : (low k i p : ℕ) (es : List (ℕ × Noted)) (m : Made Noted) (ms : List (Made Noted)) → Ascends low (bare es) → made_by k i p es ≡ m ∷ ms → low < m.entry.entry.stamp.tick
+front_tick : (low k i p : ℕ) (es : List (ℕ × Noted)) (m : Made Noted) (ms : List (Made Noted)) → Ascends low (empty es) → made_by k i p es ≡ m ∷ ms → low < m.entry.entry.stamp.tick
 front_tick low k i p [] m ms up h = absurd (cc)
 front_tick low k i p (e ∷ es) m ms up h = by (front_tick e.1.entry.stamp.tick k i (p + 1) es m ms up.1) (e.0 == k) h
   where
@@ -61,7 +61,7 @@ pub head_made : (i p : ℕ) (e : ℕ × Noted) (es : List (ℕ × Noted)) → ma
 head_made i p e es = ap (λ (b : Bool). cond b (made i p e.1 ∷ made_by e.0 i (p + 1) es) (made_by e.0 i (p + 1) es)) (same_number e.0)
 
 -- a pass's first entry stands where the log begins, if no pass's has a lower tick
-pub ready : (k i p place : ℕ) (es : List (ℕ × Noted)) (n : Noted) (more : List (Made Noted)) → Ascends 0 (bare es) → made_by k i p es ≡ made i place n ∷ more
+pub ready : (k i p place : ℕ) (es : List (ℕ × Noted)) (n : Noted) (more : List (Made Noted)) → Ascends 0 (empty es) → made_by k i p es ≡ made i place n ∷ more
     → ((j : ℕ) (x : Made Noted) (xs : List (Made Noted)) → made_by j i p es ≡ x ∷ xs → n.entry.stamp.tick ≤ x.entry.entry.stamp.tick) → place ≡ p
 ready k i p place [] n more up h least = absurd (let bad : [] ≡ made i place n ∷ more = h in cc)
 ready k i p place (e ∷ es) n more up h least = by (e.0 == k) h
@@ -106,7 +106,7 @@ above i low (m ∷ ms) x xs up h = by (above i m.entry.entry.stamp.tick ms x xs 
         let more : m.entry.entry.stamp.tick < x.entry.entry.stamp.tick = rest g in
         let l : low < m.entry.entry.stamp.tick = up.0 in omega arith
 
--- the first that it makes of all is not behind the first that it makes of an object
+-- the first that it makes of all is not after the first that it makes of an object
 pub first_low : (i low : ℕ) (ms : List (Made Noted)) (x : Made Noted) (xs : List (Made Noted)) → Rises low ms → of_object i ms ≡ x ∷ xs
     → (m : Made Noted) × (rest : List (Made Noted)) × (ms ≡ m ∷ rest) × (m.entry.entry.stamp.tick ≤ x.entry.entry.stamp.tick)
 first_low i low [] x xs up h = absurd (cc)

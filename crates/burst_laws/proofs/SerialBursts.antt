@@ -7,9 +7,9 @@ use mathlib.Core.Option.{some}
 use lib.ListN.{get_elem?}
 use Rattle.sleep_model.specs.declared.entry.JournalEntry.{JournalEntry}
 use Rattle.turn_lock.specs.declared.view.Made.{Made}
-use Rattle.turn_lock.specs.Books.{AreBelow, bare, made_by, of_object, placed}
+use Rattle.turn_lock.specs.Bookings.{AreBelow, empty, made_by, of_object, placed}
 use Rattle.turn_lock.proofs.Booking.{made_by_new}
-use Rattle.turn_lock.proofs.Keeping.{there, within}
+use Rattle.turn_lock.proofs.Invariance.{there, within}
 use Rattle.run_laws.specs.Passes.{Noted}
 use Rattle.run_objects.specs.Objects.{SeatedCoreState, SeatedSourceState}
 use Rattle.run_world.specs.declared.object.WorldObject.{WorldObject}
@@ -20,7 +20,7 @@ use Rattle.run_world.specs.declared.task.Task.{Task}
 use Rattle.run_world.specs.Acts.{Does}
 use Rattle.run_world.specs.Bursts.{IsBurst}
 use Rattle.burst_laws.specs.Courses.{Begins, Course, Goes, IsAct, lists_of}
-use Rattle.burst_laws.specs.Serial.{BurstsAreSerial, IsSerial, plain_sources, standing_of}
+use Rattle.burst_laws.specs.Serial.{BurstsAreSerial, IsSerial, plain_sources, burst_state_of}
 use Rattle.burst_laws.proofs.SerialNotes.{Follows, ascends, ascends_low, behind, gained_follows, newest}
 use Rattle.burst_laws.proofs.SerialBooks.{same_number}
 use Rattle.burst_laws.proofs.SerialPlans.{Plan, flat, gains_of}
@@ -97,7 +97,7 @@ module _ (moment : ℕ) (machine machine_then : SeatedCoreState) (sources source
 
   -- what an object's log leaves
   abbrev Leaves : ℕ → List (ℕ × Noted) → Type 0
-  Leaves i log = Follows (lists i) (bare log) × (behind (lists i) (bare log) ≡ final i)
+  Leaves i log = Follows (lists i) (empty log) × (behind (lists i) (empty log) ≡ final i)
 
   gained : (i : ℕ) (u : WorldObject) → get_elem? b.first i ≡ some u → Leaves i (b.closed.closed.log i)
   gained i u at =
@@ -108,8 +108,8 @@ module _ (moment : ℕ) (machine machine_then : SeatedCoreState) (sources source
       let same : o.0 ≡ u = let both : some o.0 ≡ some u = sym o.1 ∙ at in cc in
       let before : journal_of o.0 ≡ lists i = ap journal_of same ∙ list_is moment machine sources b.first b.opened i u at in
       let after : journal_of y.0 ≡ final i = list_is b.closed.moment machine_then sources_then b.closed.values b.closed.are i y.0 y.1 in
-      let g = gained_follows (journal_of o.0) (journal_of y.0) (bare (b.closed.closed.log i)) o.3 in
-      subst (λ (l : List JournalEntry). Follows l (bare (b.closed.closed.log i)) × (behind l (bare (b.closed.closed.log i)) ≡ final i)) before (g.0, g.1 ∙ after)
+      let g = gained_follows (journal_of o.0) (journal_of y.0) (empty (b.closed.closed.log i)) o.3 in
+      subst (λ (l : List JournalEntry). Follows l (empty (b.closed.closed.log i)) × (behind l (empty (b.closed.closed.log i)) ≡ final i)) before (g.0, g.1 ∙ after)
 
   leaves : (i : ℕ) → Leaves i (has_log i).log
   leaves i = by (has_log i).log (has_log i).stands
@@ -130,8 +130,8 @@ module _ (moment : ℕ) (machine machine_then : SeatedCoreState) (sources source
       record {
         follows = l.0;
         leaves = l.1;
-        rises = ascends_low (newest 0 (lists i)) 0 (bare (has_log i).log) (omega arith)
-            (ascends (lists i) (bare (has_log i).log) l.0
+        rises = ascends_low (newest 0 (lists i)) 0 (empty (has_log i).log) (omega arith)
+            (ascends (lists i) (empty (has_log i).log) l.0
             (fresh_log i (length (lists i)) (has_log i).log (λ k. subst AreMadeFresh (booked k i) (fresh_of i (flat (get_or plans.left k [])) (plans.fresh k)))));
       }
 
@@ -141,7 +141,7 @@ module _ (moment : ℕ) (machine machine_then : SeatedCoreState) (sources source
   -- ---- the course
 
   abbrev Reached : (ℕ → List JournalEntry) → List Task → Type 0
-  Reached l t = Course (length sources) moment (standing_of machine sources tasks) (record { lists = l; tasks = t })
+  Reached l t = Course (length sources) moment (burst_state_of machine sources tasks) (record { lists = l; tasks = t })
 
   is_act : (l : ℕ → List JournalEntry) (ts : List Task) (k : ℕ) (t u : Task) (p : Plan) → slice_get ts k ≡ Some t → Does (length sources) moment t (gains_of p) u
       → p.past ≡ l p.object → IsAct (length sources) moment (record { lists = l; tasks = ts }) (record { lists = landed l p; tasks = set ts k u })

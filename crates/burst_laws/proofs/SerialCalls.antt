@@ -10,8 +10,8 @@ use Rattle.sleep_model.specs.Merge.{of_source}
 use Rattle.sleep_model.specs.Sources.{makes, since}
 use Rattle.sleep_model.specs.Word.{position}
 use Rattle.wakeup_source.specs.declared.call_by.CallBy.{CallBy}
-use Rattle.wakeup_source.specs.Called.{Calls, Scene, Steps, after_note, after_step}
-use Rattle.wakeup_source.specs.SourceStates.{AreInOrder, SourceState, bare, note_entry, note_tick, step_entry}
+use Rattle.wakeup_source.specs.Called.{Calls, SourceView, Steps, after_note, after_step}
+use Rattle.wakeup_source.specs.SourceStates.{RiseUpTo, SourceState, unstamped, note_entry, note_tick, step_entry}
 use Rattle.burst_laws.proofs.SerialNotes.{newest}
 use Rattle.burst_laws.proofs.SerialClimbs.{Climbs}
 
@@ -24,12 +24,12 @@ pub record HasClimbed (low : ℕ) (base : List SourceEntry) (source : SourceStat
   pub known : entry.stamp.tick ≤ source.floor.tick
 
 -- the newest is known to the source
-newest_known : (floor : Stamp) (past : List SourceEntry) → AreInOrder floor past → newest 0 (map of_source past) ≤ floor.tick
+newest_known : (floor : Stamp) (past : List SourceEntry) → RiseUpTo floor past → newest 0 (map of_source past) ≤ floor.tick
 newest_known floor [] h = omega arith
 newest_known floor (e ∷ past) h = h.1
 
 module _ (by : CallBy) (low : ℕ) (base : List SourceEntry) where
-  one_step : (step : WordKind) (before : EventNow) (old : Scene) → HasClimbed low base old.source → HasClimbed low base (after_step by step before old).source
+  one_step : (step : WordKind) (before : EventNow) (old : SourceView) → HasClimbed low base old.source → HasClimbed low base (after_step by step before old).source
   one_step step before old c =
       let known : c.entry.stamp.tick ≤ old.source.floor.tick = c.known in
       record {
@@ -46,11 +46,11 @@ module _ (by : CallBy) (low : ℕ) (base : List SourceEntry) where
         known = omega arith;
       }
 
-  steps_climb : (steps : List WordKind) (old new : Scene) → HasClimbed low base old.source → Steps by steps old new → HasClimbed low base new.source
-  steps_climb [] old new c h = subst (λ (s : Scene). HasClimbed low base s.source) (sym h) c
+  steps_climb : (steps : List WordKind) (old new : SourceView) → HasClimbed low base old.source → Steps by steps old new → HasClimbed low base new.source
+  steps_climb [] old new c h = subst (λ (s : SourceView). HasClimbed low base s.source) (sym h) c
   steps_climb (step ∷ rest) old new c h = steps_climb rest (after_step by step h.0 old) new (one_step step h.0 old c) h.3
 
-pub call_climbs : (by : CallBy) (call : SourceCall) (old new : Scene) → AreInOrder old.source.floor old.source.past → Calls by call old new
+pub call_climbs : (by : CallBy) (call : SourceCall) (old new : SourceView) → RiseUpTo old.source.floor old.source.past → Calls by call old new
     → HasClimbed by.floor.tick old.source.past new.source
 call_climbs by call old new order h =
     let low : newest 0 (map of_source old.source.past) ≤ old.source.floor.tick = newest_known old.source.floor old.source.past order in
@@ -64,8 +64,8 @@ call_climbs by call old new order h =
       climbs = (omega arith, omega arith, tt);
       known = omega arith;
     } in
-    steps_climb by by.floor.tick old.source.past (makes call (since (bare old.source.past))) h.0 new
-    (subst (λ (s : Scene). HasClimbed by.floor.tick old.source.past s.source) (sym h.1.6) noted) h.2
+    steps_climb by by.floor.tick old.source.past (makes call (since (unstamped old.source.past))) h.0 new
+    (subst (λ (s : SourceView). HasClimbed by.floor.tick old.source.past s.source) (sym h.1.6) noted) h.2
 
 -- what the source has gained is just these
 pub added_are : (low : ℕ) (base added : List SourceEntry) (source : SourceState) (c : HasClimbed low base source) → source.past ≡ added ++ base → added ≡ c.entry ∷ c.others

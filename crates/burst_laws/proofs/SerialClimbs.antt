@@ -2,10 +2,10 @@
 use Rattle.std.proofs.Common.{◌≡◌, ◌<◌, ◌+◌, ◌==◌, ℕ, Bool, true, false, cond, List, [], ◌∷◌, ◌++◌, refl, sym, ap, subst}
 use Rattle.sleep_model.specs.declared.entry.JournalEntry.{JournalEntry}
 use Rattle.turn_lock.specs.declared.view.Made.{Made}
-use Rattle.turn_lock.specs.Books.{bare, made, made_by, of_object, placed}
+use Rattle.turn_lock.specs.Bookings.{empty, made, made_by, of_object, placed}
 use Rattle.run_laws.specs.Passes.{Noted}
 use Rattle.run_world.specs.Roots.{notes_on}
-use Rattle.burst_laws.proofs.SerialNotes.{AreFresh, IsFresh, newest}
+use Rattle.burst_laws.proofs.SerialNotes.{AreFreshNotes, IsFresh, newest}
 use Rattle.burst_laws.proofs.SerialBooks.{Rises, head_made}
 
 -- each of these entries, the newest first, has a tick above the others', this number, and those of the list before
@@ -19,7 +19,7 @@ placed_last : (i place : ℕ) (xs : List Noted) (x : Noted) (rest : List (Made N
 placed_last i place [] x rest = (place, refl)
 placed_last i place (y ∷ xs) x rest = let more = placed_last i (place + 1) xs x rest in (more.0, ap (λ (l : List (Made Noted)). made i place y ∷ l) more.1)
 
--- they rise, and what rises behind them rises with them
+-- they rise, and what rises after them rises with them
 pub climbs_rise : (i low place : ℕ) (past added : List JournalEntry) (rest : List (Made Noted)) → Climbs low past added → Rises (newest low added) rest
     → Rises low (placed i place (notes_on past added) ++ rest)
 climbs_rise i low place past [] rest c r = r
@@ -55,7 +55,7 @@ fresh_of i (m ∷ ms) h = by (m.object == i) (fresh_of i ms h.1)
     by false g = g
 
 -- so is each of a log of which all passes made only such
-pub fresh_log : (i p : ℕ) (es : List (ℕ × Noted)) → ((k : ℕ) → AreMadeFresh (made_by k i p es)) → AreFresh (bare es)
+pub fresh_log : (i p : ℕ) (es : List (ℕ × Noted)) → ((k : ℕ) → AreMadeFresh (made_by k i p es)) → AreFreshNotes (empty es)
 fresh_log i p [] h = tt
 fresh_log i p (e ∷ es) h =
     ((subst AreMadeFresh (head_made i p e es) (h e.0)).0, fresh_log i (p + 1) es (λ k. rest k (e.0 == k) (h k)))

@@ -9,9 +9,9 @@ use Rattle.run_objects.specs.Objects.{SeatedSourceState}
 use Rattle.wakeup_source.specs.SourceStates.{SourceState}
 use Rattle.running_laws.specs.Running.{of_sources}
 use Rattle.running_laws.proofs.Rising.{entries_more}
-use Rattle.burst_laws.specs.Courses.{Begins, Course, Goes, Lands, Standing, lists_of}
-use Rattle.burst_laws.specs.Keeping.{BurstsGrow}
-use Rattle.burst_laws.specs.Serial.{IsSerial, plain_sources, standing_of}
+use Rattle.burst_laws.specs.Courses.{Begins, Course, Goes, Lands, BurstState, lists_of}
+use Rattle.burst_laws.specs.Preservation.{BurstsGrow}
+use Rattle.burst_laws.specs.Serial.{IsSerial, plain_sources, burst_state_of}
 use Rattle.burst_laws.proofs.SerialBursts.{bursts_are_serial}
 
 lands_longer : (gains : List (Made Noted)) (old new : ℕ → List JournalEntry) → Lands gains old new → (i : ℕ) → length (old i) ≤ length (new i)
@@ -23,25 +23,25 @@ lands_longer gains old new l i = by (l.object == i) refl
         subst (λ (n : ℕ). length (old n) ≤ length (new n)) same (omega (arith, ap (λ (xs : List JournalEntry). length xs) l.grown, length-append l.added (old l.object)))
     by false is = omega (arith, ap (λ (xs : List JournalEntry). length xs) (l.others i is))
 
-course_longer : (count moment : ℕ) (first last : Standing) → Course count moment first last → (i : ℕ) → length (first.lists i) ≤ length (last.lists i)
+course_longer : (count moment : ℕ) (first last : BurstState) → Course count moment first last → (i : ℕ) → length (first.lists i) ≤ length (last.lists i)
 course_longer count moment first last Begins i = omega arith
 course_longer count moment first last (Goes old new before act) i = omega (arith, course_longer count moment first old before i, lands_longer act.gains old.lists new.lists act.lands i)
 
--- the list of source s stands behind the machine's
-pub one_behind : (journal : List JournalEntry) (sources : List SourceState) (s : ℕ) → lists_of journal sources (1 + s) ≡ of_sources sources s
-one_behind journal sources s = let next : 1 + s ≡ suc s = omega arith in ap (lists_of journal sources) next
+-- the list of source s stands after the machine's
+pub one_after : (journal : List JournalEntry) (sources : List SourceState) (s : ℕ) → lists_of journal sources (1 + s) ≡ of_sources sources s
+one_after journal sources s = let next : 1 + s ≡ suc s = omega arith in ap (lists_of journal sources) next
 
 pub bursts_grow : BurstsGrow
 bursts_grow moment machine machine_then sources sources_then tasks tasks_then b count =
     let s : IsSerial moment machine sources tasks machine_then sources_then tasks_then = bursts_are_serial moment machine machine_then sources sources_then tasks tasks_then b in
     let longer : (i : ℕ) → length (lists_of machine.core.past (plain_sources sources) i) ≤ length (lists_of machine_then.core.past (plain_sources sources_then) i) =
-    λ i. omega (arith, course_longer (length sources) moment (standing_of machine sources tasks) s.last s.course i, ap (λ (xs : List JournalEntry). length xs) (s.lists_are i)) in
+    λ i. omega (arith, course_longer (length sources) moment (burst_state_of machine sources tasks) s.last s.course i, ap (λ (xs : List JournalEntry). length xs) (s.lists_are i)) in
     let each : (k : ℕ) → length (of_sources (plain_sources sources) k) ≤ length (of_sources (plain_sources sources_then) k) =
     λ k. omega (
       arith,
       longer (1 + k),
-      ap (λ (xs : List JournalEntry). length xs) (one_behind machine.core.past (plain_sources sources) k),
-      ap (λ (xs : List JournalEntry). length xs) (one_behind machine_then.core.past (plain_sources sources_then) k),
+      ap (λ (xs : List JournalEntry). length xs) (one_after machine.core.past (plain_sources sources) k),
+      ap (λ (xs : List JournalEntry). length xs) (one_after machine_then.core.past (plain_sources sources_then) k),
     ) in
     omega (
       arith,

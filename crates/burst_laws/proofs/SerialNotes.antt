@@ -16,9 +16,9 @@ abbrev pub behind : List JournalEntry → List Noted → List JournalEntry
 behind list [] = list
 behind list (n ∷ notes) = behind (n.entry ∷ list) notes
 
-pub behind_both : (list : List JournalEntry) (xs ys : List Noted) → behind list (xs ++ ys) ≡ behind (behind list xs) ys
-behind_both list [] ys = refl
-behind_both list (x ∷ xs) ys = behind_both (x.entry ∷ list) xs ys
+pub after_both : (list : List JournalEntry) (xs ys : List Noted) → behind list (xs ++ ys) ≡ behind (behind list xs) ys
+after_both list [] ys = refl
+after_both list (x ∷ xs) ys = after_both (x.entry ∷ list) xs ys
 
 follows_both : (list : List JournalEntry) (xs ys : List Noted) → Follows list xs → Follows (behind list xs) ys → Follows list (xs ++ ys)
 follows_both list [] ys h g = g
@@ -32,27 +32,27 @@ pub follows_rest : (list : List JournalEntry) (xs ys : List Noted) → Follows l
 follows_rest list [] ys h = h
 follows_rest list (x ∷ xs) ys h = follows_rest (x.entry ∷ list) xs ys h.1
 
-behind_items : (l : List JournalEntry) → behind [] (items l) ≡ l
-behind_items [] = refl
-behind_items (e ∷ l) = behind_both [] (items l) (record { entry = e; past = l } ∷ []) ∙ ap (λ (k : List JournalEntry). e ∷ k) (behind_items l)
+after_items : (l : List JournalEntry) → behind [] (items l) ≡ l
+after_items [] = refl
+after_items (e ∷ l) = after_both [] (items l) (record { entry = e; past = l } ∷ []) ∙ ap (λ (k : List JournalEntry). e ∷ k) (after_items l)
 
 follows_items : (l : List JournalEntry) → Follows [] (items l)
 follows_items [] = tt
-follows_items (e ∷ l) = follows_both [] (items l) (record { entry = e; past = l } ∷ []) (follows_items l) (sym (behind_items l), tt)
+follows_items (e ∷ l) = follows_both [] (items l) (record { entry = e; past = l } ∷ []) (follows_items l) (sym (after_items l), tt)
 
 -- what a list has gained follows it, and leaves the list as it is then
 pub gained_follows : (before after : List JournalEntry) (new : List Noted) → items after ≡ items before ++ new → Follows before new × (behind before new ≡ after)
 gained_follows before after new h = (
-  subst (λ (l : List JournalEntry). Follows l new) (behind_items before) (follows_rest [] (items before) new (subst (Follows []) h (follows_items after))),
-  ap (λ (l : List JournalEntry). behind l new) (sym (behind_items before)) ∙ sym (behind_both [] (items before) new) ∙ ap (behind []) (sym h) ∙ behind_items after,
+  subst (λ (l : List JournalEntry). Follows l new) (after_items before) (follows_rest [] (items before) new (subst (Follows []) h (follows_items after))),
+  ap (λ (l : List JournalEntry). behind l new) (sym (after_items before)) ∙ sym (after_both [] (items before) new) ∙ ap (behind []) (sym h) ∙ after_items after,
 )
 
 -- ---- those of an act
 
-pub behind_notes : (list past added : List JournalEntry) → behind list (notes_on past added) ≡ added ++ list
-behind_notes list past [] = refl
-behind_notes list past (e ∷ added) =
-    behind_both list (notes_on past added) (record { entry = e; past = added ++ past } ∷ []) ∙ ap (λ (k : List JournalEntry). e ∷ k) (behind_notes list past added)
+pub after_notes : (list past added : List JournalEntry) → behind list (notes_on past added) ≡ added ++ list
+after_notes list past [] = refl
+after_notes list past (e ∷ added) =
+    after_both list (notes_on past added) (record { entry = e; past = added ++ past } ∷ []) ∙ ap (λ (k : List JournalEntry). e ∷ k) (after_notes list past added)
 
 pub count_notes : (past added : List JournalEntry) → length (notes_on past added) ≡ length added
 count_notes past [] = refl
@@ -82,16 +82,16 @@ newest low (e ∷ past) = e.stamp.tick
 abbrev pub IsFresh : Noted → Type 0
 IsFresh n = newest 0 n.past < n.entry.stamp.tick
 
-abbrev pub AreFresh : List Noted → Type 0
-AreFresh [] = Unit {0}
-AreFresh (n ∷ notes) = IsFresh n × AreFresh notes
+abbrev pub AreFreshNotes : List Noted → Type 0
+AreFreshNotes [] = Unit {0}
+AreFreshNotes (n ∷ notes) = IsFresh n × AreFreshNotes notes
 
 -- ticks rise, from above this one
 abbrev pub Ascends : ℕ → List Noted → Type 0
 Ascends low [] = Unit {0}
 Ascends low (n ∷ notes) = (low < n.entry.stamp.tick) × Ascends n.entry.stamp.tick notes
 
-pub ascends : (list : List JournalEntry) (notes : List Noted) → Follows list notes → AreFresh notes → Ascends (newest 0 list) notes
+pub ascends : (list : List JournalEntry) (notes : List Noted) → Follows list notes → AreFreshNotes notes → Ascends (newest 0 list) notes
 ascends list [] f g = tt
 ascends list (n ∷ notes) f g = (subst (λ (l : List JournalEntry). newest 0 l < n.entry.stamp.tick) f.0 g.0, ascends (n.entry ∷ list) notes f.1 g.1)
 

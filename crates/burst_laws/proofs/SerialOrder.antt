@@ -5,10 +5,10 @@ use mathlib.Core.Logic.{dite}
 use native.Mathlib.Decide.{ℕ_discrete}
 use Rattle.sleep_model.specs.declared.entry.JournalEntry.{JournalEntry}
 use Rattle.turn_lock.specs.declared.view.Made.{Made}
-use Rattle.turn_lock.specs.Books.{all_by, bare, made, made_by, of_object, placed}
-use Rattle.turn_lock.proofs.Booking.{bare_all, bare_both, made_by_both, made_by_other}
+use Rattle.turn_lock.specs.Bookings.{all_by, empty, made, made_by, of_object, placed}
+use Rattle.turn_lock.proofs.Booking.{unstamped_all, unstamped_both, made_by_both, made_by_other}
 use Rattle.run_laws.specs.Passes.{Noted}
-use Rattle.burst_laws.proofs.SerialNotes.{Ascends, Follows, ascends_rest, behind, behind_both, behind_notes, count_notes, follows_front, follows_rest, past_is}
+use Rattle.burst_laws.proofs.SerialNotes.{Ascends, Follows, ascends_rest, behind, after_both, after_notes, count_notes, follows_front, follows_rest, past_is}
 use Rattle.burst_laws.proofs.SerialBooks.{Rises, first_low, none_left, number_is, ready, rises_rest, taken}
 use Rattle.burst_laws.proofs.SerialPlans.{AllDone, AllGo, IsFirst, Plan, all_done, find_first, first_note, flat, gains_first, gains_of, more_notes, none_of_none, notes, number_within, of_other, of_own, one_goes, one_less, plans_are, total}
 
@@ -25,9 +25,9 @@ landed lists p i = cond (p.object == i) ((p.entry ∷ p.others) ++ lists p.objec
 
 -- what is left of an object's log follows its list, rises, and leaves its last list
 pub record ObjectFits (list : List JournalEntry) (log : List (ℕ × Noted)) (last : List JournalEntry) : Type 0 where
-  pub follows : Follows list (bare log)
-  pub leaves : behind list (bare log) ≡ last
-  pub rises : Ascends 0 (bare log)
+  pub follows : Follows list (empty log)
+  pub leaves : behind list (empty log) ≡ last
+  pub rises : Ascends 0 (empty log)
 
 module _ {T : Type 0} (Step : T → List (Made Noted) → T → Type 0) (final : ℕ → List JournalEntry) (lasts : List T) where
   -- the acts that are left bring the tasks to the last ones, and they are what is left of the objects' logs
@@ -67,32 +67,32 @@ module _ {T : Type 0} (Step : T → List (Made Noted) → T → Type 0) (final :
         (its ∙ ap (λ (n : ℕ). placed p.object n (notes p) ++ of_object p.object (flat plans)) place_is)
 
     module _ (b : Begun) where
-      bare_is : bare (log p.object) ≡ notes p ++ bare b.0
-      bare_is = ap (λ (l : List (ℕ × Noted)). bare l) b.1 ∙ bare_both (all_by k (notes p)) b.0 ∙ ap (λ (l : List Noted). l ++ bare b.0) (bare_all k (notes p))
+      unstamped_is : empty (log p.object) ≡ notes p ++ empty b.0
+      unstamped_is = ap (λ (l : List (ℕ × Noted)). empty l) b.1 ∙ unstamped_both (all_by k (notes p)) b.0 ∙ ap (λ (l : List Noted). l ++ empty b.0) (unstamped_all k (notes p))
 
-      all_follow : Follows (lists p.object) (notes p ++ bare b.0)
-      all_follow = subst (Follows (lists p.object)) bare_is (fits.objects p.object).follows
+      all_follow : Follows (lists p.object) (notes p ++ empty b.0)
+      all_follow = subst (Follows (lists p.object)) unstamped_is (fits.objects p.object).follows
 
       -- and its list is the object's
       pub past_now : p.past ≡ lists p.object
-      past_now = past_is (lists p.object) p.past p.entry p.others (follows_front (lists p.object) (notes p) (bare b.0) all_follow)
+      past_now = past_is (lists p.object) p.past p.entry p.others (follows_front (lists p.object) (notes p) (empty b.0) all_follow)
 
       abbrev new : List JournalEntry
       new = (p.entry ∷ p.others) ++ lists p.object
 
       new_is : behind (lists p.object) (notes p) ≡ new
-      new_is = behind_notes (lists p.object) p.past (p.entry ∷ p.others)
+      new_is = after_notes (lists p.object) p.past (p.entry ∷ p.others)
 
       count_new : length (lists p.object) + length (notes p) ≡ length new
       count_new = omega (arith, length-append (p.entry ∷ p.others) (lists p.object), count_notes p.past (p.entry ∷ p.others))
 
       fits_here : ObjectFits new b.0 (final p.object)
       fits_here = record {
-        follows = subst (λ (l : List JournalEntry). Follows l (bare b.0)) new_is (follows_rest (lists p.object) (notes p) (bare b.0) all_follow);
+        follows = subst (λ (l : List JournalEntry). Follows l (empty b.0)) new_is (follows_rest (lists p.object) (notes p) (empty b.0) all_follow);
         leaves =
-            ap (λ (l : List JournalEntry). behind l (bare b.0)) (sym new_is) ∙ sym (behind_both (lists p.object) (notes p) (bare b.0))
-            ∙ ap (behind (lists p.object)) (sym bare_is) ∙ (fits.objects p.object).leaves;
-        rises = ascends_rest 0 (notes p) (bare b.0) (subst (Ascends 0) bare_is (fits.objects p.object).rises);
+            ap (λ (l : List JournalEntry). behind l (empty b.0)) (sym new_is) ∙ sym (after_both (lists p.object) (notes p) (empty b.0))
+            ∙ ap (behind (lists p.object)) (sym unstamped_is) ∙ (fits.objects p.object).leaves;
+        rises = ascends_rest 0 (notes p) (empty b.0) (subst (Ascends 0) unstamped_is (fits.objects p.object).rises);
       }
 
       -- ---- all that is left fits again
@@ -175,7 +175,7 @@ module _ {T : Type 0} (Step : T → List (Made Noted) → T → Type 0) (final :
       o.lists,
       subst (Reached o.lists) (all_done Step o.tasks o.left lasts o.fits.all done) o.reached,
       λ i. let none : o.log i ≡ [] = none_left i (length (o.lists i)) (o.log i) (λ k. sym (o.fits.booked k i) ∙ ap (of_object i) (done k)) in
-          sym (ap (λ (l : List (ℕ × Noted)). behind (o.lists i) (bare l)) none) ∙ (o.fits.objects i).leaves,
+          sym (ap (λ (l : List (ℕ × Noted)). behind (o.lists i) (empty l)) none) ∙ (o.fits.objects i).leaves,
     )
 
     onward : (count : ℕ) (o : Onward (suc count)) → IsFirst o.left → Onward count

@@ -3,7 +3,7 @@ use Rattle.std.proofs.Common.{◌≡◌, ◌≢◌, ◌<◌, ◌≤◌, ◌+◌,
 use Rattle.std.proofs.lemmas.Bool.{cases_lt}
 use Rattle.sleep_model.specs.declared.entry.JournalEntry.{JournalEntry}
 use Rattle.turn_lock.specs.declared.view.Made.{Made}
-use Rattle.turn_lock.specs.Books.{made, of_object, placed}
+use Rattle.turn_lock.specs.Bookings.{made, of_object, placed}
 use Rattle.turn_lock.proofs.Booking.{of_object_both, of_object_other, of_object_own}
 use Rattle.run_laws.specs.Passes.{Noted}
 use Rattle.run_world.specs.Roots.{notes_on}
@@ -29,7 +29,7 @@ flat (p ∷ plans) = gains_of p ++ flat plans
 
 -- ---- what they add
 
--- the oldest of them, and those behind it
+-- the oldest of them, and those after it
 abbrev pub first_note : Plan → Noted
 first_note p = (has_first p.past p.entry p.others).0
 

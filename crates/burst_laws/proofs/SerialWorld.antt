@@ -8,7 +8,7 @@ use Rattle.running_laws.specs.Running.{of_sources}
 use Rattle.run_objects.specs.Objects.{SeatedCoreState, SeatedSourceState}
 use Rattle.run_world.specs.declared.object.WorldObject.{WorldObject}
 use Rattle.run_world.specs.declared.object.WorldObject.TheVariants as object
-use Rattle.run_world.specs.Held.{AreAll, AreThose, IsThat}
+use Rattle.run_world.specs.ObjectLists.{AreAll, AreThose, IsThat}
 use Rattle.run_world.specs.Objects.{journal_of}
 use Rattle.burst_laws.specs.Courses.{lists_of}
 use Rattle.burst_laws.specs.Serial.{plain_sources}

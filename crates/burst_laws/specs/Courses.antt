@@ -9,12 +9,12 @@ use Rattle.sleep_model.specs.declared.word.Stamp.{Stamp}
 use Rattle.sleep_model.specs.Fits.{is_word64}
 use Rattle.sleep_model.specs.Numbers.{time_of}
 use Rattle.sleep_model.specs.Path.{is_same}
-use Rattle.sleep_state.specs.Places.{entries}
+use Rattle.sleep_state.specs.JournalRooms.{entries}
 use Rattle.sleep_core.specs.Cores.{IsActor}
 use Rattle.sleep_script.specs.Jobs.{JobState}
 use Rattle.wakeup_source.specs.SourceStates.{SourceState}
 use Rattle.turn_lock.specs.declared.view.Made.{Made}
-use Rattle.turn_lock.specs.Books.{placed}
+use Rattle.turn_lock.specs.Bookings.{placed}
 use Rattle.run_laws.specs.Passes.{Noted}
 use Rattle.running_laws.specs.Running.{IsGoing, of_sources}
 use Rattle.run_world.specs.Roots.{notes_on}
@@ -23,7 +23,7 @@ use Rattle.run_world.specs.declared.task.Task.TheVariants as task
 use Rattle.run_world.specs.Acts.{Does, actor_of}
 
 -- where a burst stands: each object's list, the newest entry first, the machine's at 0, that of source s at 1 + s; and the tasks
-pub record Standing : Type 0 where
+pub record BurstState : Type 0 where
   pub lists : ℕ → List JournalEntry
   pub tasks : List Task
 
@@ -41,7 +41,7 @@ pub record Lands (gains : List (Made Noted)) (old new : ℕ → List JournalEntr
   pub others : (i : ℕ) → (object == i) ≡ false → new i ≡ old i
 
 -- one act of one task, in a world of n sources
-pub record IsAct (count moment : ℕ) (old new : Standing) : Type 0 where
+pub record IsAct (count moment : ℕ) (old new : BurstState) : Type 0 where
   pub place : ℕ
   pub was : Task
   pub is : Task
@@ -52,9 +52,9 @@ pub record IsAct (count moment : ℕ) (old new : Standing) : Type 0 where
   pub lands : Lands gains old.lists new.lists
 
 -- acts one after another
-pub data Course (count moment : ℕ) (first : Standing) : Standing → Type 0 where
+pub data Course (count moment : ℕ) (first : BurstState) : BurstState → Type 0 where
   Begins : Course count moment first first
-  Goes : (old new : Standing) → Course count moment first old → IsAct count moment old new → Course count moment first new
+  Goes : (old new : BurstState) → Course count moment first old → IsAct count moment old new → Course count moment first new
 
 -- ---- whose tasks they are
 
@@ -78,20 +78,20 @@ pub record AreTasks (m : Machine) (jobs : Actor → JobState) (floors : Actor �
 -- ---- a course keeps what a run keeps
 
 -- what goes on at a standing: the run, with its sources, jobs and floors
-pub record GoesOnAt (m : Machine) (standing : Standing) : Type 0 where
+pub record GoesOnAt (m : Machine) (burst_state : BurstState) : Type 0 where
   pub sources : List SourceState
   pub jobs : Actor → JobState
   pub floors : Actor → Stamp
-  pub going : IsGoing m (standing.lists 0) sources jobs floors
-  pub lists_are : (s : ℕ) → standing.lists (1 + s) ≡ of_sources sources s
-  pub tasks_are : AreTasks m jobs floors standing.tasks
+  pub going : IsGoing m (burst_state.lists 0) sources jobs floors
+  pub lists_are : (s : ℕ) → burst_state.lists (1 + s) ≡ of_sources sources s
+  pub tasks_are : AreTasks m jobs floors burst_state.tasks
 
 -- some task is that actor's
 abbrev pub has_task : List Task → Actor → Bool
 has_task tasks who = list_any (λ t. is_same (actor_of t) who) tasks
 
 -- at a later standing the run goes on with tasks of the same actors, and actors without a task know what they knew
-pub record GoesFarther (m : Machine) (first last : Standing) (g : GoesOnAt m first) : Type 0 where
+pub record GoesFarther (m : Machine) (first last : BurstState) (g : GoesOnAt m first) : Type 0 where
   pub on : GoesOnAt m last
   pub same : (who : Actor) → has_task last.tasks who ≡ has_task first.tasks who
   pub others : (who : Actor) → has_task first.tasks who ≡ false → on.floors who ≡ g.floors who
@@ -99,5 +99,5 @@ pub record GoesFarther (m : Machine) (first last : Standing) (g : GoesOnAt m fir
 -- from a standing at which a run goes on, acts one after another come to one at which it goes on
 abbrev pub CoursesGoOn : Type 0
 CoursesGoOn =
-    (m : Machine) (count moment : ℕ) (first last : Standing) → is_word64 moment ≡ true → moment ≡ time_of (entries (first.lists 0))
+    (m : Machine) (count moment : ℕ) (first last : BurstState) → is_word64 moment ≡ true → moment ≡ time_of (entries (first.lists 0))
     → (g : GoesOnAt m first) → Course count moment first last → GoesFarther m first last g

@@ -1,3 +1,3 @@
 pub mod Courses
-pub mod Keeping
+pub mod Preservation
 pub mod Serial

@@ -4,22 +4,22 @@ use Rattle.run_objects.specs.Objects.{SeatedCoreState, SeatedSourceState}
 use Rattle.wakeup_source.specs.SourceStates.{SourceState}
 use Rattle.run_world.specs.declared.task.Task.{Task}
 use Rattle.run_world.specs.Bursts.{IsBurst}
-use Rattle.burst_laws.specs.Courses.{Course, Standing, lists_of}
+use Rattle.burst_laws.specs.Courses.{Course, BurstState, lists_of}
 
 -- the sources without their seats
 abbrev pub plain_sources : List SeatedSourceState → List SourceState
 plain_sources sources = map (λ s. s.source) sources
 
 -- where these stand
-abbrev pub standing_of : SeatedCoreState → List SeatedSourceState → List Task → Standing
-standing_of machine sources tasks = record { lists = lists_of machine.core.past (plain_sources sources); tasks = tasks }
+abbrev pub burst_state_of : SeatedCoreState → List SeatedSourceState → List Task → BurstState
+burst_state_of machine sources tasks = record { lists = lists_of machine.core.past (plain_sources sources); tasks = tasks }
 
 -- the burst's acts have an order in which each finds all lists as those before it left them, and at the end the lists and the tasks are those that came back
 pub record IsSerial
     (moment : ℕ) (machine : SeatedCoreState) (sources : List SeatedSourceState) (tasks : List Task)
     (machine_then : SeatedCoreState) (sources_then : List SeatedSourceState) (tasks_then : List Task) : Type 0 where
-  pub last : Standing
-  pub course : Course (length sources) moment (standing_of machine sources tasks) last
+  pub last : BurstState
+  pub course : Course (length sources) moment (burst_state_of machine sources tasks) last
   pub tasks_are : last.tasks ≡ tasks_then
   pub lists_are : (i : ℕ) → last.lists i ≡ lists_of machine_then.core.past (plain_sources sources_then) i
 

@@ -1,11 +1,11 @@
 //! What holds of each burst, whichever way its workers took turns.
 
 ghost use Rattle.burst_laws.specs.Courses.{CoursesGoOn};
-ghost use Rattle.burst_laws.specs.Keeping.{BurstsGoOn, BurstsGrow};
+ghost use Rattle.burst_laws.specs.Preservation.{BurstsGoOn, BurstsGrow};
 ghost use Rattle.burst_laws.specs.Serial.{BurstsAreSerial};
 
 /// The acts of a burst have an order in which each finds the machine and the sources as those before it left them, and
-/// behind the last stand the tasks, the machine and the sources that came back.
+/// after the last stand the tasks, the machine and the sources that came back.
 pub fn bursts_are_serial()
     ensures { BurstsAreSerial }
 {}

@@ -7,7 +7,7 @@
 //! invariant holds through acts in such an order; so a run goes on after each burst at its time. By the clauses of
 //! `bursts_are_serial`, `courses_go_on`, `bursts_go_on`.
 //!
-//! Begin reading in `specs/Courses.antt`, `specs/Serial.antt`, `specs/Keeping.antt`; `proofs/SerialOrder.antt`,
+//! Begin reading in `specs/Courses.antt`, `specs/Serial.antt`, `specs/Preservation.antt`; `proofs/SerialOrder.antt`,
 //! `proofs/GoingOn.antt`.
 #![tactic(auto)]
 

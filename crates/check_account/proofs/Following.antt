@@ -8,9 +8,9 @@ use Rattle.sleep_model.specs.declared.entry.Kind.{Kind}
 use Rattle.sleep_model.specs.declared.entry.Kind.TheVariants as kind
 use Rattle.sleep_model.specs.declared.entry.Thaw.{Thaw}
 use Rattle.sleep_model.specs.declared.machine.Script.{Script}
-use Rattle.sleep_model.specs.declared.place.Freezing.{Freezing}
+use Rattle.sleep_model.specs.declared.progress.Freezing.{Freezing}
 use Rattle.sleep_model.specs.Freezer.{unasked, all_asked, all_let_go, put_frozen, freezings, freezings_after}
-use Rattle.check_account.specs.Accounts.{AllFollow, EachIsPlaced}
+use Rattle.check_account.specs.Accounts.{AllFollow, EachIsKnown}
 
 pub follow : AllFollow
 follow m past e = record { attempt = refl; tasks = refl; devices = refl }
@@ -41,6 +41,6 @@ none_len : (ss : List Script) → length (map (λ (s : Script). unasked) ss) ≡
 none_len [] = refl
 none_len (s ∷ ss) = ap suc (none_len ss)
 
-pub placed : EachIsPlaced
+pub placed : EachIsKnown
 placed ss [] = none_len ss
 placed ss (e ∷ past) = one_len ss e.actor e.kind (freezings ss past) (placed ss past)

@@ -9,29 +9,29 @@ use Rattle.sleep_model.specs.declared.machine.Machine.{Machine}
 use Rattle.sleep_model.specs.declared.machine.PlatDo.{PlatDo}
 use Rattle.sleep_model.specs.declared.machine.PlatDo.TheVariants as down
 use Rattle.sleep_model.specs.declared.machine.Script.{Script}
-use Rattle.sleep_model.specs.declared.place.Callback.{Callback}
-use Rattle.sleep_model.specs.declared.place.Freezing.{Freezing}
-use Rattle.sleep_model.specs.declared.place.Seat.{Seat}
-use Rattle.sleep_model.specs.declared.place.Sleep.{Sleep}
-use Rattle.sleep_model.specs.declared.place.Stage.{Stage}
-use Rattle.sleep_model.specs.declared.place.Work.{Work}
+use Rattle.sleep_model.specs.declared.progress.Callback.{Callback}
+use Rattle.sleep_model.specs.declared.progress.Freezing.{Freezing}
+use Rattle.sleep_model.specs.declared.progress.ScriptPosition.{ScriptPosition}
+use Rattle.sleep_model.specs.declared.progress.Sleep.{Sleep}
+use Rattle.sleep_model.specs.declared.progress.Stage.{Stage}
+use Rattle.sleep_model.specs.declared.progress.Work.{Work}
 use Rattle.sleep_model.specs.Attempt.{failed, failed_after, freeze_since, freeze_since_after, sleep_of, sleep_after}
 use Rattle.sleep_model.specs.Autosleep.{work, work_after, is_queued, queued_after, runs, runs_after}
 use Rattle.sleep_model.specs.Devices.{callback, callback_after, is_device, phase_failed, phase_failed_after, own_error, own_error_after, asks_direct, asks_direct_after}
 use Rattle.sleep_model.specs.Freezer.{freezings, freezings_after}
-use Rattle.sleep_model.specs.Guard.{in_force, force_after, count_part, forgotten, forgotten_after}
+use Rattle.sleep_model.specs.Guard.{in_force, force_after, count_effect, forgotten, forgotten_after}
 use Rattle.sleep_model.specs.Laws.{entered, entered_after}
 use Rattle.sleep_model.specs.Lock.{holder, holder_after, is_on, on_after}
 use Rattle.sleep_model.specs.Marks.{raised, marks_after}
-use Rattle.sleep_model.specs.Notifiers.{told, notified_after, cpus_off, cpus_off_after, stopped, stopped_after, irqs_off, irqs_off_after, owes_platform, owes_platform_after}
+use Rattle.sleep_model.specs.Notifiers.{notified_flags, notified_after, cpus_off, cpus_off_after, stopped, stopped_after, irqs_off, irqs_off_after, owes_platform, owes_platform_after}
 use Rattle.sleep_model.specs.Numbers.{time_of, time_after}
 use Rattle.sleep_model.specs.Path.{attempts, attempts_after, maker, maker_after}
 use Rattle.sleep_model.specs.Runtime.{statuses, statuses_after, disabled_by_direct, disabled_by_direct_after, disabled_by_late, disabled_by_late_after}
-use Rattle.sleep_model.specs.Seats.{seats, seats_after, seat_part}
-use Rattle.sleep_model.specs.Stands.{device_of}
+use Rattle.sleep_model.specs.Positions.{positions, positions_after, position_effect}
+use Rattle.sleep_model.specs.PhaseStates.{device_of}
 use Rattle.sleep_model.specs.Table.{stage_of, stage_after}
 use Rattle.sleep_model.specs.Word.{position}
-use Rattle.check_account.specs.Boards.{BoardState, board_after, board_of}
+use Rattle.check_account.specs.PairStates.{PairStatesSeen, pairs_after, pairs_of}
 
 -- ---- the open attempt
 
@@ -61,7 +61,7 @@ pub record AttemptState : Type 0 where
 abbrev pub attempt_after : Entry → AttemptState → AttemptState
 attempt_after e before = record {
   time = time_after e.kind e.time before.time;
-  force = force_after (count_part e.kind) e.now before.force;
+  force = force_after (count_effect e.kind) e.now before.force;
   forgotten = forgotten_after e.kind e.now before.forgotten;
   attempts = attempts_after e.kind before.attempts;
   maker = maker_after e.kind e.actor before.maker;
@@ -81,7 +81,7 @@ attempt_after e before = record {
   prepared_late = owes_platform_after e.kind down.PrepareLate before.prepared_late;
 }
 
--- these behind the entries of a journal, the newest first: what the definitions read from them (own)
+-- these after the entries of a journal, the newest first: what the definitions read from them (own)
 abbrev pub attempt_of : List Entry → AttemptState
 attempt_of past = record {
   time = time_of past;
@@ -125,7 +125,7 @@ owes_by a down.PrepareLate = a.prepared_late
 -- what the freezer has come to with each script, where it stands, the marks, and autosleep with its work (freeze_task, autosleep_lock, try_to_suspend)
 pub record TaskState : Type 0 where
   pub freezings : List Freezing
-  pub seats : List Seat
+  pub positions : List ScriptPosition
   pub raised : List ℕ
   pub holder : Option Actor
   pub on : Bool
@@ -137,7 +137,7 @@ pub record TaskState : Type 0 where
 abbrev pub tasks_after : List Script → Entry → TaskState → TaskState
 tasks_after scripts e before = record {
   freezings = freezings_after scripts e.actor e.kind before.freezings;
-  seats = seats_after e.actor (seat_part e.kind) before.seats;
+  positions = positions_after e.actor (position_effect e.kind) before.positions;
   raised = marks_after e.kind before.raised;
   holder = holder_after e.kind e.actor before.holder;
   on = on_after e.kind before.on;
@@ -146,11 +146,11 @@ tasks_after scripts e before = record {
   runs = runs_after e.kind before.runs;
 }
 
--- these behind the entries of a machine's journal, the newest first (own)
+-- these after the entries of a machine's journal, the newest first (own)
 abbrev pub tasks_of : Machine → List Entry → TaskState
 tasks_of m past = record {
   freezings = freezings m.actors past;
-  seats = seats (length m.actors) past;
+  positions = positions (length m.actors) past;
   raised = raised (length m.marks) past;
   holder = holder past;
   on = is_on past;
@@ -163,7 +163,7 @@ tasks_of m past = record {
 
 -- where each device stands, which of them asked to be left alone or are runtime suspended, which notifiers were told, which processors and core parts are off (struct dev_pm_info, frozen_cpus, syscore_ops_list)
 pub record DeviceState : Type 0 where
-  pub board : BoardState
+  pub pairs : PairStatesSeen
   pub asks_direct : List Bool
   pub statuses : List Bool
   pub notified : List Bool
@@ -173,7 +173,7 @@ pub record DeviceState : Type 0 where
 -- these after one more entry (own)
 abbrev pub devices_after : Kind → DeviceState → DeviceState
 devices_after k before = record {
-  board = board_after k (device_of k) before.board;
+  pairs = pairs_after k (device_of k) before.pairs;
   asks_direct = asks_direct_after k before.asks_direct;
   statuses = statuses_after k before.statuses;
   notified = notified_after k before.notified;
@@ -181,13 +181,13 @@ devices_after k before = record {
   stopped = stopped_after k before.stopped;
 }
 
--- these behind the entries of a machine's journal, the newest first (own)
+-- these after the entries of a machine's journal, the newest first (own)
 abbrev pub devices_of : Machine → List Entry → DeviceState
 devices_of m past = record {
-  board = board_of (length m.devices) past;
+  pairs = pairs_of (length m.devices) past;
   asks_direct = asks_direct (length m.devices) past;
   statuses = statuses m.devices past;
-  notified = told m past;
+  notified = notified_flags m past;
   cpus_off = cpus_off m.cpus past;
   stopped = stopped (length m.syscore) past;
 }
@@ -205,5 +205,5 @@ abbrev pub AllFollow : Type 0
 AllFollow = (m : Machine) (past : List Entry) (e : Entry) → AccountsFollow m past e
 
 -- each script of a machine has its place with the freezer (own)
-abbrev pub EachIsPlaced : Type 0
-EachIsPlaced = (scripts : List Script) (past : List Entry) → length (freezings scripts past) ≡ length scripts
+abbrev pub EachIsKnown : Type 0
+EachIsKnown = (scripts : List Script) (past : List Entry) → length (freezings scripts past) ≡ length scripts

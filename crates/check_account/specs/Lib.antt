@@ -1,3 +1,3 @@
 pub mod Accounts
-pub mod Boards
+pub mod PairStates
 pub mod Fronts

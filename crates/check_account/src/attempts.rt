@@ -8,8 +8,8 @@ use crate::errors::{
     callback_after, disabled_by_direct_after, disabled_by_late_after, irqs_off_after, is_device,
     owes_platform_after, own_error_after, phase_failed_after,
 };
+use crate::phase_states::is_of_device;
 use crate::stage::stage_after;
-use crate::stands::is_of_device;
 use sleep_base::{Errno, Mem};
 use sleep_model::{Actor, Callback, Entry, EventNow, PlatDo, Sleep, Stage, pos};
 use std::marker::Model;
@@ -112,7 +112,7 @@ impl AttemptAccount {
         self.disabled_by_late = disabled_by_late_after(e.kind, self.disabled_by_late);
     }
 
-    // Passes any entry of the journal. `Mem` where a counter has no room.
+    // Passes any entry of the journal. `Mem` if a counter has no room.
     fn pass_any(&mut self, e: Entry) -> Result<(), Mem>
         ensures { OnOk result (self.new ≡ attempt_after e self.old) }
     {
@@ -139,7 +139,7 @@ impl AttemptAccount {
         Ok(())
     }
 
-    /// Passes one more entry of the journal. `Mem` where a counter has no room.
+    /// Passes one more entry of the journal. `Mem` if a counter has no room.
     pub fn pass(&mut self, e: Entry) -> Result<(), Mem>
         ensures { OnOk result (self.new ≡ attempt_after e self.old) }
     {

@@ -128,7 +128,7 @@ pub(crate) fn queued_after(kind: Kind, on: bool, before: bool) -> bool
     }
 }
 
-/// How often the work has run after an entry. `Mem` where the counter has no room.
+/// How often the work has run after an entry. `Mem` if the counter has no room.
 pub(crate) fn runs_after(kind: Kind, before: u32) -> Result<u32, Mem>
     ensures { IfOk result (λ n. n ≡ runs_after kind before) }
 {

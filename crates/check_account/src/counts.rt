@@ -2,12 +2,12 @@
 
 ghost use Rattle.std.specs.Prelude.{◌≡◌, ◌+◌, if◌then◌else◌, None, IfOk};
 ghost use Rattle.sleep_model.specs.Numbers.{after_step, time_after, word_step};
-ghost use Rattle.sleep_model.specs.Guard.{count_part, force_after, forgotten_after, has_changed, count_pending};
+ghost use Rattle.sleep_model.specs.Guard.{count_effect, force_after, forgotten_after, has_changed, count_pending};
 
 use sleep_base::{Errno, Mem};
 use sleep_model::{EventNow, FrozeEnd, Group, Kind, SkipCause, visible};
 
-/// One more. `Mem` where a counter has no room for it, which no log that fits into memory comes to.
+/// One more. `Mem` if a counter has no room for it, which no log that fits into memory comes to.
 pub(crate) fn one_more(count: u32) -> Result<u32, Mem>
     ensures { IfOk result (λ n. n ≡ count + 1) }
 {
@@ -18,7 +18,7 @@ pub(crate) fn one_more(count: u32) -> Result<u32, Mem>
 }
 
 /// The word after an entry: a start begins an event, a finish registers it, a hard step counts a hard one
-/// (`drivers/base/power/wakeup.c`, `wakeup_source_activate`, `wakeup_source_deactivate`). `Mem` where a counter
+/// (`drivers/base/power/wakeup.c`, `wakeup_source_activate`, `wakeup_source_deactivate`). `Mem` if a counter
 /// has no room.
 pub fn word_after(kind: Kind, word: EventNow) -> Result<EventNow, Mem>
     ensures { IfOk result (λ w. w ≡ after_step (word_step kind) word) }
@@ -83,7 +83,7 @@ fn unless_changed(force: Option<u32>, now: EventNow) -> Option<u32>
 /// an attempt drop, a test that found a wakeup drops what it found changed (`pm_save_wakeup_count`,
 /// `pm_wakeup_pending`).
 pub(crate) fn force_after(kind: Kind, now: EventNow, before: Option<u32>) -> Option<u32>
-    ensures { result ≡ force_after (count_part kind) now before }
+    ensures { result ≡ force_after (count_effect kind) now before }
 {
     match kind {
         Kind::Saved(count) | Kind::AutoSaved(count) => Some(count),

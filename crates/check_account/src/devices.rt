@@ -1,19 +1,19 @@
-use crate::board::Board;
 use crate::flags::{
     first_statuses, move_asks, move_cpus, move_notified, move_statuses, move_stopped,
 };
-use crate::stands::device_of;
+use crate::pair_states::PairStates;
+use crate::phase_states::device_of;
 use device_rows::Flags;
 use phase_table::Phase;
 use sleep_base::{Mem, lost};
-use sleep_model::{Kind, Machine, Stand};
+use sleep_model::{Kind, Machine, PhaseState};
 use std::alloc::Global;
 use std::marker::Model;
 
 /// What the entries of the journal leave of devices, notifiers, processors and the core's parts.
 #[derive(Drop)]
 pub struct DeviceAccount {
-    board: Board,
+    pairs: PairStates,
     asks_direct: Flags,
     statuses: Flags,
     notified: Flags,
@@ -27,7 +27,7 @@ impl Model for DeviceAccount {
     ghost Value = { DeviceState };
 
     ghost view = { λ a. record {
-      board = a.board;
+      pairs = a.pairs;
       asks_direct = a.asks_direct;
       statuses = a.statuses;
       notified = a.notified;
@@ -38,9 +38,9 @@ impl Model for DeviceAccount {
 
 impl DeviceAccount {
     ghost use Rattle.std.specs.Prelude.{◌≡◌, [], IfOk};
-    ghost use Rattle.sleep_model.specs.Stands.{stand_at};
+    ghost use Rattle.sleep_model.specs.PhaseStates.{state_at};
     ghost use Rattle.check_account.specs.Accounts.{devices_after, devices_of};
-    ghost use Rattle.check_account.specs.Boards.{stands_on};
+    ghost use Rattle.check_account.specs.PairStates.{states_on};
 
     /// Before the first entry. `Mem` if there is no memory for it.
     pub fn new(alloc: Global, machine: &Machine) -> Result<Self, Mem>
@@ -59,12 +59,12 @@ impl DeviceAccount {
         let Ok(stopped) = Flags::new(alloc, machine.syscore.len()) else {
             return Err(lost((asks_direct, statuses, notified, cpus_off)));
         };
-        // The largest comes last, with no exit behind it.
-        let Ok(board) = Board::new(alloc, machine.devices.len()) else {
+        // The largest comes last, with no exit after it.
+        let Ok(pairs) = PairStates::new(alloc, machine.devices.len()) else {
             return Err(lost((asks_direct, statuses, notified, cpus_off, stopped)));
         };
         Ok(DeviceAccount {
-            board,
+            pairs,
             asks_direct,
             statuses,
             notified,
@@ -77,7 +77,7 @@ impl DeviceAccount {
     pub fn pass(&mut self, kind: Kind)
         ensures { self.new ≡ devices_after kind self.old }
     {
-        self.board.pass(kind, device_of(kind));
+        self.pairs.pass(kind, device_of(kind));
         move_asks(&mut self.asks_direct, kind);
         move_statuses(&mut self.statuses, kind);
         move_notified(&mut self.notified, kind);
@@ -86,17 +86,17 @@ impl DeviceAccount {
     }
 
     /// Where each device stands in a phase and its mirror (`struct dev_pm_info`).
-    pub fn stands(&self, phase: Phase) -> &[Stand]
-        ensures { result.now ≡ stands_on self.now.board phase }
+    pub fn phase_states(&self, phase: Phase) -> &[PhaseState]
+        ensures { result.now ≡ states_on self.now.pairs phase }
     {
-        self.board.stands(phase)
+        self.pairs.phase_states(phase)
     }
 
     /// Where a device stands in a phase and its mirror.
-    pub fn stand(&self, phase: Phase, device: u32) -> Stand
-        ensures { result ≡ stand_at (stands_on self.now.board phase) device }
+    pub fn state(&self, phase: Phase, device: u32) -> PhaseState
+        ensures { result ≡ state_at (states_on self.now.pairs phase) device }
     {
-        self.board.stand(phase, device)
+        self.pairs.state(phase, device)
     }
 
     /// Which devices answered 1 to their last prepare (`power.direct_complete`).

@@ -1,7 +1,7 @@
 //! The stage of the open attempt: which row of its table is under way.
 
 ghost use Rattle.std.specs.Prelude.{◌≡◌};
-ghost use Rattle.sleep_model.specs.Table.{after_done, behind, behind_down, behind_freeze, behind_platform_down, behind_platform_up, behind_thaw, behind_up, by_case, by_error, by_froze, failed_freeze, failed_phase, failed_platform_down, stage_after};
+ghost use Rattle.sleep_model.specs.Table.{after_done, next_stage, stage_after_down, stage_after_freeze, stage_after_platform_down, stage_after_platform_up, stage_after_thaw, stage_after_up, by_case, by_error, by_froze, failed_freeze, failed_phase, failed_platform_down, stage_after};
 
 use sleep_base::Errno;
 use sleep_model::{FrozeEnd, Group, Kind, Phase, PlatDo, PlatUndo, Stage, Thaw};
@@ -34,8 +34,8 @@ fn by_froze(end: FrozeEnd, good: Stage, failed: Stage) -> Stage
 }
 
 // What follows a freeze that left none.
-fn behind_freeze(group: Group) -> Stage
-    ensures { result ≡ behind_freeze group }
+fn stage_after_freeze(group: Group) -> Stage
+    ensures { result ≡ stage_after_freeze group }
 {
     match group {
         Group::User => Stage::Freezes(Group::Kernel),
@@ -54,8 +54,8 @@ fn failed_freeze(group: Group) -> Stage
 }
 
 // What follows a thaw.
-fn behind_thaw(those: Thaw) -> Stage
-    ensures { result ≡ behind_thaw those }
+fn stage_after_thaw(those: Thaw) -> Stage
+    ensures { result ≡ stage_after_thaw those }
 {
     match those {
         Thaw::Kernel => Stage::Thaws(Thaw::All),
@@ -64,8 +64,8 @@ fn behind_thaw(those: Thaw) -> Stage
 }
 
 // What follows a step of the platform on the way down.
-fn behind_platform_down(step: PlatDo) -> Stage
-    ensures { result ≡ behind_platform_down step }
+fn stage_after_platform_down(step: PlatDo) -> Stage
+    ensures { result ≡ stage_after_platform_down step }
 {
     match step {
         PlatDo::Begin => Stage::Prepares,
@@ -86,8 +86,8 @@ fn failed_platform_down(step: PlatDo) -> Stage
 }
 
 // What follows a step of the platform on the way up.
-fn behind_platform_up(step: PlatUndo) -> Stage
-    ensures { result ≡ behind_platform_up step }
+fn stage_after_platform_up(step: PlatUndo) -> Stage
+    ensures { result ≡ stage_after_platform_up step }
 {
     match step {
         PlatUndo::Recover | PlatUndo::Finish => Stage::Ups(Phase::Resume),
@@ -97,8 +97,8 @@ fn behind_platform_up(step: PlatUndo) -> Stage
 }
 
 // What follows a phase on the devices' way down.
-fn behind_down(phase: Phase) -> Stage
-    ensures { result ≡ behind_down phase }
+fn stage_after_down(phase: Phase) -> Stage
+    ensures { result ≡ stage_after_down phase }
 {
     match phase {
         Phase::Suspend => Stage::PlatformDown(PlatDo::Prepare),
@@ -108,8 +108,8 @@ fn behind_down(phase: Phase) -> Stage
 }
 
 // What follows a phase on the devices' way up.
-fn behind_up(phase: Phase) -> Stage
-    ensures { result ≡ behind_up phase }
+fn stage_after_up(phase: Phase) -> Stage
+    ensures { result ≡ stage_after_up phase }
 {
     match phase {
         Phase::ResumeNoirq => Stage::Ups(Phase::Early),
@@ -136,11 +136,11 @@ fn after_done(phase: Phase, r: Option<Errno>) -> Stage
     match phase {
         Phase::Prepare => by_error(r, Stage::Downs(Phase::Suspend), failed_phase(phase)),
         Phase::Suspend | Phase::Late | Phase::Noirq => {
-            by_error(r, behind_down(phase), failed_phase(phase))
+            by_error(r, stage_after_down(phase), failed_phase(phase))
         }
         Phase::Syscore => Stage::Enters,
         Phase::SyscoreResume => Stage::StartsIrqs,
-        Phase::ResumeNoirq | Phase::Early | Phase::Resume => behind_up(phase),
+        Phase::ResumeNoirq | Phase::Early | Phase::Resume => stage_after_up(phase),
         Phase::Complete => Stage::PlatformUp(PlatUndo::End),
     }
 }
@@ -154,10 +154,10 @@ pub(crate) fn stage_after(kind: Kind, before: Option<Stage>) -> Option<Stage>
         Kind::Attempt { .. } => Stage::Notifies,
         Kind::NotifyPrepare(_, r) => by_error(r, Stage::Notifies, Stage::Posts),
         Kind::Freeze(group) => Stage::Freezes(group),
-        Kind::Froze(group, end) => by_froze(end, behind_freeze(group), failed_freeze(group)),
+        Kind::Froze(group, end) => by_froze(end, stage_after_freeze(group), failed_freeze(group)),
         Kind::PlatformDo(step, r) => by_error(
             r,
-            behind_platform_down(step),
+            stage_after_platform_down(step),
             failed_platform_down(step),
         ),
         Kind::Done(phase, r) => after_done(phase, r),
@@ -168,25 +168,25 @@ pub(crate) fn stage_after(kind: Kind, before: Option<Stage>) -> Option<Stage>
         Kind::SyscoreSuspend(_, r) => by_error(r, Stage::StopsSyscore, Stage::StartsSyscore),
         Kind::Enter { busy } => by_case(busy, Stage::StartsSyscore, Stage::Enters),
         Kind::Wake { .. } | Kind::SyscoreResume(_) => Stage::StartsSyscore,
-        Kind::PlatformUndo(step) => behind_platform_up(step),
+        Kind::PlatformUndo(step) => stage_after_platform_up(step),
         Kind::Clear => Stage::Thaws(Thaw::All),
-        Kind::Thaw(those) => behind_thaw(those),
+        Kind::Thaw(those) => stage_after_thaw(those),
         Kind::NotifyPost(_) => Stage::Posts,
         Kind::Over { .. } => return None,
         _ => return before,
     })
 }
 
-/// The stage behind a stage, where nothing fails (`enter_state`, `suspend_devices_and_enter`, `suspend_enter`).
-pub fn behind(stage: Stage) -> Stage
-    ensures { result ≡ behind stage }
+/// The stage after a stage, where nothing fails (`enter_state`, `suspend_devices_and_enter`, `suspend_enter`).
+pub fn next_stage(stage: Stage) -> Stage
+    ensures { result ≡ next_stage stage }
 {
     match stage {
         Stage::Notifies => Stage::Freezes(Group::User),
-        Stage::Freezes(group) => behind_freeze(group),
-        Stage::PlatformDown(step) => behind_platform_down(step),
+        Stage::Freezes(group) => stage_after_freeze(group),
+        Stage::PlatformDown(step) => stage_after_platform_down(step),
         Stage::Prepares => Stage::Downs(Phase::Suspend),
-        Stage::Downs(phase) => behind_down(phase),
+        Stage::Downs(phase) => stage_after_down(phase),
         Stage::StopsCpus => Stage::StopsIrqs,
         Stage::StopsIrqs => Stage::Checks,
         Stage::Checks => Stage::StopsSyscore,
@@ -195,11 +195,11 @@ pub fn behind(stage: Stage) -> Stage
         Stage::StartsSyscore => Stage::StartsIrqs,
         Stage::StartsIrqs => Stage::StartsCpus,
         Stage::StartsCpus => Stage::PlatformUp(PlatUndo::Wake),
-        Stage::PlatformUp(step) => behind_platform_up(step),
-        Stage::Ups(phase) => behind_up(phase),
+        Stage::PlatformUp(step) => stage_after_platform_up(step),
+        Stage::Ups(phase) => stage_after_up(phase),
         Stage::Completes => Stage::PlatformUp(PlatUndo::End),
         Stage::Clears => Stage::Thaws(Thaw::All),
-        Stage::Thaws(those) => behind_thaw(those),
+        Stage::Thaws(those) => stage_after_thaw(those),
         Stage::Posts | Stage::Ends => Stage::Ends,
     }
 }

@@ -1,9 +1,9 @@
 use crate::autosleep::{holder_after, on_after, queued_after, runs_after, work_after};
 use crate::freezings::{move_freezings, none_asked, unasked};
-use crate::seats::{first_seat, move_marks, move_seat};
-use crate::stands::is_of_device;
+use crate::phase_states::is_of_device;
+use crate::positions::{first_position, move_marks, move_position};
 use sleep_base::Mem;
-use sleep_model::{Actor, Entry, Freezing, Machine, Script, Seat, Work};
+use sleep_model::{Actor, Entry, Freezing, Machine, Script, ScriptPosition, Work};
 use std::alloc::Global;
 use std::marker::Model;
 
@@ -12,7 +12,7 @@ use std::marker::Model;
 #[derive(Drop)]
 pub struct TaskAccount {
     freezings: Vec<Freezing>,
-    seats: Vec<Seat>,
+    positions: Vec<ScriptPosition>,
     raised: Vec<u32>,
     holder: Option<Actor>,
     on: bool,
@@ -28,7 +28,7 @@ impl Model for TaskAccount {
 
     ghost view = { λ a. record {
       freezings = a.freezings.items;
-      seats = a.seats.items;
+      positions = a.positions.items;
       raised = a.raised.items;
       holder = a.holder;
       on = a.on;
@@ -42,7 +42,7 @@ impl TaskAccount {
     ghost use Rattle.std.specs.Prelude.{◌≡◌, ◌<◌, ◌^◌, [], length, IfOk, OnOk};
     ghost use Rattle.sleep_model.specs.Freezer.{freezing_at};
     ghost use Rattle.sleep_model.specs.Marks.{mark_at};
-    ghost use Rattle.sleep_model.specs.Seats.{all_exited, seat_at};
+    ghost use Rattle.sleep_model.specs.Positions.{all_exited, position_at};
     ghost use Rattle.check_account.specs.Accounts.{tasks_after, tasks_of};
 
     /// Before the first entry. `Mem` if there is no memory for it.
@@ -51,7 +51,7 @@ impl TaskAccount {
     {
         Ok(TaskAccount {
             freezings: none_asked(alloc, machine.actors.as_slice())?,
-            seats: vec![in alloc; first_seat(); machine.actors.len()]?,
+            positions: vec![in alloc; first_position(); machine.actors.len()]?,
             raised: vec![in alloc; 0; machine.marks.len()]?,
             holder: None,
             on: false,
@@ -61,7 +61,7 @@ impl TaskAccount {
         })
     }
 
-    /// Passes one more entry of the journal, among the tasks of these scripts. `Mem` where a counter has no room.
+    /// Passes one more entry of the journal, among the tasks of these scripts. `Mem` if a counter has no room.
     #[tactic(auto, using(crate::proofs::Unmoved::tasks_stay))]
     pub fn pass(&mut self, scripts: &[Script], e: Entry) -> Result<(), Mem>
         requires all { length self.old.freezings ≡ length scripts.now }
@@ -73,7 +73,7 @@ impl TaskAccount {
             return Ok(());
         }
         self.runs = runs_after(e.kind, self.runs)?;
-        move_seat(&mut self.seats, e.actor, e.kind)?;
+        move_position(&mut self.positions, e.actor, e.kind)?;
         move_marks(&mut self.raised, e.kind)?;
         move_freezings(&mut self.freezings, scripts, e.actor, e.kind);
         self.queued = queued_after(e.kind, self.on, self.queued);
@@ -102,28 +102,28 @@ impl TaskAccount {
     }
 
     /// Where a script stands.
-    pub fn seat(&self, script: u32) -> Seat
-        ensures { result ≡ seat_at self.now.seats script }
+    pub fn position(&self, script: u32) -> ScriptPosition
+        ensures { result ≡ position_at self.now.positions script }
     {
-        if (script as usize) < self.seats.len() {
-            self.seats[script as usize]
+        if (script as usize) < self.positions.len() {
+            self.positions[script as usize]
         } else {
-            first_seat()
+            first_position()
         }
     }
 
     /// Where each script stands.
-    pub fn seats(&self) -> &[Seat]
-        ensures { result.now ≡ self.now.seats }
+    pub fn positions(&self) -> &[ScriptPosition]
+        ensures { result.now ≡ self.now.positions }
     {
-        &self.seats
+        &self.positions
     }
 
     /// Whether every script has made its exit (`do_exit`).
     pub fn all_exited(&self) -> bool
-        ensures { result ≡ all_exited self.now.seats }
+        ensures { result ≡ all_exited self.now.positions }
     {
-        self.seats.iter().all(|seat| seat.exited)
+        self.positions.iter().all(|position| position.exited)
     }
 
     /// How often a mark was raised and not yet taken.

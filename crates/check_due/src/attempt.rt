@@ -1,7 +1,7 @@
 //! What an attempt's maker does next (`kernel/power/suspend.c`).
 
 ghost use Rattle.std.specs.Prelude.{◌≡◌, IfOk};
-ghost use Rattle.sleep_model.specs.declared.place.Stage.TheVariants.{Notifies, Posts, StartsCpus, StartsSyscore, StopsCpus, StopsSyscore};
+ghost use Rattle.sleep_model.specs.declared.progress.Stage.TheVariants.{Notifies, Posts, StartsCpus, StartsSyscore, StopsCpus, StopsSyscore};
 ghost use Rattle.sleep_model.specs.declared.word.EventNow.{EventNow};
 ghost use Rattle.sleep_model.specs.Attempt.{attempt_due, enter_due, freeze_due, freeze_since, sleep_of, stage_due, stage_or_next};
 ghost use Rattle.check_past.specs.Passing.{journal_of};
@@ -9,12 +9,12 @@ ghost use Rattle.check_past.specs.Passing.{journal_of};
 use crate::row::{answered, busy_error};
 use crate::waits::{froze_due, wakes_due};
 use crate::walks::{complete_due, down_due, prepare_due, up_due};
-use check_account::behind;
+use check_account::next_stage;
 use check_past::Passed;
 use sleep_base::Mem;
 use sleep_model::{Due, EventNow, Group, Kind, Stage, What};
 
-// A freeze of a group: it asks its tasks, then waits for them. `Mem` where its end is beyond all time.
+// A freeze of a group: it asks its tasks, then waits for them. `Mem` if its end is beyond all time.
 fn freeze_due(past: &Passed<'_>, now: EventNow, group: Group) -> Result<Due, Mem>
     ensures { IfOk result (λ d. d ≡ freeze_due past.now.machine (journal_of past.now) now group
         (freeze_since (journal_of past.now))) }
@@ -25,7 +25,7 @@ fn freeze_due(past: &Passed<'_>, now: EventNow, group: Group) -> Result<Due, Mem
     }
 }
 
-// The entering, or the waking. `Mem` where the alarm is beyond all time.
+// The entering, or the waking. `Mem` if the alarm is beyond all time.
 fn enter_due(past: &Passed<'_>, now: EventNow) -> Result<Due, Mem>
     ensures { IfOk result (λ d. d ≡ enter_due past.now.machine (journal_of past.now) now (sleep_of (journal_of past.now))) }
 {
@@ -42,7 +42,7 @@ fn notify_due(past: &Passed<'_>) -> Due
     ensures { (now : EventNow) → result ≡ stage_due past.now.machine (journal_of past.now) now Notifies }
 {
     match past.next_called() {
-        None => Due::Gone,
+        None => Due::Exited,
         Some(x) => Due::Makes(Kind::NotifyPrepare(x, answered(past, What::Notifier(x)))),
     }
 }
@@ -52,7 +52,7 @@ fn stop_due(past: &Passed<'_>, now: EventNow) -> Due
     ensures { result ≡ stage_due past.now.machine (journal_of past.now) now StopsCpus }
 {
     match past.next_cpu_off() {
-        None => Due::Gone,
+        None => Due::Exited,
         Some(k) => {
             if past.is_pending(now) {
                 Due::Makes(Kind::CpuBusy(k))
@@ -68,7 +68,7 @@ fn core_due(past: &Passed<'_>) -> Due
     ensures { (now : EventNow) → result ≡ stage_due past.now.machine (journal_of past.now) now StopsSyscore }
 {
     match past.next_stopped() {
-        None => Due::Gone,
+        None => Due::Exited,
         Some(x) => Due::Makes(Kind::SyscoreSuspend(x, answered(past, What::Syscore(x)))),
     }
 }
@@ -78,7 +78,7 @@ fn resume_due(past: &Passed<'_>) -> Due
     ensures { (now : EventNow) → result ≡ stage_due past.now.machine (journal_of past.now) now StartsSyscore }
 {
     match past.next_started() {
-        None => Due::Gone,
+        None => Due::Exited,
         Some(x) => Due::Makes(Kind::SyscoreResume(x)),
     }
 }
@@ -88,7 +88,7 @@ fn cpu_on_due(past: &Passed<'_>) -> Due
     ensures { (now : EventNow) → result ≡ stage_due past.now.machine (journal_of past.now) now StartsCpus }
 {
     match past.next_cpu_on() {
-        None => Due::Gone,
+        None => Due::Exited,
         Some(k) => Due::Makes(Kind::CpuOn(k)),
     }
 }
@@ -98,12 +98,12 @@ fn post_due(past: &Passed<'_>) -> Due
     ensures { (now : EventNow) → result ≡ stage_due past.now.machine (journal_of past.now) now Posts }
 {
     match past.next_posted() {
-        None => Due::Gone,
+        None => Due::Exited,
         Some(x) => Due::Makes(Kind::NotifyPost(x)),
     }
 }
 
-// What the maker makes at a stage, if that has anything left. `Mem` where a moment is beyond all time.
+// What the maker makes at a stage, if that has anything left. `Mem` if a moment is beyond all time.
 fn stage_due(past: &Passed<'_>, now: EventNow, stage: Stage) -> Result<Due, Mem>
     ensures { IfOk result (λ d. d ≡ stage_due past.now.machine (journal_of past.now) now stage) }
 {
@@ -140,23 +140,23 @@ fn stage_due(past: &Passed<'_>, now: EventNow, stage: Stage) -> Result<Due, Mem>
     }
 }
 
-// What is made at a stage, or else at the one behind it.
+// What is made at a stage, or else at the one after it.
 fn stage_or_next(past: &Passed<'_>, now: EventNow, stage: Stage) -> Result<Due, Mem>
     ensures { IfOk result (λ d. d ≡ stage_or_next past.now.machine (journal_of past.now) now stage) }
 {
     match stage_due(past, now, stage)? {
-        Due::Gone => stage_due(past, now, behind(stage)),
+        Due::Exited => stage_due(past, now, next_stage(stage)),
         due => Ok(due),
     }
 }
 
-/// What the open attempt's maker makes next, if an attempt is open (`enter_state`). `Mem` where a moment is beyond all
+/// What the open attempt's maker makes next, if an attempt is open (`enter_state`). `Mem` if a moment is beyond all
 /// time.
 pub(crate) fn attempt_due(past: &Passed<'_>, now: EventNow) -> Result<Due, Mem>
     ensures { IfOk result (λ d. d ≡ attempt_due past.now.machine (journal_of past.now) now) }
 {
     match past.stage() {
-        None => Ok(Due::Gone),
+        None => Ok(Due::Exited),
         Some(stage) => stage_or_next(past, now, stage),
     }
 }

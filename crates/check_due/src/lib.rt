@@ -1,4 +1,4 @@
-//! What is due of an actor behind the entries that were passed, as the checker of logs tells it. Its tests are in
+//! What is due of an actor after the entries that were passed, as the checker of logs tells it. Its tests are in
 //! `row_trials`, by the command `check`.
 //!
 //! Promises: What is due of an actor after the passed entries is what the definitions say, for whatever actor and

@@ -1,8 +1,8 @@
-//! What is due of an actor behind the entries that were passed.
+//! What is due of an actor after the entries that were passed.
 
 ghost use Rattle.std.specs.Prelude.{◌≡◌, Bool, Some, option_copied, IfOk, IfSome};
 ghost use Rattle.sleep_model.specs.declared.machine.Op.TheVariants.{Link, LinkState, Runtime, Save};
-ghost use Rattle.sleep_model.specs.declared.place.Seat.{Seat};
+ghost use Rattle.sleep_model.specs.declared.progress.ScriptPosition.{ScriptPosition};
 ghost use Rattle.sleep_model.specs.declared.word.EventNow.{EventNow};
 ghost use Rattle.sleep_model.specs.Accepted.{IsOp};
 ghost use Rattle.sleep_model.specs.Due.{due, script_due};
@@ -19,21 +19,27 @@ use crate::walks::device_due;
 use crate::work::auto_due;
 use check_past::Passed;
 use sleep_base::Mem;
-use sleep_model::{Actor, Due, EventNow, Freezing, Kind, Op, Seat, TaskKind, Why};
+use sleep_model::{Actor, Due, EventNow, Freezing, Kind, Op, ScriptPosition, TaskKind, Why};
 
 // A save of the count.
-fn save_due(past: &Passed<'_>, now: EventNow, seat: Seat, asked: bool, count: Option<u32>) -> Due
-    ensures { result ≡ step_due past.now.machine (journal_of past.now) now seat asked (Some (Save count)) }
+fn save_due(
+    past: &Passed<'_>,
+    now: EventNow,
+    position: ScriptPosition,
+    asked: bool,
+    count: Option<u32>,
+) -> Due
+    ensures { result ≡ step_due past.now.machine (journal_of past.now) now position asked (Some (Save count)) }
 {
     let held = past.holder().is_some();
-    let number = saved_number(count, seat.last_read);
-    count_due(held, past.is_on(), seat.waits, asked, now, number)
+    let number = saved_number(count, position.last_read);
+    count_due(held, past.is_on(), position.waits, asked, now, number)
 }
 
 // A request for a runtime status.
 fn request_due(past: &Passed<'_>, device: u32, to_suspended: bool) -> Due
-    ensures { (now : EventNow) (seat : Seat) (asked : Bool) → result ≡ step_due past.now.machine (journal_of past.now) now
-        seat asked (Some (Runtime device to_suspended)) }
+    ensures { (now : EventNow) (position : ScriptPosition) (asked : Bool) → result ≡ step_due past.now.machine (journal_of past.now) now
+        position asked (Some (Runtime device to_suspended)) }
 {
     let r = runtime_due(past, device, to_suspended);
     Due::Makes(Kind::RuntimeAsk {
@@ -46,8 +52,8 @@ fn request_due(past: &Passed<'_>, device: u32, to_suspended: bool) -> Due
 // A new link. `Mem` if there is no memory for the walk.
 fn link_due(past: &Passed<'_>, supplier: u32, consumer: u32) -> Result<Due, Mem>
     requires { IsOp past.now.machine (Link supplier consumer) }
-    ensures { IfOk result (λ d. (now : EventNow) (seat : Seat) (asked : Bool) → d ≡ step_due past.now.machine
-        (journal_of past.now) now seat asked (Some (Link supplier consumer))) }
+    ensures { IfOk result (λ d. (now : EventNow) (position : ScriptPosition) (asked : Bool) → d ≡ step_due past.now.machine
+        (journal_of past.now) now position asked (Some (Link supplier consumer))) }
 {
     let r = link_add_due(past, supplier, consumer)?;
     Ok(Due::Makes(Kind::LinkAdd {
@@ -59,8 +65,8 @@ fn link_due(past: &Passed<'_>, supplier: u32, consumer: u32) -> Result<Due, Mem>
 
 // A state of a link.
 fn link_set_due(past: &Passed<'_>, supplier: u32, consumer: u32, active: bool) -> Due
-    ensures { (now : EventNow) (seat : Seat) (asked : Bool) → result ≡ step_due past.now.machine (journal_of past.now) now
-        seat asked (Some (LinkState supplier consumer active)) }
+    ensures { (now : EventNow) (position : ScriptPosition) (asked : Bool) → result ≡ step_due past.now.machine (journal_of past.now) now
+        position asked (Some (LinkState supplier consumer active)) }
 {
     let r = link_state_due(past, supplier, consumer);
     Due::Makes(Kind::LinkState {
@@ -71,19 +77,31 @@ fn link_set_due(past: &Passed<'_>, supplier: u32, consumer: u32, active: bool) -
     })
 }
 
-// The next entry of a script at its operation, which names what there is. `Mem` where a moment is beyond all time, where
+// The next entry of a script at its operation, which names what there is. `Mem` if a moment is beyond all time, where
 // the next attempt has no number, or if there is no memory for a walk.
-fn op_due(past: &Passed<'_>, now: EventNow, seat: Seat, asked: bool, op: &Op) -> Result<Due, Mem>
+fn op_due(
+    past: &Passed<'_>,
+    now: EventNow,
+    position: ScriptPosition,
+    asked: bool,
+    op: &Op,
+) -> Result<Due, Mem>
     requires { IsOp past.now.machine op.now }
-    ensures { IfOk result (λ d. d ≡ step_due past.now.machine (journal_of past.now) now seat asked (Some op.now)) }
+    ensures { IfOk result (λ d. d ≡ step_due past.now.machine (journal_of past.now) now position asked (Some op.now)) }
 {
     match op {
-        Op::Read => Ok(read_due(now, seat.waits, asked)),
-        Op::Save { count } => Ok(save_due(past, now, seat, asked, *count)),
-        Op::State { text, if_saved } => write_due(past, seat, asked, text.as_slice(), *if_saved),
-        Op::Autosleep { text } => Ok(autosleep_write_due(past, seat, text.as_slice())),
-        Op::Sleep { ms } => sleep_due(*ms, seat, past.journal_time()),
-        Op::SleepD { ms } => deep_sleep_due(*ms, seat, past.journal_time()),
+        Op::Read => Ok(read_due(now, position.waits, asked)),
+        Op::Save { count } => Ok(save_due(past, now, position, asked, *count)),
+        Op::State { text, if_saved } => write_due(
+            past,
+            position,
+            asked,
+            text.as_slice(),
+            *if_saved,
+        ),
+        Op::Autosleep { text } => Ok(autosleep_write_due(past, position, text.as_slice())),
+        Op::Sleep { ms } => sleep_due(*ms, position, past.journal_time()),
+        Op::SleepD { ms } => deep_sleep_due(*ms, position, past.journal_time()),
         Op::FreezePoint => Ok(Due::Makes(Kind::Pass)),
         Op::Post { mark } => Ok(Due::Makes(Kind::Post(*mark))),
         Op::Wait { mark } => Ok(mark_due(*mark, past.raised(*mark))),
@@ -97,7 +115,7 @@ fn op_due(past: &Passed<'_>, now: EventNow, seat: Seat, asked: bool, op: &Op) ->
             consumer,
             active,
         } => Ok(link_set_due(past, *supplier, *consumer, *active)),
-        _ => Ok(Due::Gone),
+        _ => Ok(Due::Exited),
     }
 }
 
@@ -105,16 +123,16 @@ fn op_due(past: &Passed<'_>, now: EventNow, seat: Seat, asked: bool, op: &Op) ->
 fn step_due(
     past: &Passed<'_>,
     now: EventNow,
-    seat: Seat,
+    position: ScriptPosition,
     asked: bool,
     op: Option<&Op>,
 ) -> Result<Due, Mem>
     requires { IfSome (option_copied op) (λ o. IsOp past.now.machine o) }
-    ensures { IfOk result (λ d. d ≡ step_due past.now.machine (journal_of past.now) now seat asked (option_copied op.entry)) }
+    ensures { IfOk result (λ d. d ≡ step_due past.now.machine (journal_of past.now) now position asked (option_copied op.entry)) }
 {
     match op {
         None => Ok(Due::Makes(Kind::Exit)),
-        Some(op) => op_due(past, now, seat, asked, op),
+        Some(op) => op_due(past, now, position, asked, op),
     }
 }
 
@@ -125,21 +143,21 @@ fn task_due(
     now: EventNow,
     freezing: Freezing,
     kind: TaskKind,
-    seat: Seat,
+    position: ScriptPosition,
     op: Option<&Op>,
 ) -> Result<Due, Mem>
     requires { IfSome (option_copied op) (λ o. IsOp past.now.machine o) }
-    ensures { IfOk result (λ d. d ≡ task_due past.now.machine (journal_of past.now) now freezing kind seat
+    ensures { IfOk result (λ d. d ≡ task_due past.now.machine (journal_of past.now) now freezing kind position
         (option_copied op.entry)) }
 {
     if freezing.frozen {
         Ok(Due::Waits(Why::Frozen))
     } else if past.sleeps() && !is_line(kind) {
         Ok(Due::Waits(Why::Asleep))
-    } else if freezing.asked && freezes_at(is_user(kind), seat.waits, op) {
+    } else if freezing.asked && freezes_at(is_user(kind), position.waits, op) {
         Ok(Due::Makes(Kind::Frozen))
     } else {
-        step_due(past, now, seat, freezing.asked, op)
+        step_due(past, now, position, freezing.asked, op)
     }
 }
 
@@ -147,24 +165,24 @@ fn task_due(
 fn script_due(past: &Passed<'_>, now: EventNow, i: u32) -> Result<Due, Mem>
     ensures { IfOk result (λ d. d ≡ script_due past.now.machine (journal_of past.now) now i) }
 {
-    let seat = past.seat(i);
+    let position = past.position(i);
     match past.machine().actors.as_slice().get(i as usize) {
-        Some(script) if !seat.exited => {
+        Some(script) if !position.exited => {
             task_due(
                 past,
                 now,
                 past.freezing(i),
                 script.kind,
-                seat,
+                position,
                 past.operation(i),
             )
         }
-        _ => Ok(Due::Gone),
+        _ => Ok(Due::Exited),
     }
 }
 
 /// What is due of an actor that sees that word: the open attempt's maker follows the table; a script its steps,
-/// autosleep's work and an asynchronous device theirs. `Mem` where a moment is beyond all time, where the next attempt has
+/// autosleep's work and an asynchronous device theirs. `Mem` if a moment is beyond all time, where the next attempt has
 /// no number, or if there is no memory for a walk.
 pub fn due(past: &Passed<'_>, who: Actor, now: EventNow) -> Result<Due, Mem>
     ensures { IfOk result (λ d. d ≡ due past.now.machine (journal_of past.now) who now) }
@@ -176,6 +194,6 @@ pub fn due(past: &Passed<'_>, who: Actor, now: EventNow) -> Result<Due, Mem>
         Actor::Script(i) => script_due(past, now, i),
         Actor::Auto => auto_due(past, now),
         Actor::Dev(d) => Ok(device_due(past, now, d)),
-        _ => Ok(Due::Gone),
+        _ => Ok(Due::Exited),
     }
 }

@@ -5,7 +5,7 @@ ghost use Rattle.sleep_model.specs.Attempt.{answered, busy_error};
 ghost use Rattle.rule_definitions.specs.Questions.{has_more, row_now};
 ghost use Rattle.check_past.specs.Passing.{journal_of};
 
-use check_account::behind;
+use check_account::next_stage;
 use check_past::Passed;
 use sleep_base::Errno;
 use sleep_model::{Stage, What};
@@ -35,7 +35,7 @@ pub fn row_now(past: &Passed<'_>) -> Option<Stage>
             if has_more(past, stage) {
                 Some(stage)
             } else {
-                Some(behind(stage))
+                Some(next_stage(stage))
             }
         }
     }

@@ -5,9 +5,9 @@ ghost use Rattle.sleep_model.specs.declared.entry.Kind.TheVariants as kind;
 ghost use Rattle.sleep_model.specs.Steps.{autosleep_due, count_due, lock_due, mark_due, read_due, save_due, saved_number, sleep_due, slept_due, state_due, unless_unsaved};
 
 use sleep_base::{Errno, Mem};
-use sleep_model::{Due, EventNow, Kind, Seat, State, Why, visible};
+use sleep_model::{Due, EventNow, Kind, ScriptPosition, State, Why, visible};
 
-/// The sum of a moment and a length, in ms. `Mem` where that is beyond all time.
+/// The sum of a moment and a length, in ms. `Mem` if that is beyond all time.
 pub fn later_by(time: u64, ms: u32) -> Result<u64, Mem>
     ensures { IfOk result (λ t. t ≡ time + ms) }
 {
@@ -118,7 +118,7 @@ fn slept_due(until: Option<u64>, time: u64) -> Due
     ensures { result ≡ slept_due until time }
 {
     match until {
-        None => Due::Gone,
+        None => Due::Exited,
         Some(until) => {
             if until <= time {
                 Due::Makes(Kind::Slept)
@@ -129,24 +129,24 @@ fn slept_due(until: Option<u64>, time: u64) -> Due
     }
 }
 
-/// A sleep that can be frozen, of so long, that has begun or not (`schedule_timeout`). `Mem` where its end is beyond all
+/// A sleep that can be frozen, of so long, that has begun or not (`schedule_timeout`). `Mem` if its end is beyond all
 /// time.
-pub fn sleep_due(ms: u32, seat: Seat, time: u64) -> Result<Due, Mem>
-    ensures { IfOk result (λ d. d ≡ sleep_due kind.Sleep ms seat time) }
+pub fn sleep_due(ms: u32, position: ScriptPosition, time: u64) -> Result<Due, Mem>
+    ensures { IfOk result (λ d. d ≡ sleep_due kind.Sleep ms position time) }
 {
-    if seat.waits {
-        Ok(slept_due(seat.until, time))
+    if position.waits {
+        Ok(slept_due(position.until, time))
     } else {
         Ok(Due::Makes(Kind::Sleep(later_by(time, ms)?)))
     }
 }
 
 /// A sleep that cannot be frozen.
-pub fn deep_sleep_due(ms: u32, seat: Seat, time: u64) -> Result<Due, Mem>
-    ensures { IfOk result (λ d. d ≡ sleep_due kind.SleepD ms seat time) }
+pub fn deep_sleep_due(ms: u32, position: ScriptPosition, time: u64) -> Result<Due, Mem>
+    ensures { IfOk result (λ d. d ≡ sleep_due kind.SleepD ms position time) }
 {
-    if seat.waits {
-        Ok(slept_due(seat.until, time))
+    if position.waits {
+        Ok(slept_due(position.until, time))
     } else {
         Ok(Due::Makes(Kind::SleepD(later_by(time, ms)?)))
     }

@@ -8,7 +8,7 @@ ghost use Rattle.sleep_model.specs.Guard.{in_force};
 ghost use Rattle.sleep_model.specs.Links.{link_add_due, link_state_due};
 ghost use Rattle.sleep_model.specs.Path.{attempts};
 ghost use Rattle.sleep_model.specs.Runtime.{runtime_due};
-ghost use Rattle.sleep_model.specs.Stands.{is_taken};
+ghost use Rattle.sleep_model.specs.PhaseStates.{is_taken};
 ghost use Rattle.sleep_model.specs.Steps.{step_due};
 ghost use Rattle.sleep_model.specs.Tasks.{freezes_at, is_line, is_user};
 ghost use Rattle.check_past.specs.Passing.{journal_of};
@@ -18,7 +18,7 @@ use crate::texts::{is_mem, is_off};
 use check_past::{Passed, is_direct_complete, is_prepared};
 use phase_table::Phase;
 use sleep_base::{Errno, Mem};
-use sleep_model::{Due, Kind, Op, Seat, Stand, TaskKind};
+use sleep_model::{Due, Kind, Op, PhaseState, ScriptPosition, TaskKind};
 
 /// An interrupt line, which goes on while the machine sleeps.
 pub fn is_line(kind: TaskKind) -> bool
@@ -35,12 +35,12 @@ pub fn is_user(kind: TaskKind) -> bool
 }
 
 // Late has taken the device (`__device_suspend_late`).
-fn is_taken(stand: Stand) -> bool
-    ensures { result ≡ is_taken stand }
+fn is_taken(state: PhaseState) -> bool
+    ensures { result ≡ is_taken state }
 {
     !matches!(
-        stand,
-        Stand::Unprepared | Stand::Prepared | Stand::Scheduled
+        state,
+        PhaseState::Unprepared | PhaseState::Prepared | PhaseState::Scheduled
     )
 }
 
@@ -60,7 +60,7 @@ pub fn freezes_at(user: bool, begun: bool, op: Option<&Op>) -> bool
     }
 }
 
-// The number of the next attempt. `Mem` where the counter has no room.
+// The number of the next attempt. `Mem` if the counter has no room.
 fn next_number(attempts: u32) -> Result<u32, Mem>
     ensures { IfOk result (λ n. n ≡ attempts + 1) }
 {
@@ -70,7 +70,7 @@ fn next_number(attempts: u32) -> Result<u32, Mem>
     }
 }
 
-/// The attempt that would begin now. `Mem` where its number has no room.
+/// The attempt that would begin now. `Mem` if its number has no room.
 pub fn next_attempt(past: &Passed<'_>) -> Result<Kind, Mem>
     ensures { IfOk result (λ k. k ≡ kind.Attempt (attempts (journal_of past.now) + 1) (in_force (journal_of past.now))) }
 {
@@ -80,38 +80,45 @@ pub fn next_attempt(past: &Passed<'_>) -> Result<Kind, Mem>
     })
 }
 
-/// A write of that text to the state. `Mem` where the next attempt has no number.
+/// A write of that text to the state. `Mem` if the next attempt has no number.
 pub(crate) fn write_due(
     past: &Passed<'_>,
-    seat: Seat,
+    position: ScriptPosition,
     asked: bool,
     text: &[u8],
     if_saved: bool,
 ) -> Result<Due, Mem>
-    ensures { IfOk result (λ d. (now : EventNow) → d ≡ step_due past.now.machine (journal_of past.now) now seat asked
+    ensures { IfOk result (λ d. (now : EventNow) → d ≡ step_due past.now.machine (journal_of past.now) now position asked
         (Some (op.State text.now if_saved))) }
 {
     let attempt = next_attempt(past)?;
     let held = past.holder().is_some();
-    let due = state_due(held, past.is_on(), seat.waits, asked, is_mem(text), attempt);
-    Ok(unless_unsaved(if_saved, seat.saved, due))
+    let due = state_due(
+        held,
+        past.is_on(),
+        position.waits,
+        asked,
+        is_mem(text),
+        attempt,
+    );
+    Ok(unless_unsaved(if_saved, position.saved, due))
 }
 
 /// A write of that text to autosleep.
-pub(crate) fn autosleep_write_due(past: &Passed<'_>, seat: Seat, text: &[u8]) -> Due
-    ensures { (now : EventNow) (asked : Bool) → result ≡ step_due past.now.machine (journal_of past.now) now seat asked
+pub(crate) fn autosleep_write_due(past: &Passed<'_>, position: ScriptPosition, text: &[u8]) -> Due
+    ensures { (now : EventNow) (asked : Bool) → result ≡ step_due past.now.machine (journal_of past.now) now position asked
         (Some (op.Autosleep text.now)) }
 {
     let held = past.holder().is_some();
-    autosleep_due(held, seat.waits, is_mem(text), is_off(text))
+    autosleep_due(held, position.waits, is_mem(text), is_off(text))
 }
 
 /// What a request for a runtime status is answered (`__pm_runtime_set_status`).
 pub fn runtime_due(past: &Passed<'_>, device: u32, to_suspended: bool) -> Option<Errno>
     ensures { result ≡ runtime_due past.now.machine device to_suspended (journal_of past.now) }
 {
-    let suspend = past.stand(Phase::Suspend, device);
-    let late = past.stand(Phase::Late, device);
+    let suspend = past.state(Phase::Suspend, device);
+    let late = past.state(Phase::Late, device);
     let disabled = (past.disabled_by_direct() && is_direct_complete(suspend))
         || (past.disabled_by_late() && is_taken(late));
     if disabled {

@@ -8,7 +8,7 @@ ghost use Rattle.check_past.specs.Passing.{journal_of};
 use check_past::{Passed, is_direct_complete};
 use phase_table::Phase;
 use sleep_base::Errno;
-use sleep_model::{AsyncWork, EventNow, Kind, SkipCause, Stand, What};
+use sleep_model::{AsyncWork, EventNow, Kind, PhaseState, SkipCause, What};
 
 // Whether a device is direct-complete in suspend.
 fn is_direct_now(past: &Passed<'_>, device: u32) -> bool
@@ -26,7 +26,7 @@ fn is_direct(past: &Passed<'_>, phase: Phase, device: u32) -> bool
 {
     match phase {
         Phase::Suspend => is_direct_now(past, device),
-        _ => is_direct_complete(past.stand(Phase::Suspend, device)),
+        _ => is_direct_complete(past.state(Phase::Suspend, device)),
     }
 }
 
@@ -62,14 +62,14 @@ pub fn device_error(past: &Passed<'_>, phase: Phase, device: u32) -> Option<Errn
 }
 
 // The work of a device that stands so in a phase or its mirror, else the other.
-fn work_in(phase: Phase, stand: Stand, other: AsyncWork) -> AsyncWork
-    ensures { result ≡ work_in phase stand other }
+fn work_in(phase: Phase, state: PhaseState, other: AsyncWork) -> AsyncWork
+    ensures { result ≡ work_in phase state other }
 {
-    match stand {
-        Stand::Scheduled => AsyncWork::Scheduled(phase),
-        Stand::Suspending => AsyncWork::Inside(phase),
-        Stand::Rescheduled => AsyncWork::Scheduled(phase.mirror()),
-        Stand::Resuming => AsyncWork::Inside(phase.mirror()),
+    match state {
+        PhaseState::Scheduled => AsyncWork::Scheduled(phase),
+        PhaseState::Suspending => AsyncWork::Inside(phase),
+        PhaseState::Rescheduled => AsyncWork::Scheduled(phase.mirror()),
+        PhaseState::Resuming => AsyncWork::Inside(phase.mirror()),
         _ => other,
     }
 }
@@ -83,9 +83,9 @@ pub fn async_work(past: &Passed<'_>, device: u32) -> AsyncWork
     }
     let noirq = work_in(
         Phase::Noirq,
-        past.stand(Phase::Noirq, device),
+        past.state(Phase::Noirq, device),
         AsyncWork::Idle,
     );
-    let late = work_in(Phase::Late, past.stand(Phase::Late, device), noirq);
-    work_in(Phase::Suspend, past.stand(Phase::Suspend, device), late)
+    let late = work_in(Phase::Late, past.state(Phase::Late, device), noirq);
+    work_in(Phase::Suspend, past.state(Phase::Suspend, device), late)
 }

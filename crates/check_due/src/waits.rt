@@ -8,26 +8,26 @@ ghost use Rattle.check_past.specs.Passing.{journal_of};
 ghost use Rattle.check_due.specs.Frozen.{froze_by};
 
 use crate::steps::later_by;
-use check_past::{Left, Passed};
+use check_past::{Passed, UnfrozenTasks};
 use sleep_base::Mem;
 use sleep_model::{
     Due, EventNow, FREEZE_TIMEOUT_MSECS, FrozeEnd, Group, Kind, Sleep, Why, pos, visible,
 };
 
-/// When a freeze gives up that goes on since that moment, in ms. `Mem` where that is beyond all time.
+/// When a freeze gives up that goes on since that moment, in ms. `Mem` if that is beyond all time.
 pub fn gives_up_at(since: u64) -> Result<u64, Mem>
     ensures { IfOk result (λ t. t ≡ gives_up_at since) }
 {
     later_by(since, FREEZE_TIMEOUT_MSECS)
 }
 
-// A freeze of a group that still waits for those tasks. `Mem` where its end is beyond all time.
+// A freeze of a group that still waits for those tasks. `Mem` if its end is beyond all time.
 fn froze_by(
     past: &Passed<'_>,
     now: EventNow,
     group: Group,
     since: u64,
-    left: Left,
+    left: UnfrozenTasks,
 ) -> Result<Due, Mem>
     ensures { IfOk result (λ d. d ≡ froze_by (journal_of past.now) now group since left.count left.first) }
 {
@@ -47,7 +47,7 @@ fn froze_by(
     })
 }
 
-/// A freeze of a group that goes on since that moment (`try_to_freeze_tasks`). `Mem` where its end is beyond all time.
+/// A freeze of a group that goes on since that moment (`try_to_freeze_tasks`). `Mem` if its end is beyond all time.
 pub fn froze_due(past: &Passed<'_>, now: EventNow, group: Group, since: u64) -> Result<Due, Mem>
     ensures { IfOk result (λ d. d ≡ froze_due (journal_of past.now) now group since
         (left past.now.machine group (journal_of past.now))) }
@@ -55,7 +55,7 @@ pub fn froze_due(past: &Passed<'_>, now: EventNow, group: Group, since: u64) -> 
     froze_by(past, now, group, since, past.left(group))
 }
 
-/// A machine that sleeps wakes by a step of the word, else by its alarm (`suspend_enter`). `Mem` where the alarm is
+/// A machine that sleeps wakes by a step of the word, else by its alarm (`suspend_enter`). `Mem` if the alarm is
 /// beyond all time.
 pub fn wakes_due(past: &Passed<'_>, now: EventNow, sleep: Sleep) -> Result<Due, Mem>
     ensures { IfOk result (λ d. d ≡ wakes_due past.now.machine (journal_of past.now) now sleep) }

@@ -3,27 +3,27 @@ use Rattle.std.proofs.Common.{◌≡◌, ◌<◌, ◌+◌, ◌∙◌, ℕ, true,
 use Rattle.std.proofs.lemmas.List.{take-append-drop, reverse-append}
 use Rattle.std.proofs.lemmas.List.Elements.{filter_agree}
 use Rattle.sleep_model.specs.declared.machine.Link.{Link}
-use Rattle.sleep_model.specs.Order.{is_among, dependents, EachAfterParent, last_places, moved, moved_last, order_by}
+use Rattle.sleep_model.specs.Order.{is_among, dependents, EachAfterParent, last_occurrences, moved, moved_last, order_by}
 use Rattle.sleep_model.specs.Links.{AreLinks}
 use Rattle.sleep_model.proofs.Dependents.{among_first, among_rest}
 use Rattle.sleep_model.proofs.Acyclic.{among_last, dependents_within, moved_before, order_within}
 use Rattle.device_rows.specs.Table.{Table, row_at}
-use Rattle.check_order.specs.declared.walk.Visits.{Visits}
+use Rattle.check_order.specs.declared.walk.VisitedDevices.{VisitedDevices}
 use Rattle.check_order.specs.Visited.{visited, AreMarked, Leaves}
-use Rattle.check_order.specs.Kept.{IsTableOf, moved_behind, put_last}
+use Rattle.check_order.specs.Graphs.{IsTableOf, moved_to_end, put_last}
 use Rattle.check_order.proofs.Walking.{visited_is}
 use Rattle.check_order.proofs.Tabling.{newest}
 
 -- the unmarked ones are those that were not visited
-pub by_marks : (n : ℕ) (v : Visits) → AreMarked n v → (xs : List ℕ) → ((d : ℕ) → is_among xs d ≡ true → d < n) → filter (λ d. not (get_or v.marks d false)) xs ≡ filter (λ d. not (is_among v.out d)) xs
+pub by_marks : (n : ℕ) (v : VisitedDevices) → AreMarked n v → (xs : List ℕ) → ((d : ℕ) → is_among xs d ≡ true → d < n) → filter (λ d. not (get_or v.marks d false)) xs ≡ filter (λ d. not (is_among v.out d)) xs
 by_marks n v m [] h = refl
 by_marks n v m (x ∷ xs) h =
     ap (λ b. cond (not b) (x ∷ filter (λ d. not (get_or v.marks d false)) xs) (filter (λ d. not (get_or v.marks d false)) xs)) (m.marked x (h x (among_first x xs)))
     ∙ ap (λ ys. cond (not (is_among v.out x)) (x ∷ ys) ys) (by_marks n v m xs (λ d i. h d (among_rest x xs d i)))
 
--- what a walk leaves is what the device is moved behind with
-pub behind_is : (n : ℕ) (dependents_of : ℕ → List ℕ) (d : ℕ) (order : List ℕ) → ((x : ℕ) → is_among order x ≡ true → x < n) → (v : Visits) → Leaves n (visited n dependents_of d []) v → filter (λ x. not (get_or v.marks x false)) order ++ v.out ≡ moved_behind n dependents_of d order
-behind_is n dependents_of d order within v h =
+-- what a walk leaves is what the device is moved after with
+pub after_is : (n : ℕ) (dependents_of : ℕ → List ℕ) (d : ℕ) (order : List ℕ) → ((x : ℕ) → is_among order x ≡ true → x < n) → (v : VisitedDevices) → Leaves n (visited n dependents_of d []) v → filter (λ x. not (get_or v.marks x false)) order ++ v.out ≡ moved_to_end n dependents_of d order
+after_is n dependents_of d order within v h =
     ap (λ xs. xs ++ v.out) (by_marks n v h.marked order within)
     ∙ ap (λ out. put_last out order) h.visited
 
@@ -46,17 +46,17 @@ module _ (ps : List (Option ℕ)) (after : EachAfterParent 0 ps) where
     hang_within d x m = subst (λ (n : ℕ). x < n) (sym h.count) (dependents_within ps after links linked d x (ap (λ ys. is_among ys x) (sym (h.each d)) ∙ m))
 
     -- a walk over the table is a walk over what hangs below
-    pub table_walk : (d : ℕ) → d < length ps → visited (length t.rows) (row_at t) d [] ≡ last_places (moved (length ps) (dependents ps links) d)
+    pub table_walk : (d : ℕ) → d < length ps → visited (length t.rows) (row_at t) d [] ≡ last_occurrences (moved (length ps) (dependents ps links) d)
     table_walk d l =
         ap (λ n. visited n (row_at t) d []) h.count
         ∙ (ap (λ (f : ℕ → List ℕ). visited (length ps) f d []) rows_are
         ∙ visited_is ps after links linked d l)
 
-  put_places : (M order : List ℕ) → put_last (last_places M) order ≡ moved_last M order
-  put_places M order = ap (λ xs. xs ++ last_places M) (filter_agree (λ d. not (is_among (last_places M) d)) (λ d. not (is_among M d)) (λ x. ap not (among_last ps after M x)) order)
+  put_places : (M order : List ℕ) → put_last (last_occurrences M) order ≡ moved_last M order
+  put_places M order = ap (λ xs. xs ++ last_occurrences M) (filter_agree (λ d. not (is_among (last_occurrences M) d)) (λ d. not (is_among M d)) (λ x. ap not (among_last ps after M x)) order)
 
   -- a link moves what hung below its consumer before
-  pub order_next : (l : Link) (ls : List Link) → AreLinks ps (l ∷ ls) → (t : Table) → IsTableOf (length ps) (dependents ps ls) t.rows → moved_behind (length t.rows) (row_at t) l.consumer (order_by ps ls) ≡ order_by ps (l ∷ ls)
+  pub order_next : (l : Link) (ls : List Link) → AreLinks ps (l ∷ ls) → (t : Table) → IsTableOf (length ps) (dependents ps ls) t.rows → moved_to_end (length t.rows) (row_at t) l.consumer (order_by ps ls) ≡ order_by ps (l ∷ ls)
   order_next l ls linked t h =
       ap (λ out. put_last out (order_by ps ls)) (table_walk ls linked.4 t h l.consumer linked.1)
       ∙ (put_places (moved (length ps) (dependents ps ls) l.consumer) (order_by ps ls)

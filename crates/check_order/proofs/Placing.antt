@@ -10,7 +10,7 @@ use Rattle.sleep_model.specs.Links.{AreLinks, is_linked}
 use Rattle.sleep_model.specs.Order.{is_link, with_state, active_of, children_from, consumers_of, dependents, suppliers_of}
 use Rattle.sleep_model.proofs.Changing.{same_supplier, same_consumer}
 use Rattle.device_rows.specs.Table.{with_number}
-use Rattle.check_order.specs.Kept.{ArePlaced, IsTableOf, StandsAt, no_link, places_of}
+use Rattle.check_order.specs.Graphs.{ArePlaced, IsTableOf, StandsAt, no_link, places_of}
 use Rattle.check_order.proofs.Tabling.{empty_rows, newest, same_number, table_push, table_same}
 use Rattle.check_order.proofs.Tying.{linked_at}
 
@@ -49,20 +49,20 @@ placed_more n l ls k a b h s c e = record {
 
 -- links whose ends stay
 module _ (f : Link → Link) (s : (l : Link) → (f l).supplier ≡ l.supplier) (c : (l : Link) → (f l).consumer ≡ l.consumer) where
-  places_kept : (test : Link → Bool) → ((l : Link) → test (f l) ≡ test l) → (ls : List Link) → places_of test (map f ls) ≡ places_of test ls
-  places_kept test t [] = refl
-  places_kept test t (l ∷ ls) =
-      ap (λ xs. xs ++ cond (test (f l)) (length (map f ls) ∷ []) []) (places_kept test t ls)
+  places_preserved : (test : Link → Bool) → ((l : Link) → test (f l) ≡ test l) → (ls : List Link) → places_of test (map f ls) ≡ places_of test ls
+  places_preserved test t [] = refl
+  places_preserved test t (l ∷ ls) =
+      ap (λ xs. xs ++ cond (test (f l)) (length (map f ls) ∷ []) []) (places_preserved test t ls)
       ∙ ap₂ (λ b k. places_of test ls ++ cond b (k ∷ []) []) (t l) (length-map ls f)
 
-  pub placed_kept : (n : ℕ) (ls : List Link) (a b : List (List ℕ)) → ArePlaced n ls a b → ArePlaced n (map f ls) a b
-  placed_kept n ls a b h = record {
+  pub placed_preserved : (n : ℕ) (ls : List Link) (a b : List (List ℕ)) → ArePlaced n ls a b → ArePlaced n (map f ls) a b
+  placed_preserved n ls a b h = record {
     by_supplier =
         table_same n (λ d. places_of (λ l. l.supplier == d) ls) (λ d. places_of (λ l. l.supplier == d) (map f ls)) a h.by_supplier
-        (λ d. places_kept (λ l. l.supplier == d) (λ l. ap (λ x. x == d) (s l)) ls);
+        (λ d. places_preserved (λ l. l.supplier == d) (λ l. ap (λ x. x == d) (s l)) ls);
     by_consumer =
         table_same n (λ d. places_of (λ l. l.consumer == d) ls) (λ d. places_of (λ l. l.consumer == d) (map f ls)) b h.by_consumer
-        (λ d. places_kept (λ l. l.consumer == d) (λ l. ap (λ x. x == d) (c l)) ls);
+        (λ d. places_preserved (λ l. l.consumer == d) (λ l. ap (λ x. x == d) (c l)) ls);
   }
 
 -- a device supplies as many links as it has consumers
@@ -145,13 +145,13 @@ picked_append : (links : List Link) (xs ys : List ℕ) → picked links (xs ++ y
 picked_append links [] ys = refl
 picked_append links (x ∷ xs) ys = ap (λ ls. get_or links x no_link ∷ ls) (picked_append links xs ys)
 
--- more links behind them change nothing
+-- more links after them change nothing
 picked_longer : (links more : List Link) (xs : List ℕ) → AreBelow (length links) xs → picked (links ++ more) xs ≡ picked links xs
 picked_longer links more [] h = refl
 picked_longer links more (x ∷ xs) h = ap₂ (λ l ls. l ∷ ls) (get_or_append_left links more no_link x h.0) (picked_longer links more xs h.1)
 
-newest_behind : (l : Link) (ls : List Link) → reverse (l ∷ ls) ≡ reverse ls ++ l ∷ []
-newest_behind l ls = reverse-append (l ∷ []) ls
+newest_after : (l : Link) (ls : List Link) → reverse (l ∷ ls) ≡ reverse ls ++ l ∷ []
+newest_after l ls = reverse-append (l ∷ []) ls
 
 below_reversed : (test : Link → Bool) (ls : List Link) → AreBelow (length (reverse ls)) (places_of test ls)
 below_reversed test ls = subst (λ k. AreBelow k (places_of test ls)) (sym (length-reverse ls)) (places_below test ls)
@@ -163,11 +163,11 @@ last_link ls l = ap (λ k. get_or (reverse ls ++ l ∷ []) k no_link) (sym (leng
 picked_as : (test : Link → Bool) (ls : List Link) → picked (reverse ls) (places_of test ls) ≡ filter test (reverse ls)
 picked_as test [] = refl
 picked_as test (l ∷ ls) =
-    ap (λ ks. picked ks (places_of test (l ∷ ls))) (newest_behind l ls)
+    ap (λ ks. picked ks (places_of test (l ∷ ls))) (newest_after l ls)
     ∙ (picked_append (reverse ls ++ l ∷ []) (places_of test ls) (cond (test l) (length ls ∷ []) [])
     ∙ (ap (λ ks. ks ++ picked (reverse ls ++ l ∷ []) (cond (test l) (length ls ∷ []) [])) (picked_longer (reverse ls) (l ∷ []) (places_of test ls) (below_reversed test ls) ∙ picked_as test ls)
     ∙ (by_test (test l)
-    ∙ (sym (filter-append test (reverse ls) (l ∷ [])) ∙ ap (filter test) (sym (newest_behind l ls))))))
+    ∙ (sym (filter-append test (reverse ls) (l ∷ [])) ∙ ap (filter test) (sym (newest_after l ls))))))
   where
     by_test : (b : Bool) → filter test (reverse ls) ++ picked (reverse ls ++ l ∷ []) (cond b (length ls ∷ []) []) ≡ filter test (reverse ls) ++ cond b (l ∷ []) []
     by_test true = ap (λ k. filter test (reverse ls) ++ k ∷ []) (last_link ls l)
@@ -175,10 +175,10 @@ picked_as test (l ∷ ls) =
 
 filter_reverse : (test : Link → Bool) (ls : List Link) → reverse (filter test ls) ≡ filter test (reverse ls)
 filter_reverse test [] = refl
-filter_reverse test (l ∷ ls) = by_test (filter_reverse test ls) (test l) ∙ sym (ap (filter test) (newest_behind l ls) ∙ filter-append test (reverse ls) (l ∷ []))
+filter_reverse test (l ∷ ls) = by_test (filter_reverse test ls) (test l) ∙ sym (ap (filter test) (newest_after l ls) ∙ filter-append test (reverse ls) (l ∷ []))
   where
     by_test : reverse (filter test ls) ≡ filter test (reverse ls) → (b : Bool) → reverse (cond b (l ∷ filter test ls) (filter test ls)) ≡ filter test (reverse ls) ++ cond b (l ∷ []) []
-    by_test rest true = newest_behind l (filter test ls) ∙ ap (λ xs. xs ++ l ∷ []) rest
+    by_test rest true = newest_after l (filter test ls) ∙ ap (λ xs. xs ++ l ∷ []) rest
     by_test rest false = rest ∙ sym (append-nil (filter test (reverse ls)))
 
 -- what a test takes passes it
@@ -273,7 +273,7 @@ module _ (s c : ℕ) (to : Bool) where
 
   pub map_reverse : (ls : List Link) → map changed (reverse ls) ≡ reverse (map changed ls)
   map_reverse [] = refl
-  map_reverse (l ∷ ls) = ap (map changed) (newest_behind l ls) ∙ (map-append changed (reverse ls) (l ∷ []) ∙ (ap (λ xs. xs ++ changed l ∷ []) (map_reverse ls) ∙ sym (newest_behind (changed l) (map changed ls))))
+  map_reverse (l ∷ ls) = ap (map changed) (newest_after l ls) ∙ (map-append changed (reverse ls) (l ∷ []) ∙ (ap (λ xs. xs ++ changed l ∷ []) (map_reverse ls) ∙ sym (newest_after (changed l) (map changed ls))))
 
   -- the last of some, or one before
   last_or_before : (k n : ℕ) → k < suc n → (k < n) ⊎ (k ≡ n)
@@ -290,7 +290,7 @@ module _ (s c : ℕ) (to : Bool) where
   one_of : (ps : List (Option ℕ)) (ls : List Link) → AreLinks ps ls → (k : ℕ) → k < length (reverse ls) → is_link s c (get_or (reverse ls) k no_link) ≡ true → map changed (reverse ls) ≡ set (reverse ls) k (changed (get_or (reverse ls) k no_link))
   one_of ps [] h k l e = absurd (omega arith)
   one_of ps (x ∷ xs) h k l e =
-      subst (λ (ks : List Link). is_link s c (get_or ks k no_link) ≡ true → map changed ks ≡ set ks k (changed (get_or ks k no_link))) (sym (newest_behind x xs))
+      subst (λ (ks : List Link). is_link s c (get_or ks k no_link) ≡ true → map changed ks ≡ set ks k (changed (get_or ks k no_link))) (sym (newest_after x xs))
       (by_place (one_of ps xs h.4 k) (last_or_before k (length R) (let n = length-reverse xs in let m = length-reverse (x ∷ xs) in omega (arith, n, m)))) e
     where
       R : List Link
@@ -301,15 +301,15 @@ module _ (s c : ℕ) (to : Bool) where
       by_place rest (inl m) is =
           let here = get_or_append_left R (x ∷ []) no_link k m in
           let found = sym (ap (is_link s c) here) ∙ is in
-          let stands : is_linked xs s c ≡ true = ap (λ ls. is_linked ls s c) (sym (reverse-reverse xs)) ∙ linked_at R k no_link s c m found in
+          let is_among_links : is_linked xs s c ≡ true = ap (λ ls. is_linked ls s c) (sym (reverse-reverse xs)) ∙ linked_at R k no_link s c m found in
           map-append changed R (x ∷ [])
-          ∙ (ap₂ (λ ls y. ls ++ y ∷ []) (rest m found) (unchanged x (other stands (is_link s c x) refl))
+          ∙ (ap₂ (λ ls y. ls ++ y ∷ []) (rest m found) (unchanged x (other is_among_links (is_link s c x) refl))
           ∙ (sym (set-append_left R (x ∷ []) k (changed (get_or R k no_link)) m)
           ∙ ap (λ y. set (R ++ x ∷ []) k (changed y)) (sym here)))
         where
           other : is_linked xs s c ≡ true → (b : Bool) → is_link s c x ≡ b → is_link s c x ≡ false
-          other stands false g = g
-          other stands true g = let ends = link_ends s c x g in absurd (true≢false (sym stands ∙ (ap₂ (is_linked xs) (sym ends.0) (sym ends.1) ∙ h.2)))
+          other is_among_links false g = g
+          other is_among_links true g = let ends = link_ends s c x g in absurd (true≢false (sym is_among_links ∙ (ap₂ (is_linked xs) (sym ends.0) (sym ends.1) ∙ h.2)))
       by_place rest (inr m) is =
           let here : get_or (R ++ x ∷ []) k no_link ≡ x = ap (λ j. get_or (R ++ x ∷ []) j no_link) m ∙ get_or-append_seam R x [] no_link in
           let ends = link_ends s c x (sym (ap (is_link s c) here) ∙ is) in

@@ -6,11 +6,11 @@ use Rattle.std.proofs.lemmas.Bool.{eqb-true, eqb-false}
 use Rattle.sleep_model.specs.declared.machine.Link.{Link}
 use Rattle.sleep_model.specs.Order.{children_from, dependents, superiors, parent_of, EachAfterParent}
 use Rattle.sleep_model.proofs.Children.{children_push}
-use Rattle.sleep_model.proofs.FirstPlaces.{dependents_new, holding_new, holding_other}
+use Rattle.sleep_model.proofs.FirstOccurrences.{dependents_new, holding_new, holding_other}
 use Rattle.sleep_model.proofs.Acyclic.{others_same}
 use Rattle.sleep_model.proofs.Walks.{same_eq}
 use Rattle.device_rows.specs.Table.{with_number}
-use Rattle.check_order.specs.Kept.{IsTableOf}
+use Rattle.check_order.specs.Graphs.{IsTableOf}
 
 -- a run of numbers with one more
 pub run_push : (a n : ℕ) → range_with_len a n ++ (a + n) ∷ [] ≡ range_with_len a (n + 1)

@@ -8,19 +8,19 @@ use Rattle.sleep_model.specs.Order.{active_of, is_among, is_link, dependents, su
 use Rattle.sleep_model.specs.Links.{AreLinks, is_linked, is_dependent}
 use Rattle.sleep_model.proofs.Acyclic.{among_last}
 use Rattle.device_rows.specs.Table.{Table, row_at}
-use Rattle.check_order.specs.declared.walk.Visits.{Visits}
+use Rattle.check_order.specs.declared.walk.VisitedDevices.{VisitedDevices}
 use Rattle.check_order.specs.Visited.{visited, Leaves}
-use Rattle.check_order.specs.Kept.{AreActive, IsTableOf, Ties}
+use Rattle.check_order.specs.Graphs.{AreActive, IsTableOf, GraphState}
 use Rattle.check_order.proofs.Ordering.{table_walk}
 
 -- ---- the same parents and links
 
 -- these parents and links
-abbrev pub ties : List (Option ℕ) → List Link → Ties
-ties ps ls = record { parents = ps; links = ls }
+abbrev pub graph : List (Option ℕ) → List Link → GraphState
+graph ps ls = record { parents = ps; links = ls }
 
-pub ties_as : {ps qs : List (Option ℕ)} {ls ms : List Link} → ps ≡ qs → ls ≡ ms → ties ps ls ≡ ties qs ms
-ties_as p l = λ i. record { parents = p i; links = l i }
+pub graph_as : {ps qs : List (Option ℕ)} {ls ms : List Link} → ps ≡ qs → ls ≡ ms → graph ps ls ≡ graph qs ms
+graph_as p l = λ i. record { parents = p i; links = l i }
 
 pub below_as : {ps qs : List (Option ℕ)} {ls ms : List Link} (rows : List (List ℕ)) → ps ≡ qs → ls ≡ ms → IsTableOf (length ps) (dependents ps ls) rows → IsTableOf (length qs) (dependents qs ms) rows
 below_as {qs = qs} {ls = ls} rows p l h = subst (λ (xs : List Link). IsTableOf (length qs) (dependents qs xs) rows) l (subst (λ (xs : List (Option ℕ)). IsTableOf (length xs) (dependents xs ls) rows) p h)
@@ -59,8 +59,8 @@ reversed_map f (x ∷ xs) =
 
 -- ---- what hangs below
 
--- a device is marked by a walk exactly where it hangs below
-pub dependent_is : (ps : List (Option ℕ)) → EachAfterParent 0 ps → (ls : List Link) → AreLinks ps ls → (t : Table) → IsTableOf (length ps) (dependents ps ls) t.rows → (consumer supplier : ℕ) → consumer < length ps → supplier < length ps → (v : Visits) → Leaves (length t.rows) (visited (length t.rows) (row_at t) consumer []) v → get_or v.marks supplier false ≡ is_dependent ps ls consumer supplier
+-- a device is marked by a walk exactly if it hangs below
+pub dependent_is : (ps : List (Option ℕ)) → EachAfterParent 0 ps → (ls : List Link) → AreLinks ps ls → (t : Table) → IsTableOf (length ps) (dependents ps ls) t.rows → (consumer supplier : ℕ) → consumer < length ps → supplier < length ps → (v : VisitedDevices) → Leaves (length t.rows) (visited (length t.rows) (row_at t) consumer []) v → get_or v.marks supplier false ≡ is_dependent ps ls consumer supplier
 dependent_is ps after ls linked t h consumer supplier c s v l =
     l.marked.marked supplier (subst (λ (n : ℕ). supplier < n) (sym h.count) s)
     ∙ (ap (λ out. is_among out supplier) (l.visited ∙ table_walk ps after ls linked t h consumer c)

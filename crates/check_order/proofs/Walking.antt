@@ -3,12 +3,12 @@ use Rattle.std.proofs.Common.{◌≡◌, ◌<◌, ◌≤◌, ◌∙◌, ℕ, zer
 use Rattle.std.specs.List.{flat_map}
 use Rattle.std.proofs.lemmas.Bool.{false≢true, eqb-true, or_cases}
 use Rattle.sleep_model.specs.declared.machine.Link.{Link}
-use Rattle.sleep_model.specs.Order.{is_among, dependents, EachAfterParent, last_places, moved, order_by}
+use Rattle.sleep_model.specs.Order.{is_among, dependents, EachAfterParent, last_occurrences, moved, order_by}
 use Rattle.sleep_model.specs.Links.{IsOrder, AreLinks}
 use Rattle.sleep_model.proofs.Dependents.{among_first, among_rest, Within, within_of, put, onto, onto_app, among_onto, last_onto, Descends, IsClosed, among_flat}
 use Rattle.sleep_model.proofs.Dependents.{visited as walked}
 use Rattle.sleep_model.proofs.Acyclic.{links_descend, order_ranked, order_covers, order_length}
-use Rattle.check_order.specs.declared.walk.Visits.{Visits}
+use Rattle.check_order.specs.declared.walk.VisitedDevices.{VisitedDevices}
 use Rattle.check_order.specs.Visited.{put_first, all_visited, visited, AreMarked}
 
 -- ---- closed lists
@@ -78,7 +78,7 @@ module _ (dependents_of : ℕ → List ℕ) (W : ℕ → List ℕ) (fix : Descen
               ∙ ap (λ ys. onto ys out) (sym (fix d))
 
 -- what is visited below a registered device is all that hangs below it, each at its last place
-pub visited_is : (ps : List (Option ℕ)) → EachAfterParent 0 ps → (ls : List Link) → AreLinks ps ls → (d : ℕ) → d < length ps → visited (length ps) (dependents ps ls) d [] ≡ last_places (moved (length ps) (dependents ps ls) d)
+pub visited_is : (ps : List (Option ℕ)) → EachAfterParent 0 ps → (ls : List Link) → AreLinks ps ls → (d : ℕ) → d < length ps → visited (length ps) (dependents ps ls) d [] ≡ last_occurrences (moved (length ps) (dependents ps ls) d)
 visited_is ps after ls linked d l =
     visit_is (dependents ps ls) (moved (length ps) (dependents ps ls)) (links_descend ps after ls linked ranked) (order_by ps ls) ranked (length ps) (omega (arith, order_length ps after ls linked)) d (order_covers ps after ls d l) [] (λ x m. absurd (false≢true m))
     ∙ sym (last_onto (moved (length ps) (dependents ps ls) d))
@@ -94,8 +94,8 @@ among_at (x ∷ xs) zero l = among_first x xs
 among_at (x ∷ xs) (suc k) l = among_rest x xs (get_or xs k 0) (among_at xs k (omega arith))
 
 -- the marks of as many devices as there are marks
-pub marked_as : (n : ℕ) (v : Visits) → AreMarked n v → AreMarked (length v.marks) v
+pub marked_as : (n : ℕ) (v : VisitedDevices) → AreMarked n v → AreMarked (length v.marks) v
 marked_as n v h = subst (λ (k : ℕ). AreMarked k v) (sym h.count) h
 
-pub marked_at : (n : ℕ) (v : Visits) → AreMarked n v → (d : ℕ) → d < n → (r : Bool) → r ≡ get_or v.marks d false → is_among v.out d ≡ r
+pub marked_at : (n : ℕ) (v : VisitedDevices) → AreMarked n v → (d : ℕ) → d < n → (r : Bool) → r ≡ get_or v.marks d false → is_among v.out d ≡ r
 marked_at n v h d l r e = sym (h.marked d l) ∙ sym e

@@ -1,7 +1,7 @@
 -- Walks below a device that go into none twice.
 use Rattle.std.specs.Prelude.{◌≡◌, ◌<◌, ℕ, zero, suc, false, List, [], ◌∷◌, length, if◌then◌else◌, slice_index_or}
 use Rattle.sleep_model.specs.Order.{is_among}
-use Rattle.check_order.specs.declared.walk.Visits.{Visits}
+use Rattle.check_order.specs.declared.walk.VisitedDevices.{VisitedDevices}
 
 -- d in front of these, where it is not among them (list_move_tail)
 abbrev pub put_first : ℕ → List ℕ → List ℕ
@@ -19,11 +19,11 @@ visited (suc levels) dependents_of d out =
     if is_among out d then out else put_first d (all_visited (visited levels dependents_of) (dependents_of d) out)
 
 -- each of the first n devices is marked where it was visited (own)
-pub record AreMarked (n : ℕ) (v : Visits) : Type 0 where
+pub record AreMarked (n : ℕ) (v : VisitedDevices) : Type 0 where
   pub count : length v.marks ≡ n
   pub marked : (d : ℕ) → d < n → slice_index_or v.marks d false ≡ is_among v.out d
 
 -- after this the visited devices are those, and they are marked (own)
-pub record Leaves (n : ℕ) (out : List ℕ) (v : Visits) : Type 0 where
+pub record Leaves (n : ℕ) (out : List ℕ) (v : VisitedDevices) : Type 0 where
   pub marked : AreMarked n v
   pub visited : v.out ≡ out

@@ -5,16 +5,16 @@
 //! Promises: The order of devices is the one that the links leave, dormant ones too; what hangs right below and
 //! above each device by the active links is listed as the definitions list it; whether a device depends on another
 //! by children and all links. The same of the devices after a link was added, or its state was set. By the clauses
-//! of `DeviceTies::new`, `order`, `below`, `above`, `is_linked`, `is_dependent`, `add_link`, `set_state`.
+//! of `DeviceGraph::new`, `order`, `below`, `above`, `is_linked`, `is_dependent`, `add_link`, `set_state`.
 //!
-//! Begin reading in `src/ties.rt`, `src/walk.rt`; `specs/Visited.antt`, `specs/Kept.antt`.
+//! Begin reading in `src/graph.rt`, `src/walk.rt`; `specs/Visited.antt`, `specs/Graphs.antt`.
 #![tactic(auto)]
 
+mod graph;
 mod links;
 mod order;
 mod shown;
 mod tables;
-mod ties;
 mod walk;
 
-pub use ties::DeviceTies;
+pub use graph::DeviceGraph;

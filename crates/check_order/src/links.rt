@@ -3,7 +3,7 @@
 ghost use Rattle.std.specs.Prelude.{◌≡◌, ◌++◌, ◌==◌, false, MatchOption, OnOk, map, reverse};
 ghost use Rattle.sleep_model.specs.Order.{active_of, consumers_of, is_link, suppliers_of, with_state};
 ghost use Rattle.sleep_model.specs.Links.{is_linked};
-ghost use Rattle.check_order.specs.Kept.{StandsAt, places_of};
+ghost use Rattle.check_order.specs.Graphs.{StandsAt, places_of};
 
 use crate::tables::push_if;
 use sleep_base::Mem;
@@ -31,7 +31,7 @@ fn with_state(link: Link, changed: Link) -> Link
     }
 }
 
-/// The place of the link between these two, looked for among those of the consumer's links. None exactly where there is
+/// The place of the link between these two, looked for among those of the consumer's links. None exactly if there is
 /// no such link.
 pub(crate) fn place_of(
     links: &[Link],
@@ -52,7 +52,7 @@ pub(crate) fn place_of(
     None
 }
 
-/// Puts behind a row the consumers of the changed link's supplier by active links, whose places these are.
+/// Puts after a row the consumers of the changed link's supplier by active links, whose places these are.
 pub(crate) fn push_consumers(
     row: &mut Vec<u32>,
     links: &[Link],
@@ -70,7 +70,7 @@ pub(crate) fn push_consumers(
     Ok(())
 }
 
-/// Puts behind a row the suppliers of the changed link's consumer by active links, whose places these are.
+/// Puts after a row the suppliers of the changed link's consumer by active links, whose places these are.
 pub(crate) fn push_suppliers(
     row: &mut Vec<u32>,
     links: &[Link],

@@ -4,9 +4,9 @@ ghost use Rattle.std.specs.Prelude.{◌≡◌, ◌<◌, ◌^◌, ◌++◌, ℕ, 
 ghost use Rattle.std.specs.List.{range_with_len};
 ghost use Rattle.sleep_model.specs.Order.{is_among};
 ghost use Rattle.device_rows.specs.Table.{row_at};
-ghost use Rattle.check_order.specs.Kept.{moved_behind};
+ghost use Rattle.check_order.specs.Graphs.{moved_to_end};
 
-use crate::walk::{Visits, visit_below};
+use crate::walk::{VisitedDevices, visit_below};
 use device_rows::{Flags, Rows};
 use sleep_base::Mem;
 use std::alloc::Global;
@@ -38,7 +38,7 @@ fn with_last(alloc: Global, order: &[u32], marks: &Flags, devices: &[u32]) -> Re
 }
 
 /// The order after a device was moved to its end, with all that hangs below it by this table.
-pub(crate) fn move_behind(
+pub(crate) fn move_to_end(
     alloc: Global,
     table: &Rows,
     device: u32,
@@ -48,8 +48,8 @@ pub(crate) fn move_behind(
     requires below { (d x : ℕ) → is_among (row_at table.now d) x ≡ true → x < length table.now.rows }
     requires device { device < length table.now.rows }
     requires within { (d : ℕ) → is_among order.now d ≡ true → d < length table.now.rows }
-    ensures { IfOk result (λ v. v.items ≡ moved_behind (length table.now.rows) (row_at table.now) device order.now) }
+    ensures { IfOk result (λ v. v.items ≡ moved_to_end (length table.now.rows) (row_at table.now) device order.now) }
 {
-    let Visits { out, marks } = visit_below(alloc, table, device)?;
+    let VisitedDevices { out, marks } = visit_below(alloc, table, device)?;
     with_last(alloc, order, &marks, &out.into_vec())
 }

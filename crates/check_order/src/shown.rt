@@ -33,7 +33,7 @@ impl ShownRows {
         Ok(ShownRows { rows })
     }
 
-    /// The numbers of a row; none where there is no such row.
+    /// The numbers of a row; none if there is no such row.
     pub(crate) fn row(&self, device: u32) -> &[u32]
         ensures { result.now ≡ slice_index_or self.now device [] }
     {

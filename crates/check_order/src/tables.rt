@@ -3,7 +3,7 @@
 ghost use Rattle.std.specs.Prelude.{◌≡◌, ◌<◌, ◌^◌, ◌++◌, ◌∷◌, [], IfOk, IfSome, OnOk, length, map, option_to_list, if◌then◌else◌};
 ghost use Rattle.sleep_model.specs.Order.{EachAfterParent, children_from};
 ghost use Rattle.device_rows.specs.Table.{with_number};
-ghost use Rattle.check_order.specs.Kept.{IsTableOf};
+ghost use Rattle.check_order.specs.Graphs.{IsTableOf};
 
 use device_rows::Rows;
 use sleep_base::Mem;

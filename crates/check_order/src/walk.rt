@@ -11,13 +11,13 @@ use std::alloc::Global;
 
 /// The devices that a walk has visited, the newest first, each with a mark.
 #[derive(Drop)]
-pub(crate) struct Visits {
+pub(crate) struct VisitedDevices {
     pub(crate) out: Stack<u32>,
     pub(crate) marks: Flags,
 }
 
 // Puts a device in front, unless it was visited.
-fn put(visits: &mut Visits, device: u32) -> Result<(), Mem>
+fn put(visits: &mut VisitedDevices, device: u32) -> Result<(), Mem>
     requires marked { AreMarked (length visits.old.marks) visits.old }
     requires device { device < length visits.old.marks }
     ensures { OnOk result (Leaves (length visits.old.marks) (put_first device visits.old.out) visits.new) }
@@ -31,7 +31,7 @@ fn put(visits: &mut Visits, device: u32) -> Result<(), Mem>
 }
 
 // Visits a device and all that hangs below it, down to some level.
-fn visit(table: &Rows, levels: u32, device: u32, visits: &mut Visits) -> Result<(), Mem>
+fn visit(table: &Rows, levels: u32, device: u32, visits: &mut VisitedDevices) -> Result<(), Mem>
     requires within { (d x : ℕ) → is_among (row_at table.now d) x ≡ true → x < length visits.old.marks }
     requires marked { AreMarked (length visits.old.marks) visits.old }
     requires device { device < length visits.old.marks }
@@ -52,7 +52,7 @@ fn visit(table: &Rows, levels: u32, device: u32, visits: &mut Visits) -> Result<
 }
 
 /// A device with all that hangs below it, down to some level, in front of what hangs below it.
-pub(crate) fn visit_below(alloc: Global, table: &Rows, device: u32) -> Result<Visits, Mem>
+pub(crate) fn visit_below(alloc: Global, table: &Rows, device: u32) -> Result<VisitedDevices, Mem>
     requires numbered { length table.now.rows < 2 ^ 32 }
     requires within { (d x : ℕ) → is_among (row_at table.now d) x ≡ true → x < length table.now.rows }
     requires device { device < length table.now.rows }
@@ -60,7 +60,7 @@ pub(crate) fn visit_below(alloc: Global, table: &Rows, device: u32) -> Result<Vi
         (visited (length table.now.rows) (row_at table.now) device [])) }
 {
     let count = table.len();
-    let mut visits = Visits {
+    let mut visits = VisitedDevices {
         out: Stack::new(alloc),
         marks: Flags::new(alloc, count)?,
     };

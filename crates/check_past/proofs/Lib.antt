@@ -1,5 +1,5 @@
 pub mod Naming
 pub mod Passing
 pub mod Ranking
-pub mod Standing
-pub mod Telling
+pub mod AtIndex
+pub mod Answers

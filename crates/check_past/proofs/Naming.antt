@@ -6,7 +6,7 @@ use Rattle.sleep_model.specs.declared.machine.Op.{Op}
 use Rattle.sleep_model.specs.declared.machine.Script.{Script}
 use Rattle.sleep_model.specs.Accepted.{AreScripts, IsOp}
 use Rattle.sleep_model.specs.Laws.{steps_of}
-use Rattle.rule_definitions.specs.Questions.{op_of, seat_of}
+use Rattle.rule_definitions.specs.Questions.{op_of, position_of}
 use Rattle.sleep_model.specs.Scripts.{entry_steps}
 use Rattle.sleep_laws.proofs.Operations.{entry_operation}
 
@@ -19,4 +19,4 @@ at_script m i n None e h = tt
 at_script m i n (Some s) e h = at_step m i n s (slice_get (entry_steps s) n) e refl h
 
 pub names : (m : Machine) (past : List Entry) (i : ℕ) → AreScripts m m.actors → IfSome (op_of m past i) (λ (op : Op). IsOp m op)
-names m past i h = at_script m i (seat_of m past i).done (slice_get m.actors i) refl h
+names m past i h = at_script m i (position_of m past i).done (slice_get m.actors i) refl h

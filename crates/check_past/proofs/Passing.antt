@@ -5,14 +5,14 @@ use Rattle.sleep_model.specs.declared.entry.Entry.{Entry}
 use Rattle.sleep_model.specs.declared.machine.Machine.{Machine}
 use Rattle.sleep_model.specs.declared.word.EventNow.{EventNow}
 use Rattle.sleep_model.specs.Numbers.{after_step, word_step, time_after}
-use Rattle.sleep_model.specs.Parts.{is_kept, part_of, journal}
+use Rattle.sleep_model.specs.EntryClasses.{is_in_journal, class_of, journal}
 use Rattle.check_sources.specs.Calling.{CallsOf, callers_after, callers_of}
-use Rattle.check_past.specs.declared.journal.JournalParts.{JournalParts}
-use Rattle.check_past.specs.Parts.{journal_if, state_of}
-use Rattle.check_past.specs.declared.kept.Kept.{Kept}
-use Rattle.check_past.specs.Passing.{Holds, kept_after}
+use Rattle.check_past.specs.declared.journal.JournalState.{JournalState}
+use Rattle.check_past.specs.JournalStates.{journal_if, state_of}
+use Rattle.check_past.specs.declared.past_state.PastState.{PastState}
+use Rattle.check_past.specs.Passing.{Holds, past_state_after}
 use Rattle.check_sources.specs.declared.source.Source.{Source}
-use Rattle.check_sources.specs.Kept.{sources_after}
+use Rattle.check_sources.specs.SourceStates.{sources_after}
 
 -- ---- the entries that were passed
 
@@ -31,19 +31,19 @@ next xs n x h = rw (add-one, taken xs n x h) (reverse-append (take n xs) (x ∷ 
 
 -- ---- what they leave
 
-by_kept : (m : Machine) (e : Entry) (past : List Entry) (b : Bool) → journal_if b m e (state_of m past) ≡ state_of m (cond b (e ∷ past) past)
-by_kept m e past true = refl
-by_kept m e past false = refl
+by_preserved : (m : Machine) (e : Entry) (past : List Entry) (b : Bool) → journal_if b m e (state_of m past) ≡ state_of m (cond b (e ∷ past) past)
+by_preserved m e past true = refl
+by_preserved m e past false = refl
 
-pub holds : (m : Machine) (past : List Entry) (e : Entry) (k after : Kept) → Holds m past k → after ≡ kept_after m e k
+pub holds : (m : Machine) (past : List Entry) (e : Entry) (k after : PastState) → Holds m past k → after ≡ past_state_after m e k
     → Holds m (e ∷ past) after
 holds m past e k after h is = record {
-  word = ap (λ (x : Kept). x.word) is ∙ ap (λ (x : EventNow). after_step (word_step e.kind) x) h.word;
-  time = ap (λ (x : Kept). x.time) is ∙ ap (λ x. time_after e.kind e.time x) h.time;
-  state = ap (λ (x : Kept). x.journal) is ∙ (ap (λ (x : JournalParts). journal_if (is_kept (part_of e.kind)) m e x) h.state ∙ by_kept m e (journal past) (is_kept (part_of e.kind)));
-  sources = ap (λ (x : Kept). x.sources) is ∙ ap (λ (x : List Source). sources_after e x) h.sources;
-  calls = ap (λ (x : Kept). x.calls) is ∙ (ap (λ (x : CallsOf). record x { state = callers_after x.machine e k.journal.attempt.attempts (part_of e.kind) x.state }) h.calls
-      ∙ ap (λ (x : JournalParts). record { machine = m; state = callers_after m e x.attempt.attempts (part_of e.kind) (callers_of m past) }) h.state);
+  word = ap (λ (x : PastState). x.word) is ∙ ap (λ (x : EventNow). after_step (word_step e.kind) x) h.word;
+  time = ap (λ (x : PastState). x.time) is ∙ ap (λ x. time_after e.kind e.time x) h.time;
+  state = ap (λ (x : PastState). x.journal) is ∙ (ap (λ (x : JournalState). journal_if (is_in_journal (class_of e.kind)) m e x) h.state ∙ by_preserved m e (journal past) (is_in_journal (class_of e.kind)));
+  sources = ap (λ (x : PastState). x.sources) is ∙ ap (λ (x : List Source). sources_after e x) h.sources;
+  calls = ap (λ (x : PastState). x.calls) is ∙ (ap (λ (x : CallsOf). record x { state = callers_after x.machine e k.journal.attempt.attempts (class_of e.kind) x.state }) h.calls
+      ∙ ap (λ (x : JournalState). record { machine = m; state = callers_after m e x.attempt.attempts (class_of e.kind) (callers_of m past) }) h.state);
 }
 
 pub more : (n k : ℕ) (xs : List Entry) (x : Entry) → slice_get xs n ≡ Some x → k ≡ n + 1 → k ≤ length xs
@@ -52,8 +52,8 @@ more n k xs x h e = let l = within xs n x h in omega (arith, l, e)
 pub then_next : (n k : ℕ) (xs : List Entry) (x : Entry) → slice_get xs n ≡ Some x → k ≡ n + 1 → reverse (take k xs) ≡ x ∷ reverse (take n xs)
 then_next n k xs x h e = ap (λ j. reverse (take j xs)) e ∙ next xs n x h
 
-pub together : (m : Machine) (e : Entry) (k : Kept) (word : EventNow) (time : ℕ) (state : JournalParts) (kept : List Source) (calls : CallsOf)
-    → word ≡ after_step (word_step e.kind) k.word → time ≡ time_after e.kind e.time k.time → state ≡ journal_if (is_kept (part_of e.kind)) m e k.journal → kept ≡ sources_after e k.sources
-    → calls ≡ record k.calls { state = callers_after k.calls.machine e k.journal.attempt.attempts (part_of e.kind) k.calls.state }
-    → record { word = word; time = time; journal = state; sources = kept; calls = calls } ≡ kept_after m e k
-together m e k word time state kept calls w t j s c = cc
+pub together : (m : Machine) (e : Entry) (k : PastState) (word : EventNow) (time : ℕ) (state : JournalState) (past_state : List Source) (calls : CallsOf)
+    → word ≡ after_step (word_step e.kind) k.word → time ≡ time_after e.kind e.time k.time → state ≡ journal_if (is_in_journal (class_of e.kind)) m e k.journal → past_state ≡ sources_after e k.sources
+    → calls ≡ record k.calls { state = callers_after k.calls.machine e k.journal.attempt.attempts (class_of e.kind) k.calls.state }
+    → record { word = word; time = time; journal = state; sources = past_state; calls = calls } ≡ past_state_after m e k
+together m e k word time state past_state calls w t j s c = cc

@@ -1,5 +1,5 @@
 pub mod Asked
-pub mod Parts
+pub mod JournalStates
 pub mod PassedFields
 pub mod Passing
 pub mod Ranks

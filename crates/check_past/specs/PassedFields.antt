@@ -11,12 +11,12 @@ abbrev pub passage : Inside → Passage
 passage p = record { machine = p.machine.now; entries = p.entries.now; passed = p.passed }
 
 -- the fields are what the passed entries leave (own)
-pub record IsKept (p : Inside) : Type 0 where
-  pub holds : Holds p.machine.now (past_of (passage p)) p.kept.value
+pub record PassedInvariant (p : Inside) : Type 0 where
+  pub holds : Holds p.machine.now (past_of (passage p)) p.past_state.value
   pub call_order : p.call_order.items ≡ call_order p.machine.now
   pub has_async : p.has_async ≡ list_any is_async p.machine.now.devices
   pub passage : IsPassage (passage p)
 
 -- the fields are what the passed entries leave (own)
-abbrev pub keeps : Inside → Type 0
-keeps p = IsKept p
+abbrev pub passed_invariant : Inside → Type 0
+passed_invariant p = PassedInvariant p

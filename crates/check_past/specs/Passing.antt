@@ -6,11 +6,11 @@ use Rattle.sleep_model.specs.declared.machine.Machine.{Machine}
 use Rattle.sleep_model.specs.Accepted.{IsAccepted}
 use Rattle.sleep_model.specs.Fits.{fits_entry}
 use Rattle.sleep_model.specs.Numbers.{after_step, numbers, time_after, time_of, word_step}
-use Rattle.sleep_model.specs.Parts.{is_kept, journal, part_of}
+use Rattle.sleep_model.specs.EntryClasses.{is_in_journal, journal, class_of}
 use Rattle.check_sources.specs.Calling.{callers_after, callers_of}
-use Rattle.check_past.specs.declared.kept.Kept.{Kept}
-use Rattle.check_past.specs.Parts.{journal_if, state_of}
-use Rattle.check_sources.specs.Kept.{sources, sources_after}
+use Rattle.check_past.specs.declared.past_state.PastState.{PastState}
+use Rattle.check_past.specs.JournalStates.{journal_if, state_of}
+use Rattle.check_sources.specs.SourceStates.{sources, sources_after}
 
 -- a machine, the entries of a log, the oldest first, and how many of them were passed (own)
 pub record Passage : Type 0 where
@@ -27,7 +27,7 @@ abbrev pub journal_of : Passage → List Entry
 journal_of p = journal (past_of p)
 
 -- what is kept is what these entries leave (own)
-pub record Holds (m : Machine) (past : List Entry) (k : Kept) : Type 0 where
+pub record Holds (m : Machine) (past : List Entry) (k : PastState) : Type 0 where
   pub word : k.word ≡ numbers past
   pub time : k.time ≡ time_of past
   pub state : k.journal ≡ state_of m (journal past)
@@ -35,14 +35,14 @@ pub record Holds (m : Machine) (past : List Entry) (k : Kept) : Type 0 where
   pub calls : k.calls ≡ record { machine = m; state = callers_of m past }
 
 -- what is kept after one more entry (own)
-abbrev pub kept_after : Machine → Entry → Kept → Kept
-kept_after m e k = record {
+abbrev pub past_state_after : Machine → Entry → PastState → PastState
+past_state_after m e k = record {
   word = after_step (word_step e.kind) k.word;
   time = time_after e.kind e.time k.time;
-  journal = journal_if (is_kept (part_of e.kind)) m e k.journal;
+  journal = journal_if (is_in_journal (class_of e.kind)) m e k.journal;
   sources = sources_after e k.sources;
   calls = record k.calls {
-    state = callers_after k.calls.machine e k.journal.attempt.attempts (part_of e.kind) k.calls.state;
+    state = callers_after k.calls.machine e k.journal.attempt.attempts (class_of e.kind) k.calls.state;
   };
 }
 

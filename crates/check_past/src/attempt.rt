@@ -52,14 +52,17 @@ impl<'m> Passed<'m> {
     pub fn answered_error(&self, what: What) -> Option<Errno>
         ensures { result ≡ answer_error (answer self.now.machine what (attempts (journal_of self.now))) }
     {
-        self.kept.calls.answers().error(what, self.attempts())
+        self.past_state.calls.answers().error(what, self.attempts())
     }
 
-    /// The number that a thing answers in the attempt that was begun last: 0 where the machine gives no answer.
+    /// The number that a thing answers in the attempt that was begun last: 0 if the machine gives no answer.
     pub fn answered_number(&self, what: What) -> i32
         ensures { result ≡ answer_number (answer self.now.machine what (attempts (journal_of self.now))) }
     {
-        self.kept.calls.answers().number(what, self.attempts())
+        self.past_state
+            .calls
+            .answers()
+            .number(what, self.attempts())
     }
 
     /// How many entries were passed.
@@ -69,53 +72,53 @@ impl<'m> Passed<'m> {
         self.passed
     }
 
-    /// The word that stands behind them (`combined_event_count`).
+    /// The word that stands after them (`combined_event_count`).
     pub fn word(&self) -> EventNow
         ensures { result ≡ numbers (past_of self.now) }
     {
-        self.kept.word
+        self.past_state.word
     }
 
     /// The time of the last jump, in ms; 0 before any.
     pub fn time(&self) -> u64
         ensures { result ≡ time_of (past_of self.now) }
     {
-        self.kept.time
+        self.past_state.time
     }
 
     /// That time, by the journal.
     pub fn journal_time(&self) -> u64
         ensures { result ≡ time_of (journal_of self.now) }
     {
-        self.kept.journal.attempt.time()
+        self.past_state.journal.attempt.time()
     }
 
     /// The count in force, if there is one (`events_check_enabled`, `saved_count`).
     pub fn in_force(&self) -> Option<u32>
         ensures { result ≡ in_force (journal_of self.now) }
     {
-        self.kept.journal.attempt.in_force()
+        self.past_state.journal.attempt.in_force()
     }
 
     /// Whether a wakeup is pending at that word (`pm_wakeup_pending`).
     pub fn is_pending(&self, now: EventNow) -> bool
         ensures { result ≡ pending (journal_of self.now) now }
     {
-        self.kept.journal.attempt.is_pending(now)
+        self.past_state.journal.attempt.is_pending(now)
     }
 
     /// How many attempts were begun.
     pub fn attempts(&self) -> u32
         ensures { result ≡ attempts (journal_of self.now) }
     {
-        self.kept.journal.attempt.attempts()
+        self.past_state.journal.attempt.attempts()
     }
 
     /// Who makes the open attempt, if one is open.
     pub fn maker(&self) -> Option<Actor>
         ensures { result ≡ maker (journal_of self.now) }
     {
-        self.kept.journal.attempt.maker()
+        self.past_state.journal.attempt.maker()
     }
 
     /// Whether that actor makes the open attempt (`system_transition_mutex`).
@@ -129,35 +132,35 @@ impl<'m> Passed<'m> {
     pub fn stage(&self) -> Option<Stage>
         ensures { result ≡ stage_of (journal_of self.now) }
     {
-        self.kept.journal.attempt.stage()
+        self.past_state.journal.attempt.stage()
     }
 
     /// The error of the open attempt's step that failed.
     pub fn failed(&self) -> Option<Errno>
         ensures { result ≡ failed (journal_of self.now) }
     {
-        self.kept.journal.attempt.failed()
+        self.past_state.journal.attempt.failed()
     }
 
     /// Whether the open attempt has entered sleep.
     pub fn entered(&self) -> bool
         ensures { result ≡ entered (journal_of self.now) }
     {
-        self.kept.journal.attempt.entered()
+        self.past_state.journal.attempt.entered()
     }
 
     /// Since when a freeze goes on, in ms, if one does (`try_to_freeze_tasks`).
     pub fn freeze_since(&self) -> Option<u64>
         ensures { result ≡ freeze_since (journal_of self.now) }
     {
-        self.kept.journal.attempt.freeze_since()
+        self.past_state.journal.attempt.freeze_since()
     }
 
     /// The machine's sleep, if it sleeps (`suspend_enter`).
     pub fn sleep(&self) -> Option<Sleep>
         ensures { result ≡ sleep_of (journal_of self.now) }
     {
-        self.kept.journal.attempt.sleep()
+        self.past_state.journal.attempt.sleep()
     }
 
     /// Whether the machine sleeps.
@@ -171,48 +174,48 @@ impl<'m> Passed<'m> {
     pub fn callback(&self) -> Option<Callback>
         ensures { result ≡ callback (journal_of self.now) }
     {
-        self.kept.journal.attempt.callback()
+        self.past_state.journal.attempt.callback()
     }
 
     /// The error that stands in the open phase (`async_error`).
     pub fn phase_failed(&self) -> Option<Errno>
         ensures { result ≡ phase_failed (journal_of self.now) }
     {
-        self.kept.journal.attempt.phase_failed()
+        self.past_state.journal.attempt.phase_failed()
     }
 
     /// The error of a synchronous device's callback in the open phase.
     pub fn own_error(&self) -> Option<Errno>
         ensures { result ≡ own_error (journal_of self.now) }
     {
-        self.kept.journal.attempt.own_error()
+        self.past_state.journal.attempt.own_error()
     }
 
     /// Whether suspend has left a device alone, and resume is not done since.
     pub fn disabled_by_direct(&self) -> bool
         ensures { result ≡ disabled_by_direct (journal_of self.now) }
     {
-        self.kept.journal.attempt.disabled_by_direct()
+        self.past_state.journal.attempt.disabled_by_direct()
     }
 
     /// Whether late has taken a device, and early is not done since.
     pub fn disabled_by_late(&self) -> bool
         ensures { result ≡ disabled_by_late (journal_of self.now) }
     {
-        self.kept.journal.attempt.disabled_by_late()
+        self.past_state.journal.attempt.disabled_by_late()
     }
 
     /// Whether interrupts are off.
     pub fn irqs_off(&self) -> bool
         ensures { result ≡ irqs_off (journal_of self.now) }
     {
-        self.kept.journal.attempt.irqs_off()
+        self.past_state.journal.attempt.irqs_off()
     }
 
     /// Whether that step of the platform is owed its undo.
     pub fn owes_platform(&self, step: PlatDo) -> bool
         ensures { result ≡ owes_platform step (journal_of self.now) }
     {
-        self.kept.journal.attempt.owes_platform(step)
+        self.past_state.journal.attempt.owes_platform(step)
     }
 }

@@ -4,95 +4,95 @@ use crate::passed::Passed;
 use device_rows::Flags;
 use phase_table::Phase;
 use sleep_base::Mem;
-use sleep_model::{DeviceFlags, Stand};
+use sleep_model::{DeviceFlags, PhaseState};
 
 impl<'m> Passed<'m> {
     ghost use Rattle.std.specs.Prelude.{◌≡◌, ◌<◌, length, IfOk};
     ghost use Rattle.sleep_model.specs.Links.{is_dependent, is_linked};
-    ghost use Rattle.sleep_model.specs.Devices.{is_async_device, may_wake_device, stand_in, asks_direct};
-    ghost use Rattle.sleep_model.specs.Notifiers.{cpus_off, stopped, told};
+    ghost use Rattle.sleep_model.specs.Devices.{is_async_device, may_wake_device, state_in, asks_direct};
+    ghost use Rattle.sleep_model.specs.Notifiers.{cpus_off, stopped, notified_flags};
     ghost use Rattle.sleep_model.specs.Order.{above, below, links_at, order, parents_of};
     ghost use Rattle.sleep_model.specs.Runtime.{statuses};
-    ghost use Rattle.sleep_model.specs.Stands.{stands};
+    ghost use Rattle.sleep_model.specs.PhaseStates.{phase_states};
     ghost use Rattle.check_past.specs.Passing.{journal_of};
 
     /// Where a device stands in a phase and its mirror (`struct dev_pm_info`).
-    #[tactic(auto, using(crate::proofs::Standing::stands_are))]
-    pub fn stand(&self, phase: Phase, device: u32) -> Stand
-        ensures { result ≡ stand_in self.now.machine (journal_of self.now) phase device }
+    #[tactic(auto, using(crate::proofs::Standing::states_are))]
+    pub fn state(&self, phase: Phase, device: u32) -> PhaseState
+        ensures { result ≡ state_in self.now.machine (journal_of self.now) phase device }
     {
-        self.kept.journal.devices.stand(phase, device)
+        self.past_state.journal.devices.state(phase, device)
     }
 
     /// Where each device stands in a phase and its mirror.
-    #[tactic(auto, using(crate::proofs::Standing::stands_are))]
-    pub fn stands(&self, phase: Phase) -> &[Stand]
-        ensures { result.now ≡ stands (length self.now.machine.devices) phase (journal_of self.now) }
+    #[tactic(auto, using(crate::proofs::Standing::states_are))]
+    pub fn phase_states(&self, phase: Phase) -> &[PhaseState]
+        ensures { result.now ≡ phase_states (length self.now.machine.devices) phase (journal_of self.now) }
     {
-        self.kept.journal.devices.stands(phase)
+        self.past_state.journal.devices.phase_states(phase)
     }
 
     /// Which devices answered 1 to their last prepare (`power.direct_complete`).
     pub fn asks_direct(&self) -> &Flags
         ensures { result.now ≡ asks_direct (length self.now.machine.devices) (journal_of self.now) }
     {
-        self.kept.journal.devices.asks_direct()
+        self.past_state.journal.devices.asks_direct()
     }
 
     /// Which devices are runtime suspended (`power.runtime_status`).
     pub fn statuses(&self) -> &Flags
         ensures { result.now ≡ statuses self.now.machine.devices (journal_of self.now) }
     {
-        self.kept.journal.devices.statuses()
+        self.past_state.journal.devices.statuses()
     }
 
     /// Which notifiers are owed their post (`PM_POST_SUSPEND`).
-    pub fn told(&self) -> &Flags
-        ensures { result.now ≡ told self.now.machine (journal_of self.now) }
+    pub fn notified_flags(&self) -> &Flags
+        ensures { result.now ≡ notified_flags self.now.machine (journal_of self.now) }
     {
-        self.kept.journal.devices.notified()
+        self.past_state.journal.devices.notified()
     }
 
     /// Which processors are off (`frozen_cpus`).
     pub fn cpus_off(&self) -> &Flags
         ensures { result.now ≡ cpus_off self.now.machine.cpus (journal_of self.now) }
     {
-        self.kept.journal.devices.cpus_off()
+        self.past_state.journal.devices.cpus_off()
     }
 
     /// Which of the core's parts are suspended (`syscore_ops_list`).
     pub fn stopped(&self) -> &Flags
         ensures { result.now ≡ stopped (length self.now.machine.syscore) (journal_of self.now) }
     {
-        self.kept.journal.devices.stopped()
+        self.past_state.journal.devices.stopped()
     }
 
     /// The devices in their order (`dpm_list`).
     pub fn order(&self) -> &[u32]
         ensures { result.now ≡ order self.now.machine (journal_of self.now) }
     {
-        self.kept.journal.ties.order()
+        self.past_state.journal.graph.order()
     }
 
     /// What must sleep before a device does (`dpm_wait_for_subordinate`).
     pub fn below(&self, device: u32) -> &[u32]
         ensures { result.now ≡ below self.now.machine (journal_of self.now) device }
     {
-        self.kept.journal.ties.below(device)
+        self.past_state.journal.graph.below(device)
     }
 
     /// What must be awake before a device is (`dpm_wait_for_superior`).
     pub fn above(&self, device: u32) -> &[u32]
         ensures { result.now ≡ above self.now.machine (journal_of self.now) device }
     {
-        self.kept.journal.ties.above(device)
+        self.past_state.journal.graph.above(device)
     }
 
     /// Whether a link between these two stands, active or dormant.
     pub fn is_linked(&self, supplier: u32, consumer: u32) -> bool
         ensures { result ≡ is_linked (links_at self.now.machine (journal_of self.now)) supplier consumer }
     {
-        self.kept.journal.ties.is_linked(supplier, consumer)
+        self.past_state.journal.graph.is_linked(supplier, consumer)
     }
 
     /// Whether a walk down from the consumer, over children and all links, meets the supplier (`device_is_dependent`).
@@ -103,7 +103,10 @@ impl<'m> Passed<'m> {
         ensures { IfOk result (λ b. b ≡ is_dependent (parents_of self.now.machine.devices)
             (links_at self.now.machine (journal_of self.now)) consumer supplier) }
     {
-        self.kept.journal.ties.is_dependent(consumer, supplier)
+        self.past_state
+            .journal
+            .graph
+            .is_dependent(consumer, supplier)
     }
 
     /// Whether a device is asynchronous (`power.async_suspend`).

@@ -1,54 +1,54 @@
 //! What is kept of a journal: the open attempt, the tasks, the devices, and the links between them.
 
 ghost use Rattle.std.specs.Prelude.{◌≡◌, ◌∷◌, [], IfOk, OnOk, map};
-ghost use Rattle.check_order.specs.Kept.{with_links};
+ghost use Rattle.check_order.specs.Graphs.{with_links};
 ghost use Rattle.sleep_model.specs.Accepted.{IsAccepted};
 ghost use Rattle.sleep_model.specs.Links.{AreLinks};
 ghost use Rattle.sleep_model.specs.Order.{links_at, parents_of, with_state};
-ghost use Rattle.sleep_model.specs.Parts.{is_kept, part_of};
-ghost use Rattle.check_past.specs.Parts.{MayAdd, ties_after};
+ghost use Rattle.sleep_model.specs.EntryClasses.{is_in_journal, class_of};
+ghost use Rattle.check_past.specs.JournalStates.{MayAdd, graph_after};
 
 use check_account::{AttemptAccount, DeviceAccount, TaskAccount};
-use check_order::DeviceTies;
+use check_order::DeviceGraph;
 use sleep_base::{Mem, lost};
 use sleep_model::{Entry, Kind, Link, Machine};
 use std::alloc::Global;
 
 /// What the entries of a journal leave.
 #[derive(Drop)]
-pub(crate) struct JournalParts {
+pub(crate) struct JournalState {
     pub(crate) attempt: AttemptAccount,
     pub(crate) tasks: TaskAccount,
     pub(crate) devices: DeviceAccount,
-    pub(crate) ties: DeviceTies,
+    pub(crate) graph: DeviceGraph,
 }
 
 // Adds a link that may stand, which few entries do. `Mem` if there is no memory for it.
 #[cold]
 #[inline(never)]
-fn add_link(ties: &mut DeviceTies, link: Link) -> Result<(), Mem>
-    requires { AreLinks ties.old.parents (link ∷ ties.old.links) }
-    ensures { OnOk result (ties.new ≡ with_links ties.old (link ∷ ties.old.links)) }
+fn add_link(graph: &mut DeviceGraph, link: Link) -> Result<(), Mem>
+    requires { AreLinks graph.old.parents (link ∷ graph.old.links) }
+    ensures { OnOk result (graph.new ≡ with_links graph.old (link ∷ graph.old.links)) }
 {
-    ties.add_link(link)?;
+    graph.add_link(link)?;
     Ok(())
 }
 
 // Gives the link between these two that state, which few entries do. `Mem` if there is no memory for it.
 #[cold]
 #[inline(never)]
-fn set_link(ties: &mut DeviceTies, supplier: u32, consumer: u32, active: bool) -> Result<(), Mem>
-    ensures { OnOk result (ties.new ≡ with_links ties.old (map (with_state supplier consumer active) ties.old.links)) }
+fn set_link(graph: &mut DeviceGraph, supplier: u32, consumer: u32, active: bool) -> Result<(), Mem>
+    ensures { OnOk result (graph.new ≡ with_links graph.old (map (with_state supplier consumer active) graph.old.links)) }
 {
-    ties.set_state(supplier, consumer, active)?;
+    graph.set_state(supplier, consumer, active)?;
     Ok(())
 }
 
 // Moves the devices' parents and links by an entry, which adds no link that may not stand. `Mem` if there is no memory
 // for them.
-fn move_ties(ties: &mut DeviceTies, kind: Kind) -> Result<(), Mem>
-    requires { MayAdd ties.old kind }
-    ensures { OnOk result (ties.new ≡ ties_after kind ties.old) }
+fn move_graph(graph: &mut DeviceGraph, kind: Kind) -> Result<(), Mem>
+    requires { MayAdd graph.old kind }
+    ensures { OnOk result (graph.new ≡ graph_after kind graph.old) }
 {
     match kind {
         Kind::LinkAdd {
@@ -61,14 +61,14 @@ fn move_ties(ties: &mut DeviceTies, kind: Kind) -> Result<(), Mem>
                 consumer,
                 active: true,
             };
-            add_link(ties, link)?;
+            add_link(graph, link)?;
         }
         Kind::LinkState {
             supplier,
             consumer,
             active,
             r: None,
-        } => set_link(ties, supplier, consumer, active)?,
+        } => set_link(graph, supplier, consumer, active)?,
         _ => {}
     }
     Ok(())
@@ -87,17 +87,17 @@ fn parents_of(alloc: Global, machine: &Machine) -> Result<Vec<Option<u32>>, Mem>
 }
 
 // The devices' parents and the links that stand at first. `Mem` if there is no memory for them.
-fn ties_of(alloc: Global, machine: &Machine) -> Result<DeviceTies, Mem>
+fn graph_of(alloc: Global, machine: &Machine) -> Result<DeviceGraph, Mem>
     requires { IsAccepted machine.now }
     ensures { IfOk result (λ t. t ≡ record { parents = parents_of machine.now.devices; links = links_at machine.now [] }) }
 {
     let parents = parents_of(alloc, machine)?;
-    DeviceTies::new(alloc, &parents, machine.links.as_slice())
+    DeviceGraph::new(alloc, &parents, machine.links.as_slice())
 }
 
 /// Whether an entry of that kind is the journal's, or a jump of time.
-pub(crate) fn is_kept(kind: Kind) -> bool
-    ensures { result ≡ is_kept (part_of kind) }
+pub(crate) fn is_in_journal(kind: Kind) -> bool
+    ensures { result ≡ is_in_journal (class_of kind) }
 {
     !matches!(
         kind,
@@ -111,55 +111,55 @@ pub(crate) fn is_kept(kind: Kind) -> bool
     )
 }
 
-impl JournalParts {
+impl JournalState {
     ghost use Rattle.std.specs.Prelude.{◌≡◌, ◌<◌, ◌^◌, [], length, IfOk, OnOk};
     ghost use Rattle.sleep_model.specs.Accepted.{IsAccepted};
-    ghost use Rattle.sleep_model.specs.Parts.{is_kept, part_of};
-    ghost use Rattle.check_past.specs.Parts.{MayAdd, journal_after, journal_if, state_of};
+    ghost use Rattle.sleep_model.specs.EntryClasses.{is_in_journal, class_of};
+    ghost use Rattle.check_past.specs.JournalStates.{MayAdd, journal_after, journal_if, state_of};
 
     /// Before the first entry, on a machine as files spell it. `Mem` if there is no memory for it.
     pub(crate) fn new(alloc: Global, machine: &Machine) -> Result<Self, Mem>
         requires { IsAccepted machine.now }
         ensures { IfOk result (λ p. p ≡ state_of machine.now []) }
     {
-        let ties = ties_of(alloc, machine)?;
+        let graph = graph_of(alloc, machine)?;
         let Ok(tasks) = TaskAccount::new(alloc, machine) else {
-            return Err(lost(ties));
+            return Err(lost(graph));
         };
         let Ok(devices) = DeviceAccount::new(alloc, machine) else {
-            return Err(lost((ties, tasks)));
+            return Err(lost((graph, tasks)));
         };
-        Ok(JournalParts {
+        Ok(JournalState {
             attempt: AttemptAccount::new(),
             tasks,
             devices,
-            ties,
+            graph,
         })
     }
 
-    // Passes one more entry of the journal. `Mem` where a counter has no room, or if there is no memory for a link.
+    // Passes one more entry of the journal. `Mem` if a counter has no room, or if there is no memory for a link.
     fn pass(&mut self, machine: &Machine, e: Entry) -> Result<(), Mem>
         requires all { length self.old.tasks.freezings ≡ length machine.now.actors }
         requires few { length machine.now.actors < 2 ^ 32 }
-        requires link { MayAdd self.old.ties e.kind }
+        requires link { MayAdd self.old.graph e.kind }
         ensures { OnOk result (self.new ≡ journal_after machine.now e self.old) }
     {
         self.attempt.pass(e)?;
         self.tasks.pass(machine.actors.as_slice(), e)?;
         self.devices.pass(e.kind);
-        move_ties(&mut self.ties, e.kind)?;
+        move_graph(&mut self.graph, e.kind)?;
         Ok(())
     }
 
-    /// Passes one more entry, where it is the journal's. `Mem` where a counter has no room, or if there is no memory for a
+    /// Passes one more entry, where it is the journal's. `Mem` if a counter has no room, or if there is no memory for a
     /// link.
     pub(crate) fn pass_if(&mut self, machine: &Machine, e: Entry) -> Result<(), Mem>
         requires all { length self.old.tasks.freezings ≡ length machine.now.actors }
         requires few { length machine.now.actors < 2 ^ 32 }
-        requires link { MayAdd self.old.ties e.kind }
-        ensures { OnOk result (self.new ≡ journal_if (is_kept (part_of e.kind)) machine.now e self.old) }
+        requires link { MayAdd self.old.graph e.kind }
+        ensures { OnOk result (self.new ≡ journal_if (is_in_journal (class_of e.kind)) machine.now e self.old) }
     {
-        if is_kept(e.kind) {
+        if is_in_journal(e.kind) {
             self.pass(machine, e)
         } else {
             Ok(())

@@ -5,21 +5,21 @@
 //! once, as the definitions read it from these entries: the word, the time, the open attempt, where each task,
 //! device and source stands, who is next in each walk, and which calls each actor owes. One more entry is passed,
 //! unless memory is short. By the clauses of `Passed::new`, `pass`, and one call a question; `is_accepted`,
-//! `all_fit`, `are_ties`.
+//! `all_fit`, `is_graph`.
 //!
-//! Begin reading in `src/passed.rt`, `src/walks.rt`, `src/journal.rt`; `specs/Passing.antt`, `specs/Parts.antt`.
+//! Begin reading in `src/passed.rt`, `src/walks.rt`, `src/journal.rt`; `specs/Passing.antt`, `specs/JournalStates.antt`.
 #![tactic(auto)]
 
 mod attempt;
 mod devices;
 mod journal;
-mod kept;
 mod order;
 mod passed;
+mod past_state;
 mod sources;
 mod tasks;
 mod walks;
 
 pub use passed::Passed;
-pub use tasks::Left;
+pub use tasks::UnfrozenTasks;
 pub use walks::{is_direct_complete, is_down_in, is_not_up, is_prepared};

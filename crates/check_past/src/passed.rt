@@ -1,8 +1,8 @@
 ghost use Rattle.std.specs.Prelude.{◌≡◌, ◌+◌, IfOk};
 
-use crate::journal::JournalParts;
-use crate::kept::Kept;
+use crate::journal::JournalState;
 use crate::order::call_order;
+use crate::past_state::PastState;
 use crate::walks::any_async;
 use check_sources::{Callers, SourceAccounts};
 use sleep_base::Mem;
@@ -22,7 +22,7 @@ pub struct Passed<'m> {
     // Whether a device is asynchronous.
     pub(crate) has_async: bool,
     // In a place of its own on the heap, since the rest is moved at each entry.
-    pub(crate) kept: Box<Kept<'m>>,
+    pub(crate) past_state: Box<PastState<'m>>,
 }
 
 impl<'m> Model for Passed<'m> {
@@ -30,14 +30,14 @@ impl<'m> Model for Passed<'m> {
 
     ghost Value = { Passage };
 
-    ghost use Rattle.check_past.specs.PassedFields.{passage, keeps};
+    ghost use Rattle.check_past.specs.PassedFields.{passage, passed_invariant};
 
     ghost view = { passage };
 
-    ghost invariant = { keeps };
+    ghost invariant = { passed_invariant };
 }
 
-// One more. `Mem` where the counter has no room.
+// One more. `Mem` if the counter has no room.
 fn one_further(count: usize) -> Result<usize, Mem>
     ensures { IfOk result (λ n. n ≡ count + 1) }
 {
@@ -52,8 +52,8 @@ impl<'m> Passed<'m> {
     ghost use Rattle.std.specs.List.{list_all};
     ghost use Rattle.sleep_model.specs.Accepted.{IsAccepted};
     ghost use Rattle.sleep_model.specs.Fits.{fits_entry};
-    ghost use Rattle.check_order.specs.Kept.{AreTies};
-    ghost use Rattle.check_past.specs.Parts.{MayAdd, state_of};
+    ghost use Rattle.check_order.specs.Graphs.{IsGraph};
+    ghost use Rattle.check_past.specs.JournalStates.{MayAdd, state_of};
     ghost use Rattle.check_past.specs.Passing.{journal_of, past_of};
 
     /// Before the first of these entries, on a machine as files spell it. `Mem` if there is no memory for it.
@@ -63,22 +63,22 @@ impl<'m> Passed<'m> {
         ensures { IfOk result (λ p. p ≡ record { machine = machine.now; entries = entries.now; passed = 0 }) }
     {
         let call_order = call_order(alloc, machine.notifiers.as_slice())?;
-        let kept = Kept::new(alloc, machine)?;
+        let past_state = PastState::new(alloc, machine)?;
         Ok(Passed {
             machine,
             entries,
             passed: 0,
             call_order,
             has_async: any_async(machine.devices.as_slice()),
-            kept: Box::new(alloc, kept)?,
+            past_state: Box::new(alloc, past_state)?,
         })
     }
 
-    /// Passes the next entry, which adds no link that may not stand. `Mem` where a counter has no room, or if there is no
+    /// Passes the next entry, which adds no link that may not stand. `Mem` if a counter has no room, or if there is no
     /// memory for what it leaves.
     pub fn pass(self, e: Entry) -> Result<Self, Mem>
         requires next { slice_get self.entries self.passed ≡ Some e }
-        requires link { MayAdd (state_of self.machine (journal_of self)).ties e.kind }
+        requires link { MayAdd (state_of self.machine (journal_of self)).graph e.kind }
         ensures { IfOk result (λ p. p ≡ record self.entry { passed = self.entry.passed + 1 }) }
     {
         let Passed {
@@ -87,17 +87,17 @@ impl<'m> Passed<'m> {
             passed,
             call_order,
             has_async,
-            mut kept,
+            mut past_state,
         } = self;
         let passed = one_further(passed)?;
-        kept.pass(machine, e)?;
+        past_state.pass(machine, e)?;
         Ok(Passed {
             machine,
             entries,
             passed,
             call_order,
             has_async,
-            kept,
+            past_state,
         })
     }
 
@@ -116,9 +116,9 @@ impl<'m> Passed<'m> {
     }
 
     /// The links that stand are links as the reader of machines takes them.
-    pub fn are_ties(&self)
-        ensures { AreTies (state_of self.now.machine (journal_of self.now)).ties }
+    pub fn is_graph(&self)
+        ensures { IsGraph (state_of self.now.machine (journal_of self.now)).graph }
     {
-        self.kept.journal.ties.are_ties()
+        self.past_state.journal.graph.is_graph()
     }
 }

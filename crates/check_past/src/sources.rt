@@ -11,13 +11,13 @@ impl<'m> Passed<'m> {
     ghost use Rattle.sleep_model.specs.Fits.{fits_actor};
     ghost use Rattle.sleep_model.specs.Sources.{history};
     ghost use Rattle.check_past.specs.Passing.{journal_of, past_of};
-    ghost use Rattle.check_sources.specs.Kept.{source_of};
+    ghost use Rattle.check_sources.specs.SourceStates.{source_of};
 
     /// What is kept of a source; nothing of one that is not there.
     pub fn source(&self, number: u32) -> Source
         ensures { result ≡ source_of (history number (past_of self.now)) }
     {
-        self.kept.sources.source(number)
+        self.past_state.sources.source(number)
     }
 
     /// How many calls an actor of the machine has made.
@@ -25,16 +25,16 @@ impl<'m> Passed<'m> {
         requires { fits_actor self.now.machine who ≡ true }
         ensures { result ≡ made (length self.now.machine.sources + 1) (λ s. history s (past_of self.now)) who }
     {
-        self.kept.calls.made(who)
+        self.past_state.calls.made(who)
     }
 
-    /// How many calls an actor of the machine owes in all before it may append to the journal. `Mem` where the sum has no
+    /// How many calls an actor of the machine owes in all before it may append to the journal. `Mem` if the sum has no
     /// room.
     pub fn calls_due(&self, who: Actor) -> Result<usize, Mem>
         requires { fits_actor self.now.machine who ≡ true }
         ensures { IfOk result (λ n. n ≡ calls_due self.now.machine who (journal_of self.now)) }
     {
-        self.kept.calls.due(who)
+        self.past_state.calls.due(who)
     }
 
     /// The next call of an actor of the machine, if it has one to make.
@@ -43,6 +43,6 @@ impl<'m> Passed<'m> {
         ensures { result ≡ slice_get (calls_of self.now.machine who (journal_of self.now))
             (made (length self.now.machine.sources + 1) (λ s. history s (past_of self.now)) who) }
     {
-        self.kept.calls.next(who)
+        self.past_state.calls.next(who)
     }
 }

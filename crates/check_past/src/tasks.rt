@@ -7,36 +7,41 @@ ghost use Rattle.check_past.specs.Asked.{left_is};
 
 use crate::passed::Passed;
 use check_account::is_in;
-use sleep_model::{Actor, Freezing, Group, Op, Script, Seat, TaskKind, Work};
+use sleep_model::{Actor, Freezing, Group, Op, Script, ScriptPosition, TaskKind, Work};
 
 // Whether a task keeps the freeze of its group waiting.
-fn keeps_waiting(group: Group, kind: TaskKind, freezing: Freezing, seat: Seat) -> bool
-    ensures { result ≡ keeps_waiting group kind freezing seat }
+fn keeps_waiting(group: Group, kind: TaskKind, freezing: Freezing, position: ScriptPosition) -> bool
+    ensures { result ≡ keeps_waiting group kind freezing position }
 {
-    is_in(group, kind) && freezing.asked && !freezing.frozen && !seat.exited
+    is_in(group, kind) && freezing.asked && !freezing.frozen && !position.exited
 }
 
 /// The tasks that a freeze still waits for: how many, and the first of them.
 #[derive(Clone, Copy)]
-pub struct Left {
+pub struct UnfrozenTasks {
     pub count: u32,
     pub first: Option<u32>,
 }
 
 // The tasks that a freeze of the group waits for, among these.
-fn left_among(group: Group, scripts: &[Script], freezings: &[Freezing], seats: &[Seat]) -> Left
+fn left_among(
+    group: Group,
+    scripts: &[Script],
+    freezings: &[Freezing],
+    positions: &[ScriptPosition],
+) -> UnfrozenTasks
     requires few { length scripts.now < 2 ^ 31 }
     requires freezings { length freezings.now ≡ length scripts.now }
-    requires seats { length seats.now ≡ length scripts.now }
-    ensures { result ≡ left_is (left_from group 0 scripts.now freezings.now seats.now) }
+    requires positions { length positions.now ≡ length scripts.now }
+    ensures { result ≡ left_is (left_from group 0 scripts.now freezings.now positions.now) }
 {
-    let mut left = Left {
+    let mut left = UnfrozenTasks {
         count: 0,
         first: None,
     };
     for i in (0..scripts.len()).rev() {
-        if keeps_waiting(group, scripts[i].kind, freezings[i], seats[i]) {
-            left = Left {
+        if keeps_waiting(group, scripts[i].kind, freezings[i], positions[i]) {
+            left = UnfrozenTasks {
                 count: left.count + 1,
                 first: Some(i as u32),
             };
@@ -49,11 +54,11 @@ impl<'m> Passed<'m> {
     ghost use Rattle.std.specs.Prelude.{◌≡◌, length, option_copied, IfSome};
     ghost use Rattle.sleep_model.specs.Accepted.{IsOp};
     ghost use Rattle.sleep_model.specs.Autosleep.{may_run, work};
-    ghost use Rattle.sleep_model.specs.Due.{all_gone, is_over};
+    ghost use Rattle.sleep_model.specs.Due.{have_all_exited, is_over};
     ghost use Rattle.sleep_model.specs.Freezer.{freezing, freezings, left};
     ghost use Rattle.sleep_model.specs.Lock.{holder, is_on};
     ghost use Rattle.sleep_model.specs.Marks.{mark_at, raised};
-    ghost use Rattle.rule_definitions.specs.Questions.{op_of, seat_of};
+    ghost use Rattle.rule_definitions.specs.Questions.{op_of, position_of};
     ghost use Rattle.check_past.specs.Asked.{left_is};
     ghost use Rattle.check_past.specs.Passing.{journal_of};
 
@@ -61,34 +66,34 @@ impl<'m> Passed<'m> {
     pub fn freezing(&self, script: u32) -> Freezing
         ensures { result ≡ freezing self.now.machine script (journal_of self.now) }
     {
-        self.kept.journal.tasks.freezing(script)
+        self.past_state.journal.tasks.freezing(script)
     }
 
     /// What the freezer has come to with each script.
     pub fn freezings(&self) -> &[Freezing]
         ensures { result.now ≡ freezings self.now.machine.actors (journal_of self.now) }
     {
-        self.kept.journal.tasks.freezings()
+        self.past_state.journal.tasks.freezings()
     }
 
     /// Where a script stands.
-    pub fn seat(&self, script: u32) -> Seat
-        ensures { result ≡ seat_of self.now.machine (journal_of self.now) script }
+    pub fn position(&self, script: u32) -> ScriptPosition
+        ensures { result ≡ position_of self.now.machine (journal_of self.now) script }
     {
-        self.kept.journal.tasks.seat(script)
+        self.past_state.journal.tasks.position(script)
     }
 
     // The operation of a script that is under way, if one is left.
     fn under_way(&self, script: u32) -> Option<&'m Op>
         ensures { option_copied result ≡ op_of self.now.machine (journal_of self.now) script }
     {
-        let done = self.seat(script).done;
-        self.kept.calls.operation(script, done)
+        let done = self.position(script).done;
+        self.past_state.calls.operation(script, done)
     }
 
     /// The operation of a script that is under way, if one is left; it names what the machine has.
     pub fn operation(&self, script: u32) -> Option<&'m Op>
-        ensures told { option_copied result ≡ op_of self.now.machine (journal_of self.now) script }
+        ensures notified_flags { option_copied result ≡ op_of self.now.machine (journal_of self.now) script }
         ensures named { IfSome (option_copied result) (λ op. IsOp self.now.machine op) }
     {
         self.is_accepted();
@@ -96,30 +101,30 @@ impl<'m> Passed<'m> {
     }
 
     /// Whether every script has made its exit (`do_exit`).
-    pub fn all_gone(&self) -> bool
-        ensures { result ≡ all_gone self.now.machine (journal_of self.now) }
+    pub fn have_all_exited(&self) -> bool
+        ensures { result ≡ have_all_exited self.now.machine (journal_of self.now) }
     {
-        self.kept.journal.tasks.all_exited()
+        self.past_state.journal.tasks.all_exited()
     }
 
     /// Whether every script has made its exit, and no attempt is open.
     pub fn is_over(&self) -> bool
         ensures { result ≡ is_over self.now.machine (journal_of self.now) }
     {
-        self.all_gone() && self.maker().is_none()
+        self.have_all_exited() && self.maker().is_none()
     }
 
     /// The tasks that a freeze of the group still waits for (`try_to_freeze_tasks`).
-    #[tactic(auto, using(check_account::proofs::Following::placed, crate::proofs::Standing::seats_len))]
-    pub fn left(&self, group: Group) -> Left
+    #[tactic(auto, using(check_account::proofs::Following::placed, crate::proofs::Standing::positions_len))]
+    pub fn left(&self, group: Group) -> UnfrozenTasks
         ensures { result ≡ left_is (left self.now.machine group (journal_of self.now)) }
     {
-        let tasks = &self.kept.journal.tasks;
+        let tasks = &self.past_state.journal.tasks;
         left_among(
             group,
             self.machine.actors.as_slice(),
             tasks.freezings(),
-            tasks.seats(),
+            tasks.positions(),
         )
     }
 
@@ -127,35 +132,35 @@ impl<'m> Passed<'m> {
     pub fn raised(&self, mark: u32) -> u32
         ensures { result ≡ mark_at (raised (length self.now.machine.marks) (journal_of self.now)) mark }
     {
-        self.kept.journal.tasks.raised(mark)
+        self.past_state.journal.tasks.raised(mark)
     }
 
     /// Who holds the autosleep lock (`pm_autosleep_lock`).
     pub fn holder(&self) -> Option<Actor>
         ensures { result ≡ holder (journal_of self.now) }
     {
-        self.kept.journal.tasks.holder()
+        self.past_state.journal.tasks.holder()
     }
 
     /// Whether autosleep is on (`pm_autosleep_state`).
     pub fn is_on(&self) -> bool
         ensures { result ≡ is_on (journal_of self.now) }
     {
-        self.kept.journal.tasks.is_on()
+        self.past_state.journal.tasks.is_on()
     }
 
     /// Where the autosleep work stands (`try_to_suspend`).
     pub fn work(&self) -> Work
         ensures { result ≡ work (journal_of self.now) }
     {
-        self.kept.journal.tasks.work()
+        self.past_state.journal.tasks.work()
     }
 
     /// Whether the autosleep work may run (`queue_up_suspend_work`).
     pub fn may_run(&self) -> bool
         ensures { result ≡ may_run self.now.machine (journal_of self.now) }
     {
-        self.kept.journal.tasks.is_queued()
-            && self.kept.journal.tasks.runs() < self.machine.auto_cycles
+        self.past_state.journal.tasks.is_queued()
+            && self.past_state.journal.tasks.runs() < self.machine.auto_cycles
     }
 }

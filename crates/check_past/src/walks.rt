@@ -4,83 +4,86 @@ ghost use Rattle.std.specs.Prelude.{◌≡◌, ◌-◌, ◌&&◌, not, map, reve
 ghost use Rattle.std.specs.List.{find, list_all, list_any, range_with_len};
 ghost use Rattle.sleep_model.specs.Runtime.{is_async};
 ghost use Rattle.sleep_model.specs.Walk.{is_so, last_where};
-ghost use Rattle.sleep_model.specs.Stands.{stand_at, is_direct_complete, is_down_in, is_going_down, is_not_down, is_not_up, is_prepared, is_ready, is_unprepared};
+ghost use Rattle.sleep_model.specs.PhaseStates.{state_at, is_direct_complete, is_down_in, is_going_down, is_not_down, is_not_up, is_prepared, is_ready, is_unprepared};
 
 use crate::passed::Passed;
 use device_rows::Flags;
 use phase_table::Phase;
-use sleep_model::{Device, DeviceFlags, Stand};
+use sleep_model::{Device, DeviceFlags, PhaseState};
 
 /// Not prepared (`power.is_prepared`).
-pub fn is_unprepared(stand: Stand) -> bool
-    ensures { result ≡ is_unprepared stand }
+pub fn is_unprepared(state: PhaseState) -> bool
+    ensures { result ≡ is_unprepared state }
 {
-    matches!(stand, Stand::Unprepared)
+    matches!(state, PhaseState::Unprepared)
 }
 
 /// Prepared (`power.is_prepared`).
-pub fn is_prepared(stand: Stand) -> bool
-    ensures { result ≡ is_prepared stand }
+pub fn is_prepared(state: PhaseState) -> bool
+    ensures { result ≡ is_prepared state }
 {
-    !matches!(stand, Stand::Unprepared)
+    !matches!(state, PhaseState::Unprepared)
 }
 
 /// Prepared, and not yet taken by the phase on the way down (`dpm_prepared_list`).
-pub fn is_ready(stand: Stand) -> bool
-    ensures { result ≡ is_ready stand }
+pub fn is_ready(state: PhaseState) -> bool
+    ensures { result ≡ is_ready state }
 {
-    matches!(stand, Stand::Prepared)
+    matches!(state, PhaseState::Prepared)
 }
 
 /// Not through with the phase on the way down (`power.completion`).
-pub fn is_not_down(stand: Stand) -> bool
-    ensures { result ≡ is_not_down stand }
+pub fn is_not_down(state: PhaseState) -> bool
+    ensures { result ≡ is_not_down state }
 {
     matches!(
-        stand,
-        Stand::Unprepared | Stand::Prepared | Stand::Scheduled | Stand::Suspending
+        state,
+        PhaseState::Unprepared
+            | PhaseState::Prepared
+            | PhaseState::Scheduled
+            | PhaseState::Suspending
     )
 }
 
 /// Scheduled on the way down, and not through (`async_schedule_dev`).
-pub fn is_going_down(stand: Stand) -> bool
-    ensures { result ≡ is_going_down stand }
+pub fn is_going_down(state: PhaseState) -> bool
+    ensures { result ≡ is_going_down state }
 {
-    matches!(stand, Stand::Scheduled | Stand::Suspending)
+    matches!(state, PhaseState::Scheduled | PhaseState::Suspending)
 }
 
 /// Its callback on the way down answered 0 (`power.is_suspended`).
-pub fn is_down_in(stand: Stand) -> bool
-    ensures { result ≡ is_down_in stand }
+pub fn is_down_in(state: PhaseState) -> bool
+    ensures { result ≡ is_down_in state }
 {
-    matches!(stand, Stand::Suspended)
+    matches!(state, PhaseState::Suspended)
 }
 
 /// Direct-complete (`power.direct_complete`).
-pub fn is_direct_complete(stand: Stand) -> bool
-    ensures { result ≡ is_direct_complete stand }
+pub fn is_direct_complete(state: PhaseState) -> bool
+    ensures { result ≡ is_direct_complete state }
 {
-    matches!(stand, Stand::Direct)
+    matches!(state, PhaseState::Direct)
 }
 
 /// Not yet up (`power.completion`).
-pub fn is_not_up(stand: Stand) -> bool
-    ensures { result ≡ is_not_up stand }
+pub fn is_not_up(state: PhaseState) -> bool
+    ensures { result ≡ is_not_up state }
 {
     matches!(
-        stand,
-        Stand::Suspended | Stand::Rescheduled | Stand::Resuming
+        state,
+        PhaseState::Suspended | PhaseState::Rescheduled | PhaseState::Resuming
     )
 }
 
-// Where a device stands among others; unprepared where there is no such device.
-fn stand_at(stands: &[Stand], device: u32) -> Stand
-    ensures { result ≡ stand_at stands.now device }
+// Where a device stands among others; unprepared if there is no such device.
+fn state_at(phase_states: &[PhaseState], device: u32) -> PhaseState
+    ensures { result ≡ state_at phase_states.now device }
 {
-    if (device as usize) < stands.len() {
-        stands[device as usize]
+    if (device as usize) < phase_states.len() {
+        phase_states[device as usize]
     } else {
-        Stand::Unprepared
+        PhaseState::Unprepared
     }
 }
 
@@ -105,99 +108,104 @@ pub(crate) fn any_async(devices: &[Device]) -> bool
 }
 
 // The first that is not prepared.
-fn first_unprepared(order: &[u32], stands: &[Stand]) -> Option<u32>
-    ensures { result ≡ find (λ d. is_unprepared (stand_at stands.now d)) order.now }
+fn first_unprepared(order: &[u32], phase_states: &[PhaseState]) -> Option<u32>
+    ensures { result ≡ find (λ d. is_unprepared (state_at phase_states.now d)) order.now }
 {
     order
         .iter()
         .copied()
-        .find(|d| is_unprepared(stand_at(stands, *d)))
+        .find(|d| is_unprepared(state_at(phase_states, *d)))
 }
 
 // The last that is prepared.
-fn last_prepared(order: &[u32], stands: &[Stand]) -> Option<u32>
-    ensures { result ≡ find (λ d. is_prepared (stand_at stands.now d)) (reverse order.now) }
+fn last_prepared(order: &[u32], phase_states: &[PhaseState]) -> Option<u32>
+    ensures { result ≡ find (λ d. is_prepared (state_at phase_states.now d)) (reverse order.now) }
 {
     order
         .iter()
         .rev()
         .copied()
-        .find(|d| is_prepared(stand_at(stands, *d)))
+        .find(|d| is_prepared(state_at(phase_states, *d)))
 }
 
 // The last that is prepared and not yet taken.
-fn last_ready(order: &[u32], stands: &[Stand]) -> Option<u32>
-    ensures { result ≡ find (λ d. is_ready (stand_at stands.now d)) (reverse order.now) }
+fn last_ready(order: &[u32], phase_states: &[PhaseState]) -> Option<u32>
+    ensures { result ≡ find (λ d. is_ready (state_at phase_states.now d)) (reverse order.now) }
 {
     order
         .iter()
         .rev()
         .copied()
-        .find(|d| is_ready(stand_at(stands, *d)))
+        .find(|d| is_ready(state_at(phase_states, *d)))
 }
 
 // The first that is scheduled on the way down, and not through.
-fn first_going_down(order: &[u32], stands: &[Stand]) -> Option<u32>
-    ensures { result ≡ find (λ d. is_going_down (stand_at stands.now d)) order.now }
+fn first_going_down(order: &[u32], phase_states: &[PhaseState]) -> Option<u32>
+    ensures { result ≡ find (λ d. is_going_down (state_at phase_states.now d)) order.now }
 {
     order
         .iter()
         .copied()
-        .find(|d| is_going_down(stand_at(stands, *d)))
+        .find(|d| is_going_down(state_at(phase_states, *d)))
 }
 
 // The first that is not through with the way down.
-fn first_not_down(order: &[u32], stands: &[Stand]) -> Option<u32>
-    ensures { result ≡ find (λ d. is_not_down (stand_at stands.now d)) order.now }
+fn first_not_down(order: &[u32], phase_states: &[PhaseState]) -> Option<u32>
+    ensures { result ≡ find (λ d. is_not_down (state_at phase_states.now d)) order.now }
 {
     order
         .iter()
         .copied()
-        .find(|d| is_not_down(stand_at(stands, *d)))
+        .find(|d| is_not_down(state_at(phase_states, *d)))
 }
 
 // The first that is not yet up.
-fn first_not_up(order: &[u32], stands: &[Stand]) -> Option<u32>
-    ensures { result ≡ find (λ d. is_not_up (stand_at stands.now d)) order.now }
+fn first_not_up(order: &[u32], phase_states: &[PhaseState]) -> Option<u32>
+    ensures { result ≡ find (λ d. is_not_up (state_at phase_states.now d)) order.now }
 {
     order
         .iter()
         .copied()
-        .find(|d| is_not_up(stand_at(stands, *d)))
+        .find(|d| is_not_up(state_at(phase_states, *d)))
 }
 
 // The first that is down and asynchronous.
-fn first_down_async(order: &[u32], stands: &[Stand], devices: &[Device]) -> Option<u32>
-    ensures { result ≡ find (λ d. is_down_in (stand_at stands.now d) && is_so (map is_async devices.now) d) order.now }
+fn first_down_async(order: &[u32], phase_states: &[PhaseState], devices: &[Device]) -> Option<u32>
+    ensures { result ≡ find (λ d. is_down_in (state_at phase_states.now d) && is_so (map is_async devices.now) d) order.now }
 {
-    order.iter().copied().find(|d| is_down_in(stand_at(stands, *d)) && is_async(devices, *d))
+    order.iter().copied().find(|d| is_down_in(state_at(phase_states, *d)) && is_async(devices, *d))
 }
 
 // The first that is down and asynchronous, where the caller tells whether a device is asynchronous at all.
-fn first_async(has_async: bool, order: &[u32], stands: &[Stand], devices: &[Device]) -> Option<u32>
+fn first_async(
+    has_async: bool,
+    order: &[u32],
+    phase_states: &[PhaseState],
+    devices: &[Device],
+) -> Option<u32>
     requires { has_async ≡ list_any is_async devices.now }
-    ensures { result ≡ find (λ d. is_down_in (stand_at stands.now d) && is_so (map is_async devices.now) d) order.now }
+    ensures { result ≡ find (λ d. is_down_in (state_at phase_states.now d) && is_so (map is_async devices.now) d) order.now }
 {
     if !has_async {
         return None;
     }
-    first_down_async(order, stands, devices)
+    first_down_async(order, phase_states, devices)
 }
 
 // The first that is down and synchronous.
-fn first_down_sync(order: &[u32], stands: &[Stand], devices: &[Device]) -> Option<u32>
-    ensures { result ≡ find (λ d. is_down_in (stand_at stands.now d) && not (is_so (map is_async devices.now) d)) order.now }
+fn first_down_sync(order: &[u32], phase_states: &[PhaseState], devices: &[Device]) -> Option<u32>
+    ensures { result ≡ find (λ d. is_down_in (state_at phase_states.now d) && not (is_so (map is_async devices.now) d)) order.now }
 {
-    order.iter().copied().find(|d| is_down_in(stand_at(stands, *d)) && !is_async(devices, *d))
+    order.iter().copied().find(|d| is_down_in(state_at(phase_states, *d)) && !is_async(devices, *d))
 }
 
 // Whether all of these are direct-complete.
-fn are_direct(devices: &[u32], stands: &[Stand]) -> bool
-    ensures { result ≡ list_all (λ d. is_direct_complete (stand_at stands.now d)) devices.now }
+fn are_direct(devices: &[u32], phase_states: &[PhaseState]) -> bool
+    ensures { result ≡ list_all (λ d. is_direct_complete (state_at phase_states.now d)) devices.now }
 {
     devices
         .iter()
-        .all(|d| is_direct_complete(stand_at(stands, *d)))
+        .all(|d| is_direct_complete(state_at(phase_states, *d)))
 }
 
 // The first of these numbers whose flag is not set.
@@ -214,14 +222,14 @@ fn first_set(flags: &Flags, order: &[u32]) -> Option<u32>
     order.iter().copied().find(|x| flags.is_set(*x))
 }
 
-// The first processor behind the first that is not off.
+// The first processor after the first that is not off.
 fn first_on(off: &Flags, cpus: u32) -> Option<u32>
     ensures { result ≡ find (λ k. not (is_so off.now k)) (range_with_len 1 (cpus - 1)) }
 {
     (1..cpus).find(|k| !off.is_set(*k))
 }
 
-// The first processor behind the first that is off.
+// The first processor after the first that is off.
 fn first_off(off: &Flags, cpus: u32) -> Option<u32>
     ensures { result ≡ find (λ k. is_so off.now k) (range_with_len 1 (cpus - 1)) }
 {
@@ -250,10 +258,10 @@ fn last_unset(flags: &Flags, count: u32) -> Option<u32>
 impl<'m> Passed<'m> {
     ghost use Rattle.std.specs.Prelude.{◌≡◌};
     ghost use Rattle.std.specs.List.{list_all};
-    ghost use Rattle.sleep_model.specs.Devices.{next_completed, next_down, next_prepared, next_to_schedule, next_up, stand_in, waits_above, waits_below, waits_down, waits_up};
+    ghost use Rattle.sleep_model.specs.Devices.{next_completed, next_down, next_prepared, next_to_schedule, next_up, state_in, waits_above, waits_below, waits_down, waits_up};
     ghost use Rattle.sleep_model.specs.Notifiers.{call_order, next_called, next_cpu_off, next_cpu_on, next_posted, next_started, next_stopped};
     ghost use Rattle.sleep_model.specs.Order.{below};
-    ghost use Rattle.sleep_model.specs.Stands.{is_direct_complete};
+    ghost use Rattle.sleep_model.specs.PhaseStates.{is_direct_complete};
     ghost use Rattle.phase_table.specs.declared.phase.Phase.TheVariants as phase;
     ghost use Rattle.check_past.specs.Passing.{journal_of};
 
@@ -269,7 +277,7 @@ impl<'m> Passed<'m> {
     pub fn next_prepared(&self) -> Option<u32>
         ensures { result ≡ next_prepared self.now.machine (journal_of self.now) }
     {
-        first_unprepared(self.order(), self.stands(Phase::Suspend))
+        first_unprepared(self.order(), self.phase_states(Phase::Suspend))
     }
 
     /// The device that is completed next (`dpm_complete`).
@@ -277,7 +285,7 @@ impl<'m> Passed<'m> {
     pub fn next_completed(&self) -> Option<u32>
         ensures { result ≡ next_completed self.now.machine (journal_of self.now) }
     {
-        last_prepared(self.order(), self.stands(Phase::Suspend))
+        last_prepared(self.order(), self.phase_states(Phase::Suspend))
     }
 
     /// The device that the walk down takes next (`dpm_suspend`).
@@ -285,7 +293,7 @@ impl<'m> Passed<'m> {
     pub fn next_down(&self, phase: Phase) -> Option<u32>
         ensures { result ≡ next_down self.now.machine (journal_of self.now) phase }
     {
-        last_ready(self.order(), self.stands(phase))
+        last_ready(self.order(), self.phase_states(phase))
     }
 
     /// The first device that is scheduled and not through (`async_synchronize_full`).
@@ -293,7 +301,7 @@ impl<'m> Passed<'m> {
     pub fn waits_down(&self, phase: Phase) -> Option<u32>
         ensures { result ≡ waits_down self.now.machine (journal_of self.now) phase }
     {
-        first_going_down(self.order(), self.stands(phase))
+        first_going_down(self.order(), self.phase_states(phase))
     }
 
     /// The first device below one that is not through with a phase (`dpm_wait_for_subordinate`).
@@ -301,7 +309,7 @@ impl<'m> Passed<'m> {
     pub fn waits_below(&self, phase: Phase, device: u32) -> Option<u32>
         ensures { result ≡ waits_below self.now.machine (journal_of self.now) phase device }
     {
-        first_not_down(self.below(device), self.stands(phase))
+        first_not_down(self.below(device), self.phase_states(phase))
     }
 
     /// The first device above one that is not yet up (`dpm_wait_for_superior`).
@@ -309,7 +317,7 @@ impl<'m> Passed<'m> {
     pub fn waits_above(&self, phase: Phase, device: u32) -> Option<u32>
         ensures { result ≡ waits_above self.now.machine (journal_of self.now) phase device }
     {
-        first_not_up(self.above(device), self.stands(phase))
+        first_not_up(self.above(device), self.phase_states(phase))
     }
 
     /// The first asynchronous device that is down and not yet scheduled (`dpm_resume`).
@@ -320,7 +328,7 @@ impl<'m> Passed<'m> {
         first_async(
             self.has_async,
             self.order(),
-            self.stands(phase),
+            self.phase_states(phase),
             self.machine.devices.as_slice(),
         )
     }
@@ -332,7 +340,7 @@ impl<'m> Passed<'m> {
     {
         first_down_sync(
             self.order(),
-            self.stands(phase),
+            self.phase_states(phase),
             self.machine.devices.as_slice(),
         )
     }
@@ -342,14 +350,14 @@ impl<'m> Passed<'m> {
     pub fn waits_up(&self, phase: Phase) -> Option<u32>
         ensures { result ≡ waits_up self.now.machine (journal_of self.now) phase }
     {
-        first_not_up(self.order(), self.stands(phase))
+        first_not_up(self.order(), self.phase_states(phase))
     }
 
     /// Whether all devices below one are direct-complete.
     pub fn all_direct_below(&self, device: u32) -> bool
-        ensures { result ≡ list_all (λ e. is_direct_complete (stand_in self.now.machine (journal_of self.now) phase.Suspend e)) (below self.now.machine (journal_of self.now) device) }
+        ensures { result ≡ list_all (λ e. is_direct_complete (state_in self.now.machine (journal_of self.now) phase.Suspend e)) (below self.now.machine (journal_of self.now) device) }
     {
-        are_direct(self.below(device), self.stands(Phase::Suspend))
+        are_direct(self.below(device), self.phase_states(Phase::Suspend))
     }
 
     /// The notifier that is to be told of the attempt (`PM_SUSPEND_PREPARE`).
@@ -357,7 +365,7 @@ impl<'m> Passed<'m> {
     pub fn next_called(&self) -> Option<u32>
         ensures { result ≡ next_called self.now.machine (journal_of self.now) }
     {
-        first_unset(self.told(), self.call_order())
+        first_unset(self.notified_flags(), self.call_order())
     }
 
     /// The notifier that is to be told of its end (`PM_POST_SUSPEND`).
@@ -365,7 +373,7 @@ impl<'m> Passed<'m> {
     pub fn next_posted(&self) -> Option<u32>
         ensures { result ≡ next_posted self.now.machine (journal_of self.now) }
     {
-        first_set(self.told(), self.call_order())
+        first_set(self.notified_flags(), self.call_order())
     }
 
     /// The processor that is stopped next (`freeze_secondary_cpus`).

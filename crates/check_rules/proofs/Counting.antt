@@ -7,7 +7,7 @@ use Rattle.sleep_model.specs.declared.word.EventNow.{EventNow}
 use Rattle.sleep_model.specs.Attempt.{sleeps_now}
 use Rattle.sleep_model.specs.Freezer.{freezing}
 use Rattle.sleep_model.specs.Legal.{is_enabled, next_expiry, next_sleep, none_enabled, none_expires, pending_sleep, sooner}
-use Rattle.rule_definitions.specs.Questions.{seat_of}
+use Rattle.rule_definitions.specs.Questions.{position_of}
 use Rattle.sleep_model.specs.Sources.{expiry, has_expired}
 
 pub enabled_next : (m : Machine) (past : List Entry) (of : ℕ → List Entry) (now : EventNow) (who : ℕ → Actor) (n : ℕ) (here before : Bool)
@@ -21,5 +21,5 @@ pub expiry_next : (of : ℕ → List Entry) (n : ℕ) (here before : Option ℕ)
 expiry_next of n here before e f = rw (add-one, e, f) refl
 
 pub sleep_next : (m : Machine) (past : List Entry) (n : ℕ) (here before : Option ℕ)
-    → here ≡ pending_sleep (sleeps_now past) (freezing m n past) (slice_get m.actors n) (seat_of m past n) → before ≡ next_sleep m past n → sooner here before ≡ next_sleep m past (n + 1)
+    → here ≡ pending_sleep (sleeps_now past) (freezing m n past) (slice_get m.actors n) (position_of m past n) → before ≡ next_sleep m past n → sooner here before ≡ next_sleep m past (n + 1)
 sleep_next m past n here before e f = rw (add-one, e, f) refl

@@ -3,7 +3,7 @@ use Rattle.std.proofs.Common.{◌≡◌, ◌<◌, ◌≤◌, ◌+◌, ◌-◌, �
 use Rattle.std.proofs.lemmas.Bool.{cases_lt}
 use Rattle.sleep_model.specs.declared.entry.Entry.{Entry}
 use Rattle.sleep_model.specs.declared.machine.Machine.{Machine}
-use Rattle.sleep_model.specs.Parts.{Part, OfJournal, Notes, Moves, OfTime, journal, part_of}
+use Rattle.sleep_model.specs.EntryClasses.{EntryClass, OfJournal, Notes, Moves, OfTime, journal, class_of}
 use Rattle.rule_definitions.specs.Entry.{KeepsEntry, KeepsRule, OnJournal, Rule, Links, Numbers, Attempts, Reads, Walk, Skip, Runtime, Owed, Freezer, Path, Answers, Restored, Steps, Enabled, Source}
 use Rattle.rule_definitions.specs.Verdict.{BreaksFirst, number_of}
 use Rattle.sleep_model.specs.Numbers.{numbers}
@@ -15,18 +15,18 @@ use Rattle.rule_definitions.specs.Reads.{KeepsReads}
 use Rattle.rule_definitions.specs.Restored.{KeepsRestored}
 use Rattle.rule_definitions.specs.Runtime.{KeepsRuntime}
 use Rattle.rule_definitions.specs.Skip.{KeepsSkip}
-use Rattle.check_rules.specs.Judging.{KeepsBelow, KeepsTogether, is_of_journal, place_of, rule_at}
+use Rattle.check_rules.specs.Judging.{KeepsBelow, KeepsTogether, is_of_journal, rule_index, rule_at}
 
 -- ---- a rule of the journal alone
 
-pub on_journal : {X : Type 0} (p : Part) (b : Bool) → (IsTrue b ↔ X) → IsTrue (not (is_of_journal p) || b) ↔ OnJournal p X
+pub on_journal : {X : Type 0} (p : EntryClass) (b : Bool) → (IsTrue b ↔ X) → IsTrue (not (is_of_journal p) || b) ↔ OnJournal p X
 on_journal OfJournal b h = h
 on_journal (Notes s call) b h = (λ g. tt, λ g. refl)
 on_journal (Moves s step) b h = (λ g. tt, λ g. refl)
 on_journal OfTime b h = (λ g. tt, λ g. refl)
 
 -- whose entry it is
-pub of_journal : (p : Part) → IsTrue (is_of_journal p) ↔ (p ≡ OfJournal)
+pub of_journal : (p : EntryClass) → IsTrue (is_of_journal p) ↔ (p ≡ OfJournal)
 of_journal OfJournal = (λ h. refl, λ h. refl)
 of_journal (Notes s call) = (λ h. absurd (cc), λ h. absurd (cc))
 of_journal (Moves s step) = (λ h. absurd (cc), λ h. absurd (cc))
@@ -34,22 +34,22 @@ of_journal OfTime = (λ h. absurd (cc), λ h. absurd (cc))
 
 -- ---- places and numbers
 
-pub at_place : (rule : Rule) → rule_at (place_of rule) ≡ rule
-at_place Links = refl
-at_place Numbers = refl
-at_place Attempts = refl
-at_place Reads = refl
-at_place Walk = refl
-at_place Skip = refl
-at_place Runtime = refl
-at_place Owed = refl
-at_place Freezer = refl
-at_place Path = refl
-at_place Answers = refl
-at_place Restored = refl
-at_place Steps = refl
-at_place Enabled = refl
-at_place Source = refl
+pub at_index : (rule : Rule) → rule_at (rule_index rule) ≡ rule
+at_index Links = refl
+at_index Numbers = refl
+at_index Attempts = refl
+at_index Reads = refl
+at_index Walk = refl
+at_index Skip = refl
+at_index Runtime = refl
+at_index Owed = refl
+at_index Freezer = refl
+at_index Path = refl
+at_index Answers = refl
+at_index Restored = refl
+at_index Steps = refl
+at_index Enabled = refl
+at_index Source = refl
 
 rises : (n : ℕ) → number_of (rule_at n) ≤ number_of (rule_at (suc n))
 rises zero = omega arith
@@ -80,34 +80,34 @@ no_lesser : (n k : ℕ) → n ≤ k → number_of (rule_at n) ≤ number_of (rul
 no_lesser n k h = let e : (k - n) + n ≡ k = omega (arith, h) in subst (λ j. number_of (rule_at n) ≤ number_of (rule_at j)) e (rising (k - n) n)
 
 -- a rule of a lesser number stands before
-before : (rule : Rule) (n : ℕ) → number_of rule < number_of (rule_at n) → place_of rule < n
+before : (rule : Rule) (n : ℕ) → number_of rule < number_of (rule_at n) → rule_index rule < n
 before rule n h = ⊎_elim
     (λ below. below)
     (λ above.
-    let least = no_lesser n (place_of rule) above in
-    let same : number_of (rule_at (place_of rule)) ≡ number_of rule = ap number_of (at_place rule) in
+    let least = no_lesser n (rule_index rule) above in
+    let same : number_of (rule_at (rule_index rule)) ≡ number_of rule = ap number_of (at_index rule) in
     absurd (omega (arith, least, same, h)))
-    (cases_lt (place_of rule) n)
+    (cases_lt (rule_index rule) n)
 
 -- ---- one rule more
 
-pub below_more : (m : Machine) (past : List Entry) (e : Entry) (n : ℕ) (b : Bool) (rule : Rule) → rule ≡ rule_at n → (IsTrue b ↔ KeepsRule m past e (part_of e.kind) rule) → b ≡ true → KeepsBelow m past e n → KeepsBelow m past e (n + 1)
+pub below_more : (m : Machine) (past : List Entry) (e : Entry) (n : ℕ) (b : Bool) (rule : Rule) → rule ≡ rule_at n → (IsTrue b ↔ KeepsRule m past e (class_of e.kind) rule) → b ≡ true → KeepsBelow m past e n → KeepsBelow m past e (n + 1)
 below_more m past e n b rule is h so below = λ other l. ⊎_elim
     (λ less. below other less)
     (λ above.
-    let here : place_of other ≡ n = omega (arith, l, above) in
-    let same : rule ≡ other = is ∙ ap rule_at (sym here) ∙ at_place other in
-    subst (λ (r : Rule). KeepsRule m past e (part_of e.kind) r) same (h.0 so))
-    (cases_lt (place_of other) n)
+    let here : rule_index other ≡ n = omega (arith, l, above) in
+    let same : rule ≡ other = is ∙ ap rule_at (sym here) ∙ at_index other in
+    subst (λ (r : Rule). KeepsRule m past e (class_of e.kind) r) same (h.0 so))
+    (cases_lt (rule_index other) n)
 
-pub breaks : (m : Machine) (past : List Entry) (e : Entry) (n : ℕ) (b : Bool) (rule : Rule) → rule ≡ rule_at n → (IsTrue b ↔ KeepsRule m past e (part_of e.kind) rule) → b ≡ false → KeepsBelow m past e n → BreaksFirst m past e rule
+pub breaks : (m : Machine) (past : List Entry) (e : Entry) (n : ℕ) (b : Bool) (rule : Rule) → rule ≡ rule_at n → (IsTrue b ↔ KeepsRule m past e (class_of e.kind) rule) → b ≡ false → KeepsBelow m past e n → BreaksFirst m past e rule
 breaks m past e n b rule is h so below = record {
   breaks = λ keeps. let yes : b ≡ true = h.1 keeps in absurd (cc);
   lesser = λ other l. below other (before other n (subst (λ (r : Rule). number_of other < number_of r) is l));
 }
 
-pub all_kept : (m : Machine) (past : List Entry) (e : Entry) → KeepsBelow m past e 15 → KeepsEntry m past e
-all_kept m past e h = record {
+pub all_preserved : (m : Machine) (past : List Entry) (e : Entry) → KeepsBelow m past e 15 → KeepsEntry m past e
+all_preserved m past e h = record {
   links = h Links (omega arith);
   numbers = h Numbers (omega arith);
   attempts = h Attempts (omega arith);
@@ -128,16 +128,16 @@ all_kept m past e h = record {
 -- ---- all rules at one go
 
 -- the rules of the journal alone ask nothing of other entries
-pub none_asked : (X : Type 0) (p : Part) → is_of_journal p ≡ false → OnJournal p X
+pub none_asked : (X : Type 0) (p : EntryClass) → is_of_journal p ≡ false → OnJournal p X
 none_asked X OfJournal h = absurd (cc)
 none_asked X (Notes s call) h = tt
 none_asked X (Moves s step) h = tt
 none_asked X OfTime h = tt
 
 -- an entry of a source, or a jump, keeps each rule
-pub each_kept : (m : Machine) (past : List Entry) (e : Entry) → is_of_journal (part_of e.kind) ≡ false → KeepsTogether m past e (part_of e.kind) → KeepsEntry m past e
-each_kept m past e h t =
-    let part = part_of e.kind in
+pub each_preserved : (m : Machine) (past : List Entry) (e : Entry) → is_of_journal (class_of e.kind) ≡ false → KeepsTogether m past e (class_of e.kind) → KeepsEntry m past e
+each_preserved m past e h t =
+    let part = class_of e.kind in
     record {
       links = none_asked (KeepsLinks m (journal past) e.kind) part h;
       numbers = t.numbers;

@@ -12,10 +12,10 @@ use Rattle.sleep_model.specs.declared.machine.Op.{Op}
 use Rattle.sleep_model.specs.declared.machine.Op.TheVariants as op
 use Rattle.sleep_model.specs.declared.machine.Script.{Script}
 use Rattle.sleep_model.specs.declared.machine.TaskKind.{TaskKind}
-use Rattle.sleep_model.specs.declared.place.Due.{Due}
-use Rattle.sleep_model.specs.declared.place.Due.TheVariants.{Makes, Waits, Gone}
-use Rattle.sleep_model.specs.declared.place.Freezing.{Freezing}
-use Rattle.sleep_model.specs.declared.place.Seat.{Seat}
+use Rattle.sleep_model.specs.declared.progress.Due.{Due}
+use Rattle.sleep_model.specs.declared.progress.Due.TheVariants.{Makes, Waits, Exited}
+use Rattle.sleep_model.specs.declared.progress.Freezing.{Freezing}
+use Rattle.sleep_model.specs.declared.progress.ScriptPosition.{ScriptPosition}
 use Rattle.sleep_model.specs.declared.word.EventNow.{EventNow}
 use Rattle.sleep_model.specs.Attempt.{sleeps_now}
 use Rattle.sleep_model.specs.Calls.{calls_due, is_calling, is_left, made}
@@ -25,11 +25,11 @@ use Rattle.sleep_model.specs.Laws.{steps_of}
 use Rattle.sleep_model.specs.Legal.{is_enabled, is_made}
 use Rattle.sleep_model.specs.Numbers.{time_of}
 use Rattle.sleep_model.specs.Path.{is_actor, maker}
-use Rattle.rule_definitions.specs.Questions.{op_of, seat_of}
+use Rattle.rule_definitions.specs.Questions.{op_of, position_of}
 use Rattle.sleep_model.specs.Sources.{caller, owed}
-use Rattle.sleep_model.specs.Steps.{seat_due, slept_due, step_due, task_due}
+use Rattle.sleep_model.specs.Steps.{position_due, slept_due, step_due, task_due}
 use Rattle.sleep_model.specs.Tasks.{freezes_at, is_line, is_user}
-use Rattle.check_rules.specs.Quiet.{is_quiet, none_owes, rests, sleeps_on, stays}
+use Rattle.check_rules.specs.Quiet.{is_quiet, none_owes, is_idle_script, sleeps_on, stays}
 
 -- ---- one source more
 
@@ -77,35 +77,35 @@ deep_sleep : (ms : ℕ) (waits : Bool) (until : Option ℕ) (time : ℕ) (other 
 deep_sleep ms waits None time other h = absurd (cc)
 deep_sleep ms waits (Some until) time other h = sleeping waits until time other h
 
-step : (m : Machine) (past : List Entry) (now : EventNow) (seat : Seat) (o : Option Op) → sleeps_on o seat.waits seat.until (time_of past) ≡ true → is_made (step_due m past now seat false o) ≡ false
-step m past now seat (Some (op.Sleep ms)) h = sleep ms seat.waits seat.until (time_of past) (Makes (kind.Sleep (time_of past + ms))) h
-step m past now seat (Some (op.SleepD ms)) h = deep_sleep ms seat.waits seat.until (time_of past) (Makes (kind.SleepD (time_of past + ms))) h
-step m past now seat _ h = absurd (cc)
+step : (m : Machine) (past : List Entry) (now : EventNow) (position : ScriptPosition) (o : Option Op) → sleeps_on o position.waits position.until (time_of past) ≡ true → is_made (step_due m past now position false o) ≡ false
+step m past now position (Some (op.Sleep ms)) h = sleep ms position.waits position.until (time_of past) (Makes (kind.Sleep (time_of past + ms))) h
+step m past now position (Some (op.SleepD ms)) h = deep_sleep ms position.waits position.until (time_of past) (Makes (kind.SleepD (time_of past + ms))) h
+step m past now position _ h = absurd (cc)
 
-task : (m : Machine) (past : List Entry) (now : EventNow) (f : Freezing) (k : TaskKind) (seat : Seat) (o : Option Op) → f.asked ≡ false → is_made (step_due m past now seat false o) ≡ false → is_made (task_due m past now f k seat o) ≡ false
-task m past now f k seat o h is =
+task : (m : Machine) (past : List Entry) (now : EventNow) (f : Freezing) (k : TaskKind) (position : ScriptPosition) (o : Option Op) → f.asked ≡ false → is_made (step_due m past now position false o) ≡ false → is_made (task_due m past now f k position o) ≡ false
+task m past now f k position o h is =
     neither f.frozen (Waits why.Frozen)
     (if sleeps_now past && not (is_line k) then Waits why.Asleep
-    else (if f.asked && freezes_at (is_user k) seat.waits o then Makes kind.Frozen else step_due m past now seat f.asked o)) refl
+    else (if f.asked && freezes_at (is_user k) position.waits o then Makes kind.Frozen else step_due m past now position f.asked o)) refl
     (neither (sleeps_now past && not (is_line k)) (Waits why.Asleep)
-    (if f.asked && freezes_at (is_user k) seat.waits o then Makes kind.Frozen else step_due m past now seat f.asked o) refl
+    (if f.asked && freezes_at (is_user k) position.waits o then Makes kind.Frozen else step_due m past now position f.asked o) refl
     (rw h is))
 
-gone : (exited on : Bool) (d : Due) → (exited || on) ≡ true → (on ≡ true → is_made d ≡ false) → is_made (if exited then Gone else d) ≡ false
+gone : (exited on : Bool) (d : Due) → (exited || on) ≡ true → (on ≡ true → is_made d ≡ false) → is_made (if exited then Exited else d) ≡ false
 gone true on d h f = refl
 gone false on d h f = f h
 
-seated : (m : Machine) (past : List Entry) (now : EventNow) (f : Freezing) (s : Option Script) (seat : Seat) → f.asked ≡ false → stays seat (slice_get (steps_of s) seat.done) (time_of past) ≡ true → is_made (seat_due m past now f s seat) ≡ false
-seated m past now f None seat h is = refl
-seated m past now f (Some s) seat h is =
-    gone seat.exited (sleeps_on (slice_get (steps_of (Some s)) seat.done) seat.waits seat.until (time_of past))
-    (task_due m past now f s.kind seat (slice_get (steps_of (Some s)) seat.done)) is
-    (λ on. task m past now f s.kind seat (slice_get (steps_of (Some s)) seat.done) h (step m past now seat (slice_get (steps_of (Some s)) seat.done) on))
+seated : (m : Machine) (past : List Entry) (now : EventNow) (f : Freezing) (s : Option Script) (position : ScriptPosition) → f.asked ≡ false → stays position (slice_get (steps_of s) position.done) (time_of past) ≡ true → is_made (position_due m past now f s position) ≡ false
+seated m past now f None position h is = refl
+seated m past now f (Some s) position h is =
+    gone position.exited (sleeps_on (slice_get (steps_of (Some s)) position.done) position.waits position.until (time_of past))
+    (task_due m past now f s.kind position (slice_get (steps_of (Some s)) position.done)) is
+    (λ on. task m past now f s.kind position (slice_get (steps_of (Some s)) position.done) h (step m past now position (slice_get (steps_of (Some s)) position.done) on))
 
-script : (m : Machine) (past : List Entry) (now : EventNow) (i : ℕ) → rests m past i ≡ true → is_made (script_due m past now i) ≡ false
+script : (m : Machine) (past : List Entry) (now : EventNow) (i : ℕ) → is_idle_script m past i ≡ true → is_made (script_due m past now i) ≡ false
 script m past now i h =
-    let p = and_parts (not (freezing m i past).asked) (stays (seat_of m past i) (op_of m past i) (time_of past)) h in
-    seated m past now (freezing m i past) (slice_get m.actors i) (seat_of m past i) (not_so (freezing m i past).asked p.0) p.1
+    let p = and_parts (not (freezing m i past).asked) (stays (position_of m past i) (op_of m past i) (time_of past)) h in
+    seated m past now (freezing m i past) (slice_get m.actors i) (position_of m past i) (not_so (freezing m i past).asked p.0) p.1
 
 own : (b : Bool) (one other : Due) → b ≡ false → is_made other ≡ false → is_made (if b then one else other) ≡ false
 own true one other h e = absurd (cc)
@@ -117,11 +117,11 @@ joined false false false e f = refl
 joined true b c e f = absurd (cc)
 joined false b true e f = absurd (cc)
 
--- a script that rests is enabled exactly where it has a call to make
-pub resting : (m : Machine) (past : List Entry) (of : ℕ → List Entry) (now : EventNow) (i : ℕ) → (is_quiet m past of && rests m past i) ≡ true
+-- a script that rests is enabled exactly if it has a call to make
+pub resting : (m : Machine) (past : List Entry) (of : ℕ → List Entry) (now : EventNow) (i : ℕ) → (is_quiet m past of && is_idle_script m past i) ≡ true
     → nat_lt (made (length m.sources + 1) of (actor.Script i)) (calls_due m (actor.Script i) past) ≡ is_enabled m past of now (actor.Script i)
 resting m past of now i h =
-    let p = and_parts (is_quiet m past of) (rests m past i) h in
+    let p = and_parts (is_quiet m past of) (is_idle_script m past i) h in
     let q = and_parts (is_none (maker past)) (none_owes (length m.sources + 1) of) p.0 in
     joined (is_calling (length m.sources + 1) of (actor.Script i)) (nat_lt (made (length m.sources + 1) of (actor.Script i)) (calls_due m (actor.Script i) past))
     (is_made (due m past (actor.Script i) now))

@@ -9,14 +9,14 @@ use Rattle.sleep_model.specs.declared.entry.Entry.{Entry}
 use Rattle.sleep_model.specs.declared.entry.Kind.{Kind}
 use Rattle.sleep_model.specs.declared.entry.Kind.TheVariants as kind
 use Rattle.sleep_model.specs.declared.machine.Machine.{Machine}
-use Rattle.sleep_model.specs.declared.place.Freezing.{Freezing}
-use Rattle.sleep_model.specs.declared.place.Stand.{Stand}
-use Rattle.sleep_model.specs.declared.place.Stand.TheVariants as stand
+use Rattle.sleep_model.specs.declared.progress.Freezing.{Freezing}
+use Rattle.sleep_model.specs.declared.progress.PhaseState.{PhaseState}
+use Rattle.sleep_model.specs.declared.progress.PhaseState.TheVariants as state
 use Rattle.sleep_model.specs.Freezer.{unasked}
 use Rattle.sleep_model.specs.Laws.{NothingOwed}
 use Rattle.check_rules.specs.Owing.{NoDeviceOwed, NoTaskOwed}
-use Rattle.sleep_model.specs.Notifiers.{cpus_off, cpus_off_after, notified, notified_after, set_unless, stopped, stopped_after, told}
-use Rattle.sleep_model.specs.Stands.{device_of, is_unprepared, stands, stands_after}
+use Rattle.sleep_model.specs.Notifiers.{cpus_off, cpus_off_after, notified, notified_after, set_unless, stopped, stopped_after, notified_flags}
+use Rattle.sleep_model.specs.PhaseStates.{device_of, is_unprepared, phase_states, phase_states_after}
 
 never : {A : Type 0} → false ≡ true → A
 never h = absurd (cc)
@@ -35,17 +35,17 @@ none_all (suc n) = none_all n
 pub unset_all : (xs : List Bool) → xs ≡ replicate (length xs) false → list_all (λ (b : Bool). not b) xs ≡ true
 unset_all xs h = ap (list_all (λ (b : Bool). not b)) h ∙ none_all (length xs)
 
-unprepared_is : (s : Stand) → is_unprepared s ≡ true → s ≡ stand.Unprepared
-unprepared_is stand.Unprepared h = refl
-unprepared_is stand.Prepared h = never h
-unprepared_is stand.Scheduled h = never h
-unprepared_is stand.Suspending h = never h
-unprepared_is stand.Failed h = never h
-unprepared_is stand.Direct h = never h
-unprepared_is stand.Suspended h = never h
-unprepared_is stand.Rescheduled h = never h
-unprepared_is stand.Resuming h = never h
-unprepared_is stand.Resumed h = never h
+unprepared_is : (s : PhaseState) → is_unprepared s ≡ true → s ≡ state.Unprepared
+unprepared_is state.Unprepared h = refl
+unprepared_is state.Prepared h = never h
+unprepared_is state.Scheduled h = never h
+unprepared_is state.Suspending h = never h
+unprepared_is state.Failed h = never h
+unprepared_is state.Direct h = never h
+unprepared_is state.Suspended h = never h
+unprepared_is state.Rescheduled h = never h
+unprepared_is state.Resuming h = never h
+unprepared_is state.Resumed h = never h
 
 and_left : (a b : Bool) → (a && b) ≡ true → a ≡ true
 and_left true b e = refl
@@ -55,17 +55,17 @@ and_right : (a b : Bool) → (a && b) ≡ true → b ≡ true
 and_right true b e = e
 and_right false b e = never e
 
-pub all_unprepared : (xs : List Stand) → list_all is_unprepared xs ≡ true → xs ≡ replicate (length xs) stand.Unprepared
+pub all_unprepared : (xs : List PhaseState) → list_all is_unprepared xs ≡ true → xs ≡ replicate (length xs) state.Unprepared
 all_unprepared [] h = refl
 all_unprepared (s ∷ xs) h =
-    ap (λ (x : Stand). x ∷ xs) (unprepared_is s (and_left (is_unprepared s) (list_all is_unprepared xs) h))
-    ∙ ap (λ (ys : List Stand). stand.Unprepared ∷ ys) (all_unprepared xs (and_right (is_unprepared s) (list_all is_unprepared xs) h))
+    ap (λ (x : PhaseState). x ∷ xs) (unprepared_is s (and_left (is_unprepared s) (list_all is_unprepared xs) h))
+    ∙ ap (λ (ys : List PhaseState). state.Unprepared ∷ ys) (all_unprepared xs (and_right (is_unprepared s) (list_all is_unprepared xs) h))
 
-unprepared_each : (n : ℕ) → list_all is_unprepared (replicate n stand.Unprepared) ≡ true
+unprepared_each : (n : ℕ) → list_all is_unprepared (replicate n state.Unprepared) ≡ true
 unprepared_each zero = refl
 unprepared_each (suc n) = unprepared_each n
 
-pub unprepared_all : (xs : List Stand) → xs ≡ replicate (length xs) stand.Unprepared → list_all is_unprepared xs ≡ true
+pub unprepared_all : (xs : List PhaseState) → xs ≡ replicate (length xs) state.Unprepared → list_all is_unprepared xs ≡ true
 unprepared_all xs h = ap (list_all is_unprepared) h ∙ unprepared_each (length xs)
 
 -- ---- how long the lists are
@@ -74,17 +74,17 @@ set_len : (r : Option Errno) (x : ℕ) (flags : List Bool) → length (set_unles
 set_len None x flags = length-set flags x true
 set_len (Some r) x flags = refl
 
-told_after : (k : Kind) (flags : List Bool) → length (notified_after k flags) ≡ length flags
-told_after (kind.NotifyPrepare x r) flags = set_len r x flags
-told_after (kind.NotifyPost x) flags = length-set flags x false
-told_after _ flags = refl
+notified_after_len : (k : Kind) (flags : List Bool) → length (notified_after k flags) ≡ length flags
+notified_after_len (kind.NotifyPrepare x r) flags = set_len r x flags
+notified_after_len (kind.NotifyPost x) flags = length-set flags x false
+notified_after_len _ flags = refl
 
 notified_len : (n : ℕ) (past : List Entry) → length (notified n past) ≡ n
 notified_len n [] = length-replicate n false
-notified_len n (e ∷ past) = told_after e.kind (notified n past) ∙ notified_len n past
+notified_len n (e ∷ past) = notified_after_len e.kind (notified n past) ∙ notified_len n past
 
-pub told_len : (m : Machine) (past : List Entry) → length (told m past) ≡ length m.notifiers
-told_len m past = notified_len (length m.notifiers) past
+pub notified_flags_len : (m : Machine) (past : List Entry) → length (notified_flags m past) ≡ length m.notifiers
+notified_flags_len m past = notified_len (length m.notifiers) past
 
 off_after : (k : Kind) (flags : List Bool) → length (cpus_off_after k flags) ≡ length flags
 off_after (kind.CpuOff x) flags = length-set flags x true
@@ -104,13 +104,13 @@ pub stopped_len : (n : ℕ) (past : List Entry) → length (stopped n past) ≡ 
 stopped_len n [] = length-replicate n false
 stopped_len n (e ∷ past) = core_after e.kind (stopped n past) ∙ stopped_len n past
 
-stood_after : (p : Phase) (k : Kind) (d : Option ℕ) (xs : List Stand) → length (stands_after p k d xs) ≡ length xs
+stood_after : (p : Phase) (k : Kind) (d : Option ℕ) (xs : List PhaseState) → length (phase_states_after p k d xs) ≡ length xs
 stood_after p k None xs = refl
 stood_after p k (Some d) xs = length-set xs d _
 
-pub stands_len : (n : ℕ) (p : Phase) (past : List Entry) → length (stands n p past) ≡ n
-stands_len n p [] = length-replicate n stand.Unprepared
-stands_len n p (e ∷ past) = stood_after p e.kind (device_of e.kind) (stands n p past) ∙ stands_len n p past
+pub states_len : (n : ℕ) (p : Phase) (past : List Entry) → length (phase_states n p past) ≡ n
+states_len n p [] = length-replicate n state.Unprepared
+states_len n p (e ∷ past) = stood_after p e.kind (device_of e.kind) (phase_states n p past) ∙ states_len n p past
 
 -- ---- the freezer
 

@@ -6,7 +6,7 @@ use Rattle.sleep_model.specs.declared.entry.Kind.{Kind}
 use Rattle.sleep_model.specs.declared.entry.Kind.TheVariants as kind
 use Rattle.sleep_model.specs.declared.machine.Machine.{Machine}
 use Rattle.sleep_model.specs.Numbers.{numbers}
-use Rattle.sleep_model.specs.Parts.{Part, OfJournal, journal, part_of}
+use Rattle.sleep_model.specs.EntryClasses.{EntryClass, OfJournal, journal, class_of}
 use Rattle.rule_definitions.specs.Walk.{EndsOwn, KeepsWalk, ReportsMade, WalkEntry, is_in_callback}
 
 both_true : (a b : Bool) → a ≡ true → b ≡ true → (a && b) ≡ true
@@ -27,7 +27,7 @@ walk_journal m past e walk made ends inner b q r w n k = (
 -- what is no note, no step and no jump is the journal's
 pub of_journal : (k : Kind) → ((s : ℕ) → k ≡ kind.Awake s → ⊥) → ((s : ℕ) → k ≡ kind.Relax s → ⊥) → ((s ms : ℕ) (hard : Bool) → k ≡ kind.Event s ms hard → ⊥)
     → ((s : ℕ) → k ≡ kind.Expire s → ⊥) → ((s : ℕ) → k ≡ kind.Start s → ⊥) → ((s : ℕ) → k ≡ kind.Finish s → ⊥) → ((s : ℕ) → k ≡ kind.Hard s → ⊥)
-    → (k ≡ kind.Jump → ⊥) → part_of k ≡ OfJournal
+    → (k ≡ kind.Jump → ⊥) → class_of k ≡ OfJournal
 of_journal (kind.Awake s) a b c d e f g h = absurd (a s refl)
 of_journal (kind.Relax s) a b c d e f g h = absurd (b s refl)
 of_journal (kind.Event s ms hard) a b c d e f g h = absurd (c s ms hard refl)

@@ -2,7 +2,7 @@
 use Rattle.std.specs.Prelude.{◌≡◌, ◌<◌, ℕ, zero, suc, Bool, true, false, List, Option, Some, None}
 use Rattle.sleep_model.specs.declared.entry.Entry.{Entry}
 use Rattle.sleep_model.specs.declared.machine.Machine.{Machine}
-use Rattle.sleep_model.specs.Parts.{Part, OfJournal, part_of}
+use Rattle.sleep_model.specs.EntryClasses.{EntryClass, OfJournal, class_of}
 use Rattle.rule_definitions.specs.Entry as model
 use Rattle.rule_definitions.specs.Entry.{KeepsEntry, KeepsRule, OnJournal}
 use Rattle.rule_definitions.specs.Verdict.{BreaksFirst, number_of}
@@ -10,7 +10,7 @@ use Rattle.check_rules.specs.declared.judge.Rule.{Rule}
 use Rattle.check_rules.specs.declared.judge.Rule.TheVariants as ours
 
 -- an entry of the journal (own)
-abbrev pub is_of_journal : Part → Bool
+abbrev pub is_of_journal : EntryClass → Bool
 is_of_journal OfJournal = true
 is_of_journal _ = false
 
@@ -33,22 +33,22 @@ meant ours.Enabled = model.Enabled
 meant ours.Source = model.Source
 
 -- the place of a rule among all by rising number, from 0 (own)
-abbrev pub place_of : model.Rule → ℕ
-place_of model.Links = 0
-place_of model.Numbers = 1
-place_of model.Attempts = 2
-place_of model.Reads = 3
-place_of model.Walk = 4
-place_of model.Skip = 5
-place_of model.Runtime = 6
-place_of model.Owed = 7
-place_of model.Freezer = 8
-place_of model.Path = 9
-place_of model.Answers = 10
-place_of model.Restored = 11
-place_of model.Steps = 12
-place_of model.Enabled = 13
-place_of model.Source = 14
+abbrev pub rule_index : model.Rule → ℕ
+rule_index model.Links = 0
+rule_index model.Numbers = 1
+rule_index model.Attempts = 2
+rule_index model.Reads = 3
+rule_index model.Walk = 4
+rule_index model.Skip = 5
+rule_index model.Runtime = 6
+rule_index model.Owed = 7
+rule_index model.Freezer = 8
+rule_index model.Path = 9
+rule_index model.Answers = 10
+rule_index model.Restored = 11
+rule_index model.Steps = 12
+rule_index model.Enabled = 13
+rule_index model.Source = 14
 
 -- the rule at that place (own)
 abbrev pub rule_at : ℕ → model.Rule
@@ -70,7 +70,7 @@ rule_at _ = model.Source
 
 -- an entry keeps the rules before that place (own)
 abbrev pub KeepsBelow : Machine → List Entry → Entry → ℕ → Type 0
-KeepsBelow m past e n = (rule : model.Rule) → place_of rule < n → KeepsRule m past e (part_of e.kind) rule
+KeepsBelow m past e n = (rule : model.Rule) → rule_index rule < n → KeepsRule m past e (class_of e.kind) rule
 
 -- it breaks none, or the rule of that number and none that has a lesser one (own)
 abbrev pub IsBroken : Machine → List Entry → Entry → Option ℕ → Type 0
@@ -78,7 +78,7 @@ IsBroken m past e None = KeepsEntry m past e
 IsBroken m past e (Some n) = (rule : model.Rule) × ((number_of rule ≡ n) × BreaksFirst m past e rule)
 
 -- it keeps the rules that entries of sources and jumps have a part in (own)
-pub record KeepsTogether (m : Machine) (past : List Entry) (e : Entry) (part : Part) : Type 0 where
+pub record KeepsTogether (m : Machine) (past : List Entry) (e : Entry) (part : EntryClass) : Type 0 where
   pub numbers : KeepsRule m past e part model.Numbers
   pub walk : KeepsRule m past e part model.Walk
   pub freezer : KeepsRule m past e part model.Freezer

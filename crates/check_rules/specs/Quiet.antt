@@ -4,12 +4,12 @@ use Rattle.sleep_model.specs.declared.entry.Entry.{Entry}
 use Rattle.sleep_model.specs.declared.machine.Machine.{Machine}
 use Rattle.sleep_model.specs.declared.machine.Op.{Op}
 use Rattle.sleep_model.specs.declared.machine.Op.TheVariants as op
-use Rattle.sleep_model.specs.declared.place.Seat.{Seat}
+use Rattle.sleep_model.specs.declared.progress.ScriptPosition.{ScriptPosition}
 use Rattle.sleep_model.specs.Calls.{is_left}
 use Rattle.sleep_model.specs.Freezer.{freezing}
 use Rattle.sleep_model.specs.Numbers.{time_of}
 use Rattle.sleep_model.specs.Path.{maker}
-use Rattle.rule_definitions.specs.Questions.{op_of, seat_of}
+use Rattle.rule_definitions.specs.Questions.{op_of, position_of}
 use Rattle.sleep_model.specs.Sources.{owed}
 
 -- none of the first n sources, whose histories these are, is owed steps of a call (wakeup_source_report_event)
@@ -28,9 +28,9 @@ sleeps_on (Some (op.SleepD ms)) waits (Some until) time = waits && nat_lt time u
 sleeps_on _ waits until time = false
 
 -- a script that stands so at its operation sleeps on, or is gone (do_exit)
-abbrev pub stays : Seat → Option Op → ℕ → Bool
-stays seat op time = seat.exited || sleeps_on op seat.waits seat.until time
+abbrev pub stays : ScriptPosition → Option Op → ℕ → Bool
+stays position op time = position.exited || sleeps_on op position.waits position.until time
 
 -- script i is not asked to freeze, and sleeps on or is gone (own)
-abbrev pub rests : Machine → List Entry → ℕ → Bool
-rests m past i = not (freezing m i past).asked && stays (seat_of m past i) (op_of m past i) (time_of past)
+abbrev pub is_idle_script : Machine → List Entry → ℕ → Bool
+is_idle_script m past i = not (freezing m i past).asked && stays (position_of m past i) (op_of m past i) (time_of past)

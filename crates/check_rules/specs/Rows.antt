@@ -1,7 +1,7 @@
 -- The rows of an attempt's table, down and up.
 use Rattle.std.specs.Prelude.{Bool, true, false}
-use Rattle.sleep_model.specs.declared.place.Stage.{Stage}
-use Rattle.sleep_model.specs.declared.place.Stage.TheVariants as stage
+use Rattle.sleep_model.specs.declared.progress.Stage.{Stage}
+use Rattle.sleep_model.specs.declared.progress.Stage.TheVariants as stage
 
 -- a row on the way down, up to the sleep itself (enter_state, suspend_enter)
 abbrev pub is_descent : Stage → Bool

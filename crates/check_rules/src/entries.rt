@@ -2,7 +2,7 @@
 
 ghost use Rattle.std.specs.Prelude.{◌≡◌, ◌↔◌, true, IsTrue, IfOk};
 ghost use Rattle.sleep_model.specs.Fits.{fits_entry};
-ghost use Rattle.sleep_model.specs.Parts.{part_of};
+ghost use Rattle.sleep_model.specs.EntryClasses.{class_of};
 ghost use Rattle.rule_definitions.specs.Enabled.{EnabledEntry};
 ghost use Rattle.rule_definitions.specs.Freezer.{FreezerEntry};
 ghost use Rattle.rule_definitions.specs.Path.{PathEntry};
@@ -41,11 +41,11 @@ fn ends_callback(past: &Passed<'_>, e: Entry) -> bool
 }
 
 /// Whether devices are taken in order and answer what the machine answers, and a callback makes its reports in order, then
-/// its end, and nothing else (`drivers/base/power/main.c`). `Mem` where the number of reports has no room.
+/// its end, and nothing else (`drivers/base/power/main.c`). `Mem` if the number of reports has no room.
 #[inline(always)]
 pub fn walk_entry(past: &Passed<'_>, e: Entry) -> Result<bool, Mem>
     requires { fits_entry past.now.machine e ≡ true }
-    ensures { IfOk result (λ b. IsTrue b ↔ WalkEntry past.now.machine (past_of past.now) e (part_of e.kind)) }
+    ensures { IfOk result (λ b. IsTrue b ↔ WalkEntry past.now.machine (past_of past.now) e (class_of e.kind)) }
 {
     match e.kind {
         Kind::Awake(_) | Kind::Relax(_) | Kind::Event { .. } | Kind::Expire(_) => {
@@ -65,11 +65,11 @@ pub fn walk_entry(past: &Passed<'_>, e: Entry) -> Result<bool, Mem>
 }
 
 /// Whether tasks freeze where they are asked to and come to it, frozen ones make nothing, and a freeze ends rightly
-/// (`try_to_freeze`, `try_to_freeze_tasks`). `Mem` where its end is beyond all time, or a number has no room.
+/// (`try_to_freeze`, `try_to_freeze_tasks`). `Mem` if its end is beyond all time, or a number has no room.
 #[inline(always)]
 pub fn freezer_entry(past: &Passed<'_>, e: Entry) -> Result<bool, Mem>
     requires { fits_entry past.now.machine e ≡ true }
-    ensures { IfOk result (λ b. IsTrue b ↔ FreezerEntry past.now.machine (past_of past.now) e (part_of e.kind)) }
+    ensures { IfOk result (λ b. IsTrue b ↔ FreezerEntry past.now.machine (past_of past.now) e (class_of e.kind)) }
 {
     match e.kind {
         Kind::Awake(_)
@@ -91,11 +91,11 @@ pub fn freezer_entry(past: &Passed<'_>, e: Entry) -> Result<bool, Mem>
     }
 }
 
-/// Whether the open attempt's maker keeps to the table, and calls on sources from callbacks alone (`enter_state`,
+/// Whether the open attempt's maker keeps to the table, and calls on sources only from callbacks (`enter_state`,
 /// `dpm_run_callback`).
 #[inline(always)]
 pub fn path_entry(past: &Passed<'_>, e: Entry) -> bool
-    ensures { IsTrue result ↔ PathEntry past.now.machine (past_of past.now) e (part_of e.kind) }
+    ensures { IsTrue result ↔ PathEntry past.now.machine (past_of past.now) e (class_of e.kind) }
 {
     match e.kind {
         Kind::Awake(_) | Kind::Relax(_) | Kind::Event { .. } | Kind::Expire(_) => {
@@ -107,12 +107,12 @@ pub fn path_entry(past: &Passed<'_>, e: Entry) -> bool
 }
 
 /// Whether an entry is its actor's next, once the calls before it are made whole; a note its actor's next call; a step of
-/// the word owed by its actor; and time makes the jumps. `Mem` where a moment is beyond all time, or a number has no
+/// the word owed by its actor; and time makes the jumps. `Mem` if a moment is beyond all time, or a number has no
 /// room.
 #[inline(always)]
 pub fn steps_entry(past: &Passed<'_>, e: Entry) -> Result<bool, Mem>
     requires { fits_entry past.now.machine e ≡ true }
-    ensures { IfOk result (λ b. IsTrue b ↔ StepsEntry past.now.machine (past_of past.now) e (part_of e.kind)) }
+    ensures { IfOk result (λ b. IsTrue b ↔ StepsEntry past.now.machine (past_of past.now) e (class_of e.kind)) }
 {
     match e.kind {
         Kind::Awake(_) | Kind::Relax(_) | Kind::Event { .. } | Kind::Expire(_) => {
@@ -130,11 +130,11 @@ pub fn steps_entry(past: &Passed<'_>, e: Entry) -> Result<bool, Mem>
     }
 }
 
-/// Whether who makes an entry may go on, and time jumps where it may (`suspend_enter`). `Mem` where a moment is beyond all
+/// Whether who makes an entry may go on, and time jumps where it may (`suspend_enter`). `Mem` if a moment is beyond all
 /// time, a number has no room, or if there is no memory for a walk.
 #[inline(always)]
 pub fn enabled_entry(past: &Passed<'_>, e: Entry) -> Result<bool, Mem>
-    ensures { IfOk result (λ b. IsTrue b ↔ EnabledEntry past.now.machine (past_of past.now) e (part_of e.kind)) }
+    ensures { IfOk result (λ b. IsTrue b ↔ EnabledEntry past.now.machine (past_of past.now) e (class_of e.kind)) }
 {
     match e.kind {
         Kind::Awake(_)

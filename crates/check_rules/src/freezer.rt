@@ -7,7 +7,7 @@ ghost use Rattle.sleep_model.specs.Attempt.{freeze_since};
 ghost use Rattle.sleep_model.specs.Fits.{fits_actor};
 ghost use Rattle.sleep_model.specs.Tasks.{freezes_at, is_user};
 ghost use Rattle.rule_definitions.specs.Freezer.{FreezeEnds, FreezesBy, FreezesEntry, FreezesNot, GoesOnEntry, asked_at, asked_now, is_at_turn};
-ghost use Rattle.rule_definitions.specs.Questions.{is_maker, op_of, seat_of};
+ghost use Rattle.rule_definitions.specs.Questions.{is_maker, op_of, position_of};
 ghost use Rattle.check_past.specs.Passing.{journal_of, past_of};
 
 use crate::calls::is_calling;
@@ -17,7 +17,7 @@ use check_past::Passed;
 use sleep_base::Mem;
 use sleep_model::{Actor, EventNow, Freezing, Kind};
 
-// Whether a task, at a freeze point or not, freezes where it is asked to, and makes nothing where it is frozen.
+// Whether a task, at a freeze point or not, freezes where it is asked to, and makes nothing if it is frozen.
 fn freezes_by(freezing: Freezing, point: bool, kind: Kind) -> bool
     ensures { IsTrue result ↔ FreezesBy freezing point kind }
 {
@@ -39,15 +39,19 @@ fn freezes_not(kind: Kind) -> bool
 
 // Whether script i is at an operation that has a freeze point, if it is there.
 fn point_of(past: &Passed<'_>, i: u32) -> Option<bool>
-    ensures { result ≡ option_map (λ (s : Script). freezes_at (is_user s.kind) (seat_of past.now.machine (journal_of past.now) i).waits
+    ensures { result ≡ option_map (λ (s : Script). freezes_at (is_user s.kind) (position_of past.now.machine (journal_of past.now) i).waits
         (op_of past.now.machine (journal_of past.now) i)) (slice_get past.now.machine.actors i) }
 {
     let script = past.machine().actors.as_slice().get(i as usize)?;
-    Some(freezes_at(is_user(script.kind), past.seat(i).waits, past.operation(i)))
+    Some(freezes_at(
+        is_user(script.kind),
+        past.position(i).waits,
+        past.operation(i),
+    ))
 }
 
 // Whether the next entry of an actor of the machine is one of the journal: it has made the calls that come before it, and
-// is inside none. `Mem` where a number has no room.
+// is inside none. `Mem` if a number has no room.
 fn is_at_turn(past: &Passed<'_>, who: Actor) -> Result<bool, Mem>
     requires { fits_actor past.now.machine who ≡ true }
     ensures { IfOk result (λ b. b ≡ is_at_turn past.now.machine (past_of past.now) who) }
@@ -66,7 +70,7 @@ fn asked_at(turn: bool, freezing: Freezing) -> Freezing
     }
 }
 
-// So for script i. `Mem` where a number has no room.
+// So for script i. `Mem` if a number has no room.
 fn asked_now(past: &Passed<'_>, i: u32) -> Result<Freezing, Mem>
     requires { fits_actor past.now.machine (actor.Script i) ≡ true }
     ensures { IfOk result (λ f. f ≡ asked_now past.now.machine (past_of past.now) i) }
@@ -75,7 +79,7 @@ fn asked_now(past: &Passed<'_>, i: u32) -> Result<Freezing, Mem>
     Ok(asked_at(turn, past.freezing(i)))
 }
 
-// Whether script i freezes where it is asked to and comes to it, and makes nothing where it is frozen. `Mem` where a number
+// Whether script i freezes where it is asked to and comes to it, and makes nothing if it is frozen. `Mem` if a number
 // has no room.
 fn freezes_script(past: &Passed<'_>, i: u32, kind: Kind) -> Result<bool, Mem>
     requires { fits_actor past.now.machine (actor.Script i) ≡ true }
@@ -88,8 +92,8 @@ fn freezes_script(past: &Passed<'_>, i: u32, kind: Kind) -> Result<bool, Mem>
     }
 }
 
-/// Whether an actor freezes, outside attempts of its own, where it is asked to and comes to it, and makes nothing where it
-/// is frozen (`try_to_freeze`). `Mem` where a number has no room.
+/// Whether an actor freezes, outside attempts of its own, where it is asked to and comes to it, and makes nothing if it
+/// is frozen (`try_to_freeze`). `Mem` if a number has no room.
 pub(crate) fn freezes_entry(past: &Passed<'_>, who: Actor, kind: Kind) -> Result<bool, Mem>
     requires { fits_actor past.now.machine who ≡ true }
     ensures { IfOk result (λ b. IsTrue b ↔ FreezesEntry past.now.machine (past_of past.now) who (is_maker (journal_of past.now) who) kind) }
@@ -110,7 +114,7 @@ fn goes_on(freezing: Freezing, point: bool) -> bool
     !freezing.frozen && !(freezing.asked && point)
 }
 
-// Whether script i goes on. `Mem` where a number has no room.
+// Whether script i goes on. `Mem` if a number has no room.
 fn goes_on_script(past: &Passed<'_>, i: u32) -> Result<bool, Mem>
     requires { fits_actor past.now.machine (actor.Script i) ≡ true }
     ensures { IfOk result (λ b. IsTrue b ↔ GoesOnEntry past.now.machine (past_of past.now) (actor.Script i) false) }
@@ -123,7 +127,7 @@ fn goes_on_script(past: &Passed<'_>, i: u32) -> Result<bool, Mem>
 }
 
 /// Whether an actor that makes a call, a step of one or a jump is no frozen task, and none that is asked at a freeze point
-/// (`__refrigerator`, `try_to_freeze`). `Mem` where a number has no room.
+/// (`__refrigerator`, `try_to_freeze`). `Mem` if a number has no room.
 pub(crate) fn goes_on_entry(past: &Passed<'_>, who: Actor) -> Result<bool, Mem>
     requires { fits_actor past.now.machine who ≡ true }
     ensures { IfOk result (λ b. IsTrue b ↔ GoesOnEntry past.now.machine (past_of past.now) who (is_maker (journal_of past.now) who)) }
@@ -137,7 +141,7 @@ pub(crate) fn goes_on_entry(past: &Passed<'_>, who: Actor) -> Result<bool, Mem>
     }
 }
 
-/// Whether a freeze ends rightly (`try_to_freeze_tasks`). `Mem` where its end is beyond all time.
+/// Whether a freeze ends rightly (`try_to_freeze_tasks`). `Mem` if its end is beyond all time.
 pub(crate) fn freeze_ends(past: &Passed<'_>, now: EventNow, kind: Kind) -> Result<bool, Mem>
     ensures { IfOk result (λ b. IsTrue b
         ↔ FreezeEnds past.now.machine (journal_of past.now) now (freeze_since (journal_of past.now)) kind) }

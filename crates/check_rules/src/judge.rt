@@ -2,7 +2,7 @@
 
 ghost use Rattle.std.specs.Prelude.{◌≡◌, ◌↔◌, ◌||◌, not, true, IsTrue, IfOk};
 ghost use Rattle.sleep_model.specs.Fits.{fits_entry};
-ghost use Rattle.sleep_model.specs.Parts.{part_of};
+ghost use Rattle.sleep_model.specs.EntryClasses.{class_of};
 ghost use Rattle.rule_definitions.specs.Entry.{KeepsEntry, KeepsRule};
 ghost use Rattle.rule_definitions.specs.Verdict.{number_of};
 ghost use Rattle.check_past.specs.Passing.{past_of};
@@ -91,7 +91,7 @@ fn number_of(rule: Rule) -> u8
 
 /// Whether an entry of that kind is the journal's.
 pub(crate) fn is_of_journal(kind: Kind) -> bool
-    ensures { result ≡ is_of_journal (part_of kind) }
+    ensures { result ≡ is_of_journal (class_of kind) }
 {
     !matches!(
         kind,
@@ -108,17 +108,17 @@ pub(crate) fn is_of_journal(kind: Kind) -> bool
 
 // What a rule of the journal alone says of an entry: all others keep it.
 fn in_journal(kind: Kind, keeps: bool) -> bool
-    ensures { result ≡ (not (is_of_journal (part_of kind)) || keeps) }
+    ensures { result ≡ (not (is_of_journal (class_of kind)) || keeps) }
 {
     !is_of_journal(kind) || keeps
 }
 
-// Whether an entry keeps a rule behind the entries that were passed. `Mem` where a moment is beyond all time, a number has
+// Whether an entry keeps a rule after the entries that were passed. `Mem` if a moment is beyond all time, a number has
 // no room, or if there is no memory for a walk.
 #[inline(never)]
 fn keeps(past: &Passed<'_>, e: Entry, rule: Rule) -> Result<bool, Mem>
     requires { fits_entry past.now.machine e ≡ true }
-    ensures { IfOk result (λ b. IsTrue b ↔ KeepsRule past.now.machine (past_of past.now) e (part_of e.kind) (meant rule)) }
+    ensures { IfOk result (λ b. IsTrue b ↔ KeepsRule past.now.machine (past_of past.now) e (class_of e.kind) (meant rule)) }
 {
     let (now, kind) = (past.word(), e.kind);
     match rule {
@@ -140,11 +140,11 @@ fn keeps(past: &Passed<'_>, e: Entry, rule: Rule) -> Result<bool, Mem>
     }
 }
 
-// Whether an entry keeps the rules that entries of sources and jumps have a part in. `Mem` where a moment is beyond all time,
+// Whether an entry keeps the rules that entries of sources and jumps have a part in. `Mem` if a moment is beyond all time,
 // a number has no room, or if there is no memory for a walk.
 fn keeps_together(past: &Passed<'_>, e: Entry) -> Result<bool, Mem>
     requires { fits_entry past.now.machine e ≡ true }
-    ensures { IfOk result (λ b. IsTrue b → KeepsTogether past.now.machine (past_of past.now) e (part_of e.kind)) }
+    ensures { IfOk result (λ b. IsTrue b → KeepsTogether past.now.machine (past_of past.now) e (class_of e.kind)) }
 {
     let walk = walk_entry(past, e)?;
     let freezer = freezer_entry(past, e)?;
@@ -162,7 +162,7 @@ fn keeps_together(past: &Passed<'_>, e: Entry) -> Result<bool, Mem>
 }
 
 // Whether an entry of a source or a jump keeps every rule; false of the journal's. `Mem` as above.
-#[tactic(auto, using(crate::proofs::Judging::each_kept))]
+#[tactic(auto, using(crate::proofs::Judging::each_preserved))]
 fn keeps_aside(past: &Passed<'_>, e: Entry) -> Result<bool, Mem>
     requires { fits_entry past.now.machine e ≡ true }
     ensures { IfOk result (λ b. IsTrue b → KeepsEntry past.now.machine (past_of past.now) e) }
@@ -189,7 +189,7 @@ fn least_broken(past: &Passed<'_>, e: Entry) -> Result<Option<u8>, Mem>
     Ok(None)
 }
 
-/// The number of the least rule that an entry breaks behind the entries that were passed, if it breaks one. `Mem` where a
+/// The number of the least rule that an entry breaks after the entries that were passed, if it breaks one. `Mem` if a
 /// moment is beyond all time, a number has no room, or if there is no memory for a walk.
 pub fn first_broken(past: &Passed<'_>, e: Entry) -> Result<Option<u8>, Mem>
     requires { fits_entry past.now.machine e ≡ true }

@@ -9,17 +9,17 @@ ghost use Rattle.sleep_model.specs.Freezer.{freezing};
 ghost use Rattle.sleep_model.specs.Legal.{JumpStep, alarm_at, deadline_at, is_enabled, is_finished, is_idle, is_made, next_expiry, next_sleep, next_time, none_enabled, none_expires, pending_nap, pending_sleep, sooner};
 ghost use Rattle.sleep_model.specs.Numbers.{numbers, time_of};
 ghost use Rattle.sleep_model.specs.Path.{maker};
-ghost use Rattle.rule_definitions.specs.Questions.{seat_of};
+ghost use Rattle.rule_definitions.specs.Questions.{position_of};
 ghost use Rattle.sleep_model.specs.Sources.{history, owed};
 ghost use Rattle.check_past.specs.Passing.{journal_of, past_of};
-ghost use Rattle.check_rules.specs.Quiet.{is_quiet, none_owes, rests, stays};
+ghost use Rattle.check_rules.specs.Quiet.{is_quiet, none_owes, is_idle_script, stays};
 
 use crate::calls::is_calling;
 use crate::same::{is_time, without};
 use check_due::{due, gives_up_at, is_line};
 use check_past::Passed;
 use sleep_base::Mem;
-use sleep_model::{Actor, Due, EventNow, Op, Seat, Work};
+use sleep_model::{Actor, Due, EventNow, Op, ScriptPosition, Work};
 
 // Whether an entry is due.
 fn is_made(due: Due) -> bool
@@ -28,7 +28,7 @@ fn is_made(due: Due) -> bool
     matches!(due, Due::Makes(_))
 }
 
-// Whether an actor of the machine has a call to make. `Mem` where a number has no room.
+// Whether an actor of the machine has a call to make. `Mem` if a number has no room.
 fn owes_call(past: &Passed<'_>, who: Actor) -> Result<bool, Mem>
     requires { fits_actor past.now.machine who ≡ true }
     ensures { IfOk result (λ b. b ≡ nat_lt (made (length past.now.machine.sources + 1) (λ s. history s (past_of past.now)) who)
@@ -38,7 +38,7 @@ fn owes_call(past: &Passed<'_>, who: Actor) -> Result<bool, Mem>
 }
 
 // Whether an actor of the machine is enabled: it is inside a call, has a call to make, or an entry of the journal is due of
-// it. `Mem` where a moment is beyond all time, a number has no room, or if there is no memory for a walk.
+// it. `Mem` if a moment is beyond all time, a number has no room, or if there is no memory for a walk.
 fn is_enabled(past: &Passed<'_>, now: EventNow, who: Actor) -> Result<bool, Mem>
     requires { fits_actor past.now.machine who ≡ true }
     ensures { IfOk result (λ b. b ≡ is_enabled past.now.machine (journal_of past.now) (λ s. history s (past_of past.now)) now who) }
@@ -74,24 +74,26 @@ fn is_quiet(past: &Passed<'_>) -> bool
 }
 
 // Whether a script that stands so at its operation sleeps on, or is gone.
-fn stays(seat: Seat, op: Option<&Op>, time: u64) -> bool
-    ensures { result ≡ stays seat (option_copied op.entry) time }
+fn stays(position: ScriptPosition, op: Option<&Op>, time: u64) -> bool
+    ensures { result ≡ stays position (option_copied op.entry) time }
 {
-    if seat.exited {
+    if position.exited {
         return true;
     }
-    match (op, seat.until) {
-        (Some(Op::Sleep { .. }), Some(until)) => seat.waits && time < until,
-        (Some(Op::SleepD { .. }), Some(until)) => seat.waits && time < until,
+    match (op, position.until) {
+        (Some(Op::Sleep { .. }), Some(until)) => position.waits && time < until,
+        (Some(Op::SleepD { .. }), Some(until)) => position.waits && time < until,
         _ => false,
     }
 }
 
 // Whether all is quiet, and script i is not asked to freeze, and sleeps on or is gone.
-fn rests(past: &Passed<'_>, quiet: bool, i: u32) -> bool
-    ensures { result ≡ (quiet && rests past.now.machine (journal_of past.now) i) }
+fn is_idle_script(past: &Passed<'_>, quiet: bool, i: u32) -> bool
+    ensures { result ≡ (quiet && is_idle_script past.now.machine (journal_of past.now) i) }
 {
-    quiet && !past.freezing(i).asked && stays(past.seat(i), past.operation(i), past.journal_time())
+    quiet
+        && !past.freezing(i).asked
+        && stays(past.position(i), past.operation(i), past.journal_time())
 }
 
 // Whether script i of the machine is enabled, where the caller has found out whether all is quiet: then one that rests can
@@ -102,7 +104,7 @@ fn is_script_enabled(past: &Passed<'_>, now: EventNow, quiet: bool, i: u32) -> R
     ensures { IfOk result (λ b. b ≡ is_enabled past.now.machine (journal_of past.now) (λ s. history s (past_of past.now)) now
         (Script i)) }
 {
-    if rests(past, quiet, i) {
+    if is_idle_script(past, quiet, i) {
         return owes_call(past, Actor::Script(i));
     }
     is_enabled(past, now, Actor::Script(i))
@@ -157,7 +159,7 @@ fn is_idle(past: &Passed<'_>, now: EventNow) -> Result<bool, Mem>
 }
 
 // Whether no attempt is open, and nobody can make anything, as the caller has found out.
-fn is_at_rest_if(past: &Passed<'_>, now: EventNow, idle: bool) -> bool
+fn is_idle_outside_if(past: &Passed<'_>, now: EventNow, idle: bool) -> bool
     requires { idle ≡ is_idle past.now.machine (journal_of past.now) (λ s. history s (past_of past.now)) now }
     ensures { result ≡ (is_none (maker (journal_of past.now))
         && is_idle past.now.machine (journal_of past.now) (λ s. history s (past_of past.now)) now) }
@@ -166,13 +168,13 @@ fn is_at_rest_if(past: &Passed<'_>, now: EventNow, idle: bool) -> bool
 }
 
 /// Whether no attempt is open, and nobody can make anything: all that a finished log is but that every script has exited
-/// (`Passed::all_gone`). `Mem` where a moment is beyond all time, a number has no room, or if there is no memory for a walk.
-pub fn is_at_rest(past: &Passed<'_>, now: EventNow) -> Result<bool, Mem>
+/// (`Passed::have_all_exited`). `Mem` if a moment is beyond all time, a number has no room, or if there is no memory for a walk.
+pub fn is_idle_outside(past: &Passed<'_>, now: EventNow) -> Result<bool, Mem>
     ensures { IfOk result (λ b. b ≡ (is_none (maker (journal_of past.now))
         && is_idle past.now.machine (journal_of past.now) (λ s. history s (past_of past.now)) now)) }
 {
     let idle = is_idle(past, now)?;
-    Ok(is_at_rest_if(past, now, idle))
+    Ok(is_idle_outside_if(past, now, idle))
 }
 
 // Whether every script has exited, no attempt is open, and nobody can make anything, as the caller has found out.
@@ -180,7 +182,7 @@ fn is_finished_if(past: &Passed<'_>, now: EventNow, idle: bool) -> bool
     requires { idle ≡ is_idle past.now.machine (journal_of past.now) (λ s. history s (past_of past.now)) now }
     ensures { result ≡ is_finished past.now.machine (journal_of past.now) (λ s. history s (past_of past.now)) now }
 {
-    past.all_gone() && is_at_rest_if(past, now, idle)
+    past.have_all_exited() && is_idle_outside_if(past, now, idle)
 }
 
 // The lesser of two moments, where there are any.
@@ -205,7 +207,7 @@ fn next_expiry(past: &Passed<'_>) -> Option<u64>
     next
 }
 
-// The alarm of a machine that sleeps. `Mem` where it is beyond all time.
+// The alarm of a machine that sleeps. `Mem` if it is beyond all time.
 fn alarm_at(past: &Passed<'_>) -> Result<Option<u64>, Mem>
     ensures { IfOk result (λ t. t ≡ alarm_at past.now.machine (sleep_of (journal_of past.now))) }
 {
@@ -218,7 +220,7 @@ fn alarm_at(past: &Passed<'_>) -> Result<Option<u64>, Mem>
     }
 }
 
-// The end of a freeze that is not over. `Mem` where it is beyond all time.
+// The end of a freeze that is not over. `Mem` if it is beyond all time.
 fn deadline_at(past: &Passed<'_>) -> Result<Option<u64>, Mem>
     ensures { IfOk result (λ t. t ≡ deadline_at (freeze_since (journal_of past.now))) }
 {
@@ -241,7 +243,7 @@ fn pending_nap(past: &Passed<'_>) -> Option<u64>
 // The end of script i's sleep, where it is pending.
 fn pending_sleep(past: &Passed<'_>, i: u32) -> Option<u64>
     ensures { result ≡ pending_sleep (sleeps_now (journal_of past.now)) (freezing past.now.machine i (journal_of past.now))
-        (slice_get past.now.machine.actors i) (seat_of past.now.machine (journal_of past.now) i) }
+        (slice_get past.now.machine.actors i) (position_of past.now.machine (journal_of past.now) i) }
 {
     match past.machine().actors.as_slice().get(i as usize) {
         None => None,
@@ -249,7 +251,7 @@ fn pending_sleep(past: &Passed<'_>, i: u32) -> Option<u64>
             if past.freezing(i).frozen || (past.sleeps() && !is_line(script.kind)) {
                 None
             } else {
-                past.seat(i).until
+                past.position(i).until
             }
         }
     }
@@ -266,7 +268,7 @@ fn next_sleep(past: &Passed<'_>) -> Option<u64>
     next
 }
 
-// The least pending time. `Mem` where a moment is beyond all time.
+// The least pending time. `Mem` if a moment is beyond all time.
 fn next_time(past: &Passed<'_>) -> Result<Option<u64>, Mem>
     ensures { IfOk result (λ t. t ≡ next_time past.now.machine (journal_of past.now) (λ s. history s (past_of past.now))) }
 {
@@ -284,7 +286,7 @@ fn may_jump(idle: bool, finished: bool, least: bool, forward: bool) -> bool
 }
 
 /// Whether time jumps forward to the least pending time, where nobody can make anything and something is left to do.
-/// `Mem` where a moment is beyond all time, a number has no room, or if there is no memory for a walk.
+/// `Mem` if a moment is beyond all time, a number has no room, or if there is no memory for a walk.
 pub fn keeps_jump(past: &Passed<'_>, time: u64) -> Result<bool, Mem>
     ensures { IfOk result (λ b. IsTrue b ↔ ((JumpStep past.now.machine (journal_of past.now) (λ s. history s (past_of past.now))
         (numbers (past_of past.now)) time) × (time_of (past_of past.now) < time))) }

@@ -1,10 +1,10 @@
-//! The rules of a log as code: whether an entry keeps each of them behind the entries that were passed, and the
+//! The rules of a log as code: whether an entry keeps each of them after the entries that were passed, and the
 //! number of the least that it breaks. Its tests are in `row_trials`, by the command `check`.
 //!
 //! Promises: `check_rules` finds that an entry keeps a rule exactly if the definition says so, each rule by itself.
 //! The least rule that an entry breaks is named by its number, and none exactly if the entry keeps all. Whether an
 //! entry is the next, the journal's and due at its place, is answered exactly. That no attempt is open and nobody
-//! can make anything is found exactly if it is so. By the clauses of `first_broken`, `is_next_entry`, `is_at_rest`.
+//! can make anything is found exactly if it is so. By the clauses of `first_broken`, `is_next_entry`, `is_idle_outside`.
 //!
 //! Begin reading in `src/next.rt`, `src/judge.rt`, `src/entries.rt`, `src/jump.rt`, `src/source.rt`;
 //! `specs/Next.antt`, `specs/Judging.antt`.
@@ -33,7 +33,7 @@ mod walk;
 pub use answers::{keeps_answers, keeps_links, keeps_runtime};
 pub use entries::{enabled_entry, freezer_entry, path_entry, steps_entry, walk_entry};
 pub use judge::first_broken;
-pub use jump::is_at_rest;
+pub use jump::is_idle_outside;
 pub use next::is_next_entry;
 pub use numbers::{keeps_attempts, keeps_numbers};
 pub use owed::keeps_owed;

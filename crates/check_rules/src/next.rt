@@ -2,9 +2,9 @@
 
 ghost use Rattle.std.specs.Prelude.{◌≡◌, ◌↔◌, true, IsTrue, IfOk};
 ghost use Rattle.sleep_model.specs.Fits.{fits_entry};
-ghost use Rattle.sleep_model.specs.Parts.{OfJournal, part_of};
+ghost use Rattle.sleep_model.specs.EntryClasses.{OfJournal, class_of};
 ghost use Rattle.check_past.specs.Passing.{past_of};
-ghost use Rattle.check_rules.specs.Next.{IsAtPlace, IsNextEntry};
+ghost use Rattle.check_rules.specs.Next.{HasNumbersOfIndex, IsNextEntry};
 
 use crate::calls::{is_calling, is_own_turn};
 use crate::judge;
@@ -18,26 +18,26 @@ use sleep_model::Entry;
 // Whether an entry is the journal's.
 #[tactic(auto, using(crate::proofs::Judging::of_journal))]
 fn is_journals(e: Entry) -> bool
-    ensures { IsTrue result ↔ (part_of e.kind ≡ OfJournal) }
+    ensures { IsTrue result ↔ (class_of e.kind ≡ OfJournal) }
 {
     judge::is_of_journal(e.kind)
 }
 
 // Whether an entry is the journal's, with the numbers and the time of its place.
-fn is_at_place(past: &Passed<'_>, e: Entry) -> bool
-    ensures { IsTrue result ↔ IsAtPlace (past_of past.now) e }
+fn has_numbers_of_index(past: &Passed<'_>, e: Entry) -> bool
+    ensures { IsTrue result ↔ HasNumbersOfIndex (past_of past.now) e }
 {
     is_journals(e) && keeps_numbers(past, e)
 }
 
 /// Whether an entry is the journal's and what is due of its actor, at its place, where its actor is inside no call and has
-/// made those that come before. `Mem` where a moment is beyond all time, a number has no room, or if there is no memory for
+/// made those that come before. `Mem` if a moment is beyond all time, a number has no room, or if there is no memory for
 /// a walk.
 pub fn is_next_entry(past: &Passed<'_>, e: Entry) -> Result<bool, Mem>
     requires { fits_entry past.now.machine e ≡ true }
     ensures { IfOk result (λ b. IsTrue b ↔ IsNextEntry past.now.machine (past_of past.now) e) }
 {
-    if !is_at_place(past, e) {
+    if !has_numbers_of_index(past, e) {
         return Ok(false);
     }
     let made = makes(due(past, e.actor, past.word())?, e.kind);

@@ -1,7 +1,7 @@
 //! The numbers and the time of a place, and the number of an attempt.
 
 ghost use Rattle.std.specs.Prelude.{◌≡◌, ◌+◌, ◌↔◌, IsTrue};
-ghost use Rattle.sleep_model.specs.Parts.{part_of};
+ghost use Rattle.sleep_model.specs.EntryClasses.{class_of};
 ghost use Rattle.rule_definitions.specs.Attempts.{KeepsAttempts};
 ghost use Rattle.rule_definitions.specs.Numbers.{KeepsNumbers};
 ghost use Rattle.check_past.specs.Passing.{journal_of, past_of};
@@ -19,7 +19,7 @@ fn is_word(now: EventNow, word: EventNow) -> bool
 
 /// Whether an entry has the numbers and the time of its place (`combined_event_count`).
 pub fn keeps_numbers(past: &Passed<'_>, e: Entry) -> bool
-    ensures { IsTrue result ↔ KeepsNumbers (past_of past.now) e (part_of e.kind) }
+    ensures { IsTrue result ↔ KeepsNumbers (past_of past.now) e (class_of e.kind) }
 {
     match e.kind {
         Kind::Jump => is_word(e.now, past.word()),

@@ -7,29 +7,29 @@ ghost use Rattle.check_past.specs.Passing.{journal_of};
 
 use check_past::{Passed, is_down_in};
 use phase_table::Phase;
-use sleep_model::{Kind, PlatDo, PlatUndo, Stand};
+use sleep_model::{Kind, PhaseState, PlatDo, PlatUndo};
 
 // It may come up: it is down, or down and scheduled.
-fn may_come_up(stand: Stand) -> bool
-    ensures { result ≡ may_come_up stand }
+fn may_come_up(state: PhaseState) -> bool
+    ensures { result ≡ may_come_up state }
 {
-    matches!(stand, Stand::Suspended | Stand::Rescheduled)
+    matches!(state, PhaseState::Suspended | PhaseState::Rescheduled)
 }
 
 // It is inside its callback on the way up.
-fn is_resuming(stand: Stand) -> bool
-    ensures { result ≡ is_resuming stand }
+fn is_resuming(state: PhaseState) -> bool
+    ensures { result ≡ is_resuming state }
 {
-    matches!(stand, Stand::Resuming)
+    matches!(state, PhaseState::Resuming)
 }
 
 // It is prepared, and neither down nor on its way down or up.
-fn is_back(stand: Stand) -> bool
-    ensures { result ≡ is_back stand }
+fn is_back(state: PhaseState) -> bool
+    ensures { result ≡ is_back state }
 {
     matches!(
-        stand,
-        Stand::Prepared | Stand::Failed | Stand::Direct | Stand::Resumed
+        state,
+        PhaseState::Prepared | PhaseState::Failed | PhaseState::Direct | PhaseState::Resumed
     )
 }
 
@@ -37,9 +37,9 @@ fn is_back(stand: Stand) -> bool
 fn is_back_in_all(past: &Passed<'_>, device: u32) -> bool
     ensures { result ≡ is_back_in_all past.now.machine (journal_of past.now) device }
 {
-    is_back(past.stand(Phase::Suspend, device))
-        && is_back(past.stand(Phase::Late, device))
-        && is_back(past.stand(Phase::Noirq, device))
+    is_back(past.state(Phase::Suspend, device))
+        && is_back(past.state(Phase::Late, device))
+        && is_back(past.state(Phase::Noirq, device))
 }
 
 // A step of the platform on the way up is owed.
@@ -59,11 +59,11 @@ pub fn keeps_owed(past: &Passed<'_>, kind: Kind) -> bool
     ensures { IsTrue result ↔ KeepsOwed past.now.machine (journal_of past.now) kind }
 {
     match kind {
-        Kind::Schedule(p, d) => !p.is_up() || is_down_in(past.stand(p.mirror(), d)),
-        Kind::Begin(p, d) => !p.is_up() || may_come_up(past.stand(p.mirror(), d)),
-        Kind::End(p, d, _) => !p.is_up() || is_resuming(past.stand(p.mirror(), d)),
+        Kind::Schedule(p, d) => !p.is_up() || is_down_in(past.state(p.mirror(), d)),
+        Kind::Begin(p, d) => !p.is_up() || may_come_up(past.state(p.mirror(), d)),
+        Kind::End(p, d, _) => !p.is_up() || is_resuming(past.state(p.mirror(), d)),
         Kind::Complete(d) => is_back_in_all(past, d),
-        Kind::NotifyPost(x) => past.told().is_set(x),
+        Kind::NotifyPost(x) => past.notified_flags().is_set(x),
         Kind::SyscoreResume(x) => past.stopped().is_set(x),
         Kind::CpuOn(k) => past.cpus_off().is_set(k),
         Kind::Irqs { on } => !on || past.irqs_off(),

@@ -1,7 +1,7 @@
 //! The table of an attempt: its maker's entries are those of the row that is under way (`kernel/power/suspend.c`).
 
 ghost use Rattle.std.specs.Prelude.{◌≡◌, ◌↔◌, not, IsTrue};
-ghost use Rattle.sleep_model.specs.declared.place.Stage.TheVariants.{Enters, Freezes, Notifies, PlatformDown, StopsCpus, StopsSyscore};
+ghost use Rattle.sleep_model.specs.declared.progress.Stage.TheVariants.{Enters, Freezes, Notifies, PlatformDown, StopsCpus, StopsSyscore};
 ghost use Rattle.rule_definitions.specs.Questions.{is_maker};
 ghost use Rattle.rule_definitions.specs.Path.{IsOfDown, IsOfRow, IsOfRowIf, IsOfUp, KeepsPath, ReportsOf};
 ghost use Rattle.check_past.specs.Passing.{journal_of};
@@ -171,12 +171,15 @@ fn is_of_ascent(past: &Passed<'_>, now: EventNow, row: Stage, kind: Kind) -> boo
         (Stage::StartsSyscore, Kind::SyscoreResume(x)) => is_number(past.next_started(), x),
         (Stage::StartsIrqs, Kind::Irqs { on }) => on,
         (Stage::StartsCpus, Kind::CpuOn(x)) => is_number(past.next_cpu_on(), x),
-        (Stage::PlatformUp(step), Kind::PlatformUndo(told)) => is_undo(told, step),
+        (Stage::PlatformUp(step), Kind::PlatformUndo(notified_flags)) => is_undo(
+            notified_flags,
+            step,
+        ),
         (Stage::Ups(phase), _) => is_of_up(phase, kind),
         (Stage::Completes, Kind::Complete(_)) => true,
         (Stage::Completes, Kind::Done(p, _)) => is_phase(p, Phase::Complete),
         (Stage::Clears, Kind::Clear) => true,
-        (Stage::Thaws(those), Kind::Thaw(told)) => is_thaw(told, those),
+        (Stage::Thaws(those), Kind::Thaw(notified_flags)) => is_thaw(notified_flags, those),
         (Stage::Posts, Kind::NotifyPost(x)) => is_number(past.next_posted(), x),
         (Stage::Ends, Kind::Over { .. }) => true,
         _ => false,

@@ -16,7 +16,7 @@ use check_due::{
 };
 use check_past::Passed;
 use sleep_base::Mem;
-use sleep_model::{Actor, Due, EventNow, Kind, Op, Seat, Work, visible};
+use sleep_model::{Actor, Due, EventNow, Kind, Op, ScriptPosition, Work, visible};
 
 // Whether an entry is right as a read of somebody whose own step is another.
 fn is_read_else(now: EventNow, kind: Kind) -> bool
@@ -34,7 +34,7 @@ fn is_save_else(past: &Passed<'_>, now: EventNow, who: Actor, c: u32, kind: Kind
     !is_actor(who, past.holder()) && makes(due, kind)
 }
 
-// Whether an entry is right as a write to the state by somebody whose own step is another. `Mem` where the next attempt has
+// Whether an entry is right as a write to the state by somebody whose own step is another. `Mem` if the next attempt has
 // no number.
 fn is_write_else(past: &Passed<'_>, who: Actor, kind: Kind) -> Result<bool, Mem>
     ensures { IfOk result (λ b. IsTrue b ↔ IsWriteElse (journal_of past.now) who kind) }
@@ -52,7 +52,7 @@ fn is_auto_save(past: &Passed<'_>, now: EventNow, c: u32, kind: Kind) -> bool
     past.holder().is_none() && is_kind(auto_save(now, c), kind)
 }
 
-// Reads, saves and writes to the state of somebody whose own step is another. `Mem` where the next attempt has no number.
+// Reads, saves and writes to the state of somebody whose own step is another. `Mem` if the next attempt has no number.
 fn reads_else(past: &Passed<'_>, now: EventNow, who: Actor, kind: Kind) -> Result<bool, Mem>
     ensures { IfOk result (λ b. IsTrue b ↔ ReadsElse (journal_of past.now) now who kind) }
 {
@@ -71,11 +71,17 @@ fn reads_else(past: &Passed<'_>, now: EventNow, who: Actor, kind: Kind) -> Resul
 }
 
 // Whether an entry is right at a read.
-fn is_read(now: EventNow, seat: Seat, asked: bool, op: Option<&Op>, kind: Kind) -> bool
-    ensures { IsTrue result ↔ IsRead now seat asked (option_copied op.entry) kind }
+fn is_read(
+    now: EventNow,
+    position: ScriptPosition,
+    asked: bool,
+    op: Option<&Op>,
+    kind: Kind,
+) -> bool
+    ensures { IsTrue result ↔ IsRead now position asked (option_copied op.entry) kind }
 {
     match op {
-        Some(Op::Read) => makes(read_due(now, seat.waits, asked), kind),
+        Some(Op::Read) => makes(read_due(now, position.waits, asked), kind),
         _ => is_read_else(now, kind),
     }
 }
@@ -85,20 +91,20 @@ fn is_save(
     past: &Passed<'_>,
     now: EventNow,
     who: Actor,
-    seat: Seat,
+    position: ScriptPosition,
     asked: bool,
     op: Option<&Op>,
     c: u32,
     kind: Kind,
 ) -> bool
-    ensures { IsTrue result ↔ IsSave (journal_of past.now) now who seat asked (option_copied op.entry) c kind }
+    ensures { IsTrue result ↔ IsSave (journal_of past.now) now who position asked (option_copied op.entry) c kind }
 {
     match op {
         Some(Op::Save { count }) => {
             let held = past.holder().is_some();
-            let number = saved_number(*count, seat.last_read);
+            let number = saved_number(*count, position.last_read);
             makes(
-                count_due(held, past.is_on(), seat.waits, asked, now, number),
+                count_due(held, past.is_on(), position.waits, asked, now, number),
                 kind,
             )
         }
@@ -109,35 +115,42 @@ fn is_save(
 // What is due at a write of that text to the state, whose attempt would be that.
 fn written(
     past: &Passed<'_>,
-    seat: Seat,
+    position: ScriptPosition,
     asked: bool,
     text: &[u8],
     if_saved: bool,
     attempt: Kind,
 ) -> Due
-    ensures { result ≡ unless_unsaved if_saved seat.saved
-        (state_due (is_some (holder (journal_of past.now))) (is_on (journal_of past.now)) seat.waits asked (is_mem text.now) attempt) }
+    ensures { result ≡ unless_unsaved if_saved position.saved
+        (state_due (is_some (holder (journal_of past.now))) (is_on (journal_of past.now)) position.waits asked (is_mem text.now) attempt) }
 {
     let held = past.holder().is_some();
-    let due = state_due(held, past.is_on(), seat.waits, asked, is_mem(text), attempt);
-    unless_unsaved(if_saved, seat.saved, due)
+    let due = state_due(
+        held,
+        past.is_on(),
+        position.waits,
+        asked,
+        is_mem(text),
+        attempt,
+    );
+    unless_unsaved(if_saved, position.saved, due)
 }
 
-// Whether an entry is right at a write to the state. `Mem` where the next attempt has no number.
+// Whether an entry is right at a write to the state. `Mem` if the next attempt has no number.
 fn is_write(
     past: &Passed<'_>,
     who: Actor,
-    seat: Seat,
+    position: ScriptPosition,
     asked: bool,
     op: Option<&Op>,
     kind: Kind,
 ) -> Result<bool, Mem>
-    ensures { IfOk result (λ b. IsTrue b ↔ IsWrite (journal_of past.now) who seat asked (option_copied op.entry) kind) }
+    ensures { IfOk result (λ b. IsTrue b ↔ IsWrite (journal_of past.now) who position asked (option_copied op.entry) kind) }
 {
     let attempt = next_attempt(past)?;
     match op {
         Some(Op::State { text, if_saved }) => {
-            let due = written(past, seat, asked, text.as_slice(), *if_saved, attempt);
+            let due = written(past, position, asked, text.as_slice(), *if_saved, attempt);
             Ok(makes(due, kind))
         }
         _ => {
@@ -148,13 +161,19 @@ fn is_write(
 }
 
 // Whether an attempt is right at a write to the state.
-fn is_good_write(past: &Passed<'_>, seat: Seat, asked: bool, op: Option<&Op>, kind: Kind) -> bool
-    ensures { IsTrue result ↔ IsGoodWrite (journal_of past.now) seat asked (option_copied op.entry) kind }
+fn is_good_write(
+    past: &Passed<'_>,
+    position: ScriptPosition,
+    asked: bool,
+    op: Option<&Op>,
+    kind: Kind,
+) -> bool
+    ensures { IsTrue result ↔ IsGoodWrite (journal_of past.now) position asked (option_copied op.entry) kind }
 {
     match op {
         Some(Op::State { text, if_saved }) => {
             makes(
-                written(past, seat, asked, text.as_slice(), *if_saved, kind),
+                written(past, position, asked, text.as_slice(), *if_saved, kind),
                 kind,
             )
         }
@@ -162,7 +181,7 @@ fn is_good_write(past: &Passed<'_>, seat: Seat, asked: bool, op: Option<&Op>, ki
     }
 }
 
-// A write to autosleep is refused only where its text is neither.
+// A write to autosleep is refused only if its text is neither.
 fn is_bad_text(op: Option<&Op>) -> bool
     ensures { IsTrue result ↔ IsBadText (option_copied op.entry) }
 {
@@ -175,7 +194,7 @@ fn is_bad_text(op: Option<&Op>) -> bool
     }
 }
 
-// Autosleep is set only where the lock is free.
+// Autosleep is set only if the lock is free.
 fn is_free(past: &Passed<'_>, op: Option<&Op>) -> bool
     ensures { IsTrue result ↔ IsFree (journal_of past.now) (option_copied op.entry) }
 {
@@ -185,28 +204,30 @@ fn is_free(past: &Passed<'_>, op: Option<&Op>) -> bool
     }
 }
 
-// An entry of a task at its operation. `Mem` where the next attempt has no number.
+// An entry of a task at its operation. `Mem` if the next attempt has no number.
 fn reads_task(
     past: &Passed<'_>,
     now: EventNow,
     who: Actor,
-    seat: Seat,
+    position: ScriptPosition,
     asked: bool,
     op: Option<&Op>,
     kind: Kind,
 ) -> Result<bool, Mem>
-    ensures { IfOk result (λ b. IsTrue b ↔ ReadsTask (journal_of past.now) now who seat asked (option_copied op.entry) kind) }
+    ensures { IfOk result (λ b. IsTrue b ↔ ReadsTask (journal_of past.now) now who position asked (option_copied op.entry) kind) }
 {
     match kind {
-        Kind::ReadWait | Kind::Read(_) | Kind::ReadIntr => Ok(is_read(now, seat, asked, op, kind)),
+        Kind::ReadWait | Kind::Read(_) | Kind::ReadIntr => Ok(is_read(
+            now, position, asked, op, kind,
+        )),
         Kind::SaveWait(c) | Kind::Saved(c) | Kind::SaveErr(c, _) => {
-            Ok(is_save(past, now, who, seat, asked, op, c, kind))
+            Ok(is_save(past, now, who, position, asked, op, c, kind))
         }
         Kind::StateWait | Kind::StateErr(_) | Kind::StateUnsaved => {
-            let right = is_write(past, who, seat, asked, op, kind)?;
+            let right = is_write(past, who, position, asked, op, kind)?;
             Ok(right)
         }
-        Kind::Attempt { .. } => Ok(is_good_write(past, seat, asked, op, kind)),
+        Kind::Attempt { .. } => Ok(is_good_write(past, position, asked, op, kind)),
         Kind::AutoBad => Ok(is_bad_text(op)),
         Kind::AutoSet(_) => Ok(is_free(past, op)),
         _ => {
@@ -216,7 +237,7 @@ fn reads_task(
     }
 }
 
-// An entry of autosleep's work. `Mem` where the next attempt has no number.
+// An entry of autosleep's work. `Mem` if the next attempt has no number.
 fn reads_work(past: &Passed<'_>, now: EventNow, work: Work, kind: Kind) -> Result<bool, Mem>
     ensures { IfOk result (λ b. IsTrue b ↔ ReadsWork (journal_of past.now) now work kind) }
 {
@@ -234,14 +255,22 @@ fn reads_work(past: &Passed<'_>, now: EventNow, work: Work, kind: Kind) -> Resul
 }
 
 /// Whether reads, saves and writes are answered by the word, the lock, autosleep, their number and their text, whoever
-/// makes them (`kernel/power/main.c`, `drivers/base/power/wakeup.c`). `Mem` where the next attempt has no number.
+/// makes them (`kernel/power/main.c`, `drivers/base/power/wakeup.c`). `Mem` if the next attempt has no number.
 pub fn keeps_reads(past: &Passed<'_>, now: EventNow, who: Actor, kind: Kind) -> Result<bool, Mem>
     ensures { IfOk result (λ b. IsTrue b ↔ KeepsReads past.now.machine (journal_of past.now) now who kind) }
 {
     match who {
         Actor::Script(i) if !past.is_maker(who) => {
             let asked = past.freezing(i).asked;
-            let right = reads_task(past, now, who, past.seat(i), asked, past.operation(i), kind)?;
+            let right = reads_task(
+                past,
+                now,
+                who,
+                past.position(i),
+                asked,
+                past.operation(i),
+                kind,
+            )?;
             Ok(right)
         }
         Actor::Auto if !past.is_maker(who) => {

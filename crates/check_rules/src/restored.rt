@@ -2,12 +2,12 @@
 
 ghost use Rattle.std.specs.Prelude.{◌≡◌, ◌↔◌, ◌&&◌, not, false, IsTrue, length, map, replicate};
 ghost use Rattle.std.specs.List.{list_all};
-ghost use Rattle.sleep_model.specs.Stands.{is_unprepared};
+ghost use Rattle.sleep_model.specs.PhaseStates.{is_unprepared};
 ghost use Rattle.sleep_model.specs.declared.machine.Script.{Script};
-ghost use Rattle.sleep_model.specs.declared.place.Stand.TheVariants as stand;
+ghost use Rattle.sleep_model.specs.declared.progress.PhaseState.TheVariants as state;
 ghost use Rattle.sleep_model.specs.Freezer.{freezings, unasked};
-ghost use Rattle.sleep_model.specs.Laws.{NoneStands, NothingOwed};
-ghost use Rattle.sleep_model.specs.Notifiers.{cpus_off, stopped, told};
+ghost use Rattle.sleep_model.specs.Laws.{NoneIsInPhase, NothingOwed};
+ghost use Rattle.sleep_model.specs.Notifiers.{cpus_off, stopped, notified_flags};
 ghost use Rattle.rule_definitions.specs.Restored.{KeepsRestored};
 ghost use Rattle.check_past.specs.Passing.{journal_of};
 ghost use Rattle.check_rules.specs.Owing.{NoDeviceOwed, NoTaskOwed};
@@ -15,13 +15,13 @@ ghost use Rattle.check_rules.specs.Owing.{NoDeviceOwed, NoTaskOwed};
 use crate::same::both;
 use check_past::Passed;
 use phase_table::Phase;
-use sleep_model::{Freezing, Kind, PlatDo, Stand};
+use sleep_model::{Freezing, Kind, PhaseState, PlatDo};
 
 // Not prepared (`power.is_prepared`).
-fn is_unprepared(stand: Stand) -> bool
-    ensures { result ≡ is_unprepared stand }
+fn is_unprepared(state: PhaseState) -> bool
+    ensures { result ≡ is_unprepared state }
 {
-    matches!(stand, Stand::Unprepared)
+    matches!(state, PhaseState::Unprepared)
 }
 
 // Whether each of these flags is unset.
@@ -39,17 +39,17 @@ fn is_none_set(flags: &[bool]) -> bool
 }
 
 // Whether each of these devices is unprepared.
-fn are_unprepared(stands: &[Stand]) -> bool
-    ensures { result ≡ list_all (λ s. is_unprepared s) stands.now }
+fn are_unprepared(phase_states: &[PhaseState]) -> bool
+    ensures { result ≡ list_all (λ s. is_unprepared s) phase_states.now }
 {
-    stands.iter().all(|stand| is_unprepared(*stand))
+    phase_states.iter().all(|state| is_unprepared(*state))
 }
 
 // Whether none of these devices is prepared.
-fn is_none_prepared(stands: &[Stand]) -> bool
-    ensures { IsTrue result ↔ (stands.now ≡ replicate (length stands.now) stand.Unprepared) }
+fn is_none_prepared(phase_states: &[PhaseState]) -> bool
+    ensures { IsTrue result ↔ (phase_states.now ≡ replicate (length phase_states.now) state.Unprepared) }
 {
-    are_unprepared(stands)
+    are_unprepared(phase_states)
 }
 
 // The freezer neither asks a task nor has frozen it (`freezing`, `frozen`).
@@ -74,11 +74,11 @@ fn is_none_asked(freezings: &[Freezing]) -> bool
 }
 
 // Whether no notifier is owed its post.
-#[tactic(auto, using(crate::proofs::Resting::told_len))]
-fn is_none_told(past: &Passed<'_>) -> bool
-    ensures { IsTrue result ↔ (told past.now.machine (journal_of past.now) ≡ replicate (length past.now.machine.notifiers) false) }
+#[tactic(auto, using(crate::proofs::Resting::notified_flags_len))]
+fn is_none_notified(past: &Passed<'_>) -> bool
+    ensures { IsTrue result ↔ (notified_flags past.now.machine (journal_of past.now) ≡ replicate (length past.now.machine.notifiers) false) }
 {
-    is_none_set(past.told().as_slice())
+    is_none_set(past.notified_flags().as_slice())
 }
 
 // Whether no processor is off.
@@ -108,11 +108,11 @@ fn is_no_task_asked(past: &Passed<'_>) -> bool
 }
 
 // Whether no device stands in a phase.
-#[tactic(auto, using(crate::proofs::Resting::stands_len))]
+#[tactic(auto, using(crate::proofs::Resting::states_len))]
 fn is_no_device_prepared(past: &Passed<'_>, phase: Phase) -> bool
-    ensures { IsTrue result ↔ NoneStands past.now.machine phase (journal_of past.now) }
+    ensures { IsTrue result ↔ NoneIsInPhase past.now.machine phase (journal_of past.now) }
 {
-    is_none_prepared(past.stands(phase))
+    is_none_prepared(past.phase_states(phase))
 }
 
 // Whether nothing is owed to devices, processors and the core.
@@ -132,7 +132,7 @@ fn is_no_device_owed(past: &Passed<'_>) -> bool
 fn is_no_task_owed(past: &Passed<'_>) -> bool
     ensures { IsTrue result ↔ NoTaskOwed past.now.machine (journal_of past.now) }
 {
-    is_none_told(past)
+    is_none_notified(past)
         && is_no_task_asked(past)
         && !past.owes_platform(PlatDo::Begin)
         && !past.owes_platform(PlatDo::Prepare)
@@ -147,7 +147,7 @@ fn is_nothing_owed(past: &Passed<'_>) -> bool
     both(is_no_device_owed(past), is_no_task_owed(past))
 }
 
-/// Whether an attempt is over only where nothing is owed (`suspend_devices_and_enter`, `suspend_finish`).
+/// Whether an attempt is over only if nothing is owed (`suspend_devices_and_enter`, `suspend_finish`).
 pub fn keeps_restored(past: &Passed<'_>, kind: Kind) -> bool
     ensures { IsTrue result ↔ KeepsRestored past.now.machine (journal_of past.now) kind }
 {

@@ -1,7 +1,7 @@
 //! Whether two things are the same.
 
 ghost use Rattle.std.specs.Prelude.{◌≡◌, ◌↔◌, ◌&&◌, ◌||◌, not, IsTrue, Some};
-ghost use Rattle.sleep_model.specs.declared.place.Due.TheVariants.{Makes};
+ghost use Rattle.sleep_model.specs.declared.progress.Due.TheVariants.{Makes};
 
 use crate::kinds::is_kind;
 use phase_table::Phase;

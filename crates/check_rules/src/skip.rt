@@ -10,7 +10,7 @@ use crate::same::{is_number, is_phase};
 use check_due::{row_now, turn_of};
 use check_past::Passed;
 use phase_table::Phase;
-use sleep_model::{EventNow, Kind, Stage, Stand};
+use sleep_model::{EventNow, Kind, PhaseState, Stage};
 
 /// Whether the walk down stands at a device (`dpm_suspend`, `dpm_wait_for_subordinate`).
 pub(crate) fn is_next_down(past: &Passed<'_>, phase: Phase, device: u32) -> bool
@@ -27,7 +27,7 @@ pub(crate) fn is_scheduled_down(past: &Passed<'_>, phase: Phase, device: u32) ->
     ensures { IsTrue result ↔ IsScheduledDown past.now.machine (journal_of past.now) phase device }
 {
     phase.is_down()
-        && matches!(past.stand(phase, device), Stand::Scheduled)
+        && matches!(past.state(phase, device), PhaseState::Scheduled)
         && past.waits_below(phase, device).is_none()
 }
 
@@ -45,7 +45,7 @@ fn is_turn(past: &Passed<'_>, phase: Phase, device: u32, row: Option<Stage>) -> 
     }
 }
 
-/// Whether a device is passed over at its turn, for the cause that comes first, and begins to go down only where there
+/// Whether a device is passed over at its turn, for the cause that comes first, and begins to go down only if there
 /// is none (`__device_suspend`).
 pub fn keeps_skip(past: &Passed<'_>, now: EventNow, kind: Kind) -> bool
     ensures { IsTrue result ↔ KeepsSkip past.now.machine (journal_of past.now) now kind }

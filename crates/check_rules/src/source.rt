@@ -3,7 +3,7 @@
 ghost use Rattle.std.specs.Prelude.{◌≡◌, ◌↔◌, ◌+◌, ◌∷◌, [], true, nat_le, length, IsTrue};
 ghost use Rattle.sleep_model.specs.Fits.{fits_entry};
 ghost use Rattle.sleep_model.specs.Numbers.{time_of};
-ghost use Rattle.sleep_model.specs.Parts.{part_of};
+ghost use Rattle.sleep_model.specs.EntryClasses.{class_of};
 ghost use Rattle.rule_definitions.specs.Source.{CallEntry, SourceEntry};
 ghost use Rattle.sleep_model.specs.Sources.{IsNext, expiry, has_expired, history, most_entries, owed};
 ghost use Rattle.check_past.specs.Passing.{past_of};
@@ -35,11 +35,11 @@ fn has_expired(past: &Passed<'_>, s: u32) -> bool
     past.source(s).has_expired(past.time())
 }
 
-/// Whether a note begins a call where the source's last one owes nothing, an expiry only where it is due, and a step is
+/// Whether a note begins a call where the source's last one owes nothing, an expiry only if it is due, and a step is
 /// the one that is owed next (`wakeup_source_report_event`, `pm_wakeup_timer_fn`).
 #[inline(always)]
 pub fn keeps_call(past: &Passed<'_>, e: Entry) -> bool
-    ensures { IsTrue result ↔ CallEntry (past_of past.now) e (part_of e.kind) }
+    ensures { IsTrue result ↔ CallEntry (past_of past.now) e (class_of e.kind) }
 {
     match e.kind {
         Kind::Awake(s) | Kind::Relax(s) | Kind::Event { source: s, .. } => is_free(past, s),
@@ -52,7 +52,7 @@ pub fn keeps_call(past: &Passed<'_>, e: Entry) -> bool
 }
 
 // Whether a source's history of `entries` entries has a place for one more of that source.
-fn has_place(own: Option<u32>, s: u32, entries: usize) -> bool
+fn has_room(own: Option<u32>, s: u32, entries: usize) -> bool
     ensures { result ≡ nat_le (with_own own s entries) most_entries }
 {
     match own {
@@ -62,13 +62,13 @@ fn has_place(own: Option<u32>, s: u32, entries: usize) -> bool
 }
 
 // Whether each source's history has a place for an entry.
-fn have_places(past: &Passed<'_>, e: Entry) -> bool
+fn have_room(past: &Passed<'_>, e: Entry) -> bool
     ensures { result ≡ are_short (e ∷ past_of past.now) (length past.now.machine.sources + 1) }
 {
     let own = source_in(e.kind);
     let mut short = true;
     for s in 0..past.source_count() {
-        short = both(has_place(own, s, past.source(s).entries), short);
+        short = both(has_room(own, s, past.source(s).entries), short);
     }
     short
 }
@@ -78,8 +78,8 @@ fn have_places(past: &Passed<'_>, e: Entry) -> bool
 #[inline(always)]
 pub fn source_entry(past: &Passed<'_>, e: Entry) -> bool
     requires { fits_entry past.now.machine e ≡ true }
-    ensures { IsTrue result ↔ SourceEntry past.now.machine (past_of past.now) e (part_of e.kind) }
+    ensures { IsTrue result ↔ SourceEntry past.now.machine (past_of past.now) e (class_of e.kind) }
 {
     past.all_fit();
-    both(keeps_call(past, e), have_places(past, e))
+    both(keeps_call(past, e), have_room(past, e))
 }

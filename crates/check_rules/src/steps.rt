@@ -2,7 +2,7 @@
 
 ghost use Rattle.std.specs.Prelude.{◌≡◌, ◌↔◌, true, IsTrue, IfOk, option_copied, slice_get};
 ghost use Rattle.rule_definitions.specs.Steps.{IsDeviceStep, IsLinkOf, IsLinkStateOf, IsMakerStep, IsOfAutosleep, IsOfOp, IsPostOf, IsRequestOf, IsScriptStep, IsStep, IsWorkStep, KeepsSteps, is_of_write};
-ghost use Rattle.rule_definitions.specs.Questions.{op_of, seat_of};
+ghost use Rattle.rule_definitions.specs.Questions.{op_of, position_of};
 ghost use Rattle.sleep_model.specs.Laws.{is_exit, is_of_read, is_of_save, is_pass};
 ghost use Rattle.check_past.specs.Passing.{journal_of};
 
@@ -13,7 +13,7 @@ use check_due::{
 };
 use check_past::Passed;
 use sleep_base::Mem;
-use sleep_model::{Actor, AsyncWork, EventNow, Kind, NAP_MSECS, Op, Seat, State, Work};
+use sleep_model::{Actor, AsyncWork, EventNow, Kind, NAP_MSECS, Op, ScriptPosition, State, Work};
 
 // An entry of a read.
 fn is_of_read(kind: Kind) -> bool
@@ -105,10 +105,15 @@ fn is_link_state_of(supplier: u32, consumer: u32, active: bool, kind: Kind) -> b
     }
 }
 
-// An entry of that operation, or the exit behind the last. `Mem` where a sleep ends beyond all time.
-fn is_of_op(past: &Passed<'_>, seat: Seat, op: Option<&Op>, kind: Kind) -> Result<bool, Mem>
+// An entry of that operation, or the exit after the last. `Mem` if a sleep ends beyond all time.
+fn is_of_op(
+    past: &Passed<'_>,
+    position: ScriptPosition,
+    op: Option<&Op>,
+    kind: Kind,
+) -> Result<bool, Mem>
     ensures { IfOk result (λ b. IsTrue b
-        ↔ IsOfOp past.now.machine (journal_of past.now) seat (option_copied op.entry) kind) }
+        ↔ IsOfOp past.now.machine (journal_of past.now) position (option_copied op.entry) kind) }
 {
     let Some(op) = op else {
         return Ok(matches!(kind, Kind::Exit));
@@ -119,10 +124,10 @@ fn is_of_op(past: &Passed<'_>, seat: Seat, op: Option<&Op>, kind: Kind) -> Resul
         Op::State { .. } => Ok(is_of_write(kind)),
         Op::Autosleep { text } => {
             let text = text.as_slice();
-            Ok(is_of_autosleep(seat.waits, is_mem(text), is_off(text), kind))
+            Ok(is_of_autosleep(position.waits, is_mem(text), is_off(text), kind))
         }
-        Op::Sleep { ms } => Ok(makes(sleep_due(*ms, seat, past.journal_time())?, kind)),
-        Op::SleepD { ms } => Ok(makes(deep_sleep_due(*ms, seat, past.journal_time())?, kind)),
+        Op::Sleep { ms } => Ok(makes(sleep_due(*ms, position, past.journal_time())?, kind)),
+        Op::SleepD { ms } => Ok(makes(deep_sleep_due(*ms, position, past.journal_time())?, kind)),
         Op::FreezePoint => Ok(matches!(kind, Kind::Pass)),
         Op::Post { mark } => Ok(is_post_of(*mark, kind)),
         Op::Wait { mark } => Ok(makes(mark_due(*mark, past.raised(*mark)), kind)),
@@ -144,17 +149,17 @@ fn is_of_op(past: &Passed<'_>, seat: Seat, op: Option<&Op>, kind: Kind) -> Resul
 fn is_step(
     past: &Passed<'_>,
     user: bool,
-    seat: Seat,
+    position: ScriptPosition,
     op: Option<&Op>,
     kind: Kind,
 ) -> Result<bool, Mem>
     ensures { IfOk result (λ b. IsTrue b
-        ↔ IsStep past.now.machine (journal_of past.now) user seat (option_copied op.entry) kind) }
+        ↔ IsStep past.now.machine (journal_of past.now) user position (option_copied op.entry) kind) }
 {
     match kind {
-        Kind::Frozen => Ok(freezes_at(user, seat.waits, op)),
+        Kind::Frozen => Ok(freezes_at(user, position.waits, op)),
         _ => {
-            let keeps = is_of_op(past, seat, op, kind)?;
+            let keeps = is_of_op(past, position, op, kind)?;
             Ok(keeps)
         }
     }
@@ -163,23 +168,29 @@ fn is_step(
 // A step of script i, if it is there and has not exited.
 fn is_script_step(past: &Passed<'_>, i: u32, kind: Kind) -> Result<bool, Mem>
     ensures { IfOk result (λ b. IsTrue b ↔ IsScriptStep past.now.machine (journal_of past.now)
-        (seat_of past.now.machine (journal_of past.now) i) (op_of past.now.machine (journal_of past.now) i)
+        (position_of past.now.machine (journal_of past.now) i) (op_of past.now.machine (journal_of past.now) i)
         (slice_get past.now.machine.actors i) kind) }
 {
-    let seat = past.seat(i);
+    let position = past.position(i);
     match past.machine().actors.as_slice().get(i as usize) {
         None => Ok(false),
         Some(script) => {
-            if seat.exited {
+            if position.exited {
                 return Ok(false);
             }
-            let keeps = is_step(past, is_user(script.kind), seat, past.operation(i), kind)?;
+            let keeps = is_step(
+                past,
+                is_user(script.kind),
+                position,
+                past.operation(i),
+                kind,
+            )?;
             Ok(keeps)
         }
     }
 }
 
-// An entry of autosleep's work, where it stands so. `Mem` where a nap ends beyond all time.
+// An entry of autosleep's work, where it stands so. `Mem` if a nap ends beyond all time.
 fn is_work_step(past: &Passed<'_>, now: EventNow, work: Work, kind: Kind) -> Result<bool, Mem>
     ensures { IfOk result (λ b. IsTrue b ↔ IsWorkStep past.now.machine (journal_of past.now) now work kind) }
 {
@@ -246,7 +257,7 @@ fn is_maker_step(past: &Passed<'_>, kind: Kind) -> bool
 }
 
 /// Whether an entry of the journal is of its actor's own steps, once and in order (`kernel/power/main.c`,
-/// `kernel/power/autosleep.c`, `drivers/base/power/main.c`). `Mem` where a sleep ends beyond all time.
+/// `kernel/power/autosleep.c`, `drivers/base/power/main.c`). `Mem` if a sleep ends beyond all time.
 pub fn keeps_steps(past: &Passed<'_>, now: EventNow, who: Actor, kind: Kind) -> Result<bool, Mem>
     ensures { IfOk result (λ b. IsTrue b ↔ KeepsSteps past.now.machine (journal_of past.now) now who kind) }
 {

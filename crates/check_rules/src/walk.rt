@@ -12,7 +12,7 @@ use crate::skip::{is_next_down, is_scheduled_down};
 use check_due::{device_error, row_now, turn_of};
 use check_past::Passed;
 use phase_table::Phase;
-use sleep_model::{Actor, Callback, EventNow, Kind, Stage, Stand, What};
+use sleep_model::{Actor, Callback, EventNow, Kind, PhaseState, Stage, What};
 
 // Whether a device may be prepared now, and answers so.
 fn prepares_at(past: &Passed<'_>, device: u32, r: i32, row: Option<Stage>) -> bool
@@ -70,7 +70,7 @@ fn begins_async(past: &Passed<'_>, now: EventNow, phase: Phase, device: u32) -> 
                 Kind::Begin(phase, device),
             )
     } else {
-        matches!(past.stand(phase.mirror(), device), Stand::Rescheduled)
+        matches!(past.state(phase.mirror(), device), PhaseState::Rescheduled)
             && past.waits_above(phase.mirror(), device).is_none()
     }
 }
@@ -129,9 +129,9 @@ fn ends_async(past: &Passed<'_>, phase: Phase, device: u32) -> bool
     ensures { IsTrue result ↔ EndsAsync past.now.machine (journal_of past.now) phase device (is_down phase) }
 {
     if phase.is_down() {
-        matches!(past.stand(phase, device), Stand::Suspending)
+        matches!(past.state(phase, device), PhaseState::Suspending)
     } else {
-        matches!(past.stand(phase.mirror(), device), Stand::Resuming)
+        matches!(past.state(phase.mirror(), device), PhaseState::Resuming)
     }
 }
 

@@ -9,9 +9,9 @@ use Rattle.sleep_model.specs.declared.machine.PlatDo.TheVariants as down
 use Rattle.sleep_model.specs.declared.machine.What.{What}
 use Rattle.sleep_model.specs.declared.machine.What.TheVariants as what
 use Rattle.sleep_model.specs.Answers.{answer_for, is_for, is_platform_step, is_thing}
-use Rattle.check_sources.specs.declared.answers.Thing.TheVariants as thing
+use Rattle.check_sources.specs.declared.answers.AnsweringThing.TheVariants as thing
 use Rattle.check_sources.specs.contracts.answers.AnswerKeyPartialEq.TheImpl.{eq-value}
-use Rattle.check_sources.specs.AnswerKeys.{answer_key, key_for, phase_place, step_place}
+use Rattle.check_sources.specs.AnswerKeys.{answer_key, key_for, phase_rank, step_rank}
 
 -- the derived test of two attempts
 abbrev attempt_eq : Option ℕ → Option ℕ → Bool
@@ -26,7 +26,7 @@ turned n k = by_test (n == k) (k == n) refl refl
     by_test true false e f = grind (arith, nat_tests)
     by_test false true e f = grind (arith, nat_tests)
 
-same_step : (x y : PlatDo) → (step_place x == step_place y) ≡ is_platform_step y x
+same_step : (x y : PlatDo) → (step_rank x == step_rank y) ≡ is_platform_step y x
 same_step down.Begin down.Begin = refl
 same_step down.Prepare down.Prepare = refl
 same_step down.PrepareLate down.PrepareLate = refl
@@ -41,12 +41,12 @@ same_attempt (Some n) None same = refl
 -- a key is that of an answer where thing and attempt are
 key_eq : (w v : What) (a b : Option ℕ) → eq-value.it (key_for w a) (key_for v b) ≡ (is_thing v w && is_for b a)
 key_eq (what.Device d p) (what.Device e q) a b =
-    same_attempt a b (d == e && (phase_place p == phase_place q))
-    ∙ ap (λ c. (c && (phase_place p == phase_place q)) && is_for b a) (turned d e)
-    ∙ ap (λ c. (e == d && c) && is_for b a) (turned (phase_place p) (phase_place q))
+    same_attempt a b (d == e && (phase_rank p == phase_rank q))
+    ∙ ap (λ c. (c && (phase_rank p == phase_rank q)) && is_for b a) (turned d e)
+    ∙ ap (λ c. (e == d && c) && is_for b a) (turned (phase_rank p) (phase_rank q))
 key_eq (what.Syscore x) (what.Syscore y) a b = same_attempt a b (x == y) ∙ ap (λ c. c && is_for b a) (turned x y)
 key_eq (what.Notifier x) (what.Notifier y) a b = same_attempt a b (x == y) ∙ ap (λ c. c && is_for b a) (turned x y)
-key_eq (what.Platform x) (what.Platform y) a b = same_attempt a b (step_place x == step_place y) ∙ ap (λ c. c && is_for b a) (same_step x y)
+key_eq (what.Platform x) (what.Platform y) a b = same_attempt a b (step_rank x == step_rank y) ∙ ap (λ c. c && is_for b a) (same_step x y)
 key_eq _ _ a b = refl
 
 -- the answer at the first place of a key is the first of its thing and attempt

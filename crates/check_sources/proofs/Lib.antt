@@ -2,4 +2,4 @@ pub mod Answering
 pub mod Calling
 pub mod Nexting
 pub mod Owing
-pub mod Telling
+pub mod Agreement

@@ -1,4 +1,4 @@
--- The next call of an actor, behind those before its first turn.
+-- The next call of an actor, after those before its first turn.
 use Rattle.std.proofs.Common.{◌≡◌, ◌≤◌, ◌+◌, ◌-◌, ◌++◌, ◌∙◌, ℕ, zero, suc, List, [], ◌∷◌, length, map, refl, ap, sym, arith, slice_get}
 use Rattle.sleep_model.specs.declared.entry.Kind.{Kind}
 use Rattle.sleep_model.specs.declared.machine.Report.{Report}
@@ -13,7 +13,7 @@ noted_len : (first : List Report) → length (map noted first) ≡ length first
 noted_len [] = refl
 noted_len (r ∷ rs) = ap suc (noted_len rs)
 
-pub after_first : (first : List Report) (all rest : List Kind) (n : ℕ) → map noted first ≡ all → length first ≤ n → slice_get (all ++ rest) n ≡ slice_get rest (n - length first)
-after_first first all rest n e l =
+pub after_first_noted : (first : List Report) (all rest : List Kind) (n : ℕ) → map noted first ≡ all → length first ≤ n → slice_get (all ++ rest) n ≡ slice_get rest (n - length first)
+after_first_noted first all rest n e l =
     let s : length all ≡ length first = ap length (sym e) ∙ noted_len first in
     shift all rest n (n - length first) (omega (arith, s, l))

@@ -14,7 +14,7 @@ nothing : (reports : List Report) → length reports ≡ 0 → map noted reports
 nothing [] h = refl
 nothing (r ∷ rs) h = absurd (omega arith)
 
--- no calls behind those of a list leave every list as it was
+-- no calls after those of a list leave every list as it was
 pub none_owed : (later : List (List Kind)) (place : ℕ) (reports behind : List Report) → length reports ≡ 0 → length behind ≡ 0 →
     later ≡ slice_set later place (slice_index_or later place [] ++ map noted reports ++ map noted behind)
 none_owed later place reports behind h k =

@@ -9,25 +9,25 @@ use Rattle.sleep_model.specs.declared.machine.What.{What}
 use Rattle.sleep_model.specs.declared.machine.What.TheVariants as what
 use Rattle.sleep_model.specs.Answers.{answer_for}
 use Rattle.check_sources.specs.declared.answers.AnswerKey.{AnswerKey}
-use Rattle.check_sources.specs.declared.answers.Thing.{Thing}
-use Rattle.check_sources.specs.declared.answers.Thing.TheVariants as thing
+use Rattle.check_sources.specs.declared.answers.AnsweringThing.{AnsweringThing}
+use Rattle.check_sources.specs.declared.answers.AnsweringThing.TheVariants as thing
 
 -- the place of a phase in an attempt (enter_state)
-abbrev pub phase_place : Phase → ℕ
-phase_place p = table.phase_place p
+abbrev pub phase_rank : Phase → ℕ
+phase_rank p = table.phase_rank p
 
 -- the place of a step of the platform in an attempt (struct platform_suspend_ops)
-abbrev pub step_place : PlatDo → ℕ
-step_place down.Begin = 0
-step_place down.Prepare = 1
-step_place down.PrepareLate = 2
+abbrev pub step_rank : PlatDo → ℕ
+step_rank down.Begin = 0
+step_rank down.Prepare = 1
+step_rank down.PrepareLate = 2
 
 -- the thing, with places (own)
-abbrev pub thing_of : What → Thing
-thing_of (what.Device d p) = thing.Device d (phase_place p)
+abbrev pub thing_of : What → AnsweringThing
+thing_of (what.Device d p) = thing.Device d (phase_rank p)
 thing_of (what.Syscore x) = thing.Syscore x
 thing_of (what.Notifier x) = thing.Notifier x
-thing_of (what.Platform step) = thing.Platform (step_place step)
+thing_of (what.Platform step) = thing.Platform (step_rank step)
 
 -- by what an answer of a thing for that attempt, or for any, is found (own)
 abbrev pub key_for : What → Option ℕ → AnswerKey

@@ -1,7 +1,7 @@
 pub mod AnswerKeys
 pub mod CallerFields
 pub mod Calling
-pub mod Kept
+pub mod SourceStates
 pub mod Owing
-pub mod Places
+pub mod ActorRows
 pub mod PlanFields

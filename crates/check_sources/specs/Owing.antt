@@ -5,7 +5,7 @@ use Rattle.sleep_model.specs.declared.machine.SourceCall.{SourceCall}
 use Rattle.sleep_model.specs.declared.machine.SourceCall.TheVariants as call
 use Rattle.sleep_model.specs.declared.word.WordKind.{WordKind}
 use Rattle.sleep_model.specs.declared.word.WordKind.TheVariants as step
-use Rattle.sleep_model.specs.Parts.{Part, Notes, Moves, part_of}
+use Rattle.sleep_model.specs.EntryClasses.{EntryClass, Notes, Moves, class_of}
 use Rattle.sleep_model.specs.Sources.{owed, since}
 use Rattle.check_sources.specs.declared.owed.Owed.{Owed}
 
@@ -29,13 +29,13 @@ owed_by call.Relax active = record { start = false; hard = false; finish = activ
 owed_by (call.Event ms hard) active = record { start = not active; hard = hard; finish = ms == 0 }
 owed_by call.Expire active = record { start = false; hard = false; finish = active }
 
--- those behind the first (own)
+-- those after the first (own)
 abbrev pub after_first : Owed → Owed
 after_first o =
     if o.start then record o { start = false } else (if o.hard then record o { hard = false } else record o { finish = false })
 
 -- those that are owed after an entry, where an event is in progress or not (own)
-abbrev pub owes_after : Part → Bool → Owed → Owed
+abbrev pub owes_after : EntryClass → Bool → Owed → Owed
 owes_after (Notes s made) active before = owed_by made active
 owes_after (Moves s moved) active before = after_first before
 owes_after _ active before = before
@@ -43,7 +43,7 @@ owes_after _ active before = before
 -- those that the source's last call still owes (wakeup_source_report_event)
 abbrev pub owes : List Entry → Owed
 owes [] = owes_none
-owes (e ∷ own) = owes_after (part_of e.kind) (is_some (since own)) (owes own)
+owes (e ∷ own) = owes_after (class_of e.kind) (is_some (since own)) (owes own)
 
 -- the flags are the steps that are owed (own)
 abbrev pub FlagsAreSteps : Type 0

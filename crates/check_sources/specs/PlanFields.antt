@@ -14,5 +14,5 @@ pub record ArePlans (p : Inside) : Type 0 where
   pub answers : p.answers ≡ p.machine.now
 
 -- the fields are the plans and the answers of the machine (own)
-abbrev pub keeps : Inside → Type 0
-keeps p = ArePlans p
+abbrev pub check_plans_invariant : Inside → Type 0
+check_plans_invariant p = ArePlans p

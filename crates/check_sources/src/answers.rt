@@ -1,7 +1,7 @@
 //! What a machine's callbacks answer, each found at once by its thing and its attempt.
 
 ghost use Rattle.std.specs.Prelude.{◌≡◌, IfOk, map};
-ghost use Rattle.check_sources.specs.AnswerKeys.{answer_key, key_for, phase_place, step_place, thing_of};
+ghost use Rattle.check_sources.specs.AnswerKeys.{answer_key, key_for, phase_rank, step_rank, thing_of};
 
 use key_index::KeyIndex;
 use phase_table::Phase;
@@ -12,23 +12,23 @@ use std::marker::Model;
 
 /// A thing that answers: a phase and a step of the platform by their places in an attempt.
 #[derive(Clone, Copy, PartialEq, Eq, Hash)]
-pub(crate) enum Thing {
+pub(crate) enum AnsweringThing {
     Device(u32, u8),
     Syscore(u32),
     Notifier(u32),
     Platform(u8),
 }
 
-/// A thing, and the attempt that an answer is for; none where it is for any.
+/// A thing, and the attempt that an answer is for; none if it is for any.
 #[derive(Clone, Copy, PartialEq, Eq, Hash)]
 pub(crate) struct AnswerKey {
-    pub(crate) thing: Thing,
+    pub(crate) thing: AnsweringThing,
     pub(crate) attempt: Option<u32>,
 }
 
 // The place of a phase in an attempt.
-fn phase_place(phase: Phase) -> u8
-    ensures { result ≡ phase_place phase }
+fn phase_rank(phase: Phase) -> u8
+    ensures { result ≡ phase_rank phase }
 {
     match phase {
         Phase::Prepare => 0,
@@ -45,8 +45,8 @@ fn phase_place(phase: Phase) -> u8
 }
 
 // The place of a step of the platform in an attempt.
-fn step_place(step: PlatDo) -> u8
-    ensures { result ≡ step_place step }
+fn step_rank(step: PlatDo) -> u8
+    ensures { result ≡ step_rank step }
 {
     match step {
         PlatDo::Begin => 0,
@@ -56,14 +56,14 @@ fn step_place(step: PlatDo) -> u8
 }
 
 // The thing, with places.
-fn thing_of(what: What) -> Thing
+fn thing_of(what: What) -> AnsweringThing
     ensures { result ≡ thing_of what }
 {
     match what {
-        What::Device(device, phase) => Thing::Device(device, phase_place(phase)),
-        What::Syscore(part) => Thing::Syscore(part),
-        What::Notifier(notifier) => Thing::Notifier(notifier),
-        What::Platform(step) => Thing::Platform(step_place(step)),
+        What::Device(device, phase) => AnsweringThing::Device(device, phase_rank(phase)),
+        What::Syscore(part) => AnsweringThing::Syscore(part),
+        What::Notifier(notifier) => AnsweringThing::Notifier(notifier),
+        What::Platform(step) => AnsweringThing::Platform(step_rank(step)),
     }
 }
 
@@ -148,7 +148,7 @@ impl<'m> AnswerIndex<'m> {
         }
     }
 
-    /// The number that a thing answers in that attempt: 0 where the machine gives no answer.
+    /// The number that a thing answers in that attempt: 0 if the machine gives no answer.
     pub fn number(&self, what: What, attempt: u32) -> i32
         ensures { result ≡ answer_number (answer self.now what attempt) }
     {

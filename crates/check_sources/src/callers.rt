@@ -1,10 +1,10 @@
 ghost use Rattle.std.specs.Prelude.{◌≡◌, ◌++◌, [], map, slice_index_or, slice_set, ◌+◌, IfOk, OnOk};
-ghost use Rattle.sleep_model.specs.Calls.{calls_behind, calls_of_turn, ends_turn, report_calls};
+ghost use Rattle.sleep_model.specs.Calls.{calls_after_turn, calls_of_turn, ends_turn, report_calls};
 ghost use Rattle.script_plan.specs.CallPlans.{noted};
 
+use crate::actor_row::{actor_count, actor_index};
 use crate::answers::AnswerIndex;
 use crate::calls::{Calls, noted};
-use crate::places::{place_of, places_of};
 use crate::plans::Plans;
 use script_plan::ends_turn;
 use sleep_base::Mem;
@@ -13,7 +13,7 @@ use std::alloc::Global;
 use std::marker::Model;
 
 /// For each actor how many calls on sources it has made, how many turns of its own steps it has ended, and which calls
-/// it owes behind those before its first turn.
+/// it owes after those before its first turn.
 #[derive(Drop)]
 pub struct Callers<'m> {
     plans: Plans<'m>,
@@ -37,7 +37,7 @@ impl<'m> Model for Callers<'m> {
     ghost invariant = { λ c. IsSmall c.plans };
 }
 
-// The number at a place, 0 where there is none.
+// The number at a place, 0 if there is none.
 fn number_at(numbers: &[usize], place: usize) -> usize
     ensures { result ≡ slice_index_or numbers.now place 0 }
 {
@@ -57,7 +57,7 @@ fn set_at(numbers: &mut Vec<usize>, place: usize, number: usize)
     }
 }
 
-// Puts calls behind those at a place, where there is one.
+// Puts calls after those at a place, where there is one.
 fn extend_at(
     later: &mut Vec<Calls>,
     place: usize,
@@ -111,9 +111,9 @@ fn calls_of_turn<'a>(plans: &'a Plans<'_>, who: Actor, turn: usize) -> &'a [Repo
     }
 }
 
-// The calls right behind a turn, if one has ended.
-fn calls_behind<'a>(plans: &'a Plans<'_>, who: Actor, ended: bool, turn: usize) -> &'a [Report]
-    ensures { map noted result.now ≡ calls_behind plans.now who ended turn }
+// The calls right after a turn, if one has ended.
+fn calls_after_turn<'a>(plans: &'a Plans<'_>, who: Actor, ended: bool, turn: usize) -> &'a [Report]
+    ensures { map noted result.now ≡ calls_after_turn plans.now who ended turn }
 {
     if ended {
         calls_of_turn(plans, who, turn)
@@ -122,7 +122,7 @@ fn calls_behind<'a>(plans: &'a Plans<'_>, who: Actor, ended: bool, turn: usize) 
     }
 }
 
-// One more. `Mem` where the counter has no room.
+// One more. `Mem` if the counter has no room.
 fn one_further(count: usize) -> Result<usize, Mem>
     ensures { IfOk result (λ n. n ≡ count + 1) }
 {
@@ -143,7 +143,7 @@ impl<'m> Callers<'m> {
         requires { IsAccepted machine.now }
         ensures { IfOk result (λ c. c ≡ record { machine = machine.now; state = callers_of machine.now [] }) }
     {
-        let places = places_of(machine);
+        let places = actor_count(machine);
         let mut later = Vec::new(alloc);
         for i in 0..places {
             later.push(Calls::new(alloc))?;
@@ -156,7 +156,7 @@ impl<'m> Callers<'m> {
         })
     }
 
-    /// The operation that makes a script's entries with that number, from 0. None where it has none left.
+    /// The operation that makes a script's entries with that number, from 0. None if it has none left.
     pub fn operation(&self, script: u32, number: usize) -> Option<&'m Op>
         ensures { option_copied result ≡ slice_get (steps_of (slice_get self.now.machine.actors script)) number }
     {
@@ -170,27 +170,27 @@ impl<'m> Callers<'m> {
         self.plans.answers()
     }
 
-    /// Passes a note of that actor. `Mem` where a counter has no room.
+    /// Passes a note of that actor. `Mem` if a counter has no room.
     pub fn note(&mut self, who: Actor) -> Result<(), Mem>
         ensures { OnOk result (self.new ≡ record self.old { state = noted_by self.old.machine who self.old.state }) }
     {
-        let place = place_of(self.plans.machine(), who);
+        let place = actor_index(self.plans.machine(), who);
         let more = one_further(number_at(&self.made, place))?;
         set_at(&mut self.made, place, more);
         Ok(())
     }
 
-    /// Passes an entry of the journal, behind the attempts that were begun. `Mem` where a counter has no room, or if there is no memory
+    /// Passes an entry of the journal, after the attempts that were begun. `Mem` if a counter has no room, or if there is no memory
     /// for the calls.
     pub fn pass(&mut self, e: Entry, attempts: u32) -> Result<(), Mem>
         ensures { OnOk result (self.new ≡ record self.old { state = entered_by self.old.machine e attempts self.old.state }) }
     {
         let machine = self.plans.machine();
-        let place = place_of(machine, e.actor);
+        let place = actor_index(machine, e.actor);
         let ended = ends_turn(e.kind);
         let turn = one_further(number_at(&self.turns, place))?;
         let reports = reports_of(self.plans.answers(), e.kind, attempts);
-        let behind = calls_behind(&self.plans, e.actor, ended, turn);
+        let behind = calls_after_turn(&self.plans, e.actor, ended, turn);
         owe_at(&mut self.later, place, reports, behind)?;
         if ended {
             set_at(&mut self.turns, place, turn);
@@ -202,14 +202,14 @@ impl<'m> Callers<'m> {
     pub fn made(&self, who: Actor) -> usize
         ensures { result ≡ made_at self.now.machine self.now.state who }
     {
-        number_at(&self.made, place_of(self.plans.machine(), who))
+        number_at(&self.made, actor_index(self.plans.machine(), who))
     }
 
-    // The calls that an actor owes behind those before its first turn.
+    // The calls that an actor owes after those before its first turn.
     fn later(&self, who: Actor) -> &[Kind]
         ensures { result.now ≡ later_at self.now.machine self.now.state who }
     {
-        let place = place_of(self.plans.machine(), who);
+        let place = actor_index(self.plans.machine(), who);
         if place < self.later.len() {
             self.later[place].as_slice()
         } else {
@@ -217,7 +217,7 @@ impl<'m> Callers<'m> {
         }
     }
 
-    /// How many calls an actor owes in all before it may append to the journal. `Mem` where the sum has no room.
+    /// How many calls an actor owes in all before it may append to the journal. `Mem` if the sum has no room.
     pub fn due(&self, who: Actor) -> Result<usize, Mem>
         ensures { IfOk result (λ n. n ≡ length (calls_by self.now.machine self.now.state who)) }
     {
@@ -228,7 +228,7 @@ impl<'m> Callers<'m> {
         }
     }
 
-    // The one with that number of the calls that an actor owes behind those before its first turn.
+    // The one with that number of the calls that an actor owes after those before its first turn.
     fn later_call(&self, who: Actor, number: usize) -> Option<Kind>
         ensures { result ≡ slice_get (later_at self.now.machine self.now.state who) number }
     {

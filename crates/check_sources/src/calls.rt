@@ -63,7 +63,7 @@ impl Calls {
         self.notes.as_slice()
     }
 
-    /// Puts the notes of these reports behind the others. `Mem` if there is no memory for them.
+    /// Puts the notes of these reports after the others. `Mem` if there is no memory for them.
     pub(crate) fn extend(&mut self, reports: &[Report]) -> Result<(), Mem>
         ensures { OnOk result (self.new ≡ self.old ++ map noted reports.now) }
     {

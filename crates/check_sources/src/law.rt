@@ -1,13 +1,13 @@
 //! Laws of what is kept of sources and of the calls on them.
 
-ghost use Rattle.check_sources.specs.Calling.{CallersTell};
-ghost use Rattle.check_sources.specs.Kept.{SourcesTell};
+ghost use Rattle.check_sources.specs.Calling.{CallersAgree};
+ghost use Rattle.check_sources.specs.SourceStates.{SourcesAgree};
 ghost use Rattle.check_sources.specs.Owing.{FlagsAreSteps};
 
 /// What is kept of a source is what its own entries leave, for every list of entries.
-#[tactic(auto, using(crate::proofs::Telling::tell))]
-pub fn sources_tell()
-    ensures { SourcesTell }
+#[tactic(auto, using(crate::proofs::Telling::agree))]
+pub fn sources_agree()
+    ensures { SourcesAgree }
 {}
 
 /// The flags of the steps that are owed are those steps, in order.
@@ -18,6 +18,6 @@ pub fn flags_are_steps()
 
 /// For every machine and all entries that name what it has, the numbers and the calls of each actor are those that the
 /// definitions read.
-pub fn callers_tell()
-    ensures { CallersTell }
+pub fn callers_agree()
+    ensures { CallersAgree }
 {}

@@ -7,28 +7,28 @@
 //! entries: the steps that its call owes, who made it, its expiry, its statistics. How many calls each actor has
 //! made and which it owes is what the definitions read, after each entry of a log that fits its machine. The
 //! operations and the answers are those of the machine; each answer is found by an index. By the clauses of
-//! `SourceAccounts::new`, `pass`, `source`; `sources_tell`, `flags_are_steps`; `Callers::new`, `note`, `pass`,
-//! `made`, `due`, `next`; `callers_tell`; `AnswerIndex::error`, `number`, `reports`.
+//! `SourceAccounts::new`, `pass`, `source`; `sources_agree`, `flags_are_steps`; `Callers::new`, `note`, `pass`,
+//! `made`, `due`, `next`; `callers_agree`; `AnswerIndex::error`, `number`, `reports`.
 //!
-//! Begin reading in `src/source.rt`, `src/callers.rt`, `src/plans.rt`, `src/answers.rt`; `specs/Kept.antt`,
+//! Begin reading in `src/source.rt`, `src/callers.rt`, `src/plans.rt`, `src/answers.rt`; `specs/SourceStates.antt`,
 //! `specs/Calling.antt`, `specs/AnswerKeys.antt`.
 #![tactic(auto)]
 
+mod actor_row;
 mod answers;
 mod callers;
 mod calls;
 mod law;
 mod owed;
-mod places;
 mod plans;
 mod source;
 mod sources;
 
+pub use actor_row::actor_index;
 pub use answers::AnswerIndex;
 pub use callers::Callers;
-pub use law::{callers_tell, flags_are_steps, sources_tell};
+pub use law::{callers_agree, flags_are_steps, sources_agree};
 pub use owed::Owed;
-pub use places::place_of;
 pub use plans::Plans;
 pub use source::{Source, source_in};
 pub use sources::SourceAccounts;

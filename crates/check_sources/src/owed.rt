@@ -39,7 +39,7 @@ pub(crate) fn owed_by(call: SourceCall, active: bool) -> Owed
 }
 
 impl Owed {
-    /// The steps behind the first.
+    /// The steps after the first.
     pub(crate) fn after_first(self) -> Owed
         ensures { result ≡ after_first self }
     {

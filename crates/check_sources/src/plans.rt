@@ -20,11 +20,11 @@ impl<'m> Model for Plans<'m> {
 
     ghost Value = { Machine };
 
-    ghost use Rattle.check_sources.specs.PlanFields.{planned, keeps};
+    ghost use Rattle.check_sources.specs.PlanFields.{planned, check_plans_invariant};
 
     ghost view = { planned };
 
-    ghost invariant = { keeps };
+    ghost invariant = { check_plans_invariant };
 }
 
 impl<'m> Plans<'m> {
@@ -64,7 +64,7 @@ impl<'m> Plans<'m> {
         &self.answers
     }
 
-    /// The operation that makes a script's entries with that number, from 0. None where it has none left, or where
+    /// The operation that makes a script's entries with that number, from 0. None if it has none left, or where
     /// there is no such script.
     pub fn operation(&self, script: u32, number: usize) -> Option<&'m Op>
         ensures { option_copied result ≡ slice_get (steps_of (slice_get self.now.actors script)) number }
@@ -73,7 +73,7 @@ impl<'m> Plans<'m> {
         plan.operation(number)
     }
 
-    /// The calls right before a script's turn with that number, from 0, or before its exit; none where there is no such
+    /// The calls right before a script's turn with that number, from 0, or before its exit; none if there is no such
     /// script.
     pub fn calls_at(&self, script: u32, turn: usize) -> &[Report]
         ensures { map noted result.now ≡ calls_at (pieces_in self.now script) turn }

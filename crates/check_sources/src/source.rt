@@ -1,10 +1,10 @@
 //! A wakeup source, and what an entry of its own leaves (`drivers/base/power/wakeup.c`, `struct wakeup_source`).
 
 ghost use Rattle.std.specs.Prelude.{◌≡◌, ◌+◌, [], Bool, IfOk, is_some};
-ghost use Rattle.sleep_model.specs.Parts.{part_of};
+ghost use Rattle.sleep_model.specs.EntryClasses.{class_of};
 ghost use Rattle.sleep_model.specs.Sources.{expiry_after, has_expired, is_event, is_expiry, is_start, last_after, later, longest_after, run_time, since_after, total_after, caller_after};
 ghost use Rattle.check_sources.specs.Owing.{owes_after};
-ghost use Rattle.check_sources.specs.Kept.{counted, source_after, source_in, source_of};
+ghost use Rattle.check_sources.specs.SourceStates.{counted, source_after, source_in, source_of};
 
 use crate::owed::{Owed, owed_by};
 use sleep_base::Mem;
@@ -62,7 +62,7 @@ pub(crate) fn fresh() -> Source
 
 /// The source whose entry it is, if it is a source's.
 pub fn source_in(kind: Kind) -> Option<u32>
-    ensures { result ≡ source_in (part_of kind) }
+    ensures { result ≡ source_in (class_of kind) }
 {
     match kind {
         Kind::Awake(source)
@@ -76,7 +76,7 @@ pub fn source_in(kind: Kind) -> Option<u32>
     }
 }
 
-// A sum of times. `Mem` where it has no room.
+// A sum of times. `Mem` if it has no room.
 fn added(a: u64, b: u64) -> Result<u64, Mem>
     ensures { IfOk result (λ n. n ≡ a + b) }
 {
@@ -96,10 +96,10 @@ fn later(time: u64, stands: Option<u64>) -> Option<u64>
     }
 }
 
-// When the event in progress ends by itself, after an entry (`pm_wakeup_ws_event`). `Mem` where that is beyond all
+// When the event in progress ends by itself, after an entry (`pm_wakeup_ws_event`). `Mem` if that is beyond all
 // time.
 fn expiry_after(kind: Kind, time: u64, before: Option<u64>) -> Result<Option<u64>, Mem>
-    ensures { IfOk result (λ x. x ≡ expiry_after (part_of kind) time before) }
+    ensures { IfOk result (λ x. x ≡ expiry_after (class_of kind) time before) }
 {
     match kind {
         Kind::Awake(_) | Kind::Finish(_) => Ok(None),
@@ -116,7 +116,7 @@ fn expiry_after(kind: Kind, time: u64, before: Option<u64>) -> Result<Option<u64
 
 // When the event in progress began, after an entry.
 fn since_after(kind: Kind, time: u64, before: Option<u64>) -> Option<u64>
-    ensures { result ≡ since_after (part_of kind) time before }
+    ensures { result ≡ since_after (class_of kind) time before }
 {
     match kind {
         Kind::Start(_) => Some(time),
@@ -127,7 +127,7 @@ fn since_after(kind: Kind, time: u64, before: Option<u64>) -> Option<u64>
 
 // The steps that are owed after an entry.
 fn owes_after(kind: Kind, active: bool, before: Owed) -> Owed
-    ensures { result ≡ owes_after (part_of kind) active before }
+    ensures { result ≡ owes_after (class_of kind) active before }
 {
     match kind {
         Kind::Awake(_) => owed_by(SourceCall::Awake, active),
@@ -141,7 +141,7 @@ fn owes_after(kind: Kind, active: bool, before: Owed) -> Owed
 
 // Who made the last call, after an entry of that actor.
 fn caller_after(kind: Kind, who: Actor, before: Option<Actor>) -> Option<Actor>
-    ensures { result ≡ caller_after (part_of kind) who before }
+    ensures { result ≡ caller_after (class_of kind) who before }
 {
     match kind {
         Kind::Awake(_) | Kind::Relax(_) | Kind::Event { .. } | Kind::Expire(_) => Some(who),
@@ -149,7 +149,7 @@ fn caller_after(kind: Kind, who: Actor, before: Option<Actor>) -> Option<Actor>
     }
 }
 
-// One more where it is so. `Mem` where the counter has no room.
+// One more where it is so. `Mem` if the counter has no room.
 fn counted(so: bool, before: u32) -> Result<u32, Mem>
     ensures { IfOk result (λ n. n ≡ counted so before) }
 {
@@ -174,7 +174,7 @@ fn run_time(since: Option<u64>, at: u64) -> u64
 
 // The sum of the times of events that ended, after an entry.
 fn total_after(kind: Kind, time: u64, since: Option<u64>, before: u64) -> Result<u64, Mem>
-    ensures { IfOk result (λ n. n ≡ total_after (part_of kind) time since before) }
+    ensures { IfOk result (λ n. n ≡ total_after (class_of kind) time since before) }
 {
     match kind {
         Kind::Finish(_) => added(before, run_time(since, time)),
@@ -184,7 +184,7 @@ fn total_after(kind: Kind, time: u64, since: Option<u64>, before: u64) -> Result
 
 // The longest of them, after an entry.
 fn longest_after(kind: Kind, time: u64, since: Option<u64>, before: u64) -> u64
-    ensures { result ≡ longest_after (part_of kind) time since before }
+    ensures { result ≡ longest_after (class_of kind) time since before }
 {
     match kind {
         Kind::Finish(_) => before.max(run_time(since, time)),
@@ -194,7 +194,7 @@ fn longest_after(kind: Kind, time: u64, since: Option<u64>, before: u64) -> u64
 
 // When the last start or finish was, after an entry.
 fn last_after(kind: Kind, time: u64, before: u64) -> u64
-    ensures { result ≡ last_after (part_of kind) time before }
+    ensures { result ≡ last_after (class_of kind) time before }
 {
     match kind {
         Kind::Start(_) | Kind::Finish(_) => time,
@@ -204,26 +204,26 @@ fn last_after(kind: Kind, time: u64, before: u64) -> u64
 
 // Whether it is the note of an event.
 fn is_event(kind: Kind) -> bool
-    ensures { result ≡ is_event (part_of kind) }
+    ensures { result ≡ is_event (class_of kind) }
 {
     matches!(kind, Kind::Awake(_) | Kind::Event { .. })
 }
 
 // Whether it is a start.
 fn is_start(kind: Kind) -> bool
-    ensures { result ≡ is_start (part_of kind) }
+    ensures { result ≡ is_start (class_of kind) }
 {
     matches!(kind, Kind::Start(_))
 }
 
 // Whether it is the note of an expiry.
 fn is_expiry(kind: Kind) -> bool
-    ensures { result ≡ is_expiry (part_of kind) }
+    ensures { result ≡ is_expiry (class_of kind) }
 {
     matches!(kind, Kind::Expire(_))
 }
 
-// One entry more. `Mem` where the counter has no room.
+// One entry more. `Mem` if the counter has no room.
 fn one_further(count: usize) -> Result<usize, Mem>
     ensures { IfOk result (λ n. n ≡ count + 1) }
 {
@@ -233,7 +233,7 @@ fn one_further(count: usize) -> Result<usize, Mem>
     }
 }
 
-/// What is kept after one more entry of the source. `Mem` where a counter has no room.
+/// What is kept after one more entry of the source. `Mem` if a counter has no room.
 pub(crate) fn source_after(e: Entry, before: Source) -> Result<Source, Mem>
     ensures { IfOk result (λ s. s ≡ source_after e before) }
 {
@@ -266,7 +266,7 @@ impl Source {
         }
     }
 
-    /// Its statistics at that time, the event in progress included (`print_wakeup_source_stats`). `Mem` where a sum has
+    /// Its statistics at that time, the event in progress included (`print_wakeup_source_stats`). `Mem` if a sum has
     /// no room.
     pub fn stats(&self, at: u64) -> Result<Stats, Mem>
         ensures { IfOk result (λ s. s ≡ record {

@@ -21,7 +21,7 @@ impl Model for SourceAccounts {
 
 impl SourceAccounts {
     ghost use Rattle.std.specs.Prelude.{◌≡◌, [], length, slice_index_or, IfOk, OnOk};
-    ghost use Rattle.check_sources.specs.Kept.{source_of, sources, sources_after};
+    ghost use Rattle.check_sources.specs.SourceStates.{source_of, sources, sources_after};
 
     /// So many sources, none of which has an entry. `Mem` if there is no memory for them.
     pub fn new(alloc: Global, count: usize) -> Result<Self, Mem>
@@ -32,7 +32,7 @@ impl SourceAccounts {
         })
     }
 
-    /// Passes one more entry, whatever it is. `Mem` where a counter has no room.
+    /// Passes one more entry, whatever it is. `Mem` if a counter has no room.
     pub fn pass(&mut self, e: Entry) -> Result<(), Mem>
         ensures { OnOk result (self.new ≡ sources_after e self.old) }
     {

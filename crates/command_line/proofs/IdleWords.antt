@@ -1,4 +1,4 @@
--- The words behind idle.
+-- The words after idle.
 use Rattle.std.proofs.Common.{ℕ, ◌≡◌, ◌≢◌, ◌∙◌, ◌++◌, Bool, cond, true, false, List, [], ◌∷◌, length, map, get_or, ◌<◌, ◌≤◌, take, drop, Option, Some, None, refl, sym, ap, subst, codes, take-append-drop, arith}
 use Rattle.std.specs.Str.{bytes_eq}
 use Rattle.command_line.specs.Words.{command_in, command_of, idle_of, idle_sizes, number_in, parsed_of, workers_number, workers_prefix}
@@ -11,8 +11,8 @@ if_false : (b : Bool) (a c : Option ℕ) → b ≡ false → cond b a c ≡ c
 if_false b a c is = ap (λ (t : Bool). cond t a c) is
 
 -- a word that begins with the option's name
-pub number_behind : (word rest : List ℕ) → word ≡ workers_prefix ++ rest → workers_number word ≡ number_in 1 64 rest
-number_behind word rest is = ap workers_number is ∙ refl
+pub number_after : (word rest : List ℕ) → word ≡ workers_prefix ++ rest → workers_number word ≡ number_in 1 64 rest
+number_after word rest is = ap workers_number is ∙ refl
 
 -- and one that does not
 pub no_number : (word : List ℕ) → ((rest : List ℕ) → word ≢ workers_prefix ++ rest) → workers_number word ≡ None

@@ -5,7 +5,7 @@ use Rattle.std.specs.List.{list_all}
 use Rattle.clap.proofs.WalkLemmas.{both}
 use Rattle.command_line.specs.declared.command.Command.{Command}
 use Rattle.command_line.specs.declared.command.Command.TheVariants.{Run, Gen, Soak, Check, Locks, Stats, Idle}
-use Rattle.command_line.specs.Words.{IsInRange, alone_of, command_in, command_of, behind_option, idle_of, idle_sizes, option_place, workers_named, workers_number, has_no_zero_before, is_digit, number_in, run_of, seeded_of, value_of, workers_of, workers_prefix}
+use Rattle.command_line.specs.Words.{IsInRange, alone_of, command_in, command_of, after_option, idle_of, idle_sizes, option_index, workers_named, workers_number, has_no_zero_before, is_digit, number_in, run_of, seeded_of, value_of, workers_of, workers_prefix}
 
 if_so : (b : Bool) (n : ℕ) (P : ℕ → Type 0) → (b ≡ true → P n) → IfSome (cond b (Some n) None) P
 if_so true n P h = h refl
@@ -91,10 +91,10 @@ sizes_range (w ∷ e ∷ s ∷ []) n h = sized_range (number_in 1 16 w) (number_
 sizes_range (w ∷ e ∷ s ∷ more ∷ words) n h = tt
 
 idle_range : (words : List (List ℕ)) → IfSome (idle_of words) IsInRange
-idle_range words = go (workers_named (drop (option_place words) words)) (named_range (drop (option_place words) words))
+idle_range words = go (workers_named (drop (option_index words) words)) (named_range (drop (option_index words) words))
   where
     sizes : List (List ℕ)
-    sizes = take (option_place words) words ++ behind_option (drop (option_place words) words)
+    sizes = take (option_index words) words ++ after_option (drop (option_index words) words)
 
     go : (o : Option ℕ) → IfSome o (λ n. (1 ≤ n) × (n ≤ 64)) → IfSome (option_and_then (λ n. idle_sizes sizes n) o) IsInRange
     go None h = tt

@@ -81,8 +81,8 @@ abbrev pub begins_option : List ℕ → Bool
 begins_option word = bytes_eq word (codes "--workers") || bytes_eq (take (length workers_prefix) word) workers_prefix
 
 -- how many words stand before the option; all, where it does not stand
-abbrev pub option_place : List (List ℕ) → ℕ
-option_place words = position_or_len begins_option words
+abbrev pub option_index : List (List ℕ) → ℕ
+option_index words = position_or_len begins_option words
 
 -- how many workers the option asks for that stands first of these words; four, where no word is left
 abbrev pub workers_named : List (List ℕ) → Option ℕ
@@ -90,11 +90,11 @@ workers_named [] = Some 4
 workers_named (word ∷ []) = workers_number word
 workers_named (word ∷ n ∷ words) = if bytes_eq word (codes "--workers") then number_in 1 64 n else workers_number word
 
--- the words behind the option that stands first of these
-abbrev pub behind_option : List (List ℕ) → List (List ℕ)
-behind_option [] = []
-behind_option (word ∷ []) = []
-behind_option (word ∷ n ∷ words) = if bytes_eq word (codes "--workers") then words else n ∷ words
+-- the words after the option that stands first of these
+abbrev pub after_option : List (List ℕ) → List (List ℕ)
+after_option [] = []
+after_option (word ∷ []) = []
+after_option (word ∷ n ∷ words) = if bytes_eq word (codes "--workers") then words else n ∷ words
 
 -- a run of the sizes that three words spell
 abbrev pub idle_sized : List ℕ → List ℕ → List ℕ → ℕ → Option Command
@@ -106,11 +106,11 @@ abbrev pub idle_sizes : List (List ℕ) → ℕ → Option Command
 idle_sizes (wakers ∷ events ∷ sessions ∷ []) workers = idle_sized wakers events sessions workers
 idle_sizes _ workers = None
 
--- the words after idle: the sizes, and the option before them, between them or behind them. Where it stands twice, the second one is no size.
+-- the words after idle: the sizes, and the option before them, between them or after them. Where it stands twice, the second one is no size.
 abbrev pub idle_of : List (List ℕ) → Option Command
 idle_of words =
-    let place = option_place words in
-    option_and_then (λ n. idle_sizes (take place words ++ behind_option (drop place words)) n) (workers_named (drop place words))
+    let place = option_index words in
+    option_and_then (λ n. idle_sizes (take place words ++ after_option (drop place words)) n) (workers_named (drop place words))
 
 -- what these words ask for, where they are of a form; the first is the program's name
 abbrev pub command_of : List (List ℕ) → Option Command

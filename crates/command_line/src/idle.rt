@@ -1,7 +1,7 @@
-//! The words behind `idle`.
+//! The words after `idle`.
 
 ghost use Rattle.std.specs.Prelude.{◌≡◌, ◌≤◌, ◌++◌, ◌∷◌, length, map, string_bytes};
-ghost use Rattle.command_line.specs.Words.{begins_option, behind_option, idle_of, idle_sized, idle_sizes, option_place, workers_named, workers_number};
+ghost use Rattle.command_line.specs.Words.{begins_option, after_option, idle_of, idle_sized, idle_sizes, option_index, workers_named, workers_number};
 
 use crate::command::Command;
 use crate::number::number_in;
@@ -24,8 +24,8 @@ fn begins_option(word: &str) -> bool
 }
 
 /// How many words stand before the option; all, where it does not stand.
-fn option_place(words: &[String]) -> usize
-    ensures place { result ≡ option_place (map string_bytes words.now) }
+fn option_index(words: &[String]) -> usize
+    ensures place { result ≡ option_index (map string_bytes words.now) }
     ensures most { result ≤ length words.now }
 {
     for (place, word) in words.iter().enumerate() {
@@ -47,9 +47,9 @@ fn workers_named(words: &[String]) -> Option<u64>
     }
 }
 
-/// The words behind the option that stands first of these.
-fn behind_option(words: &[String]) -> &[String]
-    ensures { map string_bytes result.now ≡ behind_option (map string_bytes words.now) }
+/// The words after the option that stands first of these.
+fn after_option(words: &[String]) -> &[String]
+    ensures { map string_bytes result.now ≡ after_option (map string_bytes words.now) }
 {
     match words {
         [] => words,
@@ -108,7 +108,7 @@ fn after_two(wakers: &str, events: &str, behind: &[String], workers: u32) -> Opt
     }
 }
 
-/// A run of the sizes that stand before the option and behind it.
+/// A run of the sizes that stand before the option and after it.
 fn sizes_around(before: &[String], behind: &[String], workers: u32) -> Option<Command>
     ensures { result ≡ idle_sizes (map string_bytes before.now ++ map string_bytes behind.now) workers }
 {
@@ -126,11 +126,11 @@ fn sizes_around(before: &[String], behind: &[String], workers: u32) -> Option<Co
     }
 }
 
-/// What the words behind `idle` ask for.
+/// What the words after `idle` ask for.
 pub(crate) fn idle_in(words: &[String]) -> Option<Command>
     ensures { result ≡ idle_of (map string_bytes words.now) }
 {
-    let (before, option) = words.split_at(option_place(words));
+    let (before, option) = words.split_at(option_index(words));
     let workers = workers_named(option)? as u32;
-    sizes_around(before, behind_option(option), workers)
+    sizes_around(before, after_option(option), workers)
 }

@@ -142,8 +142,8 @@ fn parsed(alloc: Global, words: &[String]) -> Result<Option<Command>, Mem>
     }
 }
 
-/// What the words of the command line ask for; the first is the program's name. `None` where they are of no form, as
-/// where they call for help. An error is want of memory.
+/// What the words of the command line ask for; the first is the program's name. `None` if they are of no form, as
+/// where they call for help. An error is out of memory.
 pub fn command_of(alloc: Global, words: &[String]) -> Result<Option<Command>, Mem>
     ensures asks { IfOk result (λ c. c ≡ command_of (map string_bytes words.now)) }
     ensures range { IfOk result (λ c. IfSome c IsInRange) }

@@ -9,10 +9,10 @@ pub record IsFirst (look : Token) (s : SeatedSourceState) : Type 0 where
   pub source : s.source ≡ new_source 0
   pub seat : IsSeatOf look.table_id 0 s.seat
 
-first_of : (look : Token) (front : List SeatedSourceState) (s : SeatedSourceState) → length (front ++ s ∷ []) ≡ 1 → AreUncalled (front ++ s ∷ []) → AreNew look (seats_of (front ++ s ∷ [])) → IsFirst look s
-first_of look [] s one uncalled new = record { source = uncalled 0 s refl; seat = new.all_are.each_is 0 s.seat refl }
-first_of look (x ∷ front) s one uncalled new = absurd (omega (arith, one, length-append front (s ∷ [])))
+first_look_of : (look : Token) (front : List SeatedSourceState) (s : SeatedSourceState) → length (front ++ s ∷ []) ≡ 1 → AreUncalled (front ++ s ∷ []) → AreNew look (seats_of (front ++ s ∷ [])) → IsFirst look s
+first_look_of look [] s one uncalled new = record { source = uncalled 0 s refl; seat = new.all_are.each_is 0 s.seat refl }
+first_look_of look (x ∷ front) s one uncalled new = absurd (omega (arith, one, length-append front (s ∷ [])))
 
 pub first : (look : Token) (sources front : List SeatedSourceState) (s : SeatedSourceState) → sources ≡ front ++ s ∷ [] → length sources ≡ 1 → AreUncalled sources → AreNew look (seats_of sources) → IsFirst look s
 first look sources front s is one uncalled new =
-    first_of look front s (ap (λ (l : List SeatedSourceState). length l) (sym is) ∙ one) (subst AreUncalled is uncalled) (subst (λ (l : List SeatedSourceState). AreNew look (seats_of l)) is new)
+    first_look_of look front s (ap (λ (l : List SeatedSourceState). length l) (sym is) ∙ one) (subst AreUncalled is uncalled) (subst (λ (l : List SeatedSourceState). AreNew look (seats_of l)) is new)

@@ -2,8 +2,8 @@ ghost use Rattle.std.specs.Prelude.{◌≡◌, ◌≤◌, ◌+◌, [], ◌∷◌
 ghost use Rattle.sleep_model.specs.Accepted.{IsAccepted};
 ghost use Rattle.sleep_model.specs.Numbers.{time_of};
 ghost use Rattle.sleep_model.specs.Order.{parents_of};
-ghost use Rattle.sleep_state.specs.Places.{entries};
-ghost use Rattle.run_world.specs.Held.{AreTimely};
+ghost use Rattle.sleep_state.specs.JournalRooms.{entries};
+ghost use Rattle.run_world.specs.ObjectLists.{AreTimely};
 ghost use Rattle.run_world.specs.Acts.{actor_of};
 ghost use Rattle.world_workers.specs.Bursts.{AreReady, AreTasksIn, HaveTurns};
 
@@ -16,11 +16,11 @@ use run_world::{OpenGate, Task};
 use sleep_base::Mem;
 use sleep_core::Core;
 use sleep_model::{Actor, Machine};
-use sleep_script::{Job, TimerJob};
+use sleep_script::{ActorJob, TimerJob};
 use std::alloc::Global;
 use std::sync::Wait;
 use std::thread::Threads;
-use world_workers::{BurstParts, BurstPlan, make_burst};
+use world_workers::{BurstContents, BurstPlan, make_burst};
 
 /// A task that puts the machine to sleep.
 const ATTEMPT: &str =
@@ -50,10 +50,10 @@ fn few_tasks<'m>(alloc: Global, plans: &'m MachinePlans<'_>) -> Result<Vec<Task<
     ensures actors { IfOk result (λ tasks. map actor_of tasks.items ≡ FEW) }
     ensures count { IfOk result (λ tasks. length tasks.items ≡ 3) }
 {
-    let script = Job::of_script(plans, 0);
+    let script = ActorJob::of_script(plans, 0);
     let tasks = vec![in alloc;
         Task::Acts(script),
-        Task::Acts(Job::of_auto(plans)),
+        Task::Acts(ActorJob::of_auto(plans)),
         Task::Fires(TimerJob::new(0)),
     ]?;
     Ok(tasks)
@@ -68,10 +68,10 @@ fn more_tasks<'m>(alloc: Global, plans: &'m MachinePlans<'_>) -> Result<Vec<Task
     ensures actors { IfOk result (λ tasks. map actor_of tasks.items ≡ MORE) }
     ensures count { IfOk result (λ tasks. length tasks.items ≡ 4) }
 {
-    let script = Job::of_script(plans, 0);
+    let script = ActorJob::of_script(plans, 0);
     let tasks = vec![in alloc;
         Task::Acts(script),
-        Task::Acts(Job::of_auto(plans)),
+        Task::Acts(ActorJob::of_auto(plans)),
         Task::Fires(TimerJob::new(0)),
         Task::Fires(TimerJob::new(1)),
     ]?;
@@ -79,27 +79,27 @@ fn more_tasks<'m>(alloc: Global, plans: &'m MachinePlans<'_>) -> Result<Vec<Task
 }
 
 /// What goes into a machine's first burst with these tasks, and the table of its seats.
-fn first_parts<'m>(
+fn first_contents<'m>(
     alloc: Global,
     plans: &'m MachinePlans<'_>,
     links: Links,
     tasks: Vec<Task<'m>>,
-) -> Result<(EventTable, BurstParts<'m>), Mem>
+) -> Result<(EventTable, BurstContents<'m>), Mem>
     requires accepted { IsAccepted plans.now }
     requires links { links ≡ record { parents = parents_of plans.now.devices; links = reverse plans.now.links } }
     requires tasks { AreTasksIn plans.now tasks.items }
-    ensures ready { IfOk result (λ made. AreReady plans.now made.0.desk.shared.table_id made.1.core made.1.sources.items made.1.tasks.items) }
+    ensures ready { IfOk result (λ made. AreReady plans.now made.0.cells.shared.table_id made.1.core made.1.sources.items made.1.tasks.items) }
     ensures timely { IfOk result (λ made. AreTimely (time_of (entries made.1.core.core.past)) made.1.sources.items) }
     ensures tasks { IfOk result (λ made. made.1.tasks.items ≡ tasks.entry.items) }
 {
     let (table, sources, look) = seated_sources(alloc, plans.machine().sources.len() as u32 + 1)?;
     let core = SeatedCore::new(Core::new(alloc, plans, links)?, look);
-    let parts = BurstParts {
+    let contents = BurstContents {
         core,
         sources,
         tasks,
     };
-    Ok((table, parts))
+    Ok((table, contents))
 }
 
 /// How many turns of two workers did something in a machine's first burst.
@@ -118,7 +118,7 @@ fn first_burst<'m, R: Threads + Sync + Wait>(
     requires actors { actors.now ≡ map actor_of tasks.items }
     requires count { (1 ≤ length tasks.items) × (length tasks.items ≤ 2000) }
 {
-    let (table, parts) = first_parts(alloc, plans, links, tasks)?;
+    let (table, contents) = first_contents(alloc, plans, links, tasks)?;
     let plan = BurstPlan {
         gate: &OpenGate,
         table: &table,
@@ -126,7 +126,7 @@ fn first_burst<'m, R: Threads + Sync + Wait>(
         actors,
         workers: 2,
     };
-    Ok(make_burst(rt, alloc, &plan, parts)?.did)
+    Ok(make_burst(rt, alloc, &plan, contents)?.did)
 }
 
 /// How many turns did something in the first burst over the plans of a machine of one script and at most one source.

@@ -55,7 +55,7 @@ fn turn<R: Wait, E: Events>(
     Ok(core.turn(rt, events, who, 0, START, now)?)
 }
 
-// Turns of an actor up to the first that makes no entry: what it waits for then, and None where nothing is due of it.
+// Turns of an actor up to the first that makes no entry: what it waits for then, and None if nothing is due of it.
 fn run<R: Wait, E: Events>(
     rt: &R,
     core: &mut Core<'_>,
@@ -95,23 +95,23 @@ struct Alone {
     next_time: Option<u64>,
     whole: bool,
     is_open: bool,
-    is_still: bool,
-    are_still: bool,
+    is_stopped: bool,
+    are_stopped: bool,
     slept: Option<u32>,
     entries: EntryList,
 }
 
 // What the core of an actor alone shows, after its turns.
-fn told(alloc: Global, core: Core<'_>, waits: Option<Why>) -> Alone {
+fn seen_alone(alloc: Global, core: Core<'_>, waits: Option<Why>) -> Alone {
     Alone {
         waits,
         next_time: core.next_time(),
         whole: core.whole(),
         is_open: core.is_open(),
-        is_still: core.is_still(0),
-        are_still: core.are_still(),
+        is_stopped: core.is_stopped(0),
+        are_stopped: core.are_stopped(),
         slept: core.next_slept(None),
-        entries: EntryList::of_parts(core.into_journal(), Vec::new(alloc)),
+        entries: EntryList::of_journal(core.into_journal(), Vec::new(alloc)),
     }
 }
 
@@ -130,7 +130,7 @@ fn run_over<R: Wait, E: Events>(
 {
     let mut core = Core::new(alloc, plans, links)?;
     match run(rt, &mut core, events, who) {
-        Ok(waits) => Ok(told(alloc, core, waits)),
+        Ok(waits) => Ok(seen_alone(alloc, core, waits)),
         Err(failed) => {
             drop(core);
             Err(failed)
@@ -285,7 +285,7 @@ fn a_plain_attempt_enters(rt: HostRuntime) -> Result<(), Fail> {
     Ok(())
 }
 
-/// Such events behind a save that was answered: the attempt is given up.
+/// Such events after a save that was answered: the attempt is given up.
 #[test]
 fn a_guarded_attempt_is_given_up(rt: HostRuntime) -> Result<(), Fail> {
     assert!(rt; goes(&rt, rt.alloc(), &mut MovingWord::new(3, false), false)?);
@@ -305,7 +305,7 @@ fn sleeps(slept: &Alone) -> bool {
         && slept.next_time == Some(1000)
         && !slept.whole
         && slept.is_open
-        && !slept.are_still
+        && !slept.are_stopped
 }
 
 /// The machine sleeps till its alarm, and all is not over before that.
@@ -319,10 +319,10 @@ fn a_machine_sleeps_till_its_alarm(rt: HostRuntime) -> Result<(), Fail> {
 }
 
 /// Whether the first script is still, and all are or not.
-fn is_still<R: Wait>(rt: &R, alloc: Global, file: &str, are_still: bool) -> Result<bool, Fail> {
+fn is_stopped<R: Wait>(rt: &R, alloc: Global, file: &str, are_stopped: bool) -> Result<bool, Fail> {
     let alone = run_alone(rt, alloc, &mut PlainEvents::new(), file, MANAGER)?;
-    let all = alone.are_still == are_still;
-    let first = alone.is_still && !alone.is_open && alone.slept.is_none();
+    let all = alone.are_stopped == are_stopped;
+    let first = alone.is_stopped && !alone.is_open && alone.slept.is_none();
     drop(alone);
     Ok(all && first)
 }
@@ -330,10 +330,10 @@ fn is_still<R: Wait>(rt: &R, alloc: Global, file: &str, are_still: bool) -> Resu
 /// A script is still that sleeps on or has exited, and so are all where each is; none of those has slept, and no attempt is
 /// open.
 #[test]
-fn scripts_are_still(rt: HostRuntime) -> Result<(), Fail> {
-    assert!(rt; is_still(&rt, rt.alloc(), SLEEPER, true)?);
-    assert!(rt; is_still(&rt, rt.alloc(), POSTER, true)?);
-    assert!(rt; is_still(&rt, rt.alloc(), WAITERS, false)?);
+fn scripts_are_stopped(rt: HostRuntime) -> Result<(), Fail> {
+    assert!(rt; is_stopped(&rt, rt.alloc(), SLEEPER, true)?);
+    assert!(rt; is_stopped(&rt, rt.alloc(), POSTER, true)?);
+    assert!(rt; is_stopped(&rt, rt.alloc(), WAITERS, false)?);
     Ok(())
 }
 

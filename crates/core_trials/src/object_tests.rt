@@ -1,6 +1,6 @@
 ghost use Rattle.std.specs.Prelude.{◌≡◌, ◌≤◌, ◌^◌, IfOk};
 ghost use Rattle.event_word.specs.Seats.{IsSeatOf};
-ghost use Rattle.wakeup_source.specs.SourceStates.{bare, latest, new_source};
+ghost use Rattle.wakeup_source.specs.SourceStates.{unstamped, latest, new_source};
 
 use event_word::{EventTable, LookSeat};
 use run_objects::{SeatedSource, seated_sources};
@@ -36,7 +36,7 @@ fn at(now: u64) -> CallBy
 fn one_source(alloc: Global) -> Result<(EventTable, SeatedSource, LookSeat), Mem>
     ensures source { IfOk result (λ made. made.1.source ≡ new_source 0) }
     ensures seat { IfOk result (λ made. IsSeatOf made.2.token.table_id 0 made.1.seat) }
-    ensures look { IfOk result (λ made. made.2.token.table_id ≡ made.0.desk.shared.table_id) }
+    ensures look { IfOk result (λ made. made.2.token.table_id ≡ made.0.cells.shared.table_id) }
 {
     let (table, mut sources, look) = seated_sources(alloc, 1)?;
     let Some(source) = sources.pop() else {
@@ -52,8 +52,8 @@ fn expire<R: Wait>(
     source: &mut SeatedSource,
     now: u64,
 ) -> Result<Stamp, Fail>
-    requires table { source.old.seat.table_id ≡ table.now.desk.shared.table_id }
-    requires time { latest (bare source.old.source.past) ≤ now }
+    requires table { source.old.seat.table_id ≡ table.now.cells.shared.table_id }
+    requires time { latest (unstamped source.old.source.past) ≤ now }
     requires small { now ≤ 2 ^ 63 }
 {
     let Some(end) = source.source().due() else {
@@ -71,8 +71,8 @@ fn call_each<R: Wait>(
     table: &EventTable,
     source: &mut SeatedSource,
 ) -> Result<[Stamp; 5], Fail>
-    requires table { source.old.seat.table_id ≡ table.now.desk.shared.table_id }
-    requires time { latest (bare source.old.source.past) ≤ 0 }
+    requires table { source.old.seat.table_id ≡ table.now.cells.shared.table_id }
+    requires time { latest (unstamped source.old.source.past) ≤ 0 }
 {
     let awake = source.call(rt, table, at(0), SourceCall::Awake)?;
     let relaxed = source.call(rt, table, at(1), SourceCall::Relax)?;
@@ -102,10 +102,10 @@ fn each_call_goes_through_the_seat(rt: HostRuntime) -> Result<(), Fail> {
 
 /// Hard events, four entries each, up to the last place.
 fn fill<R: Wait>(rt: &R, table: &EventTable, source: &mut SeatedSource) -> Result<(), Fail>
-    requires table { source.old.seat.table_id ≡ table.now.desk.shared.table_id }
-    requires time { latest (bare source.old.source.past) ≤ 0 }
+    requires table { source.old.seat.table_id ≡ table.now.cells.shared.table_id }
+    requires time { latest (unstamped source.old.source.past) ≤ 0 }
     ensures table { source.new.seat.table_id ≡ source.old.seat.table_id }
-    ensures time { latest (bare source.new.source.past) ≤ 0 }
+    ensures time { latest (unstamped source.new.source.past) ≤ 0 }
 {
     for _ in 0..15_000u32 {
         source.call(rt, table, at(0), HARD)?;

@@ -6,7 +6,7 @@ use Rattle.sleep_model.specs.declared.machine.Link.{Link}
 use Rattle.sleep_model.specs.Order.{is_among, active_of, children_from, consumers_of, suppliers_of, parent_of, dependents, superiors, is_parent}
 use Rattle.sleep_model.specs.Links.{IsOrder}
 use Rattle.sleep_model.proofs.Dependents.{among_app, among_first, among_rest, within_of}
-use Rattle.sleep_model.proofs.FirstPlaces.{among_first_places, among_children, among_parent, consumers_linked, suppliers_linked}
+use Rattle.sleep_model.proofs.FirstOccurrences.{among_first_occurrences, among_children, among_parent, consumers_linked, suppliers_linked}
 use Rattle.sleep_model.proofs.Changing.{active_linked}
 use Rattle.device_links.specs.Linked.{Linked}
 use Rattle.device_chain.specs.Chains.{AreLevels, IsLevel, above_of, below_of, greatest, level_at}
@@ -27,15 +27,15 @@ across ps ls d e l =
 
 pub below_across : (l : Linked) (d e : ℕ) → e < length l.parents → is_among (below_of l d) e ≡ true → is_among (above_of l e) d ≡ true
 below_across l d e le m =
-    among_first_places (superiors l.parents (active_of l.links) e) d
+    among_first_occurrences (superiors l.parents (active_of l.links) e) d
     ∙ (across l.parents (active_of l.links) d e le
-    ∙ (sym (among_first_places (dependents l.parents (active_of l.links) d) e) ∙ m))
+    ∙ (sym (among_first_occurrences (dependents l.parents (active_of l.links) d) e) ∙ m))
 
 pub above_below : (l : Linked) (d e : ℕ) → e < length l.parents → is_among (above_of l e) d ≡ true → is_among (below_of l d) e ≡ true
 above_below l d e le m =
-    among_first_places (dependents l.parents (active_of l.links) d) e
+    among_first_occurrences (dependents l.parents (active_of l.links) d) e
     ∙ (sym (across l.parents (active_of l.links) d e le)
-    ∙ (sym (among_first_places (superiors l.parents (active_of l.links) e) d) ∙ m))
+    ∙ (sym (among_first_occurrences (superiors l.parents (active_of l.links) e) d) ∙ m))
 
 -- who depends by the active links depends by all
 active_depends : (ps : List (Option ℕ)) (ls : List Link) (d e : ℕ) → is_among (dependents ps (active_of ls) d) e ≡ true → is_among (dependents ps ls d) e ≡ true
@@ -53,22 +53,22 @@ active_depends ps ls d e m =
         (consumers_linked ls d e ∙ active_linked ls d e (sym (consumers_linked (active_of ls) d e) ∙ h))
 
 pub below_depends : (l : Linked) (d e : ℕ) → is_among (below_of l d) e ≡ true → is_among (dependents l.parents l.links d) e ≡ true
-below_depends l d e m = active_depends l.parents l.links d e (sym (among_first_places (dependents l.parents (active_of l.links) d) e) ∙ m)
+below_depends l d e m = active_depends l.parents l.links d e (sym (among_first_occurrences (dependents l.parents (active_of l.links) d) e) ∙ m)
 
 above_depends : (l : Linked) (d e : ℕ) → e < length l.parents → is_among (above_of l e) d ≡ true → is_among (dependents l.parents l.links d) e ≡ true
 above_depends l d e le m =
     active_depends l.parents l.links d e
-    (sym (across l.parents (active_of l.links) d e le) ∙ (sym (among_first_places (superiors l.parents (active_of l.links) e) d) ∙ m))
+    (sym (across l.parents (active_of l.links) d e le) ∙ (sym (among_first_occurrences (superiors l.parents (active_of l.links) e) d) ∙ m))
 
 -- ---- levels
 
 -- the greatest of devices that keep their levels
-pub greatest_kept : (levels : List ℕ) (d v : ℕ) (most : ℕ) (ds : List ℕ) → is_among ds d ≡ false → greatest (set levels d v) most ds ≡ greatest levels most ds
-greatest_kept levels d v most [] n = refl
-greatest_kept levels d v most (e ∷ ds) n =
+pub greatest_preserved : (levels : List ℕ) (d v : ℕ) (most : ℕ) (ds : List ℕ) → is_among ds d ≡ false → greatest (set levels d v) most ds ≡ greatest levels most ds
+greatest_preserved levels d v most [] n = refl
+greatest_preserved levels d v most (e ∷ ds) n =
     let parts = or_parts (e == d) (is_among ds d) n in
     let same : level_at (set levels d v) e ≡ level_at levels e = get_or-set_other levels d e v 0 (eqb-false e d parts.0) in
-    ap (λ k. greatest (set levels d v) (max most k) ds) same ∙ greatest_kept levels d v (max most (level_at levels e)) ds parts.1
+    ap (λ k. greatest (set levels d v) (max most k) ds) same ∙ greatest_preserved levels d v (max most (level_at levels e)) ds parts.1
 
 -- the greatest of levels that leave room for k more up to n
 pub greatest_few : (levels : List ℕ) (k n : ℕ) → ((x : ℕ) → level_at levels x + k ≤ n) → (most : ℕ) → most + k ≤ n → (ds : List ℕ) → greatest levels most ds + k ≤ n
@@ -130,7 +130,7 @@ leveled_next l levels d ds h = record {
     each_now : (x : ℕ) → x < length l.parents → is_among ds x ≡ false → (x ≡ d) ⊎ (x ≡ d → ⊥) → IsLevel l (set levels d v) x
     each_now x lx n (inl e) =
         let s = get_or-set_same levels d v 0 (subst (λ (k : ℕ). d < k) (sym h.count) here) in
-        let kept = greatest_kept levels d v 0 (above_of l d) (settled l d ds h.ordered d here (subst (λ (y : ℕ). is_among ds y ≡ false) e n)) in
+        let kept = greatest_preserved levels d v 0 (above_of l d) (settled l d ds h.ordered d here (subst (λ (y : ℕ). is_among ds y ≡ false) e n)) in
         subst (λ (y : ℕ). IsLevel l (set levels d v) y) (sym e) (s ∙ (plus (greatest levels 0 (above_of l d)) ∙ ap suc (sym kept)))
       where
         plus : (k : ℕ) → k + 1 ≡ suc k
@@ -138,7 +138,7 @@ leveled_next l levels d ds h = record {
     each_now x lx n (inr ne) =
         let s = get_or-set_other levels d x v 0 ne in
         let before = h.each x lx (ap (λ b. b || is_among ds x) (other x ne) ∙ n) in
-        let kept = greatest_kept levels d v 0 (above_of l x) (settled l d ds h.ordered x lx n) in
+        let kept = greatest_preserved levels d v 0 (above_of l x) (settled l d ds h.ordered x lx n) in
         s ∙ (before ∙ ap suc (sym kept))
       where
         other : (x : ℕ) → (x ≡ d → ⊥) → (d == x) ≡ false

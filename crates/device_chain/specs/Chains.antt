@@ -2,7 +2,7 @@
 use Rattle.std.specs.Prelude.{◌≡◌, ◌≤◌, ◌<◌, ◌-◌, max, ℕ, suc, Bool, true, ◌==◌, ◌&&◌, nat_lt, nat_le, List, [], ◌∷◌, length, slice_index_or, Option, Some, None, if◌then◌else◌}
 use Rattle.std.specs.List.{list_all}
 use Rattle.sleep_model.specs.Order.{is_among, order_by}
-use Rattle.device_links.specs.Kept.{near_above, near_below}
+use Rattle.device_links.specs.Invariant.{active_above, active_below}
 use Rattle.device_links.specs.Linked.{Linked}
 use Rattle.device_chain.specs.declared.chain.Chain.{Chain}
 
@@ -10,11 +10,11 @@ use Rattle.device_chain.specs.declared.chain.Chain.{Chain}
 
 -- the devices that must sleep before d does, by the links that are active, each once (dpm_wait_for_subordinate)
 abbrev pub below_of : Linked → ℕ → List ℕ
-below_of l d = near_below l.parents l.links d
+below_of l d = active_below l.parents l.links d
 
 -- the devices that must be awake before d is, by the links that are active, each once (dpm_wait_for_superior)
 abbrev pub above_of : Linked → ℕ → List ℕ
-above_of l d = near_above l.parents l.links d
+above_of l d = active_above l.parents l.links d
 
 -- all devices, in the order in which they are resumed (dpm_list)
 abbrev pub order_of : Linked → List ℕ
@@ -27,7 +27,7 @@ abbrev pub may_follow : Linked → Option ℕ → ℕ → Bool
 may_follow l None d = nat_lt d (length l.parents)
 may_follow l (Some before) d = is_among (below_of l before) d
 
--- the devices follow one another, behind that one
+-- the devices follow one another, after that one
 abbrev pub follow : Linked → Option ℕ → List ℕ → Bool
 follow l before [] = true
 follow l before (d ∷ ds) = may_follow l before d && follow l (Some d) ds
@@ -38,7 +38,7 @@ is_chain l devices = follow l None devices
 
 -- ---- levels
 
--- the level of a device; 0 where the list has none
+-- the level of a device; 0 if the list has none
 abbrev pub level_at : List ℕ → ℕ → ℕ
 level_at levels d = slice_index_or levels d 0
 

@@ -7,7 +7,7 @@ use device_links::Links;
 use sleep_base::Mem;
 use std::alloc::Global;
 
-/// The level of a device; 0 where the list has none.
+/// The level of a device; 0 if the list has none.
 pub(crate) fn level_at(levels: &[u32], device: u32) -> u32
     ensures { result ≡ level_at levels.now device }
 {

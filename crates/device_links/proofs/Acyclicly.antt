@@ -13,8 +13,8 @@ use Rattle.sleep_model.proofs.Ordering.{not_in_filter}
 use Rattle.sleep_model.proofs.Children.{children_none, children_within}
 use Rattle.sleep_model.proofs.Dependents.{among_app, among_first, among_flat, within_of, all_of, not_below_itself, leads_below}
 use Rattle.sleep_model.proofs.Paths.{no_path_moved}
-use Rattle.sleep_model.proofs.FirstPlaces.{dependents_new}
-use Rattle.sleep_model.proofs.Acyclic.{kept_among, among_filter, few, descends, order_ranked, order_covers, order_within, links_descend}
+use Rattle.sleep_model.proofs.FirstOccurrences.{dependents_new}
+use Rattle.sleep_model.proofs.Acyclic.{preserved_among, among_filter, few, descends, order_ranked, order_covers, order_within, links_descend}
 use Rattle.device_links.specs.Passes.{AreApart, IsAcyclic}
 
 -- an order has each device once
@@ -31,7 +31,7 @@ pub one_consumer : (b : Bool) (c x : ℕ) → is_among (cond b (c ∷ []) []) x 
 one_consumer false c x m = absurd (false≢true m)
 one_consumer true c x m = eqb-true c x (sym (or-false (c == x)) ∙ m)
 
--- what was visited stands behind the others
+-- what was visited stands after the others
 behind : (dependents_of dependents_of' : ℕ → List ℕ) (out : List ℕ) → IsOrder dependents_of' out
     → ((d y : ℕ) → is_among out d ≡ false → is_among (dependents_of' d) y ≡ true → (is_among out y ≡ true) ⊎ (is_among (dependents_of d) y ≡ true))
     → (xs : List ℕ) → IsOrder dependents_of xs → IsOrder dependents_of' (filter (λ d. not (is_among out d)) xs ++ out)
@@ -47,7 +47,7 @@ behind dependents_of dependents_of' out o step (x ∷ xs) h = by_test (behind de
       where
         by_visited : (b : Bool) → is_among out y ≡ b → (is_among (filter (λ d. not (is_among out d)) xs) y || is_among out y) ≡ true
         by_visited true e = or_right (is_among (filter (λ d. not (is_among out d)) xs) y) (is_among out y) e
-        by_visited false e = or_left (is_among (filter (λ d. not (is_among out d)) xs) y) (is_among out y) (kept_among (λ d. not (is_among out d)) xs y (ap not e) (within_of xs (dependents_of x) h.1 y m))
+        by_visited false e = or_left (is_among (filter (λ d. not (is_among out d)) xs) y) (is_among out y) (preserved_among (λ d. not (is_among out d)) xs y (ap not e) (within_of xs (dependents_of x) h.1 y m))
 
     by_test : IsOrder dependents_of' (filter (λ d. not (is_among out d)) xs ++ out) → (b : Bool) → is_among out x ≡ b → IsOrder dependents_of' (cond (not b) (x ∷ filter (λ d. not (is_among out d)) xs) (filter (λ d. not (is_among out d)) xs) ++ out)
     by_test rest true e = rest
@@ -142,10 +142,10 @@ module _ (ps : List (Option ℕ)) (after : EachAfterParent 0 ps) where
       where
         by_test : (b : Bool) → is_among out d ≡ b → (is_among (filter (λ x. not (is_among out x)) (range_with_len 0 (length ps))) d || is_among out d) ≡ true
         by_test true e = or_right (is_among (filter (λ x. not (is_among out x)) (range_with_len 0 (length ps))) d) (is_among out d) e
-        by_test false e = or_left (is_among (filter (λ x. not (is_among out x)) (range_with_len 0 (length ps))) d) (is_among out d) (kept_among (λ x. not (is_among out x)) (range_with_len 0 (length ps)) d (ap not e) (order_covers ps after [] d l))
+        by_test false e = or_left (is_among (filter (λ x. not (is_among out x)) (range_with_len 0 (length ps))) d) (is_among out d) (preserved_among (λ x. not (is_among out x)) (range_with_len 0 (length ps)) d (ap not e) (order_covers ps after [] d l))
 
-    bare : (d : ℕ) → is_among (filter (λ x. not (is_among out x)) (range_with_len 0 (length ps)) ++ out) d ≡ false → dependents ps all d ≡ []
-    bare d n = by_place (cases_lt d (length ps))
+    unstamped : (d : ℕ) → is_among (filter (λ x. not (is_among out x)) (range_with_len 0 (length ps)) ++ out) d ≡ false → dependents ps all d ≡ []
+    unstamped d n = by_place (cases_lt d (length ps))
       where
         by_place : (d < length ps) ⊎ (length ps ≤ d) → dependents ps all d ≡ []
         by_place (inl l) = absurd (true≢false (sym (whole_covers d l) ∙ n))
@@ -153,7 +153,7 @@ module _ (ps : List (Option ℕ)) (after : EachAfterParent 0 ps) where
 
     acyclic : IsAcyclic (length ps) (dependents ps all)
     acyclic =
-        descends (dependents ps all) (filter (λ d. not (is_among out d)) (range_with_len 0 (length ps)) ++ out) whole_ordered bare (length ps)
+        descends (dependents ps all) (filter (λ d. not (is_among out d)) (range_with_len 0 (length ps)) ++ out) whole_ordered unstamped (length ps)
         (few (length ps) (filter (λ d. not (is_among out d)) (range_with_len 0 (length ps)) ++ out) (different_of (dependents ps all) (filter (λ d. not (is_among out d)) (range_with_len 0 (length ps)) ++ out) whole_ordered) whole_within)
 
     pub visited_links : AreLinks ps all

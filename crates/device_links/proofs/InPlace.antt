@@ -2,7 +2,7 @@
 use Rattle.std.proofs.Common.{◌≡◌, ◌<◌, ◌≤◌, ◌∙◌, ℕ, List, [], ◌∷◌, ◌++◌, length, take, get_or, set, sym, ap, subst, arith}
 use Rattle.std.proofs.Math.Seq.{take-append_seam}
 use Rattle.std.proofs.lemmas.List.{get_or-set_same, set-set, set-get_or}
-use Rattle.device_rows.specs.Table.{Table, places_at}
+use Rattle.device_rows.specs.Table.{Table, room_at}
 
 -- as many elements as the first list has are that list
 pub take_whole : {A : Type 0} (xs ys : List A) (n : ℕ) → length xs ≡ n → take n (xs ++ ys) ≡ xs
@@ -24,15 +24,15 @@ refill_push rows now device x row l e =
     ∙ (ap (λ r. set r device (row ++ x ∷ [])) e ∙ set-set rows device row (row ++ x ∷ []))
 
 -- a row that is shorter than its places has room
-pub has_room : (t : Table) (device n : ℕ) (row : List ℕ) → get_or t.rows device [] ≡ row → length row < n → n ≤ places_at t device → 0 < get_or t.room device 0
+pub has_room : (t : Table) (device n : ℕ) (row : List ℕ) → get_or t.rows device [] ≡ row → length row < n → n ≤ room_at t device → 0 < get_or t.room device 0
 has_room t device n row e l p = let s = ap length e in omega (arith, s, l, p)
 
 -- the table with one row made anew, and no fewer places
 pub record IsRefilled (first : Table) (device : ℕ) (row : List ℕ) (t : Table) : Type 0 where
   pub rows : t.rows ≡ set first.rows device row
-  pub places : (d : ℕ) → places_at first d ≤ places_at t d
+  pub places : (d : ℕ) → room_at first d ≤ room_at t d
 
-pub refilled_more : (first t u : Table) (device x : ℕ) (row : List ℕ) → device < length first.rows → IsRefilled first device row t → u.rows ≡ set t.rows device (get_or t.rows device [] ++ x ∷ []) → ((d : ℕ) → places_at t d ≤ places_at u d) → IsRefilled first device (row ++ x ∷ []) u
+pub refilled_more : (first t u : Table) (device x : ℕ) (row : List ℕ) → device < length first.rows → IsRefilled first device row t → u.rows ≡ set t.rows device (get_or t.rows device [] ++ x ∷ []) → ((d : ℕ) → room_at t d ≤ room_at u d) → IsRefilled first device (row ++ x ∷ []) u
 refilled_more first t u device x row l h e p = record {
   rows = e ∙ refill_push first.rows t.rows device x row l h.rows;
   places = λ d. let a = h.places d in let b = p d in omega (arith, a, b);

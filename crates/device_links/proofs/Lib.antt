@@ -1,8 +1,8 @@
 mod Acyclicly
 mod InPlace
-mod Kept
+mod Invariant
 mod Moving
-mod Near
+mod ActiveLinks
 mod Numbering
 mod Refilling
 mod Runs

@@ -10,15 +10,15 @@ use Rattle.std.proofs.lemmas.List.{append-nil, take_all, take_more, take-append-
 use Rattle.std.proofs.lemmas.List.Elements.{filter-append}
 use Rattle.std.proofs.lemmas.Option.{slice_get_within, get_or_from_slice_get}
 use Rattle.sleep_model.specs.declared.machine.Link.{Link}
-use Rattle.sleep_model.specs.Order.{is_among, dependents, moved, last_places, order_by, EachAfterParent}
+use Rattle.sleep_model.specs.Order.{is_among, dependents, moved, last_occurrences, order_by, EachAfterParent}
 use Rattle.sleep_model.specs.Links.{AreLinks, IsOrder, is_dependent}
 use Rattle.sleep_model.proofs.Acyclic.{order_ranked, order_covers, order_within, links_descend, nothing_below, moved_before, among_last}
 use Rattle.sleep_model.proofs.Dependents.{Within, among_app, among_first, among_rest, within_of, among_onto, Descends, IsClosed, visited}
 use Rattle.sleep_model.proofs.Walks.{among_drop, same_eq}
 use Rattle.device_links.specs.Walks.{IsWalked}
-use Rattle.device_links.specs.Moves.{StandsFirst, Leaves}
+use Rattle.device_links.specs.Moves.{Precedes, Leaves}
 use Rattle.device_links.proofs.Walking.{no_path}
-use Rattle.device_links.proofs.Kept.{by_marks}
+use Rattle.device_links.proofs.Invariant.{by_marks}
 use Rattle.device_links.proofs.Tabulating.{newest}
 
 -- ---- which of two devices stands first
@@ -30,7 +30,7 @@ among_more xs i y l =
     ∙ (among_app (take i xs) (get_or xs i 0 ∷ []) y ∙ ap (λ b. is_among (take i xs) y || b) (or-false (get_or xs i 0 == y)))
 
 -- at a place at which one stands, up to which the other does not
-pub first_at : (xs : List ℕ) (i one other : ℕ) → i < length xs → is_among (take i xs) other ≡ false → get_or xs i 0 ≡ one → (get_or xs i 0 == other) ≡ false → StandsFirst xs one other
+pub first_at : (xs : List ℕ) (i one other : ℕ) → i < length xs → is_among (take i xs) other ≡ false → get_or xs i 0 ≡ one → (get_or xs i 0 == other) ≡ false → Precedes xs one other
 first_at xs i one other l h e n = record {
   place = i + 1;
   here = among_more xs i one l ∙ or_right (is_among (take i xs) one) (get_or xs i 0 == one) (ap (λ y. y == one) e ∙ same_eq one);
@@ -67,7 +67,7 @@ module _ (ps : List (Option ℕ)) (after : EachAfterParent 0 ps) (ls : List Link
   fix = links_descend ps after ls linked (order_ranked ps after ls linked)
 
   -- what stands before a device does not depend on it
-  pub stands_apart : (s c : ℕ) → StandsFirst (order_by ps ls) s c → is_dependent ps ls c s ≡ false
+  pub stands_apart : (s c : ℕ) → Precedes (order_by ps ls) s c → is_dependent ps ls c s ≡ false
   stands_apart s c f = by_place (cases_lt c (length ps))
     where
       rest : List ℕ
@@ -98,7 +98,7 @@ module _ (ps : List (Option ℕ)) (after : EachAfterParent 0 ps) (ls : List Link
           ap (λ xs. is_among xs s) (fix c)
           ∙ (ap (λ xs. is_among (c ∷ flat_map (moved (length ps) (dependents ps ls)) xs) s) (nothing_below ps after ls linked c l) ∙ ap (λ b. b || false) other)
 
-  pub apart_by : (s c : ℕ) (b : Bool) → OnTrue b (StandsFirst (order_by ps ls) s c) → b ≡ true → is_dependent ps ls c s ≡ false
+  pub apart_by : (s c : ℕ) (b : Bool) → OnTrue b (Precedes (order_by ps ls) s c) → b ≡ true → is_dependent ps ls c s ≡ false
   apart_by s c true h e = stands_apart s c h
   apart_by s c false h e = absurd (false≢true e)
 
@@ -119,12 +119,12 @@ filter_none p (x ∷ xs) h =
 
 module _ (ps : List (Option ℕ)) (after : EachAfterParent 0 ps) where
   -- what was moved to the end stays there when it is moved again
-  moved_again : (M O : List ℕ) → filter (λ d. not (is_among M d)) (filter (λ d. not (is_among M d)) O ++ last_places M) ++ last_places M ≡ filter (λ d. not (is_among M d)) O ++ last_places M
+  moved_again : (M O : List ℕ) → filter (λ d. not (is_among M d)) (filter (λ d. not (is_among M d)) O ++ last_occurrences M) ++ last_occurrences M ≡ filter (λ d. not (is_among M d)) O ++ last_occurrences M
   moved_again M O =
-      ap (λ xs. xs ++ last_places M) (
-      filter-append (λ d. not (is_among M d)) (filter (λ d. not (is_among M d)) O) (last_places M)
-      ∙ (ap (λ xs. xs ++ filter (λ d. not (is_among M d)) (last_places M)) (filter_again (λ d. not (is_among M d)) O)
-      ∙ (ap (λ xs. filter (λ d. not (is_among M d)) O ++ xs) (filter_none (λ d. not (is_among M d)) (last_places M) (λ d m. ap not (sym (among_last ps after M d) ∙ m)))
+      ap (λ xs. xs ++ last_occurrences M) (
+      filter-append (λ d. not (is_among M d)) (filter (λ d. not (is_among M d)) O) (last_occurrences M)
+      ∙ (ap (λ xs. xs ++ filter (λ d. not (is_among M d)) (last_occurrences M)) (filter_again (λ d. not (is_among M d)) O)
+      ∙ (ap (λ xs. filter (λ d. not (is_among M d)) O ++ xs) (filter_none (λ d. not (is_among M d)) (last_occurrences M) (λ d m. ap not (sym (among_last ps after M d) ∙ m)))
       ∙ append-nil (filter (λ d. not (is_among M d)) O))))
 
   -- a link whose consumer the newest one has moved leaves the order as it is
@@ -132,7 +132,7 @@ module _ (ps : List (Option ℕ)) (after : EachAfterParent 0 ps) where
       → order_by ps (newest ∷ ls) ≡ order_by ps (l ∷ newest ∷ ls)
   order_stays l newest ls linked same missing =
       sym (
-      ap (λ m. filter (λ d. not (is_among m d)) (order_by ps (newest ∷ ls)) ++ last_places m)
+      ap (λ m. filter (λ d. not (is_among m d)) (order_by ps (newest ∷ ls)) ++ last_occurrences m)
       (moved_before ps after l (newest ∷ ls) missing ∙ ap (λ c. moved (length ps) (dependents ps (newest ∷ ls)) c) (sym same))
       ∙ moved_again (moved (length ps) (dependents ps (newest ∷ ls)) newest.consumer) (order_by ps ls))
 
@@ -143,7 +143,7 @@ module _ (ps : List (Option ℕ)) (after : EachAfterParent 0 ps) where
       ap (λ xs. filter (λ d. not (get_or marks d false)) xs ++ found) ordered
       ∙ (ap (λ xs. xs ++ found) (by_marks (length ps) marks (moved (length ps) (dependents ps ls) l.consumer) w.marked (order_by ps ls) (order_within ps after ls linked))
       ∙ (ap (λ xs. filter (λ d. not (is_among (moved (length ps) (dependents ps ls) l.consumer) d)) (order_by ps ls) ++ xs) w.places
-      ∙ ap (λ m. filter (λ d. not (is_among m d)) (order_by ps ls) ++ last_places m) (sym (moved_before ps after l ls w.missing))))
+      ∙ ap (λ m. filter (λ d. not (is_among m d)) (order_by ps ls) ++ last_occurrences m) (sym (moved_before ps after l ls w.missing))))
 
 -- the newest link, which was added last
 pub newest_link : (links : List Link) (l : Link) → Some l ≡ slice_get links (length links - 1) → reverse links ≡ l ∷ reverse (take (length links - 1) links)
@@ -155,7 +155,7 @@ newest_link links l e =
 
 module _ (ps : List (Option ℕ)) (after : EachAfterParent 0 ps) (ls : List Link) (linked : AreLinks ps ls) (l : Link) where
   -- where the test of the order holds, no path leads from the consumer to the supplier
-  pub stays : (new : Link) (earlier : List Link) → ls ≡ new ∷ earlier → new.consumer ≡ l.consumer → (b : Bool) → OnTrue b (StandsFirst (order_by ps ls) l.supplier l.consumer)
+  pub stays : (new : Link) (earlier : List Link) → ls ≡ new ∷ earlier → new.consumer ≡ l.consumer → (b : Bool) → OnTrue b (Precedes (order_by ps ls) l.supplier l.consumer)
       → OnTrue b (Leaves (record { parents = ps; links = ls }) l (order_by ps ls))
   stays new earlier e same false h = tt
   stays new earlier e same true h = record {

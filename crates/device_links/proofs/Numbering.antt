@@ -4,11 +4,11 @@ use Rattle.std.proofs.lemmas.Bool.{or_parts, or_from}
 use Rattle.std.proofs.lemmas.List.{append-nil, get_or_append_left, length-map, length-replicate, length-reverse, length-set, length-take-le, map-append, reverse-append, reverse-reverse, set-append_left, take_more}
 use Rattle.std.proofs.Math.Seq.{get_or-append_seam, set-append_seam}
 use Rattle.sleep_model.specs.declared.machine.Link.{Link}
-use Rattle.sleep_model.specs.Links.{is_linked, first_places}
+use Rattle.sleep_model.specs.Links.{is_linked, first_occurrences}
 use Rattle.sleep_model.specs.Order.{is_link, with_state, active_of, children_from, consumers_of, suppliers_of, parent_of, dependents, superiors}
 use Rattle.device_rows.specs.Table.{with_number}
 use Rattle.link_rows.specs.Rows.{IsTableOf}
-use Rattle.device_links.specs.Kept.{AreNumbered, numbers_of, near_below, near_above}
+use Rattle.device_links.specs.Invariant.{AreNumbered, numbers_of, active_below, active_above}
 use Rattle.device_links.specs.Passes.{AreApart}
 use Rattle.link_rows.proofs.RowsMade.{table_push, table_same, empty_rows}
 use Rattle.device_links.proofs.Tabulating.{no_link, newest, supplier_at, consumer_at}
@@ -63,22 +63,22 @@ numbered_next ps links i l within at apart a b a' b' h e f =
 
 -- links whose ends stay
 module _ (f : Link → Link) (s : (l : Link) → (f l).supplier ≡ l.supplier) (c : (l : Link) → (f l).consumer ≡ l.consumer) where
-  numbers_kept : (test : Link → Bool) → ((l : Link) → test (f l) ≡ test l) → (ls : List Link) → numbers_of test (map f ls) ≡ numbers_of test ls
-  numbers_kept test t [] = refl
-  numbers_kept test t (l ∷ ls) =
-      ap (λ xs. xs ++ cond (test (f l)) (length (map f ls) ∷ []) []) (numbers_kept test t ls)
+  numbers_preserved : (test : Link → Bool) → ((l : Link) → test (f l) ≡ test l) → (ls : List Link) → numbers_of test (map f ls) ≡ numbers_of test ls
+  numbers_preserved test t [] = refl
+  numbers_preserved test t (l ∷ ls) =
+      ap (λ xs. xs ++ cond (test (f l)) (length (map f ls) ∷ []) []) (numbers_preserved test t ls)
       ∙ ap₂ (λ b k. numbers_of test ls ++ cond b (k ∷ []) []) (t l) (length-map ls f)
 
-  pub supplied_kept : (d : ℕ) (ls : List Link) → numbers_of (λ l. l.supplier == d) (map f ls) ≡ numbers_of (λ l. l.supplier == d) ls
-  supplied_kept d ls = numbers_kept (λ l. l.supplier == d) (λ l. ap (λ x. x == d) (s l)) ls
+  pub supplied_preserved : (d : ℕ) (ls : List Link) → numbers_of (λ l. l.supplier == d) (map f ls) ≡ numbers_of (λ l. l.supplier == d) ls
+  supplied_preserved d ls = numbers_preserved (λ l. l.supplier == d) (λ l. ap (λ x. x == d) (s l)) ls
 
-  pub consumed_kept : (d : ℕ) (ls : List Link) → numbers_of (λ l. l.consumer == d) (map f ls) ≡ numbers_of (λ l. l.consumer == d) ls
-  consumed_kept d ls = numbers_kept (λ l. l.consumer == d) (λ l. ap (λ x. x == d) (c l)) ls
+  pub consumed_preserved : (d : ℕ) (ls : List Link) → numbers_of (λ l. l.consumer == d) (map f ls) ≡ numbers_of (λ l. l.consumer == d) ls
+  consumed_preserved d ls = numbers_preserved (λ l. l.consumer == d) (λ l. ap (λ x. x == d) (c l)) ls
 
-  pub numbered_kept : (n : ℕ) (ls : List Link) (a b : List (List ℕ)) → AreNumbered n ls a b → AreNumbered n (map f ls) a b
-  numbered_kept n ls a b h = record {
-    by_supplier = table_same n (λ d. numbers_of (λ l. l.supplier == d) ls) (λ d. numbers_of (λ l. l.supplier == d) (map f ls)) a h.by_supplier (λ d. supplied_kept d ls);
-    by_consumer = table_same n (λ d. numbers_of (λ l. l.consumer == d) ls) (λ d. numbers_of (λ l. l.consumer == d) (map f ls)) b h.by_consumer (λ d. consumed_kept d ls);
+  pub numbered_preserved : (n : ℕ) (ls : List Link) (a b : List (List ℕ)) → AreNumbered n ls a b → AreNumbered n (map f ls) a b
+  numbered_preserved n ls a b h = record {
+    by_supplier = table_same n (λ d. numbers_of (λ l. l.supplier == d) ls) (λ d. numbers_of (λ l. l.supplier == d) (map f ls)) a h.by_supplier (λ d. supplied_preserved d ls);
+    by_consumer = table_same n (λ d. numbers_of (λ l. l.consumer == d) ls) (λ d. numbers_of (λ l. l.consumer == d) (map f ls)) b h.by_consumer (λ d. consumed_preserved d ls);
   }
 
 -- a device supplies as many links as it has consumers
@@ -139,13 +139,13 @@ picked_append : (links : List Link) (xs ys : List ℕ) → picked links (xs ++ y
 picked_append links [] ys = refl
 picked_append links (x ∷ xs) ys = ap (λ ls. get_or links x no_link ∷ ls) (picked_append links xs ys)
 
--- more links behind them change nothing
+-- more links after them change nothing
 picked_longer : (links more : List Link) (xs : List ℕ) → AreBelow (length links) xs → picked (links ++ more) xs ≡ picked links xs
 picked_longer links more [] h = refl
 picked_longer links more (x ∷ xs) h = ap₂ (λ l ls. l ∷ ls) (get_or_append_left links more no_link x h.0) (picked_longer links more xs h.1)
 
-newest_behind : (l : Link) (ls : List Link) → reverse (l ∷ ls) ≡ reverse ls ++ l ∷ []
-newest_behind l ls = reverse-append (l ∷ []) ls
+newest_after : (l : Link) (ls : List Link) → reverse (l ∷ ls) ≡ reverse ls ++ l ∷ []
+newest_after l ls = reverse-append (l ∷ []) ls
 
 -- the numbers of links are below the count of these, also the other way round
 below_reversed : (test : Link → Bool) (ls : List Link) → AreBelow (length (reverse ls)) (numbers_of test ls)
@@ -158,13 +158,13 @@ last_link ls l = ap (λ k. get_or (reverse ls ++ l ∷ []) k no_link) (sym (leng
 picked_as : (test : Link → Bool) (ls : List Link) → picked (reverse ls) (numbers_of test ls) ≡ reverse (filter test ls)
 picked_as test [] = refl
 picked_as test (l ∷ ls) =
-    ap (λ ks. picked ks (numbers_of test (l ∷ ls))) (newest_behind l ls)
+    ap (λ ks. picked ks (numbers_of test (l ∷ ls))) (newest_after l ls)
     ∙ (picked_append (reverse ls ++ l ∷ []) (numbers_of test ls) (cond (test l) (length ls ∷ []) [])
     ∙ (ap (λ ks. ks ++ picked (reverse ls ++ l ∷ []) (cond (test l) (length ls ∷ []) [])) (picked_longer (reverse ls) (l ∷ []) (numbers_of test ls) (below_reversed test ls) ∙ picked_as test ls)
     ∙ by_test (test l)))
   where
     by_test : (b : Bool) → reverse (filter test ls) ++ picked (reverse ls ++ l ∷ []) (cond b (length ls ∷ []) []) ≡ reverse (cond b (l ∷ filter test ls) (filter test ls))
-    by_test true = ap (λ k. reverse (filter test ls) ++ k ∷ []) (last_link ls l) ∙ sym (newest_behind l (filter test ls))
+    by_test true = ap (λ k. reverse (filter test ls) ++ k ∷ []) (last_link ls l) ∙ sym (newest_after l (filter test ls))
     by_test false = append-nil (reverse (filter test ls))
 
 -- what stands at each number
@@ -249,14 +249,14 @@ module _ (d : ℕ) where
       by_test false e rest = rest ∙ sym (suppliers_past d l.active l (active_of ls) e)
 
   module _ (ps : List (Option ℕ)) (ls : List Link) where
-    pub below_here_as : near_below ps (supplied ls) d ≡ near_below ps ls d
-    below_here_as = ap (λ xs. first_places (children_from d 0 ps ++ xs)) (active_consumers_here ls)
+    pub below_here_as : active_below ps (supplied ls) d ≡ active_below ps ls d
+    below_here_as = ap (λ xs. first_occurrences (children_from d 0 ps ++ xs)) (active_consumers_here ls)
 
     pub dependents_here : dependents ps (supplied ls) d ≡ dependents ps ls d
     dependents_here = ap (λ xs. children_from d 0 ps ++ xs) (consumers_here ls)
 
-    pub above_here_as : near_above ps (consumed ls) d ≡ near_above ps ls d
-    above_here_as = ap (λ xs. first_places (parent_of (slice_get ps d) ++ xs)) (active_suppliers_here ls)
+    pub above_here_as : active_above ps (consumed ls) d ≡ active_above ps ls d
+    above_here_as = ap (λ xs. first_occurrences (parent_of (slice_get ps d) ++ xs)) (active_suppliers_here ls)
 
     pub superiors_here : superiors ps (consumed ls) d ≡ superiors ps ls d
     superiors_here = ap (λ xs. parent_of (slice_get ps d) ++ xs) (suppliers_here ls)
@@ -284,7 +284,7 @@ module _ (f : Link → Link) where
       ∙ (sym (changed_append (take j row) (get_or row j d ∷ []) ls)
       ∙ ap (λ is. changed is ls) (sym (take_more row j d l)))
 
-  -- links behind them stay
+  -- links after them stay
   changed_front : (is : List ℕ) (ls more : List Link) → AreBelow (length ls) is → changed is (ls ++ more) ≡ changed is ls ++ more
   changed_front [] ls more h = refl
   changed_front (i ∷ is) ls more h =
@@ -297,11 +297,11 @@ module _ (f : Link → Link) where
     changed_reversed : (ls : List Link) → changed (numbers_of test ls) (reverse ls) ≡ map f (reverse ls)
     changed_reversed [] = refl
     changed_reversed (l ∷ ls) =
-        ap (changed (numbers_of test (l ∷ ls))) (newest_behind l ls)
+        ap (changed (numbers_of test (l ∷ ls))) (newest_after l ls)
         ∙ (changed_append (numbers_of test ls) (cond (test l) (length ls ∷ []) []) (reverse ls ++ l ∷ [])
         ∙ (ap (changed (cond (test l) (length ls ∷ []) [])) (changed_front (numbers_of test ls) (reverse ls) (l ∷ []) (below_reversed test ls) ∙ ap (λ ks. ks ++ l ∷ []) (changed_reversed ls))
         ∙ (by_test (test l) refl
-        ∙ (sym (map-append f (reverse ls) (l ∷ [])) ∙ ap (map f) (sym (newest_behind l ls))))))
+        ∙ (sym (map-append f (reverse ls) (l ∷ [])) ∙ ap (map f) (sym (newest_after l ls))))))
       where
         count : length (map f (reverse ls)) ≡ length ls
         count = length-map (reverse ls) f ∙ length-reverse ls

@@ -13,8 +13,8 @@ use Rattle.link_rows.specs.Rows.{IsTableOf}
 use Rattle.device_links.specs.declared.seen.Tables.{Tables}
 use Rattle.device_links.specs.declared.visits.Visits.{Visits}
 use Rattle.device_links.specs.Walks.{AreMarks}
-use Rattle.device_links.specs.Passes.{AreApart, AreVisits, IsVisited, Goes, CanStand, Tabulates}
-use Rattle.device_links.proofs.Kept.{dependents_is, by_marks}
+use Rattle.device_links.specs.Passes.{AreApart, AreVisits, IsVisited, Goes, CanBeAdded, Tabulates}
+use Rattle.device_links.proofs.Invariant.{dependents_is, by_marks}
 use Rattle.device_links.proofs.Passing.{passed, onto_new, order_at_once}
 use Rattle.device_links.proofs.Acyclicly.{one_consumer, visited_links, links_acyclic, apart_within}
 use Rattle.device_links.proofs.Tabulating.{newest}
@@ -105,6 +105,6 @@ pub linked_apart : (ps : List (Option ℕ)) (ls : List Link) → AreLinks ps ls 
 linked_apart ps [] h = tt
 linked_apart ps (l ∷ ls) h = (h.0, h.1, h.2, linked_apart ps ls h.4)
 
-pub no_tables : (ps : List (Option ℕ)) (links : List Link) (o : Option Tables) → ((t : Tables) → o ≡ Some t → ⊥) → Tabulates ps (reverse links) o → CanStand ps links → ⊥
+pub no_tables : (ps : List (Option ℕ)) (links : List Link) (o : Option Tables) → ((t : Tables) → o ≡ Some t → ⊥) → Tabulates ps (reverse links) o → CanBeAdded ps links → ⊥
 no_tables ps links None f h s = h (linked_apart ps (reverse links) s.linked)
 no_tables ps links (Some t) f h s = f t refl

@@ -7,7 +7,7 @@ use Rattle.std.proofs.lemmas.List.Elements.{filter-append}
 use Rattle.std.proofs.lemmas.Bool.{false≢true, eqb-true, or_cases, or_left, or_right}
 use Rattle.std.proofs.Math.Bool.{or-false}
 use Rattle.sleep_model.specs.declared.machine.Link.{Link}
-use Rattle.sleep_model.specs.Order.{is_among, children_from, consumers_of, dependents, EachAfterParent, last_places, moved, order_by}
+use Rattle.sleep_model.specs.Order.{is_among, children_from, consumers_of, dependents, EachAfterParent, last_occurrences, moved, order_by}
 use Rattle.sleep_model.specs.Links.{IsOrder, AreLinks}
 use Rattle.sleep_model.proofs.Dependents.{among_app, among_first, among_rest, Within, within_of, put, onto, onto_app, among_onto, Descends, IsClosed, visited, visits, among_flat}
 use Rattle.sleep_model.proofs.Acyclic.{links_descend, order_ranked}
@@ -15,18 +15,18 @@ use Rattle.sleep_model.proofs.Acyclic.{links_descend, order_ranked}
 -- ---- lists
 
 -- these in front of those are the last places of these that are not among those
-pub onto_new : (xs out : List ℕ) → onto xs out ≡ filter (λ d. not (is_among out d)) (last_places xs) ++ out
+pub onto_new : (xs out : List ℕ) → onto xs out ≡ filter (λ d. not (is_among out d)) (last_occurrences xs) ++ out
 onto_new [] out = refl
 onto_new (x ∷ xs) out = ap (λ b. cond b (onto xs out) (x ∷ onto xs out)) (among_onto xs out x) ∙ by_tests (onto_new xs out) (is_among xs x) (is_among out x) refl
   where
     rest : List ℕ
-    rest = filter (λ d. not (is_among out d)) (last_places xs)
+    rest = filter (λ d. not (is_among out d)) (last_occurrences xs)
 
-    by_tests : onto xs out ≡ filter (λ d. not (is_among out d)) (last_places xs) ++ out → (a b : Bool) → is_among out x ≡ b
-        → cond (a || b) (onto xs out) (x ∷ onto xs out) ≡ filter (λ d. not (is_among out d)) (cond a (last_places xs) (x ∷ last_places xs)) ++ out
+    by_tests : onto xs out ≡ filter (λ d. not (is_among out d)) (last_occurrences xs) ++ out → (a b : Bool) → is_among out x ≡ b
+        → cond (a || b) (onto xs out) (x ∷ onto xs out) ≡ filter (λ d. not (is_among out d)) (cond a (last_occurrences xs) (x ∷ last_occurrences xs)) ++ out
     by_tests r true b e = r
-    by_tests r false true e = r ∙ sym (ap (λ c. cond (not c) (x ∷ filter (λ d. not (is_among out d)) (last_places xs)) (filter (λ d. not (is_among out d)) (last_places xs)) ++ out) e)
-    by_tests r false false e = ap (λ ys. x ∷ ys) r ∙ sym (ap (λ c. cond (not c) (x ∷ filter (λ d. not (is_among out d)) (last_places xs)) (filter (λ d. not (is_among out d)) (last_places xs)) ++ out) e)
+    by_tests r false true e = r ∙ sym (ap (λ c. cond (not c) (x ∷ filter (λ d. not (is_among out d)) (last_occurrences xs)) (filter (λ d. not (is_among out d)) (last_occurrences xs)) ++ out) e)
+    by_tests r false false e = ap (λ ys. x ∷ ys) r ∙ sym (ap (λ c. cond (not c) (x ∷ filter (λ d. not (is_among out d)) (last_occurrences xs)) (filter (λ d. not (is_among out d)) (last_occurrences xs)) ++ out) e)
 
 -- what is among neither of two lists
 neither : (ys out xs : List ℕ) → filter (λ d. not (is_among (onto ys out) d)) xs ≡ filter (λ d. not (is_among out d)) (filter (λ d. not (is_among ys d)) xs)
@@ -42,9 +42,9 @@ neither ys out (x ∷ xs) =
     by_tests r false true e = r ∙ sym (ap (λ c. cond (not c) (x ∷ filter (λ d. not (is_among out d)) (filter (λ d. not (is_among ys d)) xs)) (filter (λ d. not (is_among out d)) (filter (λ d. not (is_among ys d)) xs))) e)
     by_tests r false false e = ap (λ zs. x ∷ zs) r ∙ sym (ap (λ c. cond (not c) (x ∷ filter (λ d. not (is_among out d)) (filter (λ d. not (is_among ys d)) xs)) (filter (λ d. not (is_among out d)) (filter (λ d. not (is_among ys d)) xs))) e)
 
-all_kept : (xs : List ℕ) → filter (λ d. not (is_among [] d)) xs ≡ xs
-all_kept [] = refl
-all_kept (x ∷ xs) = ap (λ ys. x ∷ ys) (all_kept xs)
+all_preserved : (xs : List ℕ) → filter (λ d. not (is_among [] d)) xs ≡ xs
+all_preserved [] = refl
+all_preserved (x ∷ xs) = ap (λ ys. x ∷ ys) (all_preserved xs)
 
 -- ---- closed lists
 
@@ -196,8 +196,8 @@ module _ (ps : List (Option ℕ)) (after : EachAfterParent 0 ps) (all : List Lin
       ∙ (ap (λ xs. filter (λ d. not (is_among xs d)) (order_by ps earlier) ++ xs) same
       ∙ (ap (λ ys. ys ++ onto M out) (neither M out (order_by ps earlier))
       ∙ (ap (λ ys. filter (λ d. not (is_among out d)) others ++ ys) (onto_new M out)
-      ∙ (sym (append_assoc (filter (λ d. not (is_among out d)) others) (filter (λ d. not (is_among out d)) (last_places M)) out)
-      ∙ ap (λ ys. ys ++ out) (sym (filter-append (λ d. not (is_among out d)) others (last_places M)))))))
+      ∙ (sym (append_assoc (filter (λ d. not (is_among out d)) others) (filter (λ d. not (is_among out d)) (last_occurrences M)) out)
+      ∙ ap (λ ys. ys ++ out) (sym (filter-append (λ d. not (is_among out d)) others (last_occurrences M)))))))
     where
       M : List ℕ
       M = moved (length ps) (dependents ps (l ∷ earlier)) l.consumer
@@ -211,8 +211,8 @@ module _ (ps : List (Option ℕ)) (after : EachAfterParent 0 ps) (all : List Lin
           (dependents ps (l ∷ earlier)) (moved (length ps) (dependents ps (l ∷ earlier))) (links_descend ps after (l ∷ earlier) h (order_ranked ps after (l ∷ earlier) h))
           out closed s l.consumer
 
-  -- the devices that none moved, in the order of their registration, and behind them the walks
+  -- the devices that none moved, in the order of their registration, and after them the walks
   pub order_at_once : filter (λ d. not (is_among (passed (moved (length ps) (dependents ps all)) all []) d)) (range_with_len 0 (length ps)) ++ passed (moved (length ps) (dependents ps all)) all [] ≡ order_by ps all
   order_at_once =
       order_passed all linked [] (λ d m. absurd (false≢true m)) (λ d. record { more = []; is = sym (append-nil (dependents ps all d)); known = λ x m. m })
-      ∙ (append-nil (filter (λ d. not (is_among [] d)) (order_by ps all)) ∙ all_kept (order_by ps all))
+      ∙ (append-nil (filter (λ d. not (is_among [] d)) (order_by ps all)) ∙ all_preserved (order_by ps all))

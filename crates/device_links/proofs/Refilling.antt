@@ -4,10 +4,10 @@ use Rattle.std.proofs.lemmas.Bool.{true≢false, eqb-true}
 use Rattle.std.proofs.lemmas.List.{get_or-map, length-map, take_all}
 use Rattle.sleep_model.specs.declared.machine.Link.{Link}
 use Rattle.sleep_model.specs.Order.{is_parent, dependents, superiors}
-use Rattle.sleep_model.proofs.FirstPlaces.{dependents_new, holding_new}
-use Rattle.device_links.specs.Kept.{near_below, near_above, numbers_of, is_shown_below, is_shown_above}
+use Rattle.sleep_model.proofs.FirstOccurrences.{dependents_new, holding_new}
+use Rattle.device_links.specs.Invariant.{active_below, active_above, numbers_of, is_shown_below, is_shown_above}
 use Rattle.device_links.specs.Passes.{AreApart}
-use Rattle.device_links.proofs.Near.{below_few, above_few, below_next, above_next, dependents_part, holding_part}
+use Rattle.device_links.proofs.ActiveLinks.{below_few, above_few, below_next, above_next, dependents_part, holding_part}
 use Rattle.device_links.proofs.Numbering.{picked, picked_links, apart_some, below_here_as, dependents_here, above_here_as, superiors_here}
 use Rattle.device_links.proofs.Tabulating.{newest, apart_all, no_link, consumer_at}
 
@@ -35,25 +35,25 @@ module _ (ps : List (Option ℕ)) (links : List Link) (i : ℕ) (l : Link) (with
   apart_here : AreApart ps (reverse links) → AreApart ps (l ∷ reverse (take i links))
   apart_here apart = subst (AreApart ps) (newest links i l within at) (apart_all ps links (i + 1) apart)
 
-  next_below : AreApart ps (reverse links) → (d : ℕ) → near_below ps (reverse (take (i + 1) links)) d ≡ cond (is_shown_below ps l d) (near_below ps (reverse (take i links)) d ++ l.consumer ∷ []) (near_below ps (reverse (take i links)) d)
+  next_below : AreApart ps (reverse links) → (d : ℕ) → active_below ps (reverse (take (i + 1) links)) d ≡ cond (is_shown_below ps l d) (active_below ps (reverse (take i links)) d ++ l.consumer ∷ []) (active_below ps (reverse (take i links)) d)
   next_below apart d =
       let a = apart_here apart in
-      ap (λ (ls : List Link). near_below ps ls d) (newest links i l within at) ∙ below_next ps l (reverse (take i links)) d a.1 a.2
+      ap (λ (ls : List Link). active_below ps ls d) (newest links i l within at) ∙ below_next ps l (reverse (take i links)) d a.1 a.2
 
-  next_above : AreApart ps (reverse links) → (d : ℕ) → near_above ps (reverse (take (i + 1) links)) d ≡ cond (is_shown_above ps l d) (near_above ps (reverse (take i links)) d ++ l.supplier ∷ []) (near_above ps (reverse (take i links)) d)
+  next_above : AreApart ps (reverse links) → (d : ℕ) → active_above ps (reverse (take (i + 1) links)) d ≡ cond (is_shown_above ps l d) (active_above ps (reverse (take i links)) d ++ l.supplier ∷ []) (active_above ps (reverse (take i links)) d)
   next_above apart d =
       let a = apart_here apart in
-      ap (λ (ls : List Link). near_above ps ls d) (newest links i l within at) ∙ above_next ps l (reverse (take i links)) d a.2
+      ap (λ (ls : List Link). active_above ps ls d) (newest links i l within at) ∙ above_next ps l (reverse (take i links)) d a.2
 
-  below_room : (d : ℕ) → is_shown_below ps l d ≡ true → length (near_below ps (reverse (take i links)) d) < length (dependents ps (reverse links) d)
-  below_room d e = subst (λ (x : ℕ). length (near_below ps (reverse (take i links)) x) < length (dependents ps (reverse links) x)) (supplier_is ps l d e) (
+  below_room : (d : ℕ) → is_shown_below ps l d ≡ true → length (active_below ps (reverse (take i links)) d) < length (dependents ps (reverse links) d)
+  below_room d e = subst (λ (x : ℕ). length (active_below ps (reverse (take i links)) x) < length (dependents ps (reverse links) x)) (supplier_is ps l d e) (
       let few = below_few ps (reverse (take i links)) l.supplier in
       let more = ap length (ap (λ (ls : List Link). dependents ps ls l.supplier) (newest links i l within at) ∙ dependents_new ps l (reverse (take i links))) ∙ length-append (dependents ps (reverse (take i links)) l.supplier) (l.consumer ∷ []) in
       let most = dependents_part ps links (i + 1) l.supplier in
       omega (arith, few, more, most))
 
-  above_room : (d : ℕ) → is_shown_above ps l d ≡ true → length (near_above ps (reverse (take i links)) d) < length (superiors ps (reverse links) d)
-  above_room d e = subst (λ (x : ℕ). length (near_above ps (reverse (take i links)) x) < length (superiors ps (reverse links) x)) (consumer_is ps l d e) (
+  above_room : (d : ℕ) → is_shown_above ps l d ≡ true → length (active_above ps (reverse (take i links)) d) < length (superiors ps (reverse links) d)
+  above_room d e = subst (λ (x : ℕ). length (active_above ps (reverse (take i links)) x) < length (superiors ps (reverse links) x)) (consumer_is ps l d e) (
       let few = above_few ps (reverse (take i links)) l.consumer in
       let more = ap length (ap (λ (ls : List Link). superiors ps ls l.consumer) (newest links i l within at) ∙ holding_new ps l (reverse (take i links))) ∙ length-append (superiors ps (reverse (take i links)) l.consumer) (l.supplier ∷ []) in
       let most = holding_part ps links (i + 1) l.consumer in
@@ -80,37 +80,37 @@ all_picked : (links : List Link) (numbers : List ℕ) (n : ℕ) → length numbe
 all_picked links numbers n l = take_all n (picked links numbers) (let m = length-map numbers (λ k. get_or links k no_link) in omega (arith, m, l))
 
 module _ (ps : List (Option ℕ)) (links : List Link) (d : ℕ) (numbers : List ℕ) (known : numbers ≡ numbers_of (λ l. l.supplier == d) (reverse links)) (apart : AreApart ps (reverse links)) where
-  pub below_all : (n : ℕ) → length numbers ≤ n → near_below ps (reverse (take n (picked links numbers))) d ≡ near_below ps (reverse links) d
+  pub below_all : (n : ℕ) → length numbers ≤ n → active_below ps (reverse (take n (picked links numbers))) d ≡ active_below ps (reverse links) d
   below_all n l =
-      ap (λ (ks : List Link). near_below ps (reverse ks) d) (all_picked links numbers n l)
-      ∙ (ap (λ (ks : List Link). near_below ps ks d) (picked_links (λ k. k.supplier == d) links numbers known) ∙ below_here_as d ps (reverse links))
+      ap (λ (ks : List Link). active_below ps (reverse ks) d) (all_picked links numbers n l)
+      ∙ (ap (λ (ks : List Link). active_below ps ks d) (picked_links (λ k. k.supplier == d) links numbers known) ∙ below_here_as d ps (reverse links))
 
   module _ (i : ℕ) (within : i < length numbers) where
-    pub below_step : near_below ps (reverse (take (i + 1) (picked links numbers))) d ≡ cond (is_shown_below ps (get_or links (get_or numbers i 0) no_link) d) (near_below ps (reverse (take i (picked links numbers))) d ++ (get_or links (get_or numbers i 0) no_link).consumer ∷ []) (near_below ps (reverse (take i (picked links numbers))) d)
+    pub below_step : active_below ps (reverse (take (i + 1) (picked links numbers))) d ≡ cond (is_shown_below ps (get_or links (get_or numbers i 0) no_link) d) (active_below ps (reverse (take i (picked links numbers))) d ++ (get_or links (get_or numbers i 0) no_link).consumer ∷ []) (active_below ps (reverse (take i (picked links numbers))) d)
     below_step =
         next_below ps (picked links numbers) i (get_or links (get_or numbers i 0) no_link) (here_within ps links (λ k. k.supplier == d) numbers known apart i within) (here_at ps links (λ k. k.supplier == d) numbers known apart i within)
         (picked_apart ps links (λ k. k.supplier == d) numbers known apart) d
 
-    pub below_fits : is_shown_below ps (get_or links (get_or numbers i 0) no_link) d ≡ true → length (near_below ps (reverse (take i (picked links numbers))) d) < length (dependents ps (reverse links) d)
+    pub below_fits : is_shown_below ps (get_or links (get_or numbers i 0) no_link) d ≡ true → length (active_below ps (reverse (take i (picked links numbers))) d) < length (dependents ps (reverse links) d)
     below_fits e =
-        subst (λ (xs : List ℕ). length (near_below ps (reverse (take i (picked links numbers))) d) < length xs)
+        subst (λ (xs : List ℕ). length (active_below ps (reverse (take i (picked links numbers))) d) < length xs)
         (ap (λ (ks : List Link). dependents ps ks d) (picked_links (λ k. k.supplier == d) links numbers known) ∙ dependents_here d ps (reverse links))
         (below_room ps (picked links numbers) i (get_or links (get_or numbers i 0) no_link) (here_within ps links (λ k. k.supplier == d) numbers known apart i within) (here_at ps links (λ k. k.supplier == d) numbers known apart i within) d e)
 
 module _ (ps : List (Option ℕ)) (links : List Link) (d : ℕ) (numbers : List ℕ) (known : numbers ≡ numbers_of (λ l. l.consumer == d) (reverse links)) (apart : AreApart ps (reverse links)) where
-  pub above_all : (n : ℕ) → length numbers ≤ n → near_above ps (reverse (take n (picked links numbers))) d ≡ near_above ps (reverse links) d
+  pub above_all : (n : ℕ) → length numbers ≤ n → active_above ps (reverse (take n (picked links numbers))) d ≡ active_above ps (reverse links) d
   above_all n l =
-      ap (λ (ks : List Link). near_above ps (reverse ks) d) (all_picked links numbers n l)
-      ∙ (ap (λ (ks : List Link). near_above ps ks d) (picked_links (λ k. k.consumer == d) links numbers known) ∙ above_here_as d ps (reverse links))
+      ap (λ (ks : List Link). active_above ps (reverse ks) d) (all_picked links numbers n l)
+      ∙ (ap (λ (ks : List Link). active_above ps ks d) (picked_links (λ k. k.consumer == d) links numbers known) ∙ above_here_as d ps (reverse links))
 
   module _ (i : ℕ) (within : i < length numbers) where
-    pub above_step : near_above ps (reverse (take (i + 1) (picked links numbers))) d ≡ cond (is_shown_above ps (get_or links (get_or numbers i 0) no_link) d) (near_above ps (reverse (take i (picked links numbers))) d ++ (get_or links (get_or numbers i 0) no_link).supplier ∷ []) (near_above ps (reverse (take i (picked links numbers))) d)
+    pub above_step : active_above ps (reverse (take (i + 1) (picked links numbers))) d ≡ cond (is_shown_above ps (get_or links (get_or numbers i 0) no_link) d) (active_above ps (reverse (take i (picked links numbers))) d ++ (get_or links (get_or numbers i 0) no_link).supplier ∷ []) (active_above ps (reverse (take i (picked links numbers))) d)
     above_step =
         next_above ps (picked links numbers) i (get_or links (get_or numbers i 0) no_link) (here_within ps links (λ k. k.consumer == d) numbers known apart i within) (here_at ps links (λ k. k.consumer == d) numbers known apart i within)
         (picked_apart ps links (λ k. k.consumer == d) numbers known apart) d
 
-    pub above_fits : is_shown_above ps (get_or links (get_or numbers i 0) no_link) d ≡ true → length (near_above ps (reverse (take i (picked links numbers))) d) < length (superiors ps (reverse links) d)
+    pub above_fits : is_shown_above ps (get_or links (get_or numbers i 0) no_link) d ≡ true → length (active_above ps (reverse (take i (picked links numbers))) d) < length (superiors ps (reverse links) d)
     above_fits e =
-        subst (λ (xs : List ℕ). length (near_above ps (reverse (take i (picked links numbers))) d) < length xs)
+        subst (λ (xs : List ℕ). length (active_above ps (reverse (take i (picked links numbers))) d) < length xs)
         (ap (λ (ks : List Link). superiors ps ks d) (picked_links (λ k. k.consumer == d) links numbers known) ∙ superiors_here d ps (reverse links))
         (above_room ps (picked links numbers) i (get_or links (get_or numbers i 0) no_link) (here_within ps links (λ k. k.consumer == d) numbers known apart i within) (here_at ps links (λ k. k.consumer == d) numbers known apart i within) d e)

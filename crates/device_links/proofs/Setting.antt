@@ -3,19 +3,19 @@ use Rattle.std.proofs.Common.{◌≡◌, ◌<◌, ◌≤◌, ◌-◌, ◌∙◌,
 use Rattle.std.proofs.lemmas.Bool.{true≢false, eqb-true, eqb-false}
 use Rattle.std.proofs.lemmas.List.{length-map, reverse-append, get_or-set_same, get_or-set_other}
 use Rattle.sleep_model.specs.declared.machine.Link.{Link}
-use Rattle.sleep_model.specs.Links.{first_places, is_linked}
+use Rattle.sleep_model.specs.Links.{first_occurrences, is_linked}
 use Rattle.sleep_model.specs.Order.{is_link, with_state, active_of, children_from, consumers_of, suppliers_of, parent_of, dependents, superiors}
-use Rattle.sleep_model.proofs.Changing.{same_supplier, same_consumer, suppliers_kept, dependents_kept, links_kept, order_kept}
-use Rattle.device_rows.specs.Table.{Table, places_at}
+use Rattle.sleep_model.proofs.Changing.{same_supplier, same_consumer, suppliers_preserved, dependents_preserved, links_kept, order_preserved}
+use Rattle.device_rows.specs.Table.{Table, room_at}
 use Rattle.link_rows.specs.Rows.{IsTableOf}
 use Rattle.device_links.specs.declared.fault.LinkFault.{LinkFault}
-use Rattle.device_links.specs.Adds.{Stand, Lacks}
-use Rattle.device_links.specs.Kept.{IsKept, IsWhole, HavePlaces, near_below, near_above, numbers_of}
+use Rattle.device_links.specs.Adds.{AreRegistered, Lacks}
+use Rattle.device_links.specs.Invariant.{LinksInvariant, IsWhole, HaveRoomForAll, active_below, active_above, numbers_of}
 use Rattle.device_links.specs.Linked.{Linked}
 use Rattle.device_links.specs.Passes.{AreApart}
 use Rattle.device_links.proofs.Ordered.{linked_apart}
 use Rattle.device_links.proofs.InPlace.{take_whole}
-use Rattle.device_links.proofs.Numbering.{consumers_past, suppliers_past, numbered_kept, supplied_count}
+use Rattle.device_links.proofs.Numbering.{consumers_past, suppliers_past, numbered_preserved, supplied_count}
 use Rattle.link_rows.proofs.RowsMade.{table_same}
 
 -- the newest first, as they were
@@ -33,7 +33,7 @@ abbrev pub linked : List (Option ℕ) → List Link → Linked
 linked ps ls = record { parents = ps; links = ls }
 
 -- where nothing is lacking the link stands
-pub stands_then : (l : Linked) (supplier consumer : ℕ) (o : Option LinkFault) → ((x : LinkFault) → o ≡ Some x → ⊥) → Lacks l supplier consumer o → Stand l supplier consumer × (is_linked l.links supplier consumer ≡ true)
+pub stands_then : (l : Linked) (supplier consumer : ℕ) (o : Option LinkFault) → ((x : LinkFault) → o ≡ Some x → ⊥) → Lacks l supplier consumer o → AreRegistered l supplier consumer × (is_linked l.links supplier consumer ≡ true)
 stands_then l supplier consumer None f h = h
 stands_then l supplier consumer (Some x) f h = absurd (f x refl)
 
@@ -118,24 +118,24 @@ module _ (s c : ℕ) (to : Bool) where
 
   module _ (ps : List (Option ℕ)) (ls : List Link) where
     dependents_same : (d : ℕ) → dependents ps (map (with_state s c to) ls) d ≡ dependents ps ls d
-    dependents_same d = ap (λ (dependents_of : ℕ → List ℕ). dependents_of d) (dependents_kept (with_state s c to) (same_supplier s c to) (same_consumer s c to) ps ls)
+    dependents_same d = ap (λ (dependents_of : ℕ → List ℕ). dependents_of d) (dependents_preserved (with_state s c to) (same_supplier s c to) (same_consumer s c to) ps ls)
 
     holding_same : (d : ℕ) → superiors ps (map (with_state s c to) ls) d ≡ superiors ps ls d
-    holding_same d = ap (λ xs. parent_of (slice_get ps d) ++ xs) (suppliers_kept (with_state s c to) (same_supplier s c to) (same_consumer s c to) d ls)
+    holding_same d = ap (λ xs. parent_of (slice_get ps d) ++ xs) (suppliers_preserved (with_state s c to) (same_supplier s c to) (same_consumer s c to) d ls)
 
-    pub set_apart : (hangs below suppliers above : List (List ℕ)) (order : List ℕ) → IsKept ps ls hangs below suppliers above order → AreApart ps (map (with_state s c to) ls)
+    pub set_apart : (hangs below suppliers above : List (List ℕ)) (order : List ℕ) → LinksInvariant ps ls hangs below suppliers above order → AreApart ps (map (with_state s c to) ls)
     set_apart hangs below suppliers above order k = linked_apart ps (map (with_state s c to) ls) (links_kept (with_state s c to) (same_supplier s c to) (same_consumer s c to) ps ls k.linked)
 
-    pub set_below : (below above : Table) → HavePlaces ps ls below above → (d : ℕ) → length (dependents ps (map (with_state s c to) ls) d) ≤ places_at below d
+    pub set_below : (below above : Table) → HaveRoomForAll ps ls below above → (d : ℕ) → length (dependents ps (map (with_state s c to) ls) d) ≤ room_at below d
     set_below below above h d = let e = ap length (dependents_same d) in let l = h.below d in omega (arith, e, l)
 
-    pub set_above : (below above : Table) → HavePlaces ps ls below above → (d : ℕ) → length (superiors ps (map (with_state s c to) ls) d) ≤ places_at above d
+    pub set_above : (below above : Table) → HaveRoomForAll ps ls below above → (d : ℕ) → length (superiors ps (map (with_state s c to) ls) d) ≤ room_at above d
     set_above below above h d = let e = ap length (holding_same d) in let l = h.above d in omega (arith, e, l)
 
     -- all is kept where the rows of both ends are made anew
     pub whole_set : (hangs : List (List ℕ)) (below : Table) (suppliers : List (List ℕ)) (above : Table) (a b : List (List ℕ)) (order : List ℕ) → IsWhole ps ls hangs below suppliers above a b order → s < length ps → c < length ps → (below' above' : Table)
-        → below'.rows ≡ set below.rows s (near_below ps (map (with_state s c to) ls) s) → ((d : ℕ) → places_at below d ≤ places_at below' d)
-        → above'.rows ≡ set above.rows c (near_above ps (map (with_state s c to) ls) c) → ((d : ℕ) → places_at above d ≤ places_at above' d)
+        → below'.rows ≡ set below.rows s (active_below ps (map (with_state s c to) ls) s) → ((d : ℕ) → room_at below d ≤ room_at below' d)
+        → above'.rows ≡ set above.rows c (active_above ps (map (with_state s c to) ls) c) → ((d : ℕ) → room_at above d ≤ room_at above' d)
         → IsWhole ps (map (with_state s c to) ls) hangs below' suppliers above' a b order
     whole_set hangs below suppliers above a b order w sl cl below' above' br bp ar ap' = record {
       kept = record {
@@ -145,19 +145,19 @@ module _ (s c : ℕ) (to : Bool) where
         linked = links_kept (with_state s c to) (same_supplier s c to) (same_consumer s c to) ps ls w.kept.linked;
         all_dependents = table_same (length ps) (dependents ps ls) (dependents ps (map (with_state s c to) ls)) hangs w.kept.all_dependents dependents_same;
         once_below =
-            subst (IsTableOf (length ps) (near_below ps (map (with_state s c to) ls))) (sym br)
-            (table_set (length ps) (near_below ps ls) (near_below ps (map (with_state s c to) ls)) below.rows w.kept.once_below s sl
-            (λ d e. ap (λ xs. first_places (children_from d 0 ps ++ xs)) (consumers_other d e ls)));
-        all_suppliers = table_same (length ps) (λ d. suppliers_of d ls) (λ d. suppliers_of d (map (with_state s c to) ls)) suppliers w.kept.all_suppliers (λ d. suppliers_kept (with_state s c to) (same_supplier s c to) (same_consumer s c to) d ls);
+            subst (IsTableOf (length ps) (active_below ps (map (with_state s c to) ls))) (sym br)
+            (table_set (length ps) (active_below ps ls) (active_below ps (map (with_state s c to) ls)) below.rows w.kept.once_below s sl
+            (λ d e. ap (λ xs. first_occurrences (children_from d 0 ps ++ xs)) (consumers_other d e ls)));
+        all_suppliers = table_same (length ps) (λ d. suppliers_of d ls) (λ d. suppliers_of d (map (with_state s c to) ls)) suppliers w.kept.all_suppliers (λ d. suppliers_preserved (with_state s c to) (same_supplier s c to) (same_consumer s c to) d ls);
         once_above =
-            subst (IsTableOf (length ps) (near_above ps (map (with_state s c to) ls))) (sym ar)
-            (table_set (length ps) (near_above ps ls) (near_above ps (map (with_state s c to) ls)) above.rows w.kept.once_above c cl
-            (λ d e. ap (λ xs. first_places (parent_of (slice_get ps d) ++ xs)) (suppliers_other d e ls)));
-        ordered = w.kept.ordered ∙ sym (order_kept (with_state s c to) (same_supplier s c to) (same_consumer s c to) ps ls);
+            subst (IsTableOf (length ps) (active_above ps (map (with_state s c to) ls))) (sym ar)
+            (table_set (length ps) (active_above ps ls) (active_above ps (map (with_state s c to) ls)) above.rows w.kept.once_above c cl
+            (λ d e. ap (λ xs. first_occurrences (parent_of (slice_get ps d) ++ xs)) (suppliers_other d e ls)));
+        ordered = w.kept.ordered ∙ sym (order_preserved (with_state s c to) (same_supplier s c to) (same_consumer s c to) ps ls);
       };
       places = record {
         below = λ d. let l = set_below below above w.places d in let m = bp d in omega (arith, l, m);
         above = λ d. let l = set_above below above w.places d in let m = ap' d in omega (arith, l, m);
       };
-      numbers = numbered_kept (with_state s c to) (same_supplier s c to) (same_consumer s c to) (length ps) ls a b w.numbers;
+      numbers = numbered_preserved (with_state s c to) (same_supplier s c to) (same_consumer s c to) (length ps) ls a b w.numbers;
     }

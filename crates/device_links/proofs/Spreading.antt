@@ -185,14 +185,14 @@ module _ (ps : List (Option ℕ)) (after : EachAfterParent 0 ps) (ls : List Link
   one_mark : (x : ℕ) → get_or (set (replicate n false) c true) x false ≡ true → c ≡ x
   one_mark x e = by_set (set_back (replicate n false) c x e)
     where
-      bare : (k y : ℕ) → get_or (replicate k false) y false ≡ false
-      bare zero y = refl
-      bare (suc k) zero = refl
-      bare (suc k) (suc y) = bare k y
+      unstamped : (k y : ℕ) → get_or (replicate k false) y false ≡ false
+      unstamped zero y = refl
+      unstamped (suc k) zero = refl
+      unstamped (suc k) (suc y) = unstamped k y
 
       by_set : (c ≡ x) ⊎ (get_or (replicate n false) x false ≡ true) → c ≡ x
       by_set (inl k) = k
-      by_set (inr k) = absurd (true≢false (sym k ∙ bare n x))
+      by_set (inr k) = absurd (true≢false (sym k ∙ unstamped n x))
 
   fix : Descends (dependents ps ls) (moved (length ps) (dependents ps ls))
   fix = links_descend ps after ls linked (order_ranked ps after ls linked)

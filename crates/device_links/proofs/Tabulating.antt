@@ -7,22 +7,22 @@ use Rattle.sleep_model.specs.declared.machine.Link.{Link}
 use Rattle.sleep_model.specs.Order.{is_among, children_from, suppliers_of, dependents, EachAfterParent}
 use Rattle.sleep_model.specs.Links.{is_linked}
 use Rattle.sleep_model.proofs.Acyclic.{others_same}
-use Rattle.sleep_model.proofs.FirstPlaces.{dependents_new, suppliers_new, suppliers_other, suppliers_linked}
+use Rattle.sleep_model.proofs.FirstOccurrences.{dependents_new, suppliers_new, suppliers_other, suppliers_linked}
 use Rattle.device_rows.specs.Table.{Table, row_at}
 use Rattle.link_rows.specs.Rows.{IsTableOf, is_left_out}
 use Rattle.device_links.specs.declared.seen.Tables.{Tables}
-use Rattle.device_links.specs.Kept.{near_below, near_above}
-use Rattle.device_links.specs.Passes.{AreApart, AreTables, HaveRows, IsHung, IsNew, Tells}
-use Rattle.device_links.proofs.Kept.{kept_new, places_new, places_more, holding_count}
-use Rattle.device_links.proofs.Near.{below_here, below_other, above_here, above_other}
+use Rattle.device_links.specs.Invariant.{active_below, active_above}
+use Rattle.device_links.specs.Passes.{AreApart, AreTables, HaveRows, IsHung, IsNew, Decides}
+use Rattle.device_links.proofs.Invariant.{preserved_new, room_new, room_more, holding_count}
+use Rattle.device_links.proofs.ActiveLinks.{below_here, below_other, above_here, above_other}
 use Rattle.link_rows.proofs.RowsMade.{table_push, table_unless}
 
 -- without links
 pub tables_new : (ps : List (Option ℕ)) → length ps < 2 ^ 32 → EachAfterParent 0 ps → (t : Tables)
     → IsTableOf (length ps) (λ d. children_from d 0 ps) t.dependents.rows → IsTableOf (length ps) (λ d. children_from d 0 ps) t.below.rows → t.suppliers.rows ≡ replicate (length ps) [] → t.above.rows ≡ map option_to_list ps → AreTables ps [] t
 tables_new ps l after t h b s a =
-    let k = kept_new ps l after t.dependents.rows t.below.rows t.suppliers.rows t.above.rows (range_with_len 0 (length ps)) h b s a refl in
-    record { all_dependents = k.all_dependents; once_below = k.once_below; all_suppliers = k.all_suppliers; once_above = k.once_above; places = places_new ps t.below t.above k.once_below k.once_above }
+    let k = preserved_new ps l after t.dependents.rows t.below.rows t.suppliers.rows t.above.rows (range_with_len 0 (length ps)) h b s a refl in
+    record { all_dependents = k.all_dependents; once_below = k.once_below; all_suppliers = k.all_suppliers; once_above = k.once_above; places = room_new ps t.below t.above k.once_below k.once_above }
 
 pub rows_of : (ps : List (Option ℕ)) (ls : List Link) (t : Tables) → AreTables ps ls t → HaveRows (length ps) t
 rows_of ps ls t h = record { dependents = h.all_dependents.count; below = h.once_below.count; suppliers = h.all_suppliers.count; above = h.once_above.count }
@@ -44,16 +44,16 @@ pub tables_more : (ps : List (Option ℕ)) → EachAfterParent 0 ps → (ls : Li
 tables_more ps after ls old new k l apart u = record {
   all_dependents = hangs;
   once_below =
-      subst (IsTableOf (length ps) (near_below ps (l ∷ ls))) (sym u.below.rows)
-      (table_unless (length ps) (near_below ps ls) (near_below ps (l ∷ ls)) old.below.rows k.once_below (is_left_out ps l) l.supplier l.consumer apart.0
+      subst (IsTableOf (length ps) (active_below ps (l ∷ ls))) (sym u.below.rows)
+      (table_unless (length ps) (active_below ps ls) (active_below ps (l ∷ ls)) old.below.rows k.once_below (is_left_out ps l) l.supplier l.consumer apart.0
       (below_here ps l ls apart.1 apart.2) (λ d e. below_other ps l ls d e));
   all_suppliers = supplies;
   once_above =
-      subst (IsTableOf (length ps) (near_above ps (l ∷ ls))) (sym u.above.rows)
-      (table_unless (length ps) (near_above ps ls) (near_above ps (l ∷ ls)) old.above.rows k.once_above (is_left_out ps l) l.consumer l.supplier apart.1
+      subst (IsTableOf (length ps) (active_above ps (l ∷ ls))) (sym u.above.rows)
+      (table_unless (length ps) (active_above ps ls) (active_above ps (l ∷ ls)) old.above.rows k.once_above (is_left_out ps l) l.consumer l.supplier apart.1
       (above_here ps l ls apart.2) (λ d e. above_other ps l ls d e));
   places =
-      places_more ps after l ls old.below old.above new.below new.above k.places u.below.kept
+      room_more ps after l ls old.below old.above new.below new.above k.places u.below.kept
       (let made = u.below.made in let is = ap length (hangs.each l.supplier) in omega (arith, made, is)) u.above.kept
       (let made = u.above.made in let is = ap length (supplies.each l.consumer ∙ suppliers_new l ls) ∙ length-append (suppliers_of l.consumer ls) (l.supplier ∷ []) in let most = holding_count ps l ls in omega (arith, made, is, most));
 }
@@ -97,9 +97,9 @@ with_next ps after links i l within at old new h n u =
 abbrev pub no_link : Link
 no_link = record { supplier = 0; consumer = 0; active = false }
 
-pub tells_new : (n : ℕ) (t : Table) (l : Link) → l.supplier < n → l.consumer < n → (r : Bool) → r ≡ is_among (row_at t l.consumer) l.supplier → Tells (not r) (IsNew n t l)
-tells_new n t l s c true e = λ new. true≢false (e ∙ new.new)
-tells_new n t l s c false e = record { supplier = s; consumer = c; new = sym e }
+pub decides_new : (n : ℕ) (t : Table) (l : Link) → l.supplier < n → l.consumer < n → (r : Bool) → r ≡ is_among (row_at t l.consumer) l.supplier → Decides (not r) (IsNew n t l)
+decides_new n t l s c true e = λ new. true≢false (e ∙ new.new)
+decides_new n t l s c false e = record { supplier = s; consumer = c; new = sym e }
 
 -- the consumer of a link is a device
 pub consumer_at : (ps : List (Option ℕ)) (links : List Link) (i : ℕ) (l : Link) → i < length links → l ≡ get_or links i l → AreApart ps (reverse links) → l.consumer < length ps

@@ -5,7 +5,7 @@ use Rattle.std.proofs.lemmas.Grind.{flat_map-append}
 use Rattle.std.proofs.lemmas.List.{append-nil, reverse-append, take_more, drop_more, take_all, drop_all, get_or-replicate, length-replicate, get_or_default, get_or-set_same, get_or-set_other}
 use Rattle.std.proofs.lemmas.Bool.{true≢false, false≢true, eqb-true, eqb-false, or_cases, or_from, or_parts, eq-eqb}
 use Rattle.std.proofs.Math.Bool.{or-false}
-use Rattle.sleep_model.specs.Order.{is_among, last_places}
+use Rattle.sleep_model.specs.Order.{is_among, last_occurrences}
 use Rattle.sleep_model.specs.Links.{LeadsTo, IsPath}
 use Rattle.sleep_model.proofs.Dependents.{among_app, among_first, among_rest, among_flat, Within, onto, onto_app, among_onto, last_onto, Descends, IsClosed, visited, visits, not_below_itself, leads_below}
 use Rattle.sleep_base.specs.declared.outside.Mem.{Mem}
@@ -85,7 +85,7 @@ pub way_popped : (top : Option Frame) (old new : List Frame) → old ≡ new ++ 
 way_popped None old new e = sym (ap reverse e ∙ ap reverse (append-nil new))
 way_popped (Some f) old new e = sym (ap reverse e ∙ reverse-append new (f ∷ []))
 
--- a walk is over only where it is back at the first
+-- a walk is over only if it is back at the first
 abbrev pub IsOver : Option Frame → List Frame → Type 0
 IsOver None above = above ≡ []
 IsOver (Some f) above = Unit {0}
@@ -311,7 +311,7 @@ module _ (dependents_of : ℕ → List ℕ) where
             omega (arith, a, b, e, g)
 
       -- at the end
-      pub ended : (n from target : ℕ) (out : List ℕ) (marks : List Bool) → Walking n from target [] out marks → (out ≡ last_places (W from)) × (is_among (W from) target ≡ false) × AreMarks marks n (W from)
+      pub ended : (n from target : ℕ) (out : List ℕ) (marks : List Bool) → Walking n from target [] out marks → (out ≡ last_occurrences (W from)) × (is_among (W from) target ≡ false) × AreMarks marks n (W from)
       ended n from target out marks w = (
         w.ends ∙ sym (last_onto (W from)),
         same target ∙ w.missing,

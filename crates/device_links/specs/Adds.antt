@@ -8,12 +8,12 @@ use Rattle.device_links.specs.declared.fault.LinkFault.TheVariants as fault
 use Rattle.device_links.specs.Linked.{Linked}
 
 -- both devices are registered
-abbrev pub Stand : Linked → ℕ → ℕ → Type 0
-Stand l supplier consumer = (supplier < length l.parents) × (consumer < length l.parents)
+abbrev pub AreRegistered : Linked → ℕ → ℕ → Type 0
+AreRegistered l supplier consumer = (supplier < length l.parents) × (consumer < length l.parents)
 
 -- the link is refused neither for its devices, nor for the count of links, nor because it stands (device_link_add)
 pub record IsOpen (l : Linked) (supplier consumer : ℕ) : Type 0 where
-  pub stand : Stand l supplier consumer
+  pub stand : AreRegistered l supplier consumer
   pub few : length l.links < 4000
   pub new : is_linked l.links supplier consumer ≡ false
 
@@ -25,13 +25,13 @@ Closes l supplier consumer path = IsPath (dependents l.parents l.links) path con
 abbrev pub Refuses : Linked → ℕ → ℕ → Option LinkFault → Type 0
 Refuses l supplier consumer None = IsOpen l supplier consumer
 Refuses l supplier consumer (Some fault.NoDevice) = (length l.parents ≤ supplier) ⊎ (length l.parents ≤ consumer)
-Refuses l supplier consumer (Some fault.TooMany) = Stand l supplier consumer × (4000 ≤ length l.links)
-Refuses l supplier consumer (Some fault.Twice) = Stand l supplier consumer × (length l.links < 4000) × (is_linked l.links supplier consumer ≡ true)
+Refuses l supplier consumer (Some fault.TooMany) = AreRegistered l supplier consumer × (4000 ≤ length l.links)
+Refuses l supplier consumer (Some fault.Twice) = AreRegistered l supplier consumer × (length l.links < 4000) × (is_linked l.links supplier consumer ≡ true)
 Refuses l supplier consumer (Some fault.NoLink) = ⊥
 Refuses l supplier consumer (Some (fault.Cycle path)) = ⊥
 Refuses l supplier consumer (Some fault.Mem) = ⊥
 
--- the answer: a link closes no cycle, or a fault, each exactly where it comes
+-- the answer: a link closes no cycle, or a fault, each exactly if it comes
 abbrev pub Adds : Linked → ℕ → ℕ → Result (Unit {0}) LinkFault → Type 0
 Adds l supplier consumer (Ok done) = IsOpen l supplier consumer × ((path : List ℕ) → Closes l supplier consumer path → ⊥)
 Adds l supplier consumer (Err (fault.Cycle path)) = IsOpen l supplier consumer × Closes l supplier consumer path
@@ -55,12 +55,12 @@ with_set l supplier consumer active = record l { links = map (with_state supplie
 
 -- why a link's state is not set, in the order of the tests; none: that link stands
 abbrev pub Lacks : Linked → ℕ → ℕ → Option LinkFault → Type 0
-Lacks l supplier consumer None = Stand l supplier consumer × (is_linked l.links supplier consumer ≡ true)
+Lacks l supplier consumer None = AreRegistered l supplier consumer × (is_linked l.links supplier consumer ≡ true)
 Lacks l supplier consumer (Some fault.NoDevice) = (length l.parents ≤ supplier) ⊎ (length l.parents ≤ consumer)
-Lacks l supplier consumer (Some fault.NoLink) = Stand l supplier consumer × (is_linked l.links supplier consumer ≡ false)
+Lacks l supplier consumer (Some fault.NoLink) = AreRegistered l supplier consumer × (is_linked l.links supplier consumer ≡ false)
 Lacks l supplier consumer (Some f) = ⊥
 
--- the answer where a link's state is set: done, or a fault, each exactly where it comes; it takes no memory
+-- the answer where a link's state is set: done, or a fault, each exactly if it comes; it takes no memory
 abbrev pub Sets : Linked → ℕ → ℕ → Result (Unit {0}) LinkFault → Type 0
 Sets l supplier consumer (Ok done) = Lacks l supplier consumer None
 Sets l supplier consumer (Err f) = Lacks l supplier consumer (Some f)

@@ -1,5 +1,5 @@
 pub mod Adds
-pub mod Kept
+pub mod Invariant
 pub mod Linked
 pub mod Moves
 pub mod Passes

@@ -10,7 +10,7 @@ use Rattle.device_links.specs.Adds.{Closes}
 use Rattle.device_links.specs.Linked.{Linked}
 
 -- up to some place of the order one of the two stands, and not the other
-pub record StandsFirst (order : List ℕ) (one other : ℕ) : Type 0 where
+pub record Precedes (order : List ℕ) (one other : ℕ) : Type 0 where
   pub place : ℕ
   pub here : is_among (take place order) one ≡ true
   pub not_yet : is_among (take place order) other ≡ false
@@ -26,7 +26,7 @@ abbrev pub after_move : Option (Vec ℕ Global) → List ℕ → List ℕ
 after_move None order = order
 after_move (Some moved) order = moved.items
 
--- the order that a link moves its consumer in, none where that stays; or a path by which it would close a cycle (device_reorder_to_tail)
+-- the order that a link moves its consumer in, none if that stays; or a path by which it would close a cycle (device_reorder_to_tail)
 abbrev pub Moves : Linked → Link → Result (Option (Vec ℕ Global)) LinkFault → Type 0
 Moves l link (Ok moved) = Leaves l link (after_move moved (order_by l.parents l.links))
 Moves l link (Err (fault.Cycle path)) = Closes l link.supplier link.consumer path

@@ -1,25 +1,25 @@
 -- Links that are made at once: their tables, and one walk after another over what depends on a device.
 use Rattle.std.specs.Prelude.{◌≡◌, ◌≤◌, ◌<◌, ◌+◌, ◌++◌, ℕ, Bool, true, false, not, List, [], ◌∷◌, length, filter, reverse, flat_map, Option, Some, None}
 use Rattle.sleep_model.specs.declared.machine.Link.{Link}
-use Rattle.sleep_model.specs.Order.{is_among, dependents, suppliers_of, last_places, moved, order_by}
+use Rattle.sleep_model.specs.Order.{is_among, dependents, suppliers_of, last_occurrences, moved, order_by}
 use Rattle.sleep_model.specs.Links.{AreLinks, IsOrder, is_linked}
 use Rattle.device_rows.specs.Table.{Table, row_at, with_number}
-use Rattle.link_rows.specs.Rows.{IsNear, IsTableOf, is_left_out}
+use Rattle.link_rows.specs.Rows.{IsPushed, IsTableOf, is_left_out}
 use Rattle.device_links.specs.declared.seen.Tables.{Tables}
 use Rattle.device_links.specs.declared.visits.Visits.{Visits}
-use Rattle.device_links.specs.Kept.{near_below, near_above, HavePlaces}
+use Rattle.device_links.specs.Invariant.{active_below, active_above, HaveRoomForAll}
 use Rattle.device_links.specs.Linked.{Linked}
 use Rattle.device_links.specs.Walks.{AreMarks}
 
 -- each of the links, the first of them first, may be added in turn (device_link_add)
-pub record CanStand (parents : List (Option ℕ)) (links : List Link) : Type 0 where
+pub record CanBeAdded (parents : List (Option ℕ)) (links : List Link) : Type 0 where
   pub few : length links ≤ 4000
   pub linked : AreLinks parents (reverse links)
 
 -- all of the links stand, or one of them would have been refused
 abbrev pub Makes : List (Option ℕ) → List Link → Option Linked → Type 0
-Makes parents links None = CanStand parents links → ⊥
-Makes parents links (Some l) = CanStand parents links × (l ≡ record { parents = parents; links = reverse links })
+Makes parents links None = CanBeAdded parents links → ⊥
+Makes parents links (Some l) = CanBeAdded parents links × (l ≡ record { parents = parents; links = reverse links })
 
 -- ---- tables
 
@@ -36,18 +36,18 @@ pub record IsNew (n : ℕ) (suppliers : Table) (l : Link) : Type 0 where
   pub consumer : l.consumer < n
   pub new : is_among (row_at suppliers l.consumer) l.supplier ≡ false
 
--- true where it is so, and false where it is not
-abbrev pub Tells : Bool → Type 0 → Type 0
-Tells true P = P
-Tells false P = P → ⊥
+-- true if it is so, and false if it is not
+abbrev pub Decides : Bool → Type 0 → Type 0
+Decides true P = P
+Decides false P = P → ⊥
 
 -- the tables are those of the parents and the links
 pub record AreTables (parents : List (Option ℕ)) (links : List Link) (t : Tables) : Type 0 where
   pub all_dependents : IsTableOf (length parents) (dependents parents links) t.dependents.rows
-  pub once_below : IsTableOf (length parents) (near_below parents links) t.below.rows
+  pub once_below : IsTableOf (length parents) (active_below parents links) t.below.rows
   pub all_suppliers : IsTableOf (length parents) (λ d. suppliers_of d links) t.suppliers.rows
-  pub once_above : IsTableOf (length parents) (near_above parents links) t.above.rows
-  pub places : HavePlaces parents links t.below t.above
+  pub once_above : IsTableOf (length parents) (active_above parents links) t.above.rows
+  pub places : HaveRoomForAll parents links t.below t.above
 
 -- each table has that number of rows
 pub record HaveRows (n : ℕ) (t : Tables) : Type 0 where
@@ -60,8 +60,8 @@ pub record HaveRows (n : ℕ) (t : Tables) : Type 0 where
 pub record IsHung (parents : List (Option ℕ)) (l : Link) (old new : Tables) : Type 0 where
   pub dependents : new.dependents.rows ≡ with_number old.dependents.rows (Some l.supplier) l.consumer
   pub suppliers : new.suppliers.rows ≡ with_number old.suppliers.rows (Some l.consumer) l.supplier
-  pub below : IsNear (is_left_out parents l) l.supplier l.consumer (length (row_at new.dependents l.supplier) + 2) old.below new.below
-  pub above : IsNear (is_left_out parents l) l.consumer l.supplier (length (row_at new.suppliers l.consumer) + 2) old.above new.above
+  pub below : IsPushed (is_left_out parents l) l.supplier l.consumer (length (row_at new.dependents l.supplier) + 2) old.below new.below
+  pub above : IsPushed (is_left_out parents l) l.consumer l.supplier (length (row_at new.suppliers l.consumer) + 2) old.above new.above
 
 -- the tables of all these links, or one of them stands twice or between others than the devices
 abbrev pub Tabulates : List (Option ℕ) → List Link → Option Tables → Type 0
@@ -86,7 +86,7 @@ pub record IsVisited (n : ℕ) (dependents_of : ℕ → List ℕ) (from : ℕ) (
   pub visits : AreVisits n dependents_of new
   pub here : is_among new.out from ≡ true
   pub kept : (d : ℕ) → is_among old.out d ≡ true → is_among new.out d ≡ true
-  pub placed : IsAcyclic n dependents_of → new.out ≡ filter (λ d. not (is_among old.out d)) (last_places (moved n dependents_of from)) ++ old.out
+  pub placed : IsAcyclic n dependents_of → new.out ≡ filter (λ d. not (is_among old.out d)) (last_occurrences (moved n dependents_of from)) ++ old.out
 
 -- a device was visited, or a cycle was met
 abbrev pub Goes : ℕ → (ℕ → List ℕ) → ℕ → Visits → Visits → Bool → Type 0

@@ -1,6 +1,6 @@
 -- What a walk below a device finds.
 use Rattle.std.specs.Prelude.{◌≡◌, ◌<◌, ◌≤◌, ℕ, Bool, true, false, List, [], ◌∷◌, length, drop, flat_map, slice_index_or}
-use Rattle.sleep_model.specs.Order.{is_among, last_places, moved}
+use Rattle.sleep_model.specs.Order.{is_among, last_occurrences, moved}
 use Rattle.sleep_model.specs.Links.{IsPath}
 use Rattle.device_links.specs.declared.walk.Frame.{Frame}
 use Rattle.device_links.specs.declared.walk.Found.{Found}
@@ -18,7 +18,7 @@ pub record AreMarks (marks : List Bool) (n : ℕ) (devices : List ℕ) : Type 0 
 
 -- all that depends on a device, each at its last place, with marks; the target is not among it, and no path leads there
 pub record IsWalked (n : ℕ) (dependents_of : ℕ → List ℕ) (from target : ℕ) (below : List ℕ) (marks : List Bool) : Type 0 where
-  pub places : below ≡ last_places (moved n dependents_of from)
+  pub places : below ≡ last_occurrences (moved n dependents_of from)
   pub missing : is_among (moved n dependents_of from) target ≡ false
   pub no_path : (path : List ℕ) → IsPath dependents_of path from target → ⊥
   pub marked : AreMarks marks n (moved n dependents_of from)
@@ -34,7 +34,7 @@ Finds n dependents_of from target (Reached path) = IsPath dependents_of path.ite
 Finds n dependents_of from target (Passed devices start marks) =
     (start ≤ length devices.items) × IsWalked n dependents_of from target (drop start devices.items) marks.items
 
--- the devices of a walk, its top first, behind one another before this path
+-- the devices of a walk, its top first, after one another before this path
 abbrev pub on_path : List Frame → List ℕ → List ℕ
 on_path [] path = path
 on_path (f ∷ rest) path = on_path rest (f.device ∷ path)

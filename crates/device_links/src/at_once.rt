@@ -2,19 +2,19 @@
 
 ghost use Rattle.std.specs.Prelude.{◌≡◌, ◌<◌, ◌^◌, [], IfOk, OnOk, length, reverse};
 ghost use Rattle.sleep_model.specs.Order.{EachAfterParent};
-ghost use Rattle.link_rows.specs.Rows.{IsNear};
-ghost use Rattle.device_links.specs.Passes.{AreTables, HaveRows, IsHung, IsNew, Tabulates, Tells};
+ghost use Rattle.link_rows.specs.Rows.{IsPushed};
+ghost use Rattle.device_links.specs.Passes.{AreTables, HaveRows, IsHung, IsNew, Tabulates, Decides};
 
 use crate::seen::{Tables, without_links};
 use device_rows::Rows;
-use link_rows::{dependents_of, hang_near, is_left_out, places_for};
+use link_rows::{dependents_of, is_left_out, push_and_reserve, room_for};
 use sleep_base::Mem;
 use sleep_model::Link;
 use std::alloc::Global;
 
 // Whether the link is between two of the first `count` devices, and none that stands.
 fn is_new(count: usize, suppliers: &Rows, link: Link) -> bool
-    ensures { Tells result (IsNew count suppliers.now link) }
+    ensures { Decides result (IsNew count suppliers.now link) }
 {
     if link.supplier as usize >= count || link.consumer as usize >= count {
         return false;
@@ -22,7 +22,7 @@ fn is_new(count: usize, suppliers: &Rows, link: Link) -> bool
     !suppliers.row(link.consumer).contains(&link.supplier)
 }
 
-// Puts a link behind the others.
+// Puts a link after the others.
 fn hang_link(parents: &[Option<u32>], tables: &mut Tables, link: Link) -> Result<(), Mem>
     requires sized { HaveRows (length parents.now) tables.old }
     requires supplier { link.supplier < length parents.now }
@@ -37,14 +37,14 @@ fn hang_link(parents: &[Option<u32>], tables: &mut Tables, link: Link) -> Result
     dependents_of(&mut tables.dependents, Some(supplier), consumer)?;
     dependents_of(&mut tables.suppliers, Some(consumer), supplier)?;
     let left_out = is_left_out(parents, link);
-    let below = places_for(&tables.dependents, supplier);
-    let above = places_for(&tables.suppliers, consumer);
-    hang_near(&mut tables.below, left_out, supplier, consumer, below)?;
-    hang_near(&mut tables.above, left_out, consumer, supplier, above)?;
+    let below = room_for(&tables.dependents, supplier);
+    let above = room_for(&tables.suppliers, consumer);
+    push_and_reserve(&mut tables.below, left_out, supplier, consumer, below)?;
+    push_and_reserve(&mut tables.above, left_out, consumer, supplier, above)?;
     Ok(())
 }
 
-/// The tables of these links. None exactly where one of them stands twice, or an end of it is no
+/// The tables of these links. None exactly if one of them stands twice, or an end of it is no
 /// device.
 pub(crate) fn tables_of(
     alloc: Global,

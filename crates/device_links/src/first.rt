@@ -1,12 +1,12 @@
 //! Which of two devices stands first in an order.
 
 ghost use Rattle.std.specs.Bool.{OnTrue};
-ghost use Rattle.device_links.specs.Moves.{StandsFirst};
+ghost use Rattle.device_links.specs.Moves.{Precedes};
 
 /// Whether one device stands in an order before the other, if that does at all. What stands before a device
 /// does not depend on it, so this often spares a walk.
-pub(crate) fn stands_first(order: &[u32], one: u32, other: u32) -> bool
-    ensures { OnTrue result (StandsFirst order.now one other) }
+pub(crate) fn precedes(order: &[u32], one: u32, other: u32) -> bool
+    ensures { OnTrue result (Precedes order.now one other) }
 {
     for device in order {
         if *device == other {

@@ -4,7 +4,7 @@ ghost use Rattle.device_links.specs.Moves.{after_move};
 use crate::at_once::tables_of;
 use crate::depends::comes_to;
 use crate::fault::{DevList, LinkFault};
-use crate::first::stands_first;
+use crate::first::precedes;
 use crate::numbers::LinkNumbers;
 use crate::room::make_room;
 use crate::seen::{Tables, without_links};
@@ -36,7 +36,7 @@ pub struct Links {
 impl Model for Links {
     ghost use Rattle.std.specs.Prelude.{reverse};
     ghost use Rattle.device_links.specs.Linked.{Linked};
-    ghost use Rattle.device_links.specs.Kept.{IsWhole};
+    ghost use Rattle.device_links.specs.Invariant.{IsWhole};
 
     ghost Value = { Linked };
 
@@ -53,7 +53,7 @@ impl Links {
     ghost use Rattle.sleep_model.specs.Links.{IsOrder, is_dependent, is_linked};
     ghost use Rattle.device_links.specs.Walks.{Finds, IsWalked};
     ghost use Rattle.device_links.specs.Adds.{Adds, IsOpen, Lacks, Refuses, Sets, outcome, with_link, with_set};
-    ghost use Rattle.device_links.specs.Kept.{near_below, near_above};
+    ghost use Rattle.device_links.specs.Invariant.{active_below, active_above};
     ghost use Rattle.device_links.specs.Moves.{Leaves, Moves, after_move};
     ghost use Rattle.device_links.specs.Passes.{Makes};
     ghost use Rattle.std.specs.Bool.{OnTrue};
@@ -77,7 +77,7 @@ impl Links {
     }
 
     /// Devices with these parents and links, as after an `add` of each link in turn, but in the time
-    /// of one walk over all of them. None exactly where one of these `add`s would refuse its link;
+    /// of one walk over all of them. None exactly if one of these `add`s would refuse its link;
     /// to learn which and why, add them in turn. `Mem` if there is no memory, or there are more
     /// devices than device numbers.
     pub fn with_links(
@@ -123,10 +123,10 @@ impl Links {
     /// Adds a link, active or dormant, and moves the consumer and all that depends on it to the end
     /// of the order. A dormant link is neither seen below nor above.
     ///
-    /// Tested in turn, each refusal exactly where its test fails: that both are registered
+    /// Tested in turn, each refusal exactly if its test fails: that both are registered
     /// (`NoDevice`), that a link more has a place among 4,000 (`TooMany`), that these two have none
     /// yet (`Twice`), and that the consumer would not come to depend on itself (`Cycle`, with a
-    /// path from it to the supplier). Want of memory (`Mem`) may come in place of `Cycle`. A refused
+    /// path from it to the supplier). Out of memory (`Mem`) may come in place of `Cycle`. A refused
     /// link changes nothing.
     pub fn add_as(&mut self, supplier: u32, consumer: u32, active: bool) -> Result<(), LinkFault>
         ensures answer { Adds self.old supplier consumer result }
@@ -134,13 +134,13 @@ impl Links {
             (record { supplier = supplier; consumer = consumer; active = active })) }
         ensures err { OnErr result (self.new ≡ self.old) }
     {
-        self.add_telling(supplier, consumer, active)?;
+        self.add_noting_order(supplier, consumer, active)?;
         Ok(())
     }
 
     /// Adds a link as `add_as` does, and tells whether the order stays as it is, as far as that is seen
     /// without a walk.
-    pub fn add_telling(
+    pub fn add_noting_order(
         &mut self,
         supplier: u32,
         consumer: u32,
@@ -170,7 +170,7 @@ impl Links {
     /// Makes a link active or dormant (`struct device_link`, `status`). The order stays, and it takes
     /// no memory.
     ///
-    /// Tested in turn, each refusal exactly where its test fails: that both are registered
+    /// Tested in turn, each refusal exactly if its test fails: that both are registered
     /// (`NoDevice`), and that they have a link (`NoLink`).
     pub fn set_active(&mut self, supplier: u32, consumer: u32, to: bool) -> Result<(), LinkFault>
         ensures answer { Sets self.old supplier consumer result }
@@ -218,7 +218,7 @@ impl Links {
     /// The devices that depend directly on one: its children, then its consumers by the links that
     /// are active, each once.
     pub fn below(&self, device: u32) -> &[u32]
-        ensures { result.now ≡ near_below self.now.parents self.now.links device }
+        ensures { result.now ≡ active_below self.now.parents self.now.links device }
     {
         self.tables.below.row(device)
     }
@@ -226,7 +226,7 @@ impl Links {
     /// The devices that one depends on directly: its parent, then its suppliers by the links that are
     /// active, each once.
     pub fn above(&self, device: u32) -> &[u32]
-        ensures { result.now ≡ near_above self.now.parents self.now.links device }
+        ensures { result.now ≡ active_above self.now.parents self.now.links device }
     {
         self.tables.above.row(device)
     }
@@ -244,7 +244,7 @@ impl Links {
         requires { length self.now.parents ≤ 1024 }
         ensures { result ≡ is_dependent self.now.parents self.now.links consumer supplier }
     {
-        if stands_first(&self.order, supplier, consumer) {
+        if precedes(&self.order, supplier, consumer) {
             return false;
         }
         consumer == supplier || comes_to(&self.tables.dependents, &self.order, consumer, supplier)
@@ -304,13 +304,13 @@ impl Links {
     {
         match self.links.last() {
             Some(newest) if newest.consumer == link.consumer => {
-                stands_first(&self.order, link.supplier, link.consumer)
+                precedes(&self.order, link.supplier, link.consumer)
             }
             _ => false,
         }
     }
 
-    // The order in which a link has moved its consumer, and all that depends on it, to the end; `None` where the
+    // The order in which a link has moved its consumer, and all that depends on it, to the end; `None` if the
     // order stays as it is.
     fn moved_by(&self, link: Link) -> Result<Option<Vec<u32>>, LinkFault>
         requires { link.consumer < length self.now.parents }
@@ -336,7 +336,7 @@ impl Links {
         moved_last(*self.order.allocator(), &self.order, marks, below)
     }
 
-    // Puts the link behind the others, and takes the order that it leaves where that is another.
+    // Puts the link after the others, and takes the order that it leaves where that is another.
     fn put(&mut self, link: Link, moved: Option<Vec<u32>>) -> Result<(), Mem>
         requires open { IsOpen self.old link.supplier link.consumer }
         requires leaves { Leaves self.old link (after_move moved (order_by self.old.parents self.old.links)) }

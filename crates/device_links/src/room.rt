@@ -1,7 +1,7 @@
 //! Room for one more link in all that is kept of links.
 
 ghost use Rattle.std.specs.Prelude.{◌≡◌, ◌<◌, OnOk, length, vec_len, vec_capacity};
-ghost use Rattle.device_links.specs.Kept.{HasRoom};
+ghost use Rattle.device_links.specs.Invariant.{HasRoom};
 ghost use Rattle.device_links.specs.Rooms.{AreRoomier, HaveEnds, HaveRoom};
 
 use crate::numbers::LinkNumbers;

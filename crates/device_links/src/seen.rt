@@ -6,7 +6,7 @@ ghost use Rattle.device_links.specs.Passes.{AreTables};
 ghost use Rattle.device_links.specs.Rooms.{AreRoomier, HaveEnds, HaveRoom, ArePut};
 
 use device_rows::Rows;
-use link_rows::{children_of, make_near, parents_of, places_for, push_unless};
+use link_rows::{children_of, parents_of, push_unless, reserve_one, room_for};
 use sleep_base::Mem;
 use sleep_model::Link;
 use std::alloc::Global;
@@ -42,15 +42,15 @@ impl Tables {
         ensures kept { AreRoomier self.old self.new }
         ensures room { OnOk result (HaveRoom link self.new) }
     {
-        let most_below = places_for(&self.dependents, link.supplier);
-        let most_above = places_for(&self.suppliers, link.consumer);
+        let most_below = room_for(&self.dependents, link.supplier);
+        let most_above = room_for(&self.suppliers, link.consumer);
         self.dependents.make_room(link.supplier)?;
         self.suppliers.make_room(link.consumer)?;
-        make_near(&mut self.below, link.supplier, most_below)?;
-        make_near(&mut self.above, link.consumer, most_above)
+        reserve_one(&mut self.below, link.supplier, most_below)?;
+        reserve_one(&mut self.above, link.consumer, most_above)
     }
 
-    /// Puts a link, for which there is room, behind the others of both its ends; one that is left out is put neither below
+    /// Puts a link, for which there is room, after the others of both its ends; one that is left out is put neither below
     /// nor above.
     pub(crate) fn push(&mut self, link: Link, left_out: bool)
         requires { HaveRoom link self.old }

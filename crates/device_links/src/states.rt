@@ -3,8 +3,8 @@
 ghost use Rattle.std.specs.Prelude.{◌≡◌, ◌<◌, ◌≤◌, ◌==◌, ◌-◌, [], ℕ, length, map, option_to_list, reverse, slice_get, slice_set, take};
 ghost use Rattle.std.specs.Bool.{OnFalse};
 ghost use Rattle.sleep_model.specs.Order.{children_from, dependents, superiors, parent_of, with_state};
-ghost use Rattle.device_rows.specs.Table.{row_at, places_at};
-ghost use Rattle.device_links.specs.Kept.{near_below, near_above, is_shown_below, is_shown_above, numbers_of};
+ghost use Rattle.device_rows.specs.Table.{row_at, room_at};
+ghost use Rattle.device_links.specs.Invariant.{active_below, active_above, is_shown_below, is_shown_above, numbers_of};
 ghost use Rattle.device_links.specs.Passes.{AreApart};
 
 use device_rows::Rows;
@@ -84,11 +84,11 @@ pub(crate) fn refill_below(
     requires within { device < length table.old.rows }
     requires children { children.now ≡ children_from device 0 parents.now }
     requires supplied { supplied.now ≡ numbers_of (λ l. l.supplier == device) (reverse links.now) }
-    requires places { length (dependents parents.now (reverse links.now) device) ≤ places_at table.old device }
+    requires places { length (dependents parents.now (reverse links.now) device) ≤ room_at table.old device }
     requires apart { AreApart parents.now (reverse links.now) }
     ensures rows { table.new.rows ≡
-        slice_set table.old.rows device (near_below parents.now (reverse links.now) device) }
-    ensures places { (d : ℕ) → places_at table.old d ≤ places_at table.new d }
+        slice_set table.old.rows device (active_below parents.now (reverse links.now) device) }
+    ensures places { (d : ℕ) → room_at table.old d ≤ room_at table.new d }
 {
     table.clear(device);
     push_children(table, children, device);
@@ -99,16 +99,16 @@ pub(crate) fn refill_below(
 fn push_children(table: &mut Rows, children: &[u32], device: u32)
     requires within { device < length table.old.rows }
     requires empty { row_at table.old device ≡ [] }
-    requires places { length children.now ≤ places_at table.old device }
+    requires places { length children.now ≤ room_at table.old device }
     ensures rows { table.new.rows ≡ slice_set table.old.rows device children.now }
-    ensures places { (d : ℕ) → places_at table.old d ≤ places_at table.new d }
+    ensures places { (d : ℕ) → room_at table.old d ≤ room_at table.new d }
 {
     for child in children {
         table.push(device, *child);
     }
 }
 
-// Puts the consumers of a device by active links into its row, behind its children.
+// Puts the consumers of a device by active links into its row, after its children.
 fn push_consumers(
     table: &mut Rows,
     parents: &[Option<u32>],
@@ -119,11 +119,11 @@ fn push_consumers(
     requires within { device < length table.old.rows }
     requires children { row_at table.old device ≡ children_from device 0 parents.now }
     requires supplied { supplied.now ≡ numbers_of (λ l. l.supplier == device) (reverse links.now) }
-    requires places { length (dependents parents.now (reverse links.now) device) ≤ places_at table.old device }
+    requires places { length (dependents parents.now (reverse links.now) device) ≤ room_at table.old device }
     requires apart { AreApart parents.now (reverse links.now) }
     ensures rows { table.new.rows ≡
-        slice_set table.old.rows device (near_below parents.now (reverse links.now) device) }
-    ensures places { (d : ℕ) → places_at table.old d ≤ places_at table.new d }
+        slice_set table.old.rows device (active_below parents.now (reverse links.now) device) }
+    ensures places { (d : ℕ) → room_at table.old d ≤ room_at table.new d }
 {
     for number in supplied {
         let link = links[*number as usize];
@@ -145,11 +145,11 @@ pub(crate) fn refill_above(
     requires device { device < length parents.now }
     requires within { device < length table.old.rows }
     requires consumed { consumed.now ≡ numbers_of (λ l. l.consumer == device) (reverse links.now) }
-    requires places { length (superiors parents.now (reverse links.now) device) ≤ places_at table.old device }
+    requires places { length (superiors parents.now (reverse links.now) device) ≤ room_at table.old device }
     requires apart { AreApart parents.now (reverse links.now) }
     ensures rows { table.new.rows ≡
-        slice_set table.old.rows device (near_above parents.now (reverse links.now) device) }
-    ensures places { (d : ℕ) → places_at table.old d ≤ places_at table.new d }
+        slice_set table.old.rows device (active_above parents.now (reverse links.now) device) }
+    ensures places { (d : ℕ) → room_at table.old d ≤ room_at table.new d }
 {
     table.clear(device);
     push_parent(table, parents[device as usize], device);
@@ -160,16 +160,16 @@ pub(crate) fn refill_above(
 fn push_parent(table: &mut Rows, parent: Option<u32>, device: u32)
     requires within { device < length table.old.rows }
     requires empty { row_at table.old device ≡ [] }
-    requires places { length (option_to_list parent) ≤ places_at table.old device }
+    requires places { length (option_to_list parent) ≤ room_at table.old device }
     ensures rows { table.new.rows ≡ slice_set table.old.rows device (option_to_list parent) }
-    ensures places { (d : ℕ) → places_at table.old d ≤ places_at table.new d }
+    ensures places { (d : ℕ) → room_at table.old d ≤ room_at table.new d }
 {
     if let Some(parent) = parent {
         table.push(device, parent);
     }
 }
 
-// Puts the suppliers of a device by active links into its row, behind its parent.
+// Puts the suppliers of a device by active links into its row, after its parent.
 fn push_suppliers(
     table: &mut Rows,
     parents: &[Option<u32>],
@@ -181,11 +181,11 @@ fn push_suppliers(
     requires within { device < length table.old.rows }
     requires parent { row_at table.old device ≡ parent_of (slice_get parents.now device) }
     requires consumed { consumed.now ≡ numbers_of (λ l. l.consumer == device) (reverse links.now) }
-    requires places { length (superiors parents.now (reverse links.now) device) ≤ places_at table.old device }
+    requires places { length (superiors parents.now (reverse links.now) device) ≤ room_at table.old device }
     requires apart { AreApart parents.now (reverse links.now) }
     ensures rows { table.new.rows ≡
-        slice_set table.old.rows device (near_above parents.now (reverse links.now) device) }
-    ensures places { (d : ℕ) → places_at table.old d ≤ places_at table.new d }
+        slice_set table.old.rows device (active_above parents.now (reverse links.now) device) }
+    ensures places { (d : ℕ) → room_at table.old d ≤ room_at table.new d }
 {
     for number in consumed {
         let link = links[*number as usize];

@@ -68,10 +68,10 @@ fn visit(alloc: Global, table: &Rows, from: u32, visits: &mut Visits) -> Result<
     Ok(true)
 }
 
-/// The order that these links leave, by what depends directly on each device. None exactly where one
+/// The order that these links leave, by what depends directly on each device. None exactly if one
 /// of them closes a cycle with the parents and those before it.
 ///
-/// What a later link moves stays behind all that earlier ones move, so the walks begin with the last
+/// What a later link moves stays after all that earlier ones move, so the walks begin with the last
 /// link, and none enters what a later one has visited. What a walk meets by a later link than its
 /// own is that link's consumer, and was visited.
 pub(crate) fn order_of(

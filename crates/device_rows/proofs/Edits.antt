@@ -7,8 +7,8 @@ module _ {A B : Type 0} (f : A → B) (xs : List A) (i : ℕ) (x y : A) (within 
   seen_at d = get_or-map f xs i x d within ∙ ap f (sym at)
 
   -- what looks the same leaves all the same
-  pub seen_kept : f y ≡ f x → map f (set xs i y) ≡ map f xs
-  seen_kept same = map-set f xs i y ∙ ap (set (map f xs) i) (same ∙ sym (seen_at (f x))) ∙ set-get_or (map f xs) i (f x)
+  pub seen_preserved : f y ≡ f x → map f (set xs i y) ≡ map f xs
+  seen_preserved same = map-set f xs i y ∙ ap (set (map f xs) i) (same ∙ sym (seen_at (f x))) ∙ set-get_or (map f xs) i (f x)
 
   -- what looks otherwise changes that place alone
   pub seen_set : (d b : B) → f y ≡ b → map f (set xs i y) ≡ set (map f xs) i b
@@ -25,19 +25,19 @@ module _ {A B : Type 0} (f : A → B) (xs : List A) (i : ℕ) (x y : A) (within 
 -- a list and a number that each element tells
 module _ {A : Type 0} (f : A → List ℕ) (r : A → ℕ) where
   -- one element that has no fewer places
-  pub places_more : (xs : List A) (i : ℕ) (x y : A) → i < length xs → x ≡ get_or xs i x → length (f x) + r x ≤ length (f y) + r y → (d : ℕ)
+  pub room_more : (xs : List A) (i : ℕ) (x y : A) → i < length xs → x ≡ get_or xs i x → length (f x) + r x ≤ length (f y) + r y → (d : ℕ)
       → length (get_or (map f xs) d []) + get_or (map r xs) d 0 ≤ length (get_or (map f (set xs i y)) d []) + get_or (map r (set xs i y)) d 0
-  places_more [] i x y l at more d = absurd (omega arith)
-  places_more (z ∷ zs) zero x y l at more zero = let same : x ≡ z = at in subst (λ (v : A). length (f v) + r v ≤ length (f y) + r y) same more
-  places_more (z ∷ zs) zero x y l at more (suc d) = omega arith
-  places_more (z ∷ zs) (suc i) x y l at more zero = omega arith
-  places_more (z ∷ zs) (suc i) x y l at more (suc d) = places_more zs i x y (omega arith) at more d
+  room_more [] i x y l at more d = absurd (omega arith)
+  room_more (z ∷ zs) zero x y l at more zero = let same : x ≡ z = at in subst (λ (v : A). length (f v) + r v ≤ length (f y) + r y) same more
+  room_more (z ∷ zs) zero x y l at more (suc d) = omega arith
+  room_more (z ∷ zs) (suc i) x y l at more zero = omega arith
+  room_more (z ∷ zs) (suc i) x y l at more (suc d) = room_more zs i x y (omega arith) at more d
 
   -- the places of the element that was put there
-  pub places_new : (xs : List A) (i : ℕ) (y : A) → i < length xs → length (get_or (map f (set xs i y)) i []) + get_or (map r (set xs i y)) i 0 ≡ length (f y) + r y
-  places_new [] i y l = absurd (omega arith)
-  places_new (z ∷ zs) zero y l = refl
-  places_new (z ∷ zs) (suc i) y l = places_new zs i y (omega arith)
+  pub room_new : (xs : List A) (i : ℕ) (y : A) → i < length xs → length (get_or (map f (set xs i y)) i []) + get_or (map r (set xs i y)) i 0 ≡ length (f y) + r y
+  room_new [] i y l = absurd (omega arith)
+  room_new (z ∷ zs) zero y l = refl
+  room_new (z ∷ zs) (suc i) y l = room_new zs i y (omega arith)
 
 -- a place whose number is above 0 is within the list
 pub above_zero : (xs : List ℕ) (i : ℕ) → 0 < get_or xs i 0 → i < length xs

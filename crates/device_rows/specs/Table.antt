@@ -11,8 +11,8 @@ abbrev pub row_at : Table → ℕ → List ℕ
 row_at t d = slice_index_or t.rows d []
 
 -- how many numbers a row has places for, without more memory
-abbrev pub places_at : Table → ℕ → ℕ
-places_at t d = length (row_at t d) + slice_index_or t.room d 0
+abbrev pub room_at : Table → ℕ → ℕ
+room_at t d = length (row_at t d) + slice_index_or t.room d 0
 
 -- the rows with one more number at the end of one of them, or as they are
 abbrev pub with_number : List (List ℕ) → Option ℕ → ℕ → List (List ℕ)

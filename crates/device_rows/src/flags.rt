@@ -48,7 +48,7 @@ impl Flags {
         self.flags.len()
     }
 
-    /// Whether the flag at that number is set; false where there is none.
+    /// Whether the flag at that number is set; false if there is none.
     pub fn is_set(&self, number: u32) -> bool
         ensures { result ≡ slice_index_or self.now number false }
     {

@@ -25,7 +25,7 @@ impl Model for Rows {
 
 impl Rows {
     ghost use Rattle.std.specs.Prelude.{◌≡◌, ◌<◌, ◌≤◌, ◌++◌, ◌∷◌, [], ℕ, IfOk, OnOk, OnErr, length, replicate, option_to_list, slice_index, slice_set};
-    ghost use Rattle.device_rows.specs.Table.{row_at, places_at};
+    ghost use Rattle.device_rows.specs.Table.{row_at, room_at};
 
     /// A table without rows.
     pub fn new(alloc: Global) -> Rows
@@ -54,7 +54,7 @@ impl Rows {
         self.rows.len()
     }
 
-    /// The numbers of a row, the oldest first; none where there is no such row.
+    /// The numbers of a row, the oldest first; none if there is no such row.
     pub fn row(&self, device: u32) -> &[u32]
         ensures { result.now ≡ row_at self.now device }
     {
@@ -100,7 +100,7 @@ impl Rows {
     pub fn make_room(&mut self, device: u32) -> Result<(), Mem>
         requires { device < length self.old.rows }
         ensures rows { self.new.rows ≡ self.old.rows }
-        ensures places { (d : ℕ) → places_at self.old d ≤ places_at self.new d }
+        ensures places { (d : ℕ) → room_at self.old d ≤ room_at self.new d }
         ensures ok { OnOk result (0 < slice_index self.new.room device) }
     {
         let row = &mut self.rows[device as usize];
@@ -109,11 +109,11 @@ impl Rows {
     }
 
     /// Gives a row places for that number of numbers in all. `Mem` if there is no memory for them.
-    pub fn make_places(&mut self, device: u32, count: usize) -> Result<(), Mem>
+    pub fn reserve_row(&mut self, device: u32, count: usize) -> Result<(), Mem>
         requires { device < length self.old.rows }
         ensures rows { self.new.rows ≡ self.old.rows }
-        ensures places { (d : ℕ) → places_at self.old d ≤ places_at self.new d }
-        ensures ok { OnOk result (count ≤ places_at self.new device) }
+        ensures places { (d : ℕ) → room_at self.old d ≤ room_at self.new d }
+        ensures ok { OnOk result (count ≤ room_at self.new device) }
     {
         let row = &mut self.rows[device as usize];
         row.reserve(count.saturating_sub(row.len()))?;
@@ -124,7 +124,7 @@ impl Rows {
     pub fn clear(&mut self, device: u32)
         requires { device < length self.old.rows }
         ensures rows { self.new.rows ≡ slice_set self.old.rows device [] }
-        ensures places { (d : ℕ) → places_at self.old d ≤ places_at self.new d }
+        ensures places { (d : ℕ) → room_at self.old d ≤ room_at self.new d }
     {
         let row = &mut self.rows[device as usize];
         row.clear();
@@ -135,7 +135,7 @@ impl Rows {
         requires { 0 < slice_index self.old.room device }
         ensures rows { self.new.rows ≡
             slice_set self.old.rows device (row_at self.old device ++ number ∷ []) }
-        ensures places { (d : ℕ) → places_at self.old d ≤ places_at self.new d }
+        ensures places { (d : ℕ) → room_at self.old d ≤ room_at self.new d }
     {
         let row = &mut self.rows[device as usize];
         row.push_reserved(number);
@@ -146,7 +146,7 @@ impl Rows {
         requires { device < length self.old.rows }
         ensures ok { OnOk result (self.new.rows ≡
             slice_set self.old.rows device (row_at self.old device ++ number ∷ [])) }
-        ensures places { (d : ℕ) → places_at self.old d ≤ places_at self.new d }
+        ensures places { (d : ℕ) → room_at self.old d ≤ room_at self.new d }
         ensures err { OnErr result (self.new.rows ≡ self.old.rows) }
     {
         let row = &mut self.rows[device as usize];

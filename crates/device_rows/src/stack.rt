@@ -28,7 +28,7 @@ impl<T> Stack<T> {
         }
     }
 
-    /// Takes the top off. None exactly where the stack is empty.
+    /// Takes the top off. None exactly if the stack is empty.
     pub fn pop(&mut self) -> Option<T>
         ensures { MatchOption result ((self.old ≡ []) × (self.new ≡ []))
             (λ top. self.old ≡ top ∷ self.new) }

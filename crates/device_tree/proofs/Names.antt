@@ -7,7 +7,7 @@ use Rattle.std.proofs.lemmas.Bool.Decides.{same_from_decides}
 use Rattle.std.proofs.lemmas.List.{append_cancel_right}
 use Rattle.sleep_model.specs.declared.machine.Device.{Device}
 use Rattle.sleep_model.specs.contracts.name.NamePartialEq.TheImpl.{eq-value}
-use Rattle.device_tree.specs.Refusal.{is_taken, place_of}
+use Rattle.device_tree.specs.Refusal.{is_taken, number_of_name}
 
 -- the bytes with zeros up to 32
 abbrev padded : List ℕ → List ℕ
@@ -33,5 +33,5 @@ same_test a = λ i b. name_eq a b i
 pub taken_is : (name : List ℕ) (names : List (List ℕ)) (ds : List Device) → names ≡ map (λ d. d.name) ds → list_any (eq-value.it name) names ≡ is_taken name ds
 taken_is name names ds e = ap (λ (p : List ℕ → Bool). list_any p names) (same_test name) ∙ ap (list_any (bytes_eq name)) e
 
-pub place_is : (name : List ℕ) (names : List (List ℕ)) (ds : List Device) → names ≡ map (λ d. d.name) ds → position (eq-value.it name) names ≡ place_of name ds
+pub place_is : (name : List ℕ) (names : List (List ℕ)) (ds : List Device) → names ≡ map (λ d. d.name) ds → position (eq-value.it name) names ≡ number_of_name name ds
 place_is name names ds e = ap (λ (p : List ℕ → Bool). position p names) (same_test name) ∙ ap (position (bytes_eq name)) e

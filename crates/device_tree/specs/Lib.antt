@@ -1,3 +1,3 @@
-pub mod Kept
+pub mod Invariant
 pub mod Refusal
 pub mod Requests

@@ -6,8 +6,8 @@ use Rattle.device_tree.specs.declared.fault.TreeFault.{TreeFault}
 use Rattle.device_tree.specs.declared.fault.TreeFault.TheVariants.{TooMany, NameTaken, NoParent, Mem}
 
 -- the number of the device of this name
-abbrev pub place_of : List ℕ → List Device → Option ℕ
-place_of name devices = position (bytes_eq name) (map (λ d. d.name) devices)
+abbrev pub number_of_name : List ℕ → List Device → Option ℕ
+number_of_name name devices = position (bytes_eq name) (map (λ d. d.name) devices)
 
 -- a device of this name stands among them
 abbrev pub is_taken : List ℕ → List Device → Bool
@@ -18,16 +18,16 @@ abbrev pub is_lost : ℕ → Option ℕ → Bool
 is_lost n None = false
 is_lost n (Some p) = nat_le n p
 
--- why a device is not registered behind these, in the order of the tests (device_add)
+-- why a device is not registered after these, in the order of the tests (device_add)
 abbrev pub refusal : List Device → Device → Option TreeFault
 refusal devices d =
     if nat_le 1000 (length devices) then Some TooMany else
     if is_taken d.name devices then Some NameTaken else
     if is_lost (length devices) d.parent then Some NoParent else None
 
--- what is answered is the refusal, and where there is none, want of memory or success
-abbrev pub Refuses : {T : Type 0} → Result T TreeFault → Option TreeFault → Type 0
-Refuses (Ok x) None = Unit {0}
-Refuses (Ok x) (Some f) = ⊥
-Refuses (Err e) None = e ≡ Mem
-Refuses (Err e) (Some f) = e ≡ f
+-- what is answered is the refusal, and where there is none, out of memory or success
+abbrev pub RefusesDevice : {T : Type 0} → Result T TreeFault → Option TreeFault → Type 0
+RefusesDevice (Ok x) None = Unit {0}
+RefusesDevice (Ok x) (Some f) = ⊥
+RefusesDevice (Err e) None = e ≡ Mem
+RefusesDevice (Err e) (Some f) = e ≡ f

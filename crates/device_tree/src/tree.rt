@@ -29,18 +29,18 @@ impl Model for Tree {
 
     ghost Value = { List Device };
 
-    ghost use Rattle.device_tree.specs.Kept.{IsKept};
+    ghost use Rattle.device_tree.specs.Invariant.{TreeInvariant};
 
     ghost view = { λ t. t.devices.items };
 
-    ghost invariant = { λ t. IsKept t.devices.items t.names.keys t.children.rows };
+    ghost invariant = { λ t. TreeInvariant t.devices.items t.names.keys t.children.rows };
 }
 
 impl Tree {
     ghost use Rattle.std.specs.Prelude.{◌≡◌, ◌++◌, ◌∷◌, [], ◌≤◌, ◌<◌, IfOk, OnOk, OnErr, length, slice_get, option_and_then};
     ghost use Rattle.sleep_model.specs.Order.{children_from, parents_of};
-    ghost use Rattle.device_tree.specs.Refusal.{refusal, Refuses, place_of};
-    ghost use Rattle.device_tree.specs.Kept.{IsTree};
+    ghost use Rattle.device_tree.specs.Refusal.{refusal, RefusesDevice, number_of_name};
+    ghost use Rattle.device_tree.specs.Invariant.{IsTree};
 
     /// A tree without devices.
     pub fn new(alloc: Global) -> Tree
@@ -53,13 +53,13 @@ impl Tree {
         }
     }
 
-    /// Registers a device behind those that stand, and gives its number.
+    /// Registers a device after those that stand, and gives its number.
     ///
     /// A full tree of 1,000 devices takes none (`TooMany`). Else a name that is taken is refused
     /// (`NameTaken`), and then a parent that is not among those that stand (`NoParent`): each exactly
-    /// there. `Mem` comes last, for want of memory. A refused device leaves no trace.
+    /// there. `Mem` comes last, if it is out of memory. A refused device leaves no trace.
     pub fn register(&mut self, device: Device) -> Result<u32, TreeFault>
-        ensures refused { Refuses result (refusal self.old device) }
+        ensures refused { RefusesDevice result (refusal self.old device) }
         ensures number { IfOk result (λ n. n ≡ length self.old) }
         ensures ok { OnOk result (self.new ≡ self.old ++ device ∷ []) }
         ensures err { OnErr result (self.new ≡ self.old) }
@@ -86,7 +86,7 @@ impl Tree {
         }
     }
 
-    // Why the device is not registered, but for want of memory.
+    // Why the device is not registered, but if it is out of memory.
     fn refusal(&self, device: &Device) -> Option<TreeFault>
         ensures { result ≡ refusal self.now device.now }
     {
@@ -102,9 +102,9 @@ impl Tree {
         None
     }
 
-    /// The number of the device of this name. None exactly where there is none.
+    /// The number of the device of this name. None exactly if there is none.
     pub fn find(&self, name: &Name) -> Option<u32>
-        ensures { result ≡ place_of name.now self.now }
+        ensures { result ≡ number_of_name name.now self.now }
     {
         match self.names.get_index_of(name) {
             Some(place) => Some(place as u32),
@@ -112,7 +112,7 @@ impl Tree {
         }
     }
 
-    /// The number of a device's parent. None where it has none, and where there is no such device.
+    /// The number of a device's parent. None if it has none, and where there is no such device.
     pub fn parent(&self, device: u32) -> Option<u32>
         ensures { result ≡ option_and_then (λ d. d.parent) (slice_get self.now device) }
     {

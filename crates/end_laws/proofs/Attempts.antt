@@ -8,27 +8,27 @@ use Rattle.sleep_model.specs.declared.entry.Kind.{Kind}
 use Rattle.sleep_model.specs.declared.entry.Kind.TheVariants as kind
 use Rattle.sleep_model.specs.declared.machine.Machine.{Machine}
 use Rattle.sleep_model.specs.declared.machine.Op.{Op}
-use Rattle.sleep_model.specs.declared.place.Seat.{Seat}
-use Rattle.sleep_model.specs.declared.place.Stage.{Stage}
-use Rattle.sleep_model.specs.declared.place.Work.{Work}
+use Rattle.sleep_model.specs.declared.progress.ScriptPosition.{ScriptPosition}
+use Rattle.sleep_model.specs.declared.progress.Stage.{Stage}
+use Rattle.sleep_model.specs.declared.progress.Work.{Work}
 use Rattle.sleep_model.specs.declared.word.EventNow.{EventNow}
 use Rattle.sleep_model.specs.Accepted.{IsAccepted}
 use Rattle.sleep_model.specs.Devices.{is_device}
 use Rattle.sleep_model.specs.Legal.{JournalPart}
-use Rattle.sleep_model.specs.Parts.{is_kept, journal, part_of}
+use Rattle.sleep_model.specs.EntryClasses.{is_in_journal, journal, class_of}
 use Rattle.sleep_model.specs.Path.{attempts, is_actor, maker}
 use Rattle.sleep_model.specs.Places.{one_if}
 use Rattle.sleep_laws.proofs.Activity.{same_number}
 use Rattle.sleep_laws.proofs.Closing.{ends_closed}
 use Rattle.sleep_laws.proofs.Ending.{or_right_false}
-use Rattle.sleep_laws.proofs.Holding.{moved}
+use Rattle.sleep_laws.proofs.LockHolding.{moved}
 use Rattle.sleep_laws.proofs.Made.{Made, StepMade, TaskMade, WorkMade, DeviceMade, EntryMade, ByMaker, ByTask, ByWork, ByDevice, ByTime}
 use Rattle.sleep_laws.proofs.MakingOwn.{entry_made}
 use Rattle.source_laws.proofs.Attempting.{attempts_is}
 use Rattle.source_laws.proofs.Trying.{is_over, maker_is, moved_free}
 use Rattle.attempt_laws.specs.Room.{enough, is_attempt, needed}
 use Rattle.attempt_laws.proofs.Needing.{attempt_needs_few, device_entry_spends, none_needed_outside, others_need_nothing, own_entry_spends}
-use Rattle.end_laws.specs.Attempts.{AttemptsAreShort, AttemptsEnd, attempts_end, ends_among, ends_behind, is_end_of, is_own, own_after, own_entries}
+use Rattle.end_laws.specs.Attempts.{AttemptsAreShort, AttemptsEnd, attempts_end, ends_among, ends_after, is_end_of, is_own, own_after, own_entries}
 use Rattle.end_laws.proofs.Waking.{both, journal_rest}
 
 -- ---- the number of an attempt
@@ -44,9 +44,9 @@ module _ (m : Machine) (past : List Entry) (now : EventNow) where
   maker_number _ _ Made.Ends = refl
   maker_number _ _ _ = tt
 
-  step_number : (seat : Seat) (asked : Bool) (o : Option Op) (k : Kind) → StepMade m past now seat asked o k → NumberFits (attempts past) k
-  step_number seat asked _ _ (StepMade.Attempts text if_saved f on) = refl
-  step_number seat asked _ _ _ = tt
+  step_number : (position : ScriptPosition) (asked : Bool) (o : Option Op) (k : Kind) → StepMade m past now position asked o k → NumberFits (attempts past) k
+  step_number position asked _ _ (StepMade.Attempts text if_saved f on) = refl
+  step_number position asked _ _ _ = tt
 
   work_number : (w : Work) (k : Kind) → WorkMade m past now w k → NumberFits (attempts past) k
   work_number _ _ (WorkMade.Attempts c on) = refl
@@ -101,11 +101,11 @@ module _ (m : Machine) (past : List Entry) (e : Entry) (later : List Entry) wher
       by_over false true x y = absurd (none_some (maker past) (moved_free m past e.now e.actor e.kind (moved m past e h) y) opened)
       by_over false false x y = or_second (is_end_of (attempts past) e.kind) (ends_among (attempts past) later) (rest x y)
 
-  begun_ends : (k : Kind) → NumberFits (attempts past) k → (is_attempt k ≡ true → ends_among (attempts past + 1) later ≡ true) → ends_behind k later ≡ true
+  begun_ends : (k : Kind) → NumberFits (attempts past) k → (is_attempt k ≡ true → ends_among (attempts past + 1) later ≡ true) → ends_after k later ≡ true
   begun_ends (kind.Attempt n guarded) f h = subst (λ (x : ℕ). ends_among x later ≡ true) (sym f) (h refl)
   begun_ends _ f h = refl
 
-  own_begins : JournalPart m (e ∷ past) → OpenEnds (e ∷ past) later → ends_behind e.kind later ≡ true
+  own_begins : JournalPart m (e ∷ past) → OpenEnds (e ∷ past) later → ends_after e.kind later ≡ true
   own_begins h ends = begun_ends e.kind (entry_number m past e.now e.actor e.kind (entry_made m past e h)) there
     where
       there : is_attempt e.kind ≡ true → ends_among (attempts past + 1) later ≡ true
@@ -114,27 +114,27 @@ module _ (m : Machine) (past : List Entry) (e : Entry) (later : List Entry) wher
           let number : attempts (e ∷ past) ≡ attempts past + 1 = omega (arith, attempts_is e.kind (attempts past), ap one_if t) in
           subst (λ (n : ℕ). ends_among n later ≡ true) number (ends (ap is_some made))
 
-source_begins : (k : Kind) (later : List Entry) → is_kept (part_of k) ≡ false → ends_behind k later ≡ true
+source_begins : (k : Kind) (later : List Entry) → is_in_journal (class_of k) ≡ false → ends_after k later ≡ true
 source_begins (kind.Attempt n guarded) later e = absurd (true≢false e)
 source_begins _ later e = refl
 
 -- the rest of what all these lead to is legal
 legal_before : (m : Machine) (later past : List Entry) → JournalPart m (journal (reverse_aux later past)) → JournalPart m (journal past)
 legal_before m [] past h = h
-legal_before m (e ∷ later) past h = journal_rest m e (journal past) (is_kept (part_of e.kind)) (legal_before m later (e ∷ past) h)
+legal_before m (e ∷ later) past h = journal_rest m e (journal past) (is_in_journal (class_of e.kind)) (legal_before m later (e ∷ past) h)
 
--- behind these entries each attempt that the later ones begin ends, and so does the one that is open
+-- after these entries each attempt that the later ones begin ends, and so does the one that is open
 ends_from : (m : Machine) (later past : List Entry) → JournalPart m (journal (reverse_aux later past)) → maker (journal (reverse_aux later past)) ≡ None → (attempts_end later ≡ true) × OpenEnds (journal past) later
 ends_from m [] past h closed = (refl, λ opened. absurd (none_some (maker (journal past)) closed opened))
-ends_from m (e ∷ later) past h closed = by_kept (is_kept (part_of e.kind)) refl (legal_before m later (e ∷ past) h) (ends_from m later (e ∷ past) h closed)
+ends_from m (e ∷ later) past h closed = by_preserved (is_in_journal (class_of e.kind)) refl (legal_before m later (e ∷ past) h) (ends_from m later (e ∷ past) h closed)
   where
-    by_kept : (b : Bool) → is_kept (part_of e.kind) ≡ b → JournalPart m (cond b (e ∷ journal past) (journal past)) → (attempts_end later ≡ true) × OpenEnds (cond b (e ∷ journal past) (journal past)) later → (attempts_end (e ∷ later) ≡ true) × OpenEnds (journal past) (e ∷ later)
-    by_kept true k j rest = (
-      both (ends_behind e.kind later) (attempts_end later) (own_begins m (journal past) e later j rest.1) rest.0,
+    by_preserved : (b : Bool) → is_in_journal (class_of e.kind) ≡ b → JournalPart m (cond b (e ∷ journal past) (journal past)) → (attempts_end later ≡ true) × OpenEnds (cond b (e ∷ journal past) (journal past)) later → (attempts_end (e ∷ later) ≡ true) × OpenEnds (journal past) (e ∷ later)
+    by_preserved true k j rest = (
+      both (ends_after e.kind later) (attempts_end later) (own_begins m (journal past) e later j rest.1) rest.0,
       own_opens m (journal past) e later j rest.1,
     )
-    by_kept false k j rest = (
-      both (ends_behind e.kind later) (attempts_end later) (source_begins e.kind later k) rest.0,
+    by_preserved false k j rest = (
+      both (ends_after e.kind later) (attempts_end later) (source_begins e.kind later k) rest.0,
       λ opened. or_second (is_end_of (attempts (journal past)) e.kind) (ends_among (attempts (journal past)) later) (rest.1 opened),
     )
 

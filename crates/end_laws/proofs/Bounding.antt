@@ -13,17 +13,17 @@ use Rattle.sleep_model.specs.declared.machine.Machine.{Machine}
 use Rattle.sleep_model.specs.declared.word.EventNow.{EventNow}
 use Rattle.sleep_model.specs.Accepted.{IsAccepted}
 use Rattle.sleep_model.specs.Devices.{is_device}
-use Rattle.sleep_model.specs.Legal.{IsLegal, JointPart, JointStep, JournalPart, JumpStep, Placed, is_idle, is_short, is_there}
+use Rattle.sleep_model.specs.Legal.{IsLegal, JointPart, JointStep, JournalPart, JumpStep, AreNumbered, is_idle, is_short, is_there}
 use Rattle.sleep_model.specs.Numbers.{numbers}
-use Rattle.sleep_model.specs.Parts.{Part, OfJournal, Notes, Moves, OfTime, is_kept, journal, part_of}
+use Rattle.sleep_model.specs.EntryClasses.{EntryClass, OfJournal, Notes, Moves, OfTime, is_in_journal, journal, class_of}
 use Rattle.sleep_model.specs.Path.{attempts, is_actor, maker}
 use Rattle.sleep_model.specs.Places.{most_attempts, one_if}
 use Rattle.sleep_model.specs.Sources.{history, is_of, most_entries}
 use Rattle.sleep_laws.proofs.Ending.{and_left, and_right, or_right_false}
 use Rattle.sleep_laws.proofs.Few.{few_entries, place_taken, places, places_rise}
-use Rattle.sleep_laws.proofs.Holding.{entry_of}
+use Rattle.sleep_laws.proofs.LockHolding.{entry_of}
 use Rattle.source_laws.proofs.Attempting.{attempts_is, attempts_within}
-use Rattle.source_laws.proofs.Keeping.{histories_keep}
+use Rattle.source_laws.proofs.Fitting.{histories_keep}
 use Rattle.source_laws.proofs.Running.{runs_within}
 use Rattle.attempt_laws.specs.Room.{enough, is_attempt, needed}
 use Rattle.attempt_laws.proofs.Needing.{attempt_needs_few, device_entry_spends, none_needed_outside, others_need_nothing, own_entry_spends}
@@ -88,7 +88,7 @@ journal_bounded m acc past h =
 -- ---- a whole list
 
 -- the source is one of the first n
-abbrev source_within : ℕ → Part → Bool
+abbrev source_within : ℕ → EntryClass → Bool
 source_within n (Notes s call) = nat_lt s n
 source_within n (Moves s step) = nat_lt s n
 source_within n _ = true
@@ -102,40 +102,40 @@ one_at_most true = omega arith
 one_at_most false = omega arith
 
 -- the entries of sources have their places
-part_counted : (n : ℕ) (e : Entry) (past : List Entry) (p : Part) → part_of e.kind ≡ p → source_within n p ≡ true → one_but_jump e.kind (but_jumps (journal past) + places n past) ≤ but_jumps (cond (is_kept p) (e ∷ journal past) (journal past)) + places n (e ∷ past)
-part_counted n e past OfJournal x t = omega (arith, one_same e.kind (but_jumps (journal past)) (places n past), places_rise n e past)
-part_counted n e past OfTime x t = omega (arith, one_same e.kind (but_jumps (journal past)) (places n past), places_rise n e past)
-part_counted n e past (Notes s call) x t =
+class_counted : (n : ℕ) (e : Entry) (past : List Entry) (p : EntryClass) → class_of e.kind ≡ p → source_within n p ≡ true → one_but_jump e.kind (but_jumps (journal past) + places n past) ≤ but_jumps (cond (is_in_journal p) (e ∷ journal past) (journal past)) + places n (e ∷ past)
+class_counted n e past OfJournal x t = omega (arith, one_same e.kind (but_jumps (journal past)) (places n past), places_rise n e past)
+class_counted n e past OfTime x t = omega (arith, one_same e.kind (but_jumps (journal past)) (places n past), places_rise n e past)
+class_counted n e past (Notes s call) x t =
     let within : s < n = grind (arith, nat_tests) in
     omega (arith, one_more_at_most e.kind (but_jumps (journal past) + places n past), place_taken n s within e past (λ k. ap (is_of k) x))
-part_counted n e past (Moves s step) x t =
+class_counted n e past (Moves s step) x t =
     let within : s < n = grind (arith, nat_tests) in
     omega (arith, one_more_at_most e.kind (but_jumps (journal past) + places n past), place_taken n s within e past (λ k. ap (is_of k) x))
 
-there_within : (m : Machine) (p : Part) → is_there m p ≡ true → source_within (length m.sources + 1) p ≡ true
+there_within : (m : Machine) (p : EntryClass) → is_there m p ≡ true → source_within (length m.sources + 1) p ≡ true
 there_within m (Notes s call) h = grind (arith, nat_tests)
 there_within m (Moves s step) h = grind (arith, nat_tests)
 there_within m OfJournal h = refl
 there_within m OfTime h = refl
 
-but_parts : (m : Machine) (past : List Entry) → list_all (λ e. is_there m (part_of e.kind)) past ≡ true → but_jumps past ≤ but_jumps (journal past) + places (length m.sources + 1) past
+but_parts : (m : Machine) (past : List Entry) → list_all (λ e. is_there m (class_of e.kind)) past ≡ true → but_jumps past ≤ but_jumps (journal past) + places (length m.sources + 1) past
 but_parts m [] h = omega arith
 but_parts m (e ∷ past) h =
-    let rest = but_parts m past (and_right (is_there m (part_of e.kind)) (list_all (λ e. is_there m (part_of e.kind)) past) h) in
-    let within = there_within m (part_of e.kind) (and_left (is_there m (part_of e.kind)) (list_all (λ e. is_there m (part_of e.kind)) past) h) in
-    omega (arith, one_most e.kind (but_jumps past) (but_jumps (journal past) + places (length m.sources + 1) past) rest, part_counted (length m.sources + 1) e past (part_of e.kind) refl within)
+    let rest = but_parts m past (and_right (is_there m (class_of e.kind)) (list_all (λ e. is_there m (class_of e.kind)) past) h) in
+    let within = there_within m (class_of e.kind) (and_left (is_there m (class_of e.kind)) (list_all (λ e. is_there m (class_of e.kind)) past) h) in
+    omega (arith, one_most e.kind (but_jumps past) (but_jumps (journal past) + places (length m.sources + 1) past) rest, class_counted (length m.sources + 1) e past (class_of e.kind) refl within)
 
 -- the newest entry is a jump
 abbrev jumped : List Entry → Bool
 jumped [] = false
 jumped (e ∷ past) = is_jump e.kind
 
--- behind a jump somebody can make something
-stirred : (m : Machine) (past : List Entry) (later : EventNow) → JournalPart m (journal past) → JointPart m past → Placed past → jumped past ≡ true → is_idle m (journal past) (λ s. history s past) later ≡ false
+-- after a jump somebody can make something
+stirred : (m : Machine) (past : List Entry) (later : EventNow) → JournalPart m (journal past) → JointPart m past → AreNumbered past → jumped past ≡ true → is_idle m (journal past) (λ s. history s past) later ≡ false
 stirred m [] later j t p h = absurd (true≢false (sym h))
 stirred m (e ∷ past) later j t p h = by_entry e.time e.now e.actor e.kind h j t.0 p.0
   where
-    by_entry : (time : ℕ) (now : EventNow) (who : Actor) (k : Kind) → is_jump k ≡ true → JournalPart m (journal (entry_of time now who k ∷ past)) → JointStep m past (entry_of time now who k) (part_of k) → now ≡ numbers past
+    by_entry : (time : ℕ) (now : EventNow) (who : Actor) (k : Kind) → is_jump k ≡ true → JournalPart m (journal (entry_of time now who k ∷ past)) → JointStep m past (entry_of time now who k) (class_of k) → now ≡ numbers past
         → is_idle m (journal (entry_of time now who k ∷ past)) (λ s. history s (entry_of time now who k ∷ past)) later ≡ false
     by_entry time now who kind.Jump x j t n =
         subst (λ (w : Actor). is_idle m (entry_of time now w kind.Jump ∷ journal past) (λ s. history s past) later ≡ false) (sym j.0.0)
@@ -146,17 +146,17 @@ one_jump : (k : Kind) (n : ℕ) → one_but_jump k n + one_if (is_jump k) ≡ n 
 one_jump kind.Jump n = omega arith
 one_jump _ n = omega arith
 
-idle_at : (m : Machine) (past : List Entry) (e : Entry) (k : Kind) → is_jump k ≡ true → JointStep m past e (part_of k) → is_idle m (journal past) (λ s. history s past) (numbers past) ≡ true
+idle_at : (m : Machine) (past : List Entry) (e : Entry) (k : Kind) → is_jump k ≡ true → JointStep m past e (class_of k) → is_idle m (journal past) (λ s. history s past) (numbers past) ≡ true
 idle_at m past e kind.Jump x t = t.idle
 idle_at m past e _ x t = absurd (true≢false (sym x))
 
 -- so a list is at most twice as long as without its jumps, and one
-lengths : (m : Machine) (past : List Entry) → JournalPart m (journal past) → JointPart m past → Placed past → length past ≤ 2 * but_jumps past + one_if (jumped past)
+lengths : (m : Machine) (past : List Entry) → JournalPart m (journal past) → JointPart m past → AreNumbered past → length past ≤ 2 * but_jumps past + one_if (jumped past)
 lengths m [] j t p = omega arith
 lengths m (e ∷ past) j t p = by_jump (is_jump e.kind) refl (lengths m past before t.1 p.2)
   where
     before : JournalPart m (journal past)
-    before = journal_rest m e (journal past) (is_kept (part_of e.kind)) j
+    before = journal_rest m e (journal past) (is_in_journal (class_of e.kind)) j
 
     none : (b : Bool) → jumped past ≡ b → is_idle m (journal past) (λ s. history s past) (numbers past) ≡ true → one_if b ≡ 0
     none false h i = refl

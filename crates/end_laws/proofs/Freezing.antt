@@ -16,11 +16,11 @@ use Rattle.sleep_model.specs.declared.machine.Op.{Op}
 use Rattle.sleep_model.specs.declared.machine.Script.{Script}
 use Rattle.sleep_model.specs.declared.machine.TaskKind.{TaskKind}
 use Rattle.sleep_model.specs.declared.machine.TaskKind.TheVariants.{Kthread}
-use Rattle.sleep_model.specs.declared.place.Freezing.{Freezing}
-use Rattle.sleep_model.specs.declared.place.Seat.{Seat}
-use Rattle.sleep_model.specs.declared.place.Stage.{Stage}
-use Rattle.sleep_model.specs.declared.place.Stage.TheVariants as stage
-use Rattle.sleep_model.specs.declared.place.Work.{Work}
+use Rattle.sleep_model.specs.declared.progress.Freezing.{Freezing}
+use Rattle.sleep_model.specs.declared.progress.ScriptPosition.{ScriptPosition}
+use Rattle.sleep_model.specs.declared.progress.Stage.{Stage}
+use Rattle.sleep_model.specs.declared.progress.Stage.TheVariants as stage
+use Rattle.sleep_model.specs.declared.progress.Work.{Work}
 use Rattle.sleep_model.specs.declared.word.EventNow.{EventNow}
 use Rattle.sleep_model.specs.Attempt.{freeze_since}
 use Rattle.sleep_model.specs.Devices.{is_device}
@@ -30,7 +30,7 @@ use Rattle.sleep_model.specs.Path.{attempts}
 use Rattle.sleep_model.specs.Places.{one_if}
 use Rattle.sleep_model.specs.Table.{stage_after}
 use Rattle.attempt_laws.specs.Room.{one_unless}
-use Rattle.sleep_laws.proofs.Holding.{Aside, IsMaker, Kept, at_stage, entry_of}
+use Rattle.sleep_laws.proofs.LockHolding.{Outside, IsMaker, StageInvariant, at_stage, entry_of}
 use Rattle.sleep_laws.proofs.Made.{Made, Comes, StepMade, TaskMade, WorkMade, DeviceMade, EntryMade, AtOnce, PastNotifiers, PastCpus, PastParts, PastPartsUp, PastCpusUp, PastPosts, ByMaker, ByTask, ByWork, ByDevice, ByTime}
 use Rattle.sleep_laws.proofs.MakingOwn.{entry_made}
 use Rattle.source_laws.proofs.Summing.{total}
@@ -85,20 +85,20 @@ module _ (m : Machine) where
   two_makes past time now who _ _ a Made.Ends h = h
   two_makes past time now who _ _ a _ h = h
 
-  two_beside : (past : List Entry) (time : ℕ) (now : EventNow) (who : Actor) (k : Kind) (s : Option Stage) → EntryMade m past now who k → is_device who ≡ false → Aside s k → TwoEach s past → TwoEach s (entry_of time now who k ∷ past)
-  two_beside past time now who _ s x a Aside.Frozen h = h
+  two_beside : (past : List Entry) (time : ℕ) (now : EventNow) (who : Actor) (k : Kind) (s : Option Stage) → EntryMade m past now who k → is_device who ≡ false → Outside s k → TwoEach s past → TwoEach s (entry_of time now who k ∷ past)
+  two_beside past time now who _ s x a Outside.Frozen h = h
   two_beside past time now who _ s x a _ h = h
 
   two_owns : (past : List Entry) (time : ℕ) (now : EventNow) (d : ℕ) (k : Kind) (s : Option Stage) → DeviceMade m past now d k → TwoEach s past → TwoEach s (entry_of time now (actor.Dev d) k ∷ past)
   two_owns past time now d _ s (DeviceMade.OwnFails p r w g f) h = h
   two_owns past time now d _ s _ h = h
 
-  two_kept : Kept m TwoEach
-  two_kept = record { starts = omega arith; opens = λ past time now who n guarded h. omega (arith, h); comes = two_comes; makes = two_makes; beside = two_beside; owns = two_owns }
+  two_preserved : StageInvariant m TwoEach
+  two_preserved = record { starts = omega arith; opens = λ past time now who n guarded h. omega (arith, h); comes = two_comes; makes = two_makes; beside = two_beside; owns = two_owns }
 
 -- an attempt has two freezes at most
 pub two_each : (m : Machine) (past : List Entry) → JournalPart m past → freezes past ≤ 2 * attempts past
-two_each m past h = omega (arith, at_stage m TwoEach (two_kept m) past h)
+two_each m past h = omega (arith, at_stage m TwoEach (two_preserved m) past h)
 
 -- ---- tasks that are to freeze
 
@@ -159,9 +159,9 @@ module _ (m : Machine) (past : List Entry) (now : EventNow) where
   maker_well who _ _ Made.Ends = tt
   maker_well who _ _ _ = tt
 
-  step_well : (who : Actor) (seat : Seat) (asked : Bool) (o : Option Op) (k : Kind) → StepMade m past now seat asked o k → FreezesWell m past who k
-  step_well who seat asked _ _ StepMade.Exits = tt
-  step_well who seat asked _ _ _ = tt
+  step_well : (who : Actor) (position : ScriptPosition) (asked : Bool) (o : Option Op) (k : Kind) → StepMade m past now position asked o k → FreezesWell m past who k
+  step_well who position asked _ _ StepMade.Exits = tt
+  step_well who position asked _ _ _ = tt
 
   work_well : (who : Actor) (w : Work) (k : Kind) → WorkMade m past now w k → FreezesWell m past who k
   work_well who _ _ WorkMade.Runs = tt

@@ -17,7 +17,7 @@ use Rattle.sleep_model.specs.declared.machine.What.{What}
 use Rattle.sleep_model.specs.declared.machine.What.TheVariants as what
 use Rattle.sleep_model.specs.Accepted.{AreAnswers, AreReports, IsAccepted, IsOp, IsReport}
 use Rattle.sleep_model.specs.Answers.{answer, answer_for, answer_reports, is_for, is_thing, own_or}
-use Rattle.sleep_model.specs.Calls.{calls_at, calls_behind, calls_of, calls_of_turn, ends_turn, note, pieces_if, pieces_in, report_calls, turns_ended}
+use Rattle.sleep_model.specs.Calls.{calls_at, calls_after_turn, calls_of, calls_of_turn, ends_turn, note, pieces_if, pieces_in, report_calls, turns_ended}
 use Rattle.sleep_model.specs.Path.{attempts, is_same}
 use Rattle.sleep_model.specs.Scripts.{Piece, Calls, Turns, autosleep_pieces, operations, pieces_of}
 use Rattle.sleep_model.specs.Tasks.{is_mem, is_off}
@@ -63,9 +63,9 @@ brief_turn m acc (actor.Dev d) k = tt
 brief_turn m acc (actor.Timer s) k = tt
 brief_turn m acc actor.Time k = tt
 
-brief_behind : (m : Machine) → IsAccepted m → (who : Actor) (b : Bool) (k : ℕ) → Each IsBrief (calls_behind m who b k)
-brief_behind m acc who true k = brief_turn m acc who k
-brief_behind m acc who false k = tt
+brief_after : (m : Machine) → IsAccepted m → (who : Actor) (b : Bool) (k : ℕ) → Each IsBrief (calls_after_turn m who b k)
+brief_after m acc who true k = brief_turn m acc who k
+brief_after m acc who false k = tt
 
 -- ---- reports
 
@@ -104,10 +104,10 @@ brief_calls m acc who [] = brief_turn m acc who 0
 brief_calls m acc who (e ∷ past) = by_same (is_same e.actor who) (brief_calls m acc who past)
   where
     by_same : (b : Bool) → Each IsBrief (calls_of m who past)
-        → Each IsBrief (cond b (calls_of m who past ++ report_calls m (attempts past) e.kind ++ calls_behind m who (ends_turn e.kind) (turns_ended who past + 1)) (calls_of m who past))
+        → Each IsBrief (cond b (calls_of m who past ++ report_calls m (attempts past) e.kind ++ calls_after_turn m who (ends_turn e.kind) (turns_ended who past + 1)) (calls_of m who past))
     by_same true h =
-        each_append IsBrief (calls_of m who past ++ report_calls m (attempts past) e.kind) (calls_behind m who (ends_turn e.kind) (turns_ended who past + 1))
-        (each_append IsBrief (calls_of m who past) (report_calls m (attempts past) e.kind) h (brief_reports m acc (attempts past) e.kind)) (brief_behind m acc who (ends_turn e.kind) (turns_ended who past + 1))
+        each_append IsBrief (calls_of m who past ++ report_calls m (attempts past) e.kind) (calls_after_turn m who (ends_turn e.kind) (turns_ended who past + 1))
+        (each_append IsBrief (calls_of m who past) (report_calls m (attempts past) e.kind) h (brief_reports m acc (attempts past) e.kind)) (brief_after m acc who (ends_turn e.kind) (turns_ended who past + 1))
     by_same false h = h
 
 -- the event of a call that comes next lasts at most a day

@@ -11,20 +11,20 @@ use Rattle.sleep_model.specs.declared.entry.Kind.{Kind}
 use Rattle.sleep_model.specs.declared.machine.Machine.{Machine}
 use Rattle.sleep_model.specs.declared.machine.Op.{Op}
 use Rattle.sleep_model.specs.declared.machine.Script.{Script}
-use Rattle.sleep_model.specs.declared.place.Seat.{Seat}
+use Rattle.sleep_model.specs.declared.progress.ScriptPosition.{ScriptPosition}
 use Rattle.sleep_model.specs.declared.word.EventNow.{EventNow}
 use Rattle.sleep_model.specs.Calls.{ends_step}
 use Rattle.sleep_model.specs.Legal.{JournalPart}
 use Rattle.sleep_model.specs.Path.{is_same}
 use Rattle.sleep_model.specs.Places.{is_state, one_if}
 use Rattle.sleep_model.specs.Scripts.{entry_steps, makes_entry, operations}
-use Rattle.sleep_model.specs.Seats.{first_seat, seat_at, seat_part, seats}
+use Rattle.sleep_model.specs.Positions.{first_position, position_at, position_effect, positions}
 use Rattle.sleep_laws.proofs.Made.{StepMade, TaskMade, EntryMade, ByMaker, ByTask}
 use Rattle.sleep_laws.proofs.MakingOwn.{entry_made}
 use Rattle.source_laws.proofs.Limiting.{script_tries}
 use Rattle.source_laws.proofs.Summing.{total}
 use Rattle.source_laws.proofs.Trying.{done_of, done_other, done_out, done_own, passes, same_actor, steps_if, steps_in}
-use Rattle.fit_laws.proofs.Sitting.{seats_len}
+use Rattle.fit_laws.proofs.Sitting.{positions_len}
 use Rattle.end_laws.specs.Bounds.{most_steps}
 use Rattle.end_laws.proofs.Counting.{far, stepped}
 
@@ -35,18 +35,18 @@ passes_within test [] n h = absurd (true≢false (sym h))
 passes_within test (x ∷ xs) zero h = omega arith
 passes_within test (x ∷ xs) (suc n) h = omega (arith, passes_within test xs n h)
 
-step_there : (m : Machine) (past : List Entry) (now : EventNow) (seat : Seat) (asked : Bool) (o : Option Op) (k : Kind) → StepMade m past now seat asked o k → ends_step (seat_part k) ≡ true → (xs : List Op) (n : ℕ) → slice_get xs n ≡ o → n < length xs
-step_there m past now seat asked _ _ StepMade.Exits t xs n e = absurd (true≢false (sym t))
-step_there m past now seat asked (Some x) _ _ t xs n e = slice_get_within xs n x e
+step_there : (m : Machine) (past : List Entry) (now : EventNow) (position : ScriptPosition) (asked : Bool) (o : Option Op) (k : Kind) → StepMade m past now position asked o k → ends_step (position_effect k) ≡ true → (xs : List Op) (n : ℕ) → slice_get xs n ≡ o → n < length xs
+step_there m past now position asked _ _ StepMade.Exits t xs n e = absurd (true≢false (sym t))
+step_there m past now position asked (Some x) _ _ t xs n e = slice_get_within xs n x e
 
 -- a step that ends is there
-step_within : (m : Machine) (past : List Entry) (now : EventNow) (i : ℕ) (k : Kind) → JournalPart m past → EntryMade m past now (actor.Script i) k → ends_step (seat_part k) ≡ true → done_of m past i < length (steps_in m i)
+step_within : (m : Machine) (past : List Entry) (now : EventNow) (i : ℕ) (k : Kind) → JournalPart m past → EntryMade m past now (actor.Script i) k → ends_step (position_effect k) ≡ true → done_of m past i < length (steps_in m i)
 step_within m past now i k h (ByMaker _ here there _ a at c x) t = passes_within is_state (steps_in m i) (done_of m past i) ((script_tries m i past h).at_state a)
 step_within m past now _ _ h (ByTask i _ a (TaskMade.Freezes s go asked)) t = absurd (true≢false (sym t))
 step_within m past now _ k h (ByTask i _ a (TaskMade.Steps s _ o go at x)) t =
     step_there m past now _ _ o k x t (steps_in m i) (done_of m past i) (ap (λ z. slice_get (steps_if z) (done_of m past i)) go.script ∙ at)
 
-fresh : (n i : ℕ) → (seat_at (replicate n first_seat) i).done ≡ 0
+fresh : (n i : ℕ) → (position_at (replicate n first_position) i).done ≡ 0
 fresh zero i = refl
 fresh (suc n) zero = refl
 fresh (suc n) (suc i) = fresh n i
@@ -55,14 +55,14 @@ pub done_within : (m : Machine) (past : List Entry) → JournalPart m past → (
 done_within m [] h i = omega (arith, fresh (length m.actors) i)
 done_within m (e ∷ past) h i = by_same (is_same e.actor (actor.Script i)) refl (done_within m past h.1 i)
   where
-    by_end : (b : Bool) → ends_step (seat_part e.kind) ≡ b → e.actor ≡ actor.Script i → done_of m past i ≤ length (steps_in m i) → cond b (done_of m past i + 1) (done_of m past i) ≤ length (steps_in m i)
+    by_end : (b : Bool) → ends_step (position_effect e.kind) ≡ b → e.actor ≡ actor.Script i → done_of m past i ≤ length (steps_in m i) → cond b (done_of m past i + 1) (done_of m past i) ≤ length (steps_in m i)
     by_end true x a before = let less = step_within m past e.now i e.kind h.1 (subst (λ (w : Actor). EntryMade m past e.now w e.kind) a (entry_made m past e h)) x in omega (arith, less)
     by_end false x a before = before
 
     by_range : (b : Bool) → nat_lt i (length m.actors) ≡ b → is_same e.actor (actor.Script i) ≡ true → done_of m past i ≤ length (steps_in m i) → done_of m (e ∷ past) i ≤ length (steps_in m i)
     by_range true r s before =
         let within : i < length m.actors = grind (arith, nat_tests) in
-        omega (arith, done_own m past e i s within, by_end (ends_step (seat_part e.kind)) refl (same_actor e.actor (actor.Script i) s) before)
+        omega (arith, done_own m past e i s within, by_end (ends_step (position_effect e.kind)) refl (same_actor e.actor (actor.Script i) s) before)
     by_range false r s before = let out : length m.actors ≤ i = grind (arith, nat_tests) in omega (arith, done_out m past e i s out, before)
 
     by_same : (b : Bool) → is_same e.actor (actor.Script i) ≡ b → done_of m past i ≤ length (steps_in m i) → done_of m (e ∷ past) i ≤ length (steps_in m i)
@@ -75,23 +75,23 @@ one_at_most : (b : Bool) → one_if b ≤ 1
 one_at_most true = omega arith
 one_at_most false = omega arith
 
-kept_less : (p : Op → Bool) (xs : List Op) → length (filter p xs) ≤ length xs
-kept_less p [] = omega arith
-kept_less p (x ∷ xs) = by_test (p x) (kept_less p xs)
+preserved_less : (p : Op → Bool) (xs : List Op) → length (filter p xs) ≤ length xs
+preserved_less p [] = omega arith
+preserved_less p (x ∷ xs) = by_test (p x) (preserved_less p xs)
   where
     by_test : (b : Bool) → length (filter p xs) ≤ length xs → length (cond b (x ∷ filter p xs) (filter p xs)) ≤ suc (length xs)
     by_test true l = omega (arith, l)
     by_test false l = omega (arith, l)
 
 -- scripts whose seats are these come no further together than all their operations
-all_far : (scripts : List Script) (places : List Seat) → length places ≡ length scripts → ((i : ℕ) → (seat_at places i).done ≤ length (steps_if (slice_get scripts i))) → total far places ≤ 2 * length (flat_map operations scripts) + 2 * length scripts
+all_far : (scripts : List Script) (places : List ScriptPosition) → length places ≡ length scripts → ((i : ℕ) → (position_at places i).done ≤ length (steps_if (slice_get scripts i))) → total far places ≤ 2 * length (flat_map operations scripts) + 2 * length scripts
 all_far [] [] l h = omega arith
 all_far [] (p ∷ places) l h = absurd (omega arith)
 all_far (s ∷ scripts) [] l h = absurd (omega arith)
 all_far (s ∷ scripts) (p ∷ places) l h =
     let same : length places ≡ length scripts = omega arith in
     let first : p.done ≤ length (entry_steps s) = h 0 in
-    omega (arith, all_far scripts places same (λ i. h (suc i)), first, kept_less makes_entry (operations s), one_at_most p.waits, one_at_most p.exited, length-append (operations s) (flat_map operations scripts))
+    omega (arith, all_far scripts places same (λ i. h (suc i)), first, preserved_less makes_entry (operations s), one_at_most p.waits, one_at_most p.exited, length-append (operations s) (flat_map operations scripts))
 
 pub steps_bounded : (m : Machine) (past : List Entry) → JournalPart m past → stepped m past ≤ most_steps m
-steps_bounded m past h = all_far m.actors (seats (length m.actors) past) (seats_len (length m.actors) past) (done_within m past h)
+steps_bounded m past h = all_far m.actors (positions (length m.actors) past) (positions_len (length m.actors) past) (done_within m past h)

@@ -9,24 +9,24 @@ use Rattle.sleep_model.specs.declared.entry.Kind.{Kind}
 use Rattle.sleep_model.specs.declared.entry.Kind.TheVariants as kind
 use Rattle.sleep_model.specs.declared.log.Why.TheVariants as why
 use Rattle.sleep_model.specs.declared.machine.Machine.{Machine}
-use Rattle.sleep_model.specs.declared.place.Due.TheVariants as turn
-use Rattle.sleep_model.specs.declared.place.Sleep.{Sleep}
-use Rattle.sleep_model.specs.declared.place.Stage.{Stage}
-use Rattle.sleep_model.specs.declared.place.Stage.TheVariants as stage
+use Rattle.sleep_model.specs.declared.progress.Due.TheVariants as turn
+use Rattle.sleep_model.specs.declared.progress.Sleep.{Sleep}
+use Rattle.sleep_model.specs.declared.progress.Stage.{Stage}
+use Rattle.sleep_model.specs.declared.progress.Stage.TheVariants as stage
 use Rattle.sleep_model.specs.declared.word.EventNow.{EventNow}
 use Rattle.sleep_model.specs.Attempt.{attempt_due, due_at, enter_due, sleep_after, sleep_of, stage_due, wakes_due}
 use Rattle.sleep_model.specs.Due.{due, own_due}
-use Rattle.sleep_model.specs.Legal.{IsOnTime, JointPart, JointStep, JournalPart, JournalStep, Placed, is_enabled, is_idle, is_made, none_enabled, none_expires}
+use Rattle.sleep_model.specs.Legal.{IsOnTime, JointPart, JointStep, JournalPart, JournalStep, AreNumbered, is_enabled, is_idle, is_made, none_enabled, none_expires}
 use Rattle.sleep_model.specs.Numbers.{after_step, numbers, time_after, time_of, word_step}
-use Rattle.sleep_model.specs.Parts.{Part, OfTime, is_kept, journal, part_of}
+use Rattle.sleep_model.specs.EntryClasses.{EntryClass, OfTime, is_in_journal, journal, class_of}
 use Rattle.sleep_model.specs.Path.{is_actor, maker}
 use Rattle.sleep_model.specs.Sources.{history}
-use Rattle.sleep_model.specs.Table.{behind, stage_of}
+use Rattle.sleep_model.specs.Table.{next_stage, stage_of}
 use Rattle.sleep_model.specs.Word.{position}
 use Rattle.sleep_laws.proofs.Activity.{same_number}
-use Rattle.sleep_laws.proofs.Answering.{Side, side_kept}
+use Rattle.sleep_laws.proofs.Answering.{Side, side_invariant}
 use Rattle.sleep_laws.proofs.Ending.{MakerIn, and_left, and_right, first_made, maker_in, none_of, not_made, not_true}
-use Rattle.sleep_laws.proofs.Holding.{StageMaker, at_stage, held}
+use Rattle.sleep_laws.proofs.LockHolding.{StageMaker, at_stage, lock_agrees}
 use Rattle.sleep_laws.proofs.Telling.{some≢none}
 use Rattle.end_laws.specs.Waking.{EventsWakeFirst, TimeGoesForward, events_wake_first, is_unstirred, jumps_unstirred, keeps_time, time_goes_forward}
 
@@ -38,7 +38,7 @@ journal_rest m e past true h = h.1
 journal_rest m e past false h = h
 
 -- an entry of a source neither sleeps nor wakes
-source_sleeps : (k : Kind) (pos time : ℕ) (before : Option Sleep) → is_kept (part_of k) ≡ false → sleep_after k pos time before ≡ before
+source_sleeps : (k : Kind) (pos time : ℕ) (before : Option Sleep) → is_in_journal (class_of k) ≡ false → sleep_after k pos time before ≡ before
 source_sleeps (kind.Enter busy) pos time before h = absurd (true≢false h)
 source_sleeps (kind.Wake by_event) pos time before h = absurd (true≢false h)
 source_sleeps _ pos time before h = refl
@@ -46,24 +46,24 @@ source_sleeps _ pos time before h = refl
 -- the sleep is the journal's
 pub sleep_journal : (past : List Entry) → sleep_of past ≡ sleep_of (journal past)
 sleep_journal [] = refl
-sleep_journal (e ∷ past) = by_kept (is_kept (part_of e.kind)) refl (sleep_journal past)
+sleep_journal (e ∷ past) = by_preserved (is_in_journal (class_of e.kind)) refl (sleep_journal past)
   where
-    by_kept : (b : Bool) → is_kept (part_of e.kind) ≡ b → sleep_of past ≡ sleep_of (journal past) → sleep_of (e ∷ past) ≡ sleep_of (cond b (e ∷ journal past) (journal past))
-    by_kept true k h = ap (sleep_after e.kind (position e.now) e.time) h
-    by_kept false k h = source_sleeps e.kind (position e.now) e.time (sleep_of past) k ∙ h
+    by_preserved : (b : Bool) → is_in_journal (class_of e.kind) ≡ b → sleep_of past ≡ sleep_of (journal past) → sleep_of (e ∷ past) ≡ sleep_of (cond b (e ∷ journal past) (journal past))
+    by_preserved true k h = ap (sleep_after e.kind (position e.now) e.time) h
+    by_preserved false k h = source_sleeps e.kind (position e.now) e.time (sleep_of past) k ∙ h
 
-source_times : (k : Kind) (time before : ℕ) → is_kept (part_of k) ≡ false → time_after k time before ≡ before
+source_times : (k : Kind) (time before : ℕ) → is_in_journal (class_of k) ≡ false → time_after k time before ≡ before
 source_times kind.Jump time before h = absurd (true≢false h)
 source_times _ time before h = refl
 
 -- so is the time
 pub time_journal : (past : List Entry) → time_of past ≡ time_of (journal past)
 time_journal [] = refl
-time_journal (e ∷ past) = by_kept (is_kept (part_of e.kind)) refl (time_journal past)
+time_journal (e ∷ past) = by_preserved (is_in_journal (class_of e.kind)) refl (time_journal past)
   where
-    by_kept : (b : Bool) → is_kept (part_of e.kind) ≡ b → time_of past ≡ time_of (journal past) → time_of (e ∷ past) ≡ time_of (cond b (e ∷ journal past) (journal past))
-    by_kept true k h = ap (time_after e.kind e.time) h
-    by_kept false k h = source_times e.kind e.time (time_of past) k ∙ h
+    by_preserved : (b : Bool) → is_in_journal (class_of e.kind) ≡ b → time_of past ≡ time_of (journal past) → time_of (e ∷ past) ≡ time_of (cond b (e ∷ journal past) (journal past))
+    by_preserved true k h = ap (time_after e.kind e.time) h
+    by_preserved false k h = source_times e.kind e.time (time_of past) k ∙ h
 
 -- ---- positions rise
 
@@ -88,7 +88,7 @@ entered_by (kind.Enter false) time at before h = omega arith
 entered_by (kind.Wake by_event) time at before h = tt
 entered_by _ time at before h = h
 
-began : (past : List Entry) → Placed past → BeganBy (sleep_of past) (position (numbers past))
+began : (past : List Entry) → AreNumbered past → BeganBy (sleep_of past) (position (numbers past))
 began [] h = tt
 began (e ∷ past) h =
     subst (λ (n : ℕ). BeganBy (sleep_after e.kind n e.time (sleep_of past)) (position (numbers (e ∷ past)))) (ap position (sym h.0))
@@ -99,7 +99,7 @@ began (e ∷ past) h =
 
 -- the machine sleeps only at the entering
 pub sleeps_entering : (m : Machine) (past : List Entry) (s : Sleep) → JournalPart m past → sleep_of past ≡ Some s → stage_of past ≡ Some stage.Enters
-sleeps_entering m past s h e = by_stage (stage_of past) refl (at_stage m Side (side_kept m) past h)
+sleeps_entering m past s h e = by_stage (stage_of past) refl (at_stage m Side (side_invariant m) past h)
   where
     awake : sleep_of past ≡ None → stage_of past ≡ Some stage.Enters
     awake n = absurd (some≢none s (sym e ∙ n))
@@ -153,7 +153,7 @@ module _ (m : Machine) (past : List Entry) (of : ℕ → List Entry) (now : Even
 
   -- so the maker of the open attempt makes nothing
   pub maker_rests : JournalPart m past → (here : Stage) → stage_of past ≡ Some here → is_made (due_at m past now (Some here)) ≡ false
-  maker_rests j here at = by_maker (maker past) refl (maker_in m past j) (subst (StageMaker (maker past)) at (held m past j).2)
+  maker_rests j here at = by_maker (maker past) refl (maker_in m past j) (subst (StageMaker (maker past)) at (lock_agrees m past j).2)
     where
       made_by : (w : Actor) → is_actor w (maker past) ≡ true → is_made (due m past w now) ≡ false → is_made (due_at m past now (Some here)) ≡ false
       made_by w a r = sym (ap (λ b. is_made (cond b (attempt_due m past now) (own_due m past w now))) a ∙ ap (λ o. is_made (due_at m past now o)) at) ∙ r
@@ -176,7 +176,7 @@ not_stirred m past now s h = by_test (nat_lt s.pos (position now)) refl h
 
 -- ---- events wake first
 
-at_jump : (m : Machine) (past : List Entry) → JournalPart m (journal past) → Placed past → is_idle m (journal past) (λ s. history s past) (numbers past) ≡ true → is_unstirred (sleep_of past) (numbers past) ≡ true
+at_jump : (m : Machine) (past : List Entry) → JournalPart m (journal past) → AreNumbered past → is_idle m (journal past) (λ s. history s past) (numbers past) ≡ true → is_unstirred (sleep_of past) (numbers past) ≡ true
 at_jump m past j p idle = by_sleep (sleep_of past) (sym (sleep_journal past)) (began past p)
   where
     by_sleep : (o : Option Sleep) → sleep_of (journal past) ≡ o → BeganBy o (position (numbers past)) → is_unstirred o (numbers past) ≡ true
@@ -184,7 +184,7 @@ at_jump m past j p idle = by_sleep (sleep_of past) (sym (sleep_journal past)) (b
     by_sleep (Some s) e b =
         let at : stage_of (journal past) ≡ Some stage.Enters = sleeps_entering m (journal past) s j e in
         let rests = maker_rests m (journal past) (λ s. history s past) (numbers past) idle j stage.Enters at in
-        let enters = first_made (stage_due m (journal past) (numbers past) stage.Enters) (stage_due m (journal past) (numbers past) (behind stage.Enters)) rests in
+        let enters = first_made (stage_due m (journal past) (numbers past) stage.Enters) (stage_due m (journal past) (numbers past) (next_stage stage.Enters)) rests in
         let wakes : is_made (wakes_due m (journal past) (numbers past) s) ≡ false = subst (λ (o : Option Sleep). is_made (enter_due m (journal past) (numbers past) o) ≡ false) e enters in
         let none : nat_lt s.pos (position (numbers past)) ≡ false = not_stirred m (journal past) (numbers past) s wakes in
         let low : s.pos ≤ position (numbers past) = b in
@@ -194,14 +194,14 @@ pub both : (a b : Bool) → a ≡ true → b ≡ true → (a && b) ≡ true
 both true b x y = y
 both false b x y = absurd (true≢false (sym x))
 
-wakes_at : (k : Kind) (o : Option Sleep) (now : EventNow) → (part_of k ≡ OfTime → is_unstirred o now ≡ true) → jumps_unstirred k o now ≡ true
+wakes_at : (k : Kind) (o : Option Sleep) (now : EventNow) → (class_of k ≡ OfTime → is_unstirred o now ≡ true) → jumps_unstirred k o now ≡ true
 wakes_at kind.Jump o now h = h refl
 wakes_at _ o now h = refl
 
-pub events_wake : (m : Machine) (past : List Entry) → JournalPart m (journal past) → Placed past → JointPart m past → events_wake_first past ≡ true
+pub events_wake : (m : Machine) (past : List Entry) → JournalPart m (journal past) → AreNumbered past → JointPart m past → events_wake_first past ≡ true
 events_wake m [] j p t = refl
 events_wake m (e ∷ past) j p t =
-    let before : JournalPart m (journal past) = journal_rest m e (journal past) (is_kept (part_of e.kind)) j in
+    let before : JournalPart m (journal past) = journal_rest m e (journal past) (is_in_journal (class_of e.kind)) j in
     both (jumps_unstirred e.kind (sleep_of past) (numbers past)) (events_wake_first past)
     (wakes_at e.kind (sleep_of past) (numbers past) (λ is. at_jump m past before p.2 (subst (JointStep m past e) is t.0).idle))
     (events_wake m past before p.2 t.1)
@@ -212,29 +212,29 @@ events_first m past h = events_wake m past h.journal h.placed h.joint
 -- ---- time goes forward
 
 -- a jump of time
-abbrev is_time : Part → Bool
+abbrev is_time : EntryClass → Bool
 is_time OfTime = true
 is_time _ = false
 
-kept_time : (k : Kind) (before at : ℕ) → (is_time (part_of k) ≡ true → before < at) → (is_time (part_of k) ≡ false → at ≡ before) → keeps_time k before at ≡ true
-kept_time kind.Jump before at j o = let l : before < at = j refl in grind (arith, nat_tests)
-kept_time _ before at j o = subst (λ (n : ℕ). (n == before) ≡ true) (sym (o refl)) (same_number before)
+preserved_time : (k : Kind) (before at : ℕ) → (is_time (class_of k) ≡ true → before < at) → (is_time (class_of k) ≡ false → at ≡ before) → keeps_time k before at ≡ true
+preserved_time kind.Jump before at j o = let l : before < at = j refl in grind (arith, nat_tests)
+preserved_time _ before at j o = subst (λ (n : ℕ). (n == before) ≡ true) (sym (o refl)) (same_number before)
 
 module _ (m : Machine) (past : List Entry) (e : Entry) where
-  jumps_on : (p : Part) → is_time p ≡ true → JournalPart m (cond (is_kept p) (e ∷ journal past) (journal past)) → part_of e.kind ≡ p → time_of past < e.time
+  jumps_on : (p : EntryClass) → is_time p ≡ true → JournalPart m (cond (is_in_journal p) (e ∷ journal past) (journal past)) → class_of e.kind ≡ p → time_of past < e.time
   jumps_on OfTime i h x = subst (λ (n : ℕ). n < e.time) (sym (time_journal past)) (subst (JournalStep m (journal past) e) x h.0).1
   jumps_on _ i h x = absurd (true≢false (sym i))
 
-  stays_on : (p : Part) → is_time p ≡ false → IsOnTime past e.time p → e.time ≡ time_of past
+  stays_on : (p : EntryClass) → is_time p ≡ false → IsOnTime past e.time p → e.time ≡ time_of past
   stays_on OfTime i h = absurd (true≢false i)
   stays_on _ i h = h
 
-pub goes_forward : (m : Machine) (past : List Entry) → JournalPart m (journal past) → Placed past → time_goes_forward past ≡ true
+pub goes_forward : (m : Machine) (past : List Entry) → JournalPart m (journal past) → AreNumbered past → time_goes_forward past ≡ true
 goes_forward m [] j p = refl
 goes_forward m (e ∷ past) j p =
     both (keeps_time e.kind (time_of past) e.time) (time_goes_forward past)
-    (kept_time e.kind (time_of past) e.time (λ i. jumps_on m past e (part_of e.kind) i j refl) (λ i. stays_on m past e (part_of e.kind) i p.1))
-    (goes_forward m past (journal_rest m e (journal past) (is_kept (part_of e.kind)) j) p.2)
+    (preserved_time e.kind (time_of past) e.time (λ i. jumps_on m past e (class_of e.kind) i j refl) (λ i. stays_on m past e (class_of e.kind) i p.1))
+    (goes_forward m past (journal_rest m e (journal past) (is_in_journal (class_of e.kind)) j) p.2)
 
 pub time_forward : TimeGoesForward
 time_forward m past h = goes_forward m past h.journal h.placed

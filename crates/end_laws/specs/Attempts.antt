@@ -23,15 +23,15 @@ is_end_of n _ = false
 abbrev pub ends_among : ℕ → List Entry → Bool
 ends_among n entries = list_any (λ e. is_end_of n e.kind) entries
 
--- where an entry begins an attempt, one of those behind it ends that attempt (pm_suspend)
-abbrev pub ends_behind : Kind → List Entry → Bool
-ends_behind (Attempt n guarded) later = ends_among n later
-ends_behind _ later = true
+-- where an entry begins an attempt, one of those after it ends that attempt (pm_suspend)
+abbrev pub ends_after : Kind → List Entry → Bool
+ends_after (Attempt n guarded) later = ends_among n later
+ends_after _ later = true
 
 -- each attempt that these entries, the oldest first, begin they end (pm_suspend)
 abbrev pub attempts_end : List Entry → Bool
 attempts_end [] = true
-attempts_end (e ∷ later) = ends_behind e.kind later && attempts_end later
+attempts_end (e ∷ later) = ends_after e.kind later && attempts_end later
 
 -- so in each legal log of an accepted machine that is finished, or goes no further (pm_suspend)
 abbrev pub AttemptsEnd : Type 0

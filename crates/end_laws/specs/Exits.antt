@@ -7,14 +7,14 @@ use Rattle.sleep_model.specs.declared.entry.Entry.{Entry}
 use Rattle.sleep_model.specs.declared.log.Waiting.{Waiting}
 use Rattle.sleep_model.specs.declared.log.Why.TheVariants as why
 use Rattle.sleep_model.specs.declared.machine.Machine.{Machine}
-use Rattle.sleep_model.specs.declared.place.Due.TheVariants.{Waits, Gone}
+use Rattle.sleep_model.specs.declared.progress.Due.TheVariants.{Waits, Exited}
 use Rattle.sleep_model.specs.declared.word.EventNow.{EventNow}
 use Rattle.sleep_model.specs.Due.{due}
 use Rattle.sleep_model.specs.Legal.{IsLegal, IsStuckAfter, JournalPart, waiting}
 use Rattle.sleep_model.specs.Numbers.{numbers}
-use Rattle.sleep_model.specs.Parts.{journal}
+use Rattle.sleep_model.specs.EntryClasses.{journal}
 use Rattle.sleep_model.specs.Path.{is_same}
-use Rattle.sleep_model.specs.Seats.{seat_at, seats}
+use Rattle.sleep_model.specs.Positions.{position_at, positions}
 
 -- an actor that has turns at the core: a script, the autosleep work, or a device
 abbrev pub HasTurns : Machine → Actor → Type 0
@@ -26,14 +26,14 @@ HasTurns m actor.Time = ⊥
 
 -- a script that has exited (do_exit)
 abbrev pub HasExited : Machine → List Entry → Actor → Type 0
-HasExited m past (actor.Script i) = (seat_at (seats (length m.actors) past) i).exited ≡ true
+HasExited m past (actor.Script i) = (position_at (positions (length m.actors) past) i).exited ≡ true
 HasExited m past _ = ⊥
 
 -- nothing is due any more of just those that have exited (do_exit)
-abbrev pub GoneHaveExited : Type 0
-GoneHaveExited =
+abbrev pub DoneHaveExited : Type 0
+DoneHaveExited =
     (m : Machine) (past : List Entry) → JournalPart m past → (who : Actor) → HasTurns m who → (now : EventNow)
-    → (due m past who now ≡ Gone) ↔ HasExited m past who
+    → (due m past who now ≡ Exited) ↔ HasExited m past who
 
 -- nobody waits because numbers that somebody keeps are no longer the core's (own)
 abbrev pub NoneWaitStale : Type 0
@@ -49,5 +49,5 @@ names who those = list_any (λ w. is_same w.actor who) those ≡ true
 abbrev pub StuckNamesAll : Type 0
 StuckNamesAll =
     (m : Machine) (past : List Entry) → IsLegal m past → IsStuckAfter m past → (i : ℕ) → i < length m.actors
-    → (seat_at (seats (length m.actors) (journal past)) i).exited ≡ false
+    → (position_at (positions (length m.actors) (journal past)) i).exited ≡ false
     → names (actor.Script i) (waiting m (journal past) (numbers past))

@@ -6,8 +6,8 @@ use Rattle.sleep_model.specs.declared.entry.Entry.{Entry}
 use Rattle.sleep_model.specs.declared.entry.Kind.{Kind}
 use Rattle.sleep_model.specs.declared.entry.Kind.TheVariants as kind
 use Rattle.sleep_model.specs.declared.machine.Machine.{Machine}
-use Rattle.sleep_model.specs.declared.place.Due.{Due}
-use Rattle.sleep_model.specs.declared.place.Due.TheVariants.{Makes}
+use Rattle.sleep_model.specs.declared.progress.Due.{Due}
+use Rattle.sleep_model.specs.declared.progress.Due.TheVariants.{Makes}
 use Rattle.sleep_model.specs.declared.word.EventNow.{EventNow}
 use Rattle.sleep_model.specs.declared.word.WordKind.{WordKind}
 use Rattle.sleep_model.specs.declared.word.WordKind.TheVariants as step
@@ -15,7 +15,7 @@ use Rattle.sleep_model.specs.Calls.{calls_of, is_calling, made}
 use Rattle.sleep_model.specs.Due.{due}
 use Rattle.sleep_model.specs.Legal.{IsLegal, next_time}
 use Rattle.sleep_model.specs.Numbers.{numbers, time_of}
-use Rattle.sleep_model.specs.Parts.{Part, Notes, Moves, journal, part_of}
+use Rattle.sleep_model.specs.EntryClasses.{EntryClass, Notes, Moves, journal, class_of}
 use Rattle.sleep_model.specs.Path.{is_same}
 use Rattle.sleep_model.specs.Sources.{history, owed}
 
@@ -28,16 +28,16 @@ step_kind s step.Finish = kind.Finish s
 step_kind s step.Hard = kind.Hard s
 
 -- the source of a note or a step
-abbrev pub source_in : Part → Option ℕ
+abbrev pub source_in : EntryClass → Option ℕ
 source_in (Notes s call) = Some s
 source_in (Moves s move) = Some s
 source_in _ = None
 
 -- the source of the actor's last entry, if that is a source's
-abbrev pub source_behind : Actor → List Entry → Option ℕ
-source_behind who [] = None
-source_behind who (e ∷ past) =
-    if is_same e.actor who then source_in (part_of e.kind) else source_behind who past
+abbrev pub last_source : Actor → List Entry → Option ℕ
+last_source who [] = None
+last_source who (e ∷ past) =
+    if is_same e.actor who then source_in (class_of e.kind) else last_source who past
 
 -- the first of the steps that source s owes
 abbrev pub first_step : ℕ → List WordKind → Option Kind
@@ -70,10 +70,10 @@ call_next m past who =
 abbrev pub kind_next : Machine → List Entry → Actor → Option Kind
 kind_next m past actor.Time = Some kind.Jump
 kind_next m past (actor.Timer s) =
-    if is_inside m past (actor.Timer s) then step_next past (source_behind (actor.Timer s) past)
+    if is_inside m past (actor.Timer s) then step_next past (last_source (actor.Timer s) past)
     else Some (kind.Expire s)
 kind_next m past who =
-    if is_inside m past who then step_next past (source_behind who past)
+    if is_inside m past who then step_next past (last_source who past)
     else call_or_turn (call_next m past who) (due m (journal past) who (numbers past))
 
 -- when it makes that: time jumps to the least pending moment
@@ -86,23 +86,23 @@ abbrev pub entry_if : EventNow → Actor → Option ℕ → Option Kind → Opti
 entry_if now who (Some time) (Some k) = Some (record { time = time; now = now; actor = who; kind = k })
 entry_if now who _ _ = None
 
--- the one entry that an actor may make behind these
+-- the one entry that an actor may make after these
 abbrev pub entry_by : Machine → List Entry → Actor → Option Entry
 entry_by m past who = entry_if (numbers past) who (time_next m past who) (kind_next m past who)
 
 -- ---- the laws
 
 -- each entry, the newest first, is the one that its actor may make
-abbrev pub AreTold : Machine → List Entry → Type 0
-AreTold m [] = Unit {0}
-AreTold m (e ∷ past) = (entry_by m past e.actor ≡ Some e) × AreTold m past
+abbrev pub AreDetermined : Machine → List Entry → Type 0
+AreDetermined m [] = Unit {0}
+AreDetermined m (e ∷ past) = (entry_by m past e.actor ≡ Some e) × AreDetermined m past
 
 -- so is each of a legal list of entries
-abbrev pub MakersTellEntries : Type 0
-MakersTellEntries = (m : Machine) (past : List Entry) → IsLegal m past → AreTold m past
+abbrev pub MakersDetermineEntries : Type 0
+MakersDetermineEntries = (m : Machine) (past : List Entry) → IsLegal m past → AreDetermined m past
 
 -- two legal lists of entries of one machine, made by the same actors in turn, are the same
-abbrev pub MakersTellLogs : Type 0
-MakersTellLogs =
+abbrev pub MakersDetermineLogs : Type 0
+MakersDetermineLogs =
     (m : Machine) (one other : List Entry) → IsLegal m one → IsLegal m other
     → map (λ e. e.actor) one ≡ map (λ e. e.actor) other → one ≡ other

@@ -16,7 +16,7 @@ use Rattle.sleep_model.specs.Sources.{expiry}
 abbrev pub LiesAhead : Machine → List Entry → (ℕ → List Entry) → Type 0
 LiesAhead m past of = IfSome (next_time m past of) (λ at. time_of past < at)
 
--- so it is behind each legal journal where nobody can make anything and something is left to do, by whatever histories of sources and whatever word (schedule_timeout, mod_timer)
+-- so it is after each legal journal where nobody can make anything and something is left to do, by whatever histories of sources and whatever word (schedule_timeout, mod_timer)
 abbrev pub NextMomentsLieAhead : Type 0
 NextMomentsLieAhead =
     (m : Machine) (past : List Entry) (of : ℕ → List Entry) (now : EventNow) → JournalPart m past
@@ -25,13 +25,13 @@ NextMomentsLieAhead =
 -- ---- next moments are at most a day ahead
 
 -- the expiry of each of these histories, if it has one, is at most a day from now (own)
-abbrev pub ExpiriesAreNear : List Entry → (ℕ → List Entry) → Type 0
-ExpiriesAreNear past of = (s : ℕ) → IfSome (expiry (of s)) (λ at. at ≤ time_of past + 86400000)
+abbrev pub ExpiriesAreBounded : List Entry → (ℕ → List Entry) → Type 0
+ExpiriesAreBounded past of = (s : ℕ) → IfSome (expiry (of s)) (λ at. at ≤ time_of past + 86400000)
 
 -- if each source's expiry is at most a day from now, so is the next moment of a legal journal of an accepted machine (schedule_timeout, mod_timer)
-abbrev pub NextMomentsAreNear : Type 0
-NextMomentsAreNear =
-    (m : Machine) → IsAccepted m → (past : List Entry) (of : ℕ → List Entry) → JournalPart m past → ExpiriesAreNear past of
+abbrev pub NextMomentsAreBounded : Type 0
+NextMomentsAreBounded =
+    (m : Machine) → IsAccepted m → (past : List Entry) (of : ℕ → List Entry) → JournalPart m past → ExpiriesAreBounded past of
     → IfSome (next_time m past of) (λ at. at ≤ time_of past + 86400000)
 
 -- ---- jumps wake
@@ -40,7 +40,7 @@ NextMomentsAreNear =
 abbrev pub jump_to : ℕ → EventNow → Entry
 jump_to at now = record { time = at; now = now; actor = actor.Time; kind = kind.Jump }
 
--- behind a jump somebody can make something, whatever the word is then (schedule_timeout, pm_wakeup_timer_fn)
+-- after a jump somebody can make something, whatever the word is then (schedule_timeout, pm_wakeup_timer_fn)
 abbrev pub JumpsWake : Type 0
 JumpsWake =
     (m : Machine) (past : List Entry) (of : ℕ → List Entry) (now later : EventNow) (at : ℕ) → JournalPart m past

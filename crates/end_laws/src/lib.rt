@@ -10,9 +10,9 @@
 
 ghost use Rattle.end_laws.specs.Attempts.{AttemptsAreShort, AttemptsEnd};
 ghost use Rattle.end_laws.specs.Bounds.{AllLogsAreBounded, JournalsAreBounded, LogsAreBounded};
-ghost use Rattle.end_laws.specs.Exits.{GoneHaveExited, NoneWaitStale, StuckNamesAll};
-ghost use Rattle.end_laws.specs.Makers.{MakersTellEntries, MakersTellLogs};
-ghost use Rattle.end_laws.specs.Moments.{JumpsWake, NextMomentsAreNear, NextMomentsLieAhead};
+ghost use Rattle.end_laws.specs.Exits.{DoneHaveExited, NoneWaitStale, StuckNamesAll};
+ghost use Rattle.end_laws.specs.Makers.{MakersDetermineEntries, MakersDetermineLogs};
+ghost use Rattle.end_laws.specs.Moments.{JumpsWake, NextMomentsAreBounded, NextMomentsLieAhead};
 ghost use Rattle.end_laws.specs.Waking.{EventsWakeFirst, TimeGoesForward};
 
 /// An event that comes while the machine sleeps wakes it before any time passes: where time jumps while the machine
@@ -44,7 +44,7 @@ pub fn attempts_are_short()
     ensures { AttemptsAreShort }
 {}
 
-/// Where nobody can make anything and something is left to do, each moment for which something waits is later than now:
+/// If nobody can make anything and something is left to do, each moment for which something waits is later than now:
 /// the end of a sleep, of a nap, of a freeze and of an event, and the alarm (`kernel/time/timer.c`, `schedule_timeout`).
 /// Whatever the histories of the sources and the word are.
 #[tactic(auto, using(crate::proofs::Moments::lie_ahead))]
@@ -55,12 +55,12 @@ pub fn next_moments_lie_ahead()
 /// If each source's event in progress ends at most a day from now, each moment for which something waits is at most a day
 /// from now: no sleep, no length of an event and no alarm of an accepted machine is longer (`kernel/time/timer.c`,
 /// `schedule_timeout`). Whatever the histories of the sources are.
-#[tactic(auto, using(crate::proofs::Nearby::are_near))]
-pub fn next_moments_are_near()
-    ensures { NextMomentsAreNear }
+#[tactic(auto, using(crate::proofs::Nearby::are_bounded))]
+pub fn next_moments_are_bounded()
+    ensures { NextMomentsAreBounded }
 {}
 
-/// Behind a jump of time somebody can make something, whatever the word is then; so no jump follows a jump
+/// After a jump of time somebody can make something, whatever the word is then; so no jump follows a jump
 /// (`kernel/time/timer.c`, `schedule_timeout`; `drivers/base/power/wakeup.c`, `pm_wakeup_timer_fn`).
 #[tactic(auto, using(crate::proofs::Moments::wake))]
 pub fn jumps_wake()
@@ -87,27 +87,27 @@ pub fn all_logs_are_bounded()
     ensures { AllLogsAreBounded }
 {}
 
-/// Behind a legal log each actor may make one entry, by all entries so far and nothing else: each entry is the one that
+/// After a legal log each actor may make one entry, by all entries so far and nothing else: each entry is the one that
 /// its actor may make (own: Linux keeps no log).
-#[tactic(auto, using(crate::proofs::Makers::tell_entries))]
-pub fn makers_tell_entries()
-    ensures { MakersTellEntries }
+#[tactic(auto, using(crate::proofs::Makers::determines_entries))]
+pub fn makers_determine_entries()
+    ensures { MakersDetermineEntries }
 {}
 
 /// So two legal logs of one machine that were made by the same actors in turn are the same (own).
-#[tactic(auto, using(crate::proofs::Makers::tell_logs))]
-pub fn makers_tell_logs()
-    ensures { MakersTellLogs }
+#[tactic(auto, using(crate::proofs::Makers::determines_logs))]
+pub fn makers_determine_logs()
+    ensures { MakersDetermineLogs }
 {}
 
 /// Nothing is due any more of just those scripts that have exited; of every other script, of the autosleep work and of each
 /// device an entry is due, or they wait (`kernel/exit.c`, `do_exit`).
-#[tactic(auto, using(crate::proofs::Exits::gone_exited))]
-pub fn gone_have_exited()
-    ensures { GoneHaveExited }
+#[tactic(auto, using(crate::proofs::Exits::exited_exited))]
+pub fn done_have_exited()
+    ensures { DoneHaveExited }
 {}
 
-/// What is due of an actor is never a wait for numbers that somebody keeps: `Stale` is told by a world alone, which
+/// What is due of an actor is never a wait for numbers that somebody keeps: `Stale` is told only by a world, which
 /// compares them first (own).
 pub fn none_wait_stale()
     ensures { NoneWaitStale }

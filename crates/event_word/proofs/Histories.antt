@@ -7,7 +7,7 @@ use Rattle.sleep_model.specs.declared.word.WordKind.TheVariants.{Start, Finish, 
 use Rattle.sleep_model.specs.Numbers.{after_step}
 use Rattle.sleep_model.specs.Word.{position}
 use Rattle.event_word.specs.Steps.{MadeStep, active_after, is_active, fits}
-use Rattle.event_word.specs.Histories.{SourceStep, word_after, steps_of, AreBelow, AreInTurn, ArePlaced, IsSeen, AreSeen, AllSeen}
+use Rattle.event_word.specs.Histories.{SourceStep, word_after, steps_of, AreBelow, AreInTurn, ArePositions, IsSeen, AreSeen, AllSeen}
 use Rattle.event_word.proofs.Totals.{total, total_nil, total_moved, total_least, total_most, InParts, Has}
 
 abbrev bit : Bool → ℕ
@@ -70,19 +70,19 @@ at_length n [] below turns = refl
 at_length n (s ∷ past) below turns =
     one_on s.step (word_after past) (has n past s.source s.step below.1 turns.1 below.0 turns.0) ∙ ap suc (at_length n past below.1 turns.1)
 
-pub placed : (n : ℕ) (log : List SourceStep) → AreBelow n log → AreInTurn log → ArePlaced log
-placed n [] below turns = tt
-placed n (s ∷ past) below turns = (at_length n past below.1 turns.1, placed n past below.1 turns.1)
+pub positions_once : (n : ℕ) (log : List SourceStep) → AreBelow n log → AreInTurn log → ArePositions log
+positions_once n [] below turns = tt
+positions_once n (s ∷ past) below turns = (at_length n past below.1 turns.1, positions_once n past below.1 turns.1)
 
 -- there are as many steps as all sources made
-counted : (n : ℕ) (log : List SourceStep) → AreBelow n log → length log ≡ total n (λ k. length (steps_of k log))
-counted n [] below = sym (total_nil n)
-counted n (s ∷ past) below =
+counted_steps : (n : ℕ) (log : List SourceStep) → AreBelow n log → length log ≡ total n (λ k. length (steps_of k log))
+counted_steps n [] below = sym (total_nil n)
+counted_steps n (s ∷ past) below =
     let f : ℕ → ℕ = λ k. length (steps_of k past) in
     let g : ℕ → ℕ = λ k. length (steps_of k (s ∷ past)) in
     let sum : total n g + f s.source ≡ total n f + g s.source = total_moved n s.source f g (λ k other. ap (λ (ms : List MadeStep). length ms) (steps_else s past k (λ e. other (sym e)))) below.0 in
     let mine : g s.source ≡ suc (f s.source) = ap (λ (ms : List MadeStep). length ms) (steps_same s past s.source refl) in
-    let rest : length past ≡ total n f = counted n past below.1 in
+    let rest : length past ≡ total n f = counted_steps n past below.1 in
     let one : suc (length past) ≡ total n g = omega arith in one
 
 bit_most : (b : Bool) → bit b ≤ 1
@@ -94,7 +94,7 @@ pub in_parts : (n : ℕ) (log : List SourceStep) → n ≤ 256 → AreBelow n lo
 in_parts n log few below turns short =
     let all = in_progress n log below turns in
     let busy : total n (λ k. bit (is_active (steps_of k log))) ≤ n * 1 = total_most n 1 (λ k. bit (is_active (steps_of k log))) (λ k. bit_most (is_active (steps_of k log))) in
-    let long = counted n log below in
+    let long = counted_steps n log below in
     let most : total n (λ k. length (steps_of k log)) ≤ n * 60000 = total_most n 60000 (λ k. length (steps_of k log)) short in
     let at : (word_after log).inpr + 2 * (word_after log).count + (word_after log).hard ≡ length log = at_length n log below turns in
     record { inpr = omega arith; count = omega arith; hard = omega arith }

@@ -1,5 +1,5 @@
 pub mod Looking
 pub mod Totals
 pub mod Histories
-pub mod Keeping
+pub mod Invariance
 pub mod Seating

@@ -31,7 +31,7 @@ grew_once word None (Some new) h = h
 grew_once word (Some old) None h = h
 grew_once word (Some old) (Some new) h = ([], h)
 
--- looks behind a look
+-- looks after a look
 pub grew_on : (first last : EventNow) (old between new : Option (List EventNow)) → GainsLook first old between → GrewTo last between new → GrewTo last old new
 grew_on first last None None new h g = g
 grew_on first last None (Some between) new h g = absurd h

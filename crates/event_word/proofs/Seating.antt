@@ -11,16 +11,16 @@ use Rattle.atomic_table.specs.Seated.{TableId}
 use Rattle.sleep_model.specs.declared.word.WordKind.{WordKind}
 use Rattle.event_word.specs.declared.table.EventSeat.{EventSeat}
 use Rattle.event_word.specs.Steps.{MadeStep, active_after, fits, can_make}
-use Rattle.event_word.specs.Counting.{one_more, source_view}
+use Rattle.event_word.specs.Counting.{with_one_source, source_view}
 use Rattle.event_word.specs.Seats.{Token, IsSeatOf, IsUntouched, AreAll, AreNew, sources_of, made_of, number_of}
 use Rattle.event_word.specs.Lists.{tokens, made_lists}
-use Rattle.event_word.proofs.Keeping.{at_end}
+use Rattle.event_word.proofs.Invariance.{at_end}
 
 both_true : (a b : Bool) → (a && b) ≡ true → (a ≡ true) × (b ≡ true)
 both_true true b e = (refl, e)
 both_true false b e = absurd (false≢true e)
 
--- what a seat can do next: the step fits, there is room for it, and what comes behind it can be done then
+-- what a seat can do next: the step fits, there is room for it, and what comes after it can be done then
 pub can_step : (kind : WordKind) (count : ℕ) (active : Bool) (rest : List WordKind) → can_make count active (kind ∷ rest) ≡ true
     → (count < 60000) × (fits kind active ≡ true) × (can_make (suc count) (active_after kind active) rest ≡ true)
 can_step kind count active rest can =
@@ -69,7 +69,7 @@ none_new look e = record {
   untouched = λ k t at. absurd (some-ne-none t (sym at));
 }
 
-one_new : (look look' : Token) (ts : List Token) (t : Token) → look'.table_id ≡ look.table_id → look'.me ≡ (one_more look.me.0, []) → t.table_id ≡ look.table_id → t.me ≡ (source_view (sources_of look), [])
+one_new : (look look' : Token) (ts : List Token) (t : Token) → look'.table_id ≡ look.table_id → look'.me ≡ (with_one_source look.me.0, []) → t.table_id ≡ look.table_id → t.me ≡ (source_view (sources_of look), [])
     → AreNew look ts → AreNew look' (ts ++ t ∷ [])
 one_new look look' ts t same me table mine are =
     let next : sources_of look' ≡ suc (sources_of look) = ap (λ m. m.0.next) me in
@@ -86,7 +86,7 @@ one_new look look' ts t same me table mine are =
           (λ (p : (k ≡ length ts) × (t ≡ q)). subst IsUntouched p.1 (record { made = ap (λ m. m.0.made) mine; looked = ap (λ m. m.0.looked) mine; floor = ap (λ m. m.0.floor) mine })) (at_end ts t q k at);
     }
 
-pub seats_more : (look look' : Token) (seats : List EventSeat) (seat : EventSeat) → look'.table_id ≡ look.table_id → look'.me ≡ (one_more look.me.0, []) → seat.token.table_id ≡ look.table_id
+pub seats_more : (look look' : Token) (seats : List EventSeat) (seat : EventSeat) → look'.table_id ≡ look.table_id → look'.me ≡ (with_one_source look.me.0, []) → seat.token.table_id ≡ look.table_id
     → seat.token.me ≡ (source_view (sources_of look), []) → AreNew look (tokens seats) → AreNew look' (tokens (seats ++ seat ∷ []))
 seats_more look look' seats seat same me table mine are =
     subst (AreNew look') (sym (map-append (λ (s : EventSeat). s.token) seats (seat ∷ []))) (one_new look look' (tokens seats) seat.token same me table mine are)

@@ -35,9 +35,9 @@ AreInTurn [] = Unit {0}
 AreInTurn (s ∷ past) = (fits s.step (is_active (steps_of s.source past)) ≡ true) × AreInTurn past
 
 -- the positions of the words before the steps are 0, 1, 2 and so on, each once
-abbrev pub ArePlaced : List SourceStep → Type 0
-ArePlaced [] = Unit {0}
-ArePlaced (s ∷ past) = (position (word_after past) ≡ length past) × ArePlaced past
+abbrev pub ArePositions : List SourceStep → Type 0
+ArePositions [] = Unit {0}
+ArePositions (s ∷ past) = (position (word_after past) ≡ length past) × ArePositions past
 
 -- the word was there: it is the one after all steps, or it was before one of them
 abbrev pub IsSeen : List SourceStep → EventNow → Type 0
@@ -59,7 +59,7 @@ abbrev pub NeverRise : ℕ → List EventNow → Type 0
 NeverRise most [] = Unit {0}
 NeverRise most (word ∷ words) = (position word ≤ most) × NeverRise (position word) words
 
--- no look goes back behind an earlier one
+-- no look goes back after an earlier one
 abbrev pub IsInOrder : List EventNow → Type 0
 IsInOrder [] = Unit {0}
 IsInOrder (word ∷ words) = NeverRise (position word) words
@@ -76,7 +76,7 @@ pub record AreClosed (made : List (List MadeStep)) (looked : List (List EventNow
   pub makers : AreBelow (length made) history
   pub each_made : (source : ℕ) → source < length made → slice_index_or made source [] ≡ steps_of source history
   pub turns : AreInTurn history
-  pub placed : ArePlaced history
+  pub placed : ArePositions history
   pub last : (answer ≡ word_after history) × (position answer ≡ length history)
   pub seen : AllSeen history looked × AllInOrder looked
 

@@ -3,9 +3,9 @@ use Rattle.std.specs.Prelude.{◌≡◌, List, ◌∷◌, ◌++◌, Option, Some
 use Rattle.sleep_model.specs.declared.word.EventNow.{EventNow}
 
 -- the word is the one that the holder tells, where it tells one
-abbrev pub IsTold : Option EventNow → EventNow → Type 0
-IsTold None word = Unit {0}
-IsTold (Some told) word = word ≡ told
+abbrev pub IsShown : Option EventNow → EventNow → Type 0
+IsShown None word = Unit {0}
+IsShown (Some shown) word = word ≡ shown
 
 -- the words looked at have gained this one; where they are not told they stay untold
 abbrev pub GainsLook : EventNow → Option (List EventNow) → Option (List EventNow) → Type 0

@@ -6,12 +6,12 @@ use Rattle.atomic_table.specs.Seated.{TableId}
 use Rattle.atomic_table.specs.declared.shared.Seat.{Seat}
 use Rattle.sleep_model.specs.declared.word.EventNow.{EventNow}
 use Rattle.sleep_model.specs.Sources.{most_entries}
-use Rattle.event_word.specs.declared.view.View.{View}
+use Rattle.event_word.specs.declared.view.WordView.{WordView}
 use Rattle.event_word.specs.Steps.{MadeStep}
 
 -- a seat at a table of the event word
 abbrev pub Token : Type 0
-Token = Seat (Unit {0}) View
+Token = Seat (Unit {0}) WordView
 
 -- the source's number
 abbrev pub number_of : Token → Option ℕ
@@ -30,7 +30,7 @@ abbrev pub floor_of : Token → ℕ
 floor_of t = t.me.0.floor
 
 -- a source's seat
-pub record IsSource (t : Token) : Type 0 where
+pub record IsSourceSeat (t : Token) : Type 0 where
   pub plain : t.me.0.keeps ≡ false
   pub numbered : number_of t ≢ None
   pub empty : t.me.1 ≡ []

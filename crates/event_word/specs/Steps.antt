@@ -12,9 +12,9 @@ abbrev pub MadeStep : Type 0
 MadeStep = view.MadeStep
 
 -- the told word after a step
-abbrev pub told_after : WordKind → Option EventNow → Option EventNow
-told_after step None = None
-told_after step (Some word) = Some (after_step (Some step) word)
+abbrev pub shown_after : WordKind → Option EventNow → Option EventNow
+shown_after step None = None
+shown_after step (Some word) = Some (after_step (Some step) word)
 
 -- the told steps, the newest first, after one more
 abbrev pub made_after : WordKind → EventNow → Option (List MadeStep) → Option (List MadeStep)
@@ -25,20 +25,20 @@ made_after step before (Some made) = Some (record { step = step; before = before
 abbrev pub CanMake : (List WordKind → Bool) → WordKind → Type 0
 CanMake can step = (rest : List WordKind) × (can (step ∷ rest) ≡ true)
 
--- what could be made behind that step can be made once it is made
+-- what could be made after that step can be made once it is made
 abbrev pub CanGoOn : WordKind → (List WordKind → Bool) → (List WordKind → Bool) → Type 0
 CanGoOn step old new = (rest : List WordKind) → old (step ∷ rest) ≡ true → new rest ≡ true
 
 -- a word has place for the step: no part of it runs over or below (24 bits of each: own)
-abbrev pub has_place : WordKind → EventNow → Bool
-has_place Start word = nat_lt word.inpr 16777215
-has_place Finish word = nat_lt 0 word.inpr && nat_lt word.count 16777215
-has_place Hard word = nat_lt word.hard 16777215
+abbrev pub has_room : WordKind → EventNow → Bool
+has_room Start word = nat_lt word.inpr 16777215
+has_room Finish word = nat_lt 0 word.inpr && nat_lt word.count 16777215
+has_room Hard word = nat_lt word.hard 16777215
 
 -- a word has place for these steps, one after another
-abbrev pub has_places : EventNow → List WordKind → Bool
-has_places word [] = true
-has_places word (step ∷ rest) = has_place step word && has_places (after_step (Some step) word) rest
+abbrev pub has_room_for_all : EventNow → List WordKind → Bool
+has_room_for_all word [] = true
+has_room_for_all word (step ∷ rest) = has_room step word && has_room_for_all (after_step (Some step) word) rest
 
 -- whether an event is in progress after a step (a source has at most one)
 abbrev pub active_after : WordKind → Bool → Bool

@@ -6,13 +6,13 @@ ghost use Rattle.event_word.specs.Lists.{tokens, made_lists, looked_lists};
 
 use crate::plays::SourceBack;
 use crate::seats::apart;
-use crate::table::{Desk, EventSeat, EventTable, LookSeat, Token};
+use crate::table::{EventSeat, EventTable, LookSeat, SharedWord, Token};
 use sleep_base::Mem;
 use sleep_model::EventNow;
 
 /// What the sources made comes to the seat that only looks.
-fn gather(desk: &Desk, look: &mut Token, seats: Vec<EventSeat>)
-    requires table { (look.old.table_id ≡ desk.now.shared.table_id) × (desk.now.shared.table_id.words ≡ 1) }
+fn gather(cells: &SharedWord, look: &mut Token, seats: Vec<EventSeat>)
+    requires table { (look.old.table_id ≡ cells.now.shared.table_id) × (cells.now.shared.table_id.words ≡ 1) }
     requires look { IsLook look.old × IsUnused look.old }
     requires seats { AreAll look.old (tokens seats.items) }
     ensures table { look.new.table_id ≡ look.old.table_id }
@@ -23,23 +23,23 @@ fn gather(desk: &Desk, look: &mut Token, seats: Vec<EventSeat>)
 {
     for seat in seats {
         let EventSeat { token } = seat;
-        desk.shared.join_seat::<SourceBack>(look, token);
+        cells.shared.join_seat::<SourceBack>(look, token);
     }
 }
 
 /// Closes the table, with the seats of all its sources in the order of their numbers. The answer is the word after all
 /// steps.
 pub fn close(table: EventTable, seats: Vec<EventSeat>, look: LookSeat) -> Result<EventNow, Mem>
-    requires look { look.token.table_id ≡ table.desk.shared.table_id }
+    requires look { look.token.table_id ≡ table.cells.shared.table_id }
     requires seats { AreAll look.token (tokens seats.items) }
     ensures closed { IfOk result (λ now.
         AreClosed (made_lists seats.items) (looked_lists seats.items ++ looked_of look.token ∷ []) now) }
     ensures always { IsOk result }
 {
-    let EventTable { desk } = table;
+    let EventTable { cells } = table;
     let LookSeat { mut token } = look;
-    gather(&desk, &mut token, seats);
-    let closed = desk.close_with(token);
+    gather(&cells, &mut token, seats);
+    let closed = cells.close_with(token);
     let word = closed.word(0);
     closed.free();
     Ok(apart(word))

@@ -3,8 +3,8 @@ ghost use Rattle.sleep_model.specs.declared.word.EventNow.{EventNow};
 ghost use Rattle.sleep_model.specs.declared.word.WordKind.{WordKind};
 ghost use Rattle.sleep_model.specs.declared.word.WordKind.TheVariants.{Start, Finish, Hard};
 ghost use Rattle.sleep_model.specs.Word.{position};
-ghost use Rattle.event_word.specs.Looks.{IsTold, GainsLook, GrewTo};
-ghost use Rattle.event_word.specs.Steps.{MadeStep, told_after, made_after, CanMake, CanGoOn};
+ghost use Rattle.event_word.specs.Looks.{IsShown, GainsLook, GrewTo};
+ghost use Rattle.event_word.specs.Steps.{MadeStep, shown_after, made_after, CanMake, CanGoOn};
 
 use sleep_model::{EventNow, pos};
 use std::sync::Wait;
@@ -12,7 +12,7 @@ use std::sync::Wait;
 /// The event word as one holder sees it (`drivers/base/power/wakeup.c`, `combined_event_count`).
 pub trait Events {
     /// The word, if no other thread can move it.
-    ghost tells: { Self → Option EventNow };
+    ghost shows: { Self → Option EventNow };
 
     /// The words looked at, the newest first, where the holder tells them.
     ghost looked: { Self → Option (List EventNow) };
@@ -33,8 +33,8 @@ pub trait Events {
 
     /// The word now.
     fn look(&mut self) -> EventNow
-        ensures told { IsTold (tells self.old) result }
-        ensures tells { tells self.new ≡ tells self.old }
+        ensures shown { IsShown (shows self.old) result }
+        ensures shows { shows self.new ≡ shows self.old }
         ensures looked { GainsLook result (looked self.old) (looked self.new) }
         ensures made { made self.new ≡ made self.old }
         ensures can { can self.new ≡ can self.old }
@@ -48,8 +48,8 @@ pub trait Bump: Events {
     /// An event begins (`wakeup_source_activate`).
     fn start(&mut self) -> EventNow
         requires { CanMake (Self.can self.old) Start }
-        ensures told { IsTold (Self.tells self.old) result }
-        ensures tells { Self.tells self.new ≡ told_after Start (Self.tells self.old) }
+        ensures shown { IsShown (Self.shows self.old) result }
+        ensures shows { Self.shows self.new ≡ shown_after Start (Self.shows self.old) }
         ensures looked { Self.looked self.new ≡ Self.looked self.old }
         ensures made { Self.made self.new ≡ made_after Start result (Self.made self.old) }
         ensures can { CanGoOn Start (Self.can self.old) (Self.can self.new) }
@@ -60,8 +60,8 @@ pub trait Bump: Events {
     /// An event in progress is registered (`wakeup_source_deactivate`).
     fn finish(&mut self) -> EventNow
         requires { CanMake (Self.can self.old) Finish }
-        ensures told { IsTold (Self.tells self.old) result }
-        ensures tells { Self.tells self.new ≡ told_after Finish (Self.tells self.old) }
+        ensures shown { IsShown (Self.shows self.old) result }
+        ensures shows { Self.shows self.new ≡ shown_after Finish (Self.shows self.old) }
         ensures looked { Self.looked self.new ≡ Self.looked self.old }
         ensures made { Self.made self.new ≡ made_after Finish result (Self.made self.old) }
         ensures can { CanGoOn Finish (Self.can self.old) (Self.can self.new) }
@@ -72,8 +72,8 @@ pub trait Bump: Events {
     /// A hard event is counted (`pm_system_wakeup`).
     fn hard(&mut self) -> EventNow
         requires { CanMake (Self.can self.old) Hard }
-        ensures told { IsTold (Self.tells self.old) result }
-        ensures tells { Self.tells self.new ≡ told_after Hard (Self.tells self.old) }
+        ensures shown { IsShown (Self.shows self.old) result }
+        ensures shows { Self.shows self.new ≡ shown_after Hard (Self.shows self.old) }
         ensures looked { Self.looked self.new ≡ Self.looked self.old }
         ensures made { Self.made self.new ≡ made_after Hard result (Self.made self.old) }
         ensures can { CanGoOn Hard (Self.can self.old) (Self.can self.new) }
@@ -85,8 +85,8 @@ pub trait Bump: Events {
 /// Looks until the word's position is at least `floor`.
 #[tactic(auto, using(crate::proofs::Looking::not_grown, crate::proofs::Looking::grew, crate::proofs::Looking::still_grown))]
 fn look_on<R: Wait, E: Events>(rt: &R, events: &mut E, floor: u64) -> EventNow
-    ensures told { IsTold (E.tells events.old) result }
-    ensures tells { E.tells events.new ≡ E.tells events.old }
+    ensures shown { IsShown (E.shows events.old) result }
+    ensures shows { E.shows events.new ≡ E.shows events.old }
     ensures grows { GrewTo result (E.looked events.old) (E.looked events.new) }
     ensures made { E.made events.new ≡ E.made events.old }
     ensures can { E.can events.new ≡ E.can events.old }
@@ -108,8 +108,8 @@ fn look_on<R: Wait, E: Events>(rt: &R, events: &mut E, floor: u64) -> EventNow
 #[inline(always)]
 #[tactic(auto, using(crate::proofs::Looking::grew_once, crate::proofs::Looking::grew_on))]
 pub fn look_from<R: Wait, E: Events>(rt: &R, events: &mut E, floor: u64) -> EventNow
-    ensures told { IsTold (E.tells events.old) result }
-    ensures tells { E.tells events.new ≡ E.tells events.old }
+    ensures shown { IsShown (E.shows events.old) result }
+    ensures shows { E.shows events.new ≡ E.shows events.old }
     ensures grows { GrewTo result (E.looked events.old) (E.looked events.new) }
     ensures made { E.made events.new ≡ E.made events.old }
     ensures can { E.can events.new ≡ E.can events.old }

@@ -10,7 +10,7 @@ use std::alloc::Global;
 impl EventTable {
     /// The seats of that many new sources, in the order of their numbers.
     fn sources(&self, alloc: Global, look: &mut LookSeat, count: u32) -> Result<Vec<EventSeat>, Mem>
-        requires table { look.old.token.table_id ≡ self.now.desk.shared.table_id }
+        requires table { look.old.token.table_id ≡ self.now.cells.shared.table_id }
         requires none { sources_of look.old.token ≡ 0 }
         requires count { count ≤ 256 }
         ensures table { look.new.token.table_id ≡ look.old.token.table_id }
@@ -32,10 +32,10 @@ impl EventTable {
         requires { (1 ≤ sources) × (sources ≤ 256) }
         ensures count { IfOk result (λ made. vec_len made.1 ≡ sources) }
         ensures seats { IfOk result (λ made. AreNew made.2.token (tokens made.1.items)) }
-        ensures look { IfOk result (λ made. made.2.token.table_id ≡ made.0.desk.shared.table_id) }
+        ensures look { IfOk result (λ made. made.2.token.table_id ≡ made.0.cells.shared.table_id) }
         ensures untouched { IfOk result (λ made. IsUntouched made.2.token) }
     {
-        let (table, mut look) = EventTable::bare(alloc)?;
+        let (table, mut look) = EventTable::empty(alloc)?;
         let seats = table.sources(alloc, &mut look, sources)?;
         Ok((table, seats, look))
     }

@@ -1,6 +1,6 @@
 ghost use Rattle.std.specs.Prelude.{◌≡◌, Some, None};
 ghost use Rattle.sleep_model.specs.Word.{position};
-ghost use Rattle.event_word.specs.Steps.{has_places};
+ghost use Rattle.event_word.specs.Steps.{has_room_for_all};
 
 use crate::events::{Bump, Events};
 use sleep_model::EventNow;
@@ -38,13 +38,13 @@ impl PlainEvents {
 }
 
 impl Events for PlainEvents {
-    ghost tells = { λ word. Some word };
+    ghost shows = { λ word. Some word };
 
     ghost looked = { λ _. None };
 
     ghost made = { λ _. None };
 
-    ghost can = { has_places };
+    ghost can = { has_room_for_all };
 
     ghost floor = { λ word. position word };
 

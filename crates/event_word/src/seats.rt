@@ -2,7 +2,7 @@
 ghost use Rattle.std.specs.Prelude.{◌≡◌, true, false, [], length, Some, None};
 ghost use Rattle.event_word.specs.Histories.{unpacked};
 ghost use Rattle.event_word.specs.Steps.{can_make, is_active};
-ghost use Rattle.event_word.specs.Seats.{IsSource, IsLook, IsUnused, sources_of, number_of, made_of, looked_of, floor_of};
+ghost use Rattle.event_word.specs.Seats.{IsSourceSeat, IsLook, IsUnused, sources_of, number_of, made_of, looked_of, floor_of};
 
 use crate::events::{Bump, Events};
 use crate::plays::{Finish, Hard, Look, Start};
@@ -23,8 +23,8 @@ const HARD: u64 = 1 << 40;
 pub struct TableSeat<'t> {
     pub table: &'t EventTable,
     pub token: Token,
-    ghost seated: { IsSource token },
-    ghost fits: { token.table_id ≡ table.now.desk.shared.table_id },
+    ghost seated: { IsSourceSeat token },
+    ghost fits: { token.table_id ≡ table.now.cells.shared.table_id },
 }
 
 /// The seat that only looks, on its table.
@@ -34,7 +34,7 @@ pub struct TableLook<'t> {
     pub token: Token,
     ghost seated: { IsLook token },
     ghost unused: { IsUnused token },
-    ghost fits: { token.table_id ≡ table.now.desk.shared.table_id },
+    ghost fits: { token.table_id ≡ table.now.cells.shared.table_id },
 }
 
 /// The word, taken apart.
@@ -51,7 +51,7 @@ pub(crate) fn apart(word: u64) -> EventNow
 impl EventSeat {
     /// Takes the seat to its table.
     pub fn on<'t>(self, table: &'t EventTable) -> TableSeat<'t>
-        requires { self.token.table_id ≡ table.now.desk.shared.table_id }
+        requires { self.token.table_id ≡ table.now.cells.shared.table_id }
         ensures { result.token ≡ self.token }
     {
         let EventSeat { token } = self;
@@ -62,7 +62,7 @@ impl EventSeat {
 impl LookSeat {
     /// Takes the seat to its table.
     pub fn on<'t>(self, table: &'t EventTable) -> TableLook<'t>
-        requires { self.token.table_id ≡ table.now.desk.shared.table_id }
+        requires { self.token.table_id ≡ table.now.cells.shared.table_id }
         ensures { result.token ≡ self.token }
     {
         let LookSeat { token } = self;
@@ -94,7 +94,7 @@ impl Events for TableSeat<'_> {
     ghost use Rattle.std.specs.Prelude.{ℕ, Option};
     ghost use Rattle.atomic_table.specs.Seated.{TableId};
 
-    ghost tells = { λ _. None };
+    ghost shows = { λ _. None };
 
     ghost looked = { λ s. Some (looked_of s.token) };
 
@@ -109,24 +109,24 @@ impl Events for TableSeat<'_> {
     ghost root = { λ s. (s.token.table_id, number_of s.token) };
 
     fn look(&mut self) -> EventNow {
-        apart(self.table.desk.shared.load::<Look>(&mut self.token, 0))
+        apart(self.table.cells.shared.load::<Look>(&mut self.token, 0))
     }
 }
 
 impl Bump for TableSeat<'_> {
     fn start(&mut self) -> EventNow {
-        let desk = &self.table.desk;
-        apart(desk.shared.fetch_add::<Start>(&mut self.token, 0, START))
+        let cells = &self.table.cells;
+        apart(cells.shared.fetch_add::<Start>(&mut self.token, 0, START))
     }
 
     fn finish(&mut self) -> EventNow {
-        let desk = &self.table.desk;
-        apart(desk.shared.fetch_add::<Finish>(&mut self.token, 0, FINISH))
+        let cells = &self.table.cells;
+        apart(cells.shared.fetch_add::<Finish>(&mut self.token, 0, FINISH))
     }
 
     fn hard(&mut self) -> EventNow {
-        let desk = &self.table.desk;
-        apart(desk.shared.fetch_add::<Hard>(&mut self.token, 0, HARD))
+        let cells = &self.table.cells;
+        apart(cells.shared.fetch_add::<Hard>(&mut self.token, 0, HARD))
     }
 }
 
@@ -134,7 +134,7 @@ impl Events for TableLook<'_> {
     ghost use Rattle.std.specs.Prelude.{ℕ};
     ghost use Rattle.atomic_table.specs.Seated.{TableId};
 
-    ghost tells = { λ _. None };
+    ghost shows = { λ _. None };
 
     ghost looked = { λ s. Some (looked_of s.token) };
 
@@ -149,7 +149,7 @@ impl Events for TableLook<'_> {
     ghost root = { λ s. (s.token.table_id, sources_of s.token) };
 
     fn look(&mut self) -> EventNow {
-        let desk = &self.table.desk;
-        apart(desk.shared.load::<Look>(&mut self.token, 0))
+        let cells = &self.table.cells;
+        apart(cells.shared.load::<Look>(&mut self.token, 0))
     }
 }

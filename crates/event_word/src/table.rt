@@ -1,32 +1,32 @@
 //! The table of the event word, and its seats while they are off it.
 ghost use Rattle.std.specs.Prelude.{◌≡◌, ◌<◌, [], IfOk};
-ghost use Rattle.event_word.specs.Counting.{look_view, one_more, source_view};
-ghost use Rattle.event_word.specs.Seats.{IsSource, IsLook, IsUnused, sources_of};
+ghost use Rattle.event_word.specs.Counting.{look_view, with_one_source, source_view};
+ghost use Rattle.event_word.specs.Seats.{IsSourceSeat, IsLook, IsUnused, sources_of};
 
 use crate::plays::{Counting, NewSource};
-use crate::view::View;
+use crate::view::WordView;
 use atomic_table::{Seat, Table};
 use sleep_base::Mem;
 use std::alloc::Global;
 
 /// A seat at the table.
-pub type Token = Seat<(), View>;
+pub type Token = Seat<(), WordView>;
 
 /// The word, which threads share.
-pub type Desk = Table<(), View, (), Counting, Global>;
+pub type SharedWord = Table<(), WordView, (), Counting, Global>;
 
 /// The event word for many holders (`drivers/base/power/wakeup.c`, `combined_event_count`).
 #[derive(Drop)]
 pub struct EventTable {
-    pub desk: Table<(), View, (), Counting, Global>,
-    ghost shaped: { (desk.shared.table_id.words ≡ 1) × (desk.shared.table_id.slots ≡ 0) },
+    pub cells: Table<(), WordView, (), Counting, Global>,
+    ghost shaped: { (cells.shared.table_id.words ≡ 1) × (cells.shared.table_id.slots ≡ 0) },
 }
 
 /// The seat of one source: it knows which steps the source made.
 #[derive(Drop)]
 pub struct EventSeat {
     pub token: Token,
-    ghost seated: { IsSource token },
+    ghost seated: { IsSourceSeat token },
 }
 
 /// The seat that only looks, and that is needed to close the table.
@@ -39,24 +39,24 @@ pub struct LookSeat {
 
 impl EventTable {
     /// A table with no source.
-    pub(crate) fn bare(alloc: Global) -> Result<(EventTable, LookSeat), Mem>
-        ensures table { IfOk result (λ made. made.1.token.table_id ≡ made.0.desk.shared.table_id) }
+    pub(crate) fn empty(alloc: Global) -> Result<(EventTable, LookSeat), Mem>
+        ensures table { IfOk result (λ made. made.1.token.table_id ≡ made.0.cells.shared.table_id) }
         ensures view { IfOk result (λ made. made.1.token.me ≡ (look_view, [])) }
     {
-        let (desk, token) = Table::of_words(alloc, &[0], &())?;
-        Ok((EventTable { desk }, LookSeat { token }))
+        let (cells, token) = Table::of_words(alloc, &[0], &())?;
+        Ok((EventTable { cells }, LookSeat { token }))
     }
 
     /// One more source's seat, with the next number.
     pub(crate) fn source(&self, look: &mut LookSeat) -> EventSeat
-        requires table { look.old.token.table_id ≡ self.now.desk.shared.table_id }
+        requires table { look.old.token.table_id ≡ self.now.cells.shared.table_id }
         requires room { sources_of look.old.token < 256 }
         ensures table { look.new.token.table_id ≡ look.old.token.table_id }
-        ensures look { look.new.token.me ≡ (one_more look.old.token.me.0, []) }
+        ensures look { look.new.token.me ≡ (with_one_source look.old.token.me.0, []) }
         ensures seat { result.token.table_id ≡ look.old.token.table_id }
         ensures view { result.token.me ≡ (source_view (sources_of look.old.token), []) }
     {
-        let token = self.desk.shared.split_seat::<NewSource>(&mut look.token);
+        let token = self.cells.shared.split_seat::<NewSource>(&mut look.token);
         EventSeat { token }
     }
 }

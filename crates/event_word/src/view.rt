@@ -9,7 +9,7 @@ pub struct MadeStep {
 }
 
 /// What a seat knows. No value of it is made.
-pub struct View {
+pub struct WordView {
     /// Whether it is the seat that only looks, and that is needed to close the table.
     pub keeps: bool,
     /// How many sources there are, where it is that seat.

@@ -22,7 +22,7 @@ use Rattle.machine_file.specs.Form.{is_string, is_within, is_one_of, answerers, 
 use Rattle.machine_file.specs.Names.{is_among_names, own_name, spells_name, devices_named, sources_named, texts_in, names_in}
 use Rattle.machine_file.specs.Rules.{name_of}
 use Rattle.sleep_model.specs.NameBytes.{is_name}
-use Rattle.machine_file.specs.Spelled.{place_among}
+use Rattle.machine_file.specs.Spelled.{index_among}
 use Rattle.machine_file.specs.Operations.{names_source}
 use Rattle.machine_file.specs.Answering.{platform_steps, answering_phases, is_of_device, names_of_kind, has_its_phase, names_thing, is_of_prepare, common_errors, is_ret_allowed, may_report, phase_of, step_of, thing_of, ret_of, whole_report, whole_answer}
 use Rattle.machine_file.specs.Whole.{whole_machine}
@@ -183,7 +183,7 @@ each_form d (r ∷ rs) h = (h.0.form, each_form d rs h.1)
 -- ---- the thing
 
 -- what is known of an answer of a file that keeps the rules
-pub record KeptAnswer (d a : Data) : Type 0 where
+pub record ValidAnswer (d a : Data) : Type 0 where
   pub form : is_answer_form a ≡ true
   pub names : own_name a ≡ true
   pub thing : names_thing d a ≡ true
@@ -222,7 +222,7 @@ no_phase : (r : Option Data) → is_none r ≡ true → None ≡ option_and_then
 no_phase None e = refl
 no_phase (Some x) e = absurd (false≢true e)
 
-module _ (d a : Data) (kept : KeptAnswer d a) where
+module _ (d a : Data) (kept : ValidAnswer d a) where
   front_form : ((has_only answer_members a && must_have (codes "what") (is_one_of answerers) a && must_have (codes "name") is_string a && may_have (codes "phase") (is_one_of phases) a
       && may_have (codes "attempt") (is_within 1 1000) a && may_have (codes "ret") is_ret_form a) ≡ true) × (may_have (codes "reports") are_reports a ≡ true)
   front_form = and_parts _ (may_have (codes "reports") are_reports a) kept.form
@@ -248,7 +248,7 @@ module _ (d a : Data) (kept : KeptAnswer d a) where
   there = and_parts (is_among_names (names_of_kind d a) (name_of a)) (has_its_phase a) kept.thing
 
   abbrev place : ℕ
-  place = place_among (names_of_kind d a) (name_of a)
+  place = index_among (names_of_kind d a) (name_of a)
 
   device_case : is_of_device a ≡ true → IsNamed d a (what.Device place (phase_of a))
   device_case e =
@@ -258,7 +258,7 @@ module _ (d a : Data) (kept : KeptAnswer d a) where
       let text = phase_text (get (codes "phase") a) with_name.1 some in
       record {
         word = word_is (codes "device") (get (codes "what") a) e;
-        name = ap (λ ns. device (whole_machine d) (place_among ns (name_of a))) ours ∙ device_back d (name_of a) (sym (ap (λ ns. is_among_names ns (name_of a)) ours) ∙ there.0);
+        name = ap (λ ns. device (whole_machine d) (index_among ns (name_of a))) ours ∙ device_back d (name_of a) (sym (ap (λ ns. is_among_names ns (name_of a)) ours) ∙ there.0);
         phase = text.0;
         formed = text.1;
         owned = refl;
@@ -279,7 +279,7 @@ module _ (d a : Data) (kept : KeptAnswer d a) where
       let ours : names_of_kind d a ≡ texts_in (codes "syscore") d = other_names e ∙ ap (λ b. others b (has_text (codes "what") (codes "notifier") a)) f in
       record {
         word = word_is (codes "syscore") (get (codes "what") a) f;
-        name = ap (λ ns. syscore (whole_machine d) (place_among ns (name_of a))) ours ∙ syscore_back d (name_of a) (sym (ap (λ ns. is_among_names ns (name_of a)) ours) ∙ there.0);
+        name = ap (λ ns. syscore (whole_machine d) (index_among ns (name_of a))) ours ∙ syscore_back d (name_of a) (sym (ap (λ ns. is_among_names ns (name_of a)) ours) ∙ there.0);
         phase = phaseless e;
         formed = refl;
         owned = refl;
@@ -290,7 +290,7 @@ module _ (d a : Data) (kept : KeptAnswer d a) where
       let ours : names_of_kind d a ≡ names_in (codes "notifiers") d = other_names e ∙ ap₂ others f g in
       record {
         word = word_is (codes "notifier") (get (codes "what") a) g;
-        name = ap (λ ns. notifier (whole_machine d) (place_among ns (name_of a))) ours ∙ notifier_back d (name_of a) (sym (ap (λ ns. is_among_names ns (name_of a)) ours) ∙ there.0);
+        name = ap (λ ns. notifier (whole_machine d) (index_among ns (name_of a))) ours ∙ notifier_back d (name_of a) (sym (ap (λ ns. is_among_names ns (name_of a)) ours) ∙ there.0);
         phase = phaseless e;
         formed = refl;
         owned = refl;
@@ -343,8 +343,8 @@ answerer_form (what.Syscore x) = refl
 answerer_form (what.Notifier x) = refl
 answerer_form (what.Platform x) = refl
 
-pub same_answer : (d a : Data) → KeptAnswer d a → SameAnswer d a
-same_answer d a kept =
+pub answers_same : (d a : Data) → ValidAnswer d a → SameAnswer d a
+answers_same d a kept =
     let thing = thing_named d a kept in
     let rows = answer_rows (whole_machine d) (whole_answer d a) in
     let at = at_name (answer_rows (whole_machine d) (whole_answer d a)) refl in

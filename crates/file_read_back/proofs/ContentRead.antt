@@ -24,7 +24,7 @@ prepend_nothing : (o : Option (List ℕ)) → o ≡ prepend [] o
 prepend_nothing None = refl
 prepend_nothing (Some s) = refl
 
--- behind an ASCII byte the text goes on as UTF-8
+-- after an ASCII byte the text goes on as UTF-8
 tail_utf8 : (x : ℕ) (xs : List ℕ) → x < 128 → IsUtf8 (x ∷ xs) → IsUtf8 xs
 tail_utf8 x xs small u = IsUtf8-past_char (x ∷ xs) xs x u (sym (ap (λ e. e ++ xs) (encode_ascii x small)))
 
@@ -76,11 +76,11 @@ pair_scalar h l high low =
 -- ---- escapes
 
 -- a short escape and what it stands for are ASCII
-abbrev IsShort : ℕ → Option ℕ → Type 0
-IsShort y None = ⊤
-IsShort y (Some c) = (y < 128) × (c < 128)
+abbrev IsShortEscape : ℕ → Option ℕ → Type 0
+IsShortEscape y None = ⊤
+IsShortEscape y (Some c) = (y < 128) × (c < 128)
 
-one_short : (b : Bool) (y c : ℕ) (rest : Option ℕ) → (b ≡ true → (y < 128) × (c < 128)) → IsShort y rest → IsShort y (cond b (Some c) rest)
+one_short : (b : Bool) (y c : ℕ) (rest : Option ℕ) → (b ≡ true → (y < 128) × (c < 128)) → IsShortEscape y rest → IsShortEscape y (cond b (Some c) rest)
 one_short true y c rest f g = f refl
 one_short false y c rest f g = g
 
@@ -93,7 +93,7 @@ three_small y e = elim (or_cases ((y == 34) || (y == 92)) (y == 47) e) [
   | inr a ↦ is_small y 47 (omega arith) a
 ]
 
-short_small : (y : ℕ) → IsShort y (short_escape y)
+short_small : (y : ℕ) → IsShortEscape y (short_escape y)
 unfolding short_escape
 short_small y =
     one_short _ y y _ (λ e. (three_small y e, three_small y e))
@@ -187,7 +187,7 @@ module _ (n : ℕ) (again : (ys : List ℕ) → length ys ≤ n → IsUtf8 ys �
   backslash_step [] l u = tt
   backslash_step (y ∷ ys) l u = by (y == 117) refl
     where
-      short : (o : Option ℕ) → IsShort y o → MayBeUtf8 (option_and_then (λ c. prepend (c ∷ []) (content plain ys)) o)
+      short : (o : Option ℕ) → IsShortEscape y o → MayBeUtf8 (option_and_then (λ c. prepend (c ∷ []) (content plain ys)) o)
       short None h = tt
       short (Some c) h = prepend_utf8 (c ∷ []) (content plain ys) (low_utf8 c h.1) (again ys (omega arith) (tail_utf8 y ys h.0 u))
 
@@ -261,6 +261,6 @@ content_good (suc n) (c ∷ cs) l s =
           (prepend_utf8 (encode c) (content plain (encodes cs)) (IsUtf8-encode c both.0) (content_good n cs (omega arith) both.1))
     ]
 
--- the content of a string, behind its quote
+-- the content of a string, after its quote
 pub content_utf8 : (cs : List ℕ) → scalars cs ≡ true → MayBeUtf8 (content plain (encodes cs))
 content_utf8 cs s = content_good (length (encodes cs)) cs (omega arith) s

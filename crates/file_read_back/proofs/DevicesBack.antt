@@ -31,7 +31,7 @@ pub record SameDevice (d o : Data) : Type 0 where
   pub names : names_of_device (device_again d o) ≡ true
 
 -- what is known of a device of a file that keeps the rules
-pub record KeptDevice (d o : Data) : Type 0 where
+pub record ValidDevice (d o : Data) : Type 0 where
   pub names : names_of_device o ≡ true
   pub parent : is_none_or (is_among_names (devices_named d)) (word_at (codes "parent") o) ≡ true
 
@@ -69,7 +69,7 @@ status_form : (b : Bool) → is_none_or (is_one_of statuses) (status b) ≡ true
 status_form true = refl
 status_form false = refl
 
-module _ (d o : Data) (kept : KeptDevice d o) where
+module _ (d o : Data) (kept : ValidDevice d o) where
   abbrev rows : List (Named (Option Data))
   rows = device_rows (whole_machine d) (whole_device (devices_named d) o)
 
@@ -108,8 +108,8 @@ module _ (d o : Data) (kept : KeptDevice d o) where
       by None h = absurd (false≢true h)
       by (Some s) h = h
 
-  names_kept : (must_have (codes "name") spells_name o ≡ true) × (may_have (codes "parent") spells_name o ≡ true)
-  names_kept = and_parts (must_have (codes "name") spells_name o) (may_have (codes "parent") spells_name o) kept.names
+  names_valid : (must_have (codes "name") spells_name o ≡ true) × (may_have (codes "parent") spells_name o ≡ true)
+  names_valid = and_parts (must_have (codes "name") spells_name o) (may_have (codes "parent") spells_name o) kept.names
 
   pub same_device : SameDevice d o
   same_device = record {
@@ -124,6 +124,6 @@ module _ (d o : Data) (kept : KeptDevice d o) where
         (ap (is_none_or is_truth) (at_name rows refl (codes "wakeup")) ∙ truth_form _))
         (ap (is_none_or (is_one_of statuses)) (at_name rows refl (codes "runtime")) ∙ status_form _);
     names =
-        and_from _ _ (ap (is_some_and spells_name) (at_name rows refl (codes "name")) ∙ name_spelled (get (codes "name") o) names_kept.0)
-        (ap (is_none_or spells_name) parent_at ∙ word_spelled (get (codes "parent") o) names_kept.1);
+        and_from _ _ (ap (is_some_and spells_name) (at_name rows refl (codes "name")) ∙ name_spelled (get (codes "name") o) names_valid.0)
+        (ap (is_none_or spells_name) parent_at ∙ word_spelled (get (codes "parent") o) names_valid.1);
   }

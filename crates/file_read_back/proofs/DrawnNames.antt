@@ -10,7 +10,7 @@ use Rattle.std.proofs.lemmas.Str.Parse.{digit_from_value}
 use Rattle.machine_file.specs.Names.{is_among_names}
 use Rattle.machine_file.specs.Places.{first_not_after}
 use Rattle.sleep_model.specs.NameBytes.{is_name, is_name_byte}
-use Rattle.machine_file.specs.Spelled.{place_among}
+use Rattle.machine_file.specs.Spelled.{index_among}
 use Rattle.machine_file.proofs.Placing.{position_cons}
 
 -- a device's name
@@ -71,7 +71,7 @@ name_at a (suc n) (suc k) i e h l =
     ∙ (ap (λ b. cond b (Some 0) (option_map suc (position (bytes_eq (drawn_name i)) (names_from (a + 1) n)))) (other_name i a (omega arith) (omega arith) (λ s. omega (arith, s, e)))
     ∙ ap (option_map suc) (name_at (a + 1) n k i (omega arith) (omega arith) (omega arith)))
 
-pub name_placed : (n i : ℕ) → n ≤ 1000 → i < n → place_among (names_from 0 n) (drawn_name i) ≡ i
+pub name_placed : (n i : ℕ) → n ≤ 1000 → i < n → index_among (names_from 0 n) (drawn_name i) ≡ i
 name_placed n i l h = ap (λ o. unwrap_or o 0) (name_at 0 n i i (omega arith) h (omega arith))
 
 -- no name stands twice

@@ -16,16 +16,16 @@ use Rattle.machine_file.specs.Form.{is_device_form, is_link_form, unformed_item}
 use Rattle.machine_file.specs.Names.{is_among_names, names_of_device, names_of_link, devices_named, sources_named, misspelled_item, repeated, repeated_device}
 use Rattle.machine_file.specs.Rules.{name_of}
 use Rattle.sleep_model.specs.NameBytes.{is_name}
-use Rattle.machine_file.specs.Spelled.{link_of, place_among}
+use Rattle.machine_file.specs.Spelled.{link_of, index_among}
 use Rattle.machine_file.specs.Devices.{has_parent_before, has_ends, is_new_link, is_same_link, closes_no_cycle, orphan, loose_link, repeated_link, cyclic_link}
 use Rattle.machine_file.specs.Operations.{is_formed, names_source, unformed_operation, sourceless_operation}
 use Rattle.machine_file.specs.Limits.{most_items, too_many, all_steps, is_link_step, are_links_few, are_steps_few, too_much}
 use Rattle.machine_file.specs.Whole.{rules, first_broken}
 use Rattle.machine_file.specs.Spelling.{as_items}
-use Rattle.sleep_script.specs.Generated.{draw, drawn_parent, drawn_links, behind_links, generated}
+use Rattle.sleep_script.specs.Generated.{draw, drawn_parent, drawn_links, after_links, generated}
 use Rattle.sleep_script.proofs.Generating.{accepted, drawn_less}
 use Rattle.file_read_back.proofs.Alike.{EachOf, weaker, made_pass}
-use Rattle.file_read_back.proofs.RulesBack.{none_broken, rows_pass, kept_unless, items_pass}
+use Rattle.file_read_back.proofs.RulesBack.{none_broken, rows_pass, valid_unless, items_pass}
 use Rattle.file_read_back.proofs.ScriptsBack.{none_fails_of}
 use Rattle.file_read_back.proofs.DrawnNames.{drawn_name, name_same, name_among, name_placed, names_differ, name_spelled, other_name}
 use Rattle.file_read_back.proofs.DrawnValue.{device_datum, drawn_datum, link_datum, pause_datum, event_datum, drawn_ops, line_ops, actor_datum, actors_data, drawn_value, parent_before, parent_low, datum_name, Rises, links_rise, links_same, listed_devices, listed_links, named_devices, all_devices}
@@ -106,8 +106,8 @@ module _ (seed n : ℕ) (some : 1 ≤ n) (few : n ≤ 1000) where
       let names = named_devices seed n in
       let devices = all_devices seed n few in
       let links : map (link_of (devices_named file)) (map link_datum before) ≡ before = ap (λ ns. map (link_of ns) (map link_datum before)) names ∙ links_same n before few h in
-      let supplier : place_among (devices_named file) (drawn_name l.supplier) ≡ l.supplier = ap (λ ns. place_among ns (drawn_name l.supplier)) names ∙ name_placed n l.supplier few (omega (arith, r.up, r.low)) in
-      let consumer : place_among (devices_named file) (drawn_name l.consumer) ≡ l.consumer = ap (λ ns. place_among ns (drawn_name l.consumer)) names ∙ name_placed n l.consumer few r.low in
+      let supplier : index_among (devices_named file) (drawn_name l.supplier) ≡ l.supplier = ap (λ ns. index_among ns (drawn_name l.supplier)) names ∙ name_placed n l.supplier few (omega (arith, r.up, r.low)) in
+      let consumer : index_among (devices_named file) (drawn_name l.consumer) ≡ l.consumer = ap (λ ns. index_among ns (drawn_name l.consumer)) names ∙ name_placed n l.consumer few r.low in
       (λ i. not (is_among (moved (length (parents_of (devices i))) (dependents (parents_of (devices i)) (links i)) (consumer i)) (supplier i))) ∙ ap not apart
 
   -- each link in turn is new, and closes no cycle
@@ -173,8 +173,8 @@ module _ (seed n : ℕ) (some : 1 ≤ n) (few : n ≤ 1000) where
   links_pass test f =
       items_pass (codes "links") test file (ap (list_all test) (listed_links seed n) ∙ made_pass test link_datum (drawn_links seed n (n / 4)) (weaker (Rises n) (λ l. test (link_datum l) ≡ true) (drawn_links seed n (n / 4)) f (links_rise seed n (n / 4) some)))
 
-  items_kept : unformed_item file ≡ None
-  items_kept = or_none _ _ (devices_pass is_device_form (λ i h. device_form (drawn_parent seed i) (draw seed (n + i) 2 == 1) i)) (or_none _ _ (links_pass (is_link_form true) (λ l r. refl)) refl)
+  items_valid : unformed_item file ≡ None
+  items_valid = or_none _ _ (devices_pass is_device_form (λ i h. device_form (drawn_parent seed i) (draw seed (n + i) 2 == 1) i)) (or_none _ _ (links_pass (is_link_form true) (λ l r. refl)) refl)
 
   few_items : too_many file ≡ None
   few_items =
@@ -183,21 +183,21 @@ module _ (seed n : ℕ) (some : 1 ≤ n) (few : n ≤ 1000) where
       rows_pass (λ r. nat_le (length (list_in r.name file)) r.is) most_items
       (le-leb (length (list_in (codes "devices") file)) 1000 (omega (arith, devices)), (le-leb (length (list_in (codes "links") file)) 4000 (omega (arith, links, whole.few_links)), (refl, (refl, (refl, (refl, (refl, tt)))))))
 
-  spelled_kept : misspelled_item file ≡ None
-  spelled_kept =
+  spelled_valid : misspelled_item file ≡ None
+  spelled_valid =
       or_none _ _ (devices_pass names_of_device (λ i h. device_spelled (drawn_parent seed i) (draw seed (n + i) 2 == 1) i n few h (parent_low seed i n h)))
       (or_none _ _ (links_pass names_of_link (λ l r. and_from (is_name (drawn_name l.supplier)) (is_name (drawn_name l.consumer)) (name_spelled l.supplier (omega (arith, r.up, r.low))) (name_spelled l.consumer (omega (arith, r.low))))) refl)
 
-  differ_kept : repeated_device file ≡ None
-  differ_kept = ap (repeated (codes "devices")) (named_devices seed n) ∙ ap (option_map (item_place (codes "devices"))) (names_differ [] 0 n 0 (omega arith) (λ i low high. refl))
+  differ_valid : repeated_device file ≡ None
+  differ_valid = ap (repeated (codes "devices")) (named_devices seed n) ∙ ap (option_map (item_place (codes "devices"))) (names_differ [] 0 n 0 (omega arith) (λ i low high. refl))
 
-  orphan_kept : orphan file ≡ None
-  orphan_kept =
+  orphan_valid : orphan file ≡ None
+  orphan_valid =
       ap (λ ds. option_map (item_place (codes "devices")) (first_not_after has_parent_before [] 0 ds)) (listed_devices seed n)
       ∙ ap (option_map (item_place (codes "devices"))) (no_orphans [] 0 n 0 (λ j l. absurd (omega arith)))
 
-  ends_kept : loose_link file ≡ None
-  ends_kept =
+  ends_valid : loose_link file ≡ None
+  ends_valid =
       links_pass (has_ends (devices_named file))
       (λ l r. ap (λ ns. is_among_names ns (drawn_name l.supplier) && is_among_names ns (drawn_name l.consumer)) (named_devices seed n)
       ∙ ap₂ (λ a b. a && b) (name_among 0 n l.supplier l.supplier (omega arith) (omega (arith, r.up, r.low))) (name_among 0 n l.consumer l.consumer (omega arith) r.low))
@@ -205,25 +205,25 @@ module _ (seed n : ℕ) (some : 1 ≤ n) (few : n ≤ 1000) where
   backward : AreLinks ps (reverse (drawn_links seed n (n / 4)) ++ [])
   backward = subst (AreLinks ps) (sym (Rattle.std.proofs.lemmas.List.append-nil (reverse (drawn_links seed n (n / 4))))) whole.links
 
-  new_kept : repeated_link file ≡ None
-  new_kept =
+  new_valid : repeated_link file ≡ None
+  new_valid =
       ap (λ ds. option_map (item_place (codes "links")) (first_not_after is_new_link [] 0 ds)) (listed_links seed n)
       ∙ ap (option_map (item_place (codes "links"))) (links_new [] (drawn_links seed n (n / 4)) 0 tt (links_rise seed n (n / 4) some) backward)
 
-  open_kept : cyclic_link file ≡ None
-  open_kept =
+  open_valid : cyclic_link file ≡ None
+  open_valid =
       ap (λ ds. option_map (item_place (codes "links")) (first_not_after (closes_no_cycle file) [] 0 ds)) (listed_links seed n)
       ∙ ap (option_map (item_place (codes "links"))) (links_open [] (drawn_links seed n (n / 4)) 0 tt (links_rise seed n (n / 4) some) backward)
 
-  formed_kept : unformed_operation file ≡ None
-  formed_kept =
-      let line = actor_datum (codes "irq") (codes "line") 1 (line_ops seed (behind_links n)) in
-      none_fails_of (is_formed true) 0 (actors_data seed n) (refl, (ops_pass (is_formed true line) (λ ms l m. within 1 86400000 ms l m) (λ s ms l m. ap (λ b. b && true) (within 0 86400000 ms (omega arith) m)) seed (behind_links n) (range_with_len 0 4), tt))
+  formed_valid : unformed_operation file ≡ None
+  formed_valid =
+      let line = actor_datum (codes "irq") (codes "line") 1 (line_ops seed (after_links n)) in
+      none_fails_of (is_formed true) 0 (actors_data seed n) (refl, (ops_pass (is_formed true line) (λ ms l m. within 1 86400000 ms l m) (λ s ms l m. ap (λ b. b && true) (within 0 86400000 ms (omega arith) m)) seed (after_links n) (range_with_len 0 4), tt))
 
-  source_kept : sourceless_operation file ≡ None
-  source_kept =
+  source_valid : sourceless_operation file ≡ None
+  source_valid =
       none_fails_of (λ actor. names_source (sources_named file)) 0 (actors_data seed n)
-      (refl, (ops_pass (names_source (sources_named file)) (λ ms l m. refl) (λ s ms l m. event_source seed n s ms l) seed (behind_links n) (range_with_len 0 4), tt))
+      (refl, (ops_pass (names_source (sources_named file)) (λ ms l m. refl) (λ s ms l m. event_source seed n s ms l) seed (after_links n) (range_with_len 0 4), tt))
 
   few_steps : are_steps_few file ≡ true
   few_steps =
@@ -234,10 +234,10 @@ module _ (seed n : ℕ) (some : 1 ≤ n) (few : n ≤ 1000) where
       (le-leb (4 * (length (list_in (codes "devices") file) + 50)) 100000 (omega (arith, devices)))
       (le-leb (length (list_in (codes "links") file) + all_steps is_link_step file) 4000 (omega (arith, links, added, whole.few_links)))
 
-  much_kept : too_much file ≡ None
-  much_kept = or_none _ _ (kept_unless (are_steps_few file) (codes "actors") few_steps) refl
+  much_valid : too_much file ≡ None
+  much_valid = or_none _ _ (valid_unless (are_steps_few file) (codes "actors") few_steps) refl
 
   pub drawn_unbroken : first_broken file ≡ None
   drawn_unbroken =
       none_broken rules file
-      (refl, (refl, (refl, (items_kept, (few_items, (spelled_kept, (differ_kept, (orphan_kept, (ends_kept, (new_kept, (open_kept, (refl, (refl, (refl, (formed_kept, (refl, (or_none _ _ source_kept refl, (refl, (refl, (refl, (refl, (refl, (much_kept, tt)))))))))))))))))))))))
+      (refl, (refl, (refl, (items_valid, (few_items, (spelled_valid, (differ_valid, (orphan_valid, (ends_valid, (new_valid, (open_valid, (refl, (refl, (refl, (formed_valid, (refl, (or_none _ _ source_valid refl, (refl, (refl, (refl, (refl, (refl, (much_valid, tt)))))))))))))))))))))))

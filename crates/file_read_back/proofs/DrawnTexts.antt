@@ -9,7 +9,7 @@ use Rattle.std.proofs.lemmas.Str.Parse.{digit_from_value}
 use Rattle.json.proofs.Printed.Utf8.{are_ascii, IsUtf8-are_ascii}
 use Rattle.sleep_model.specs.declared.machine.Link.{Link}
 use Rattle.machine_file.specs.Spelling.{as_items}
-use Rattle.sleep_script.specs.Generated.{draw, drawn_parent, drawn_links, behind_links}
+use Rattle.sleep_script.specs.Generated.{draw, drawn_parent, drawn_links, after_links}
 use Rattle.file_read_back.proofs.Alike.{EachOf}
 use Rattle.file_read_back.proofs.TextsIn.{HasTexts, ItemsHaveTexts}
 use Rattle.file_read_back.proofs.DrawnNames.{drawn_name}
@@ -65,7 +65,7 @@ drawn_texts seed n some few =
             ),
           ),
         ),
-        ((text (codes "irq") refl, (text (codes "line") refl, (tt, (ops_texts seed (behind_links n) (range_with_len 0 4), tt)))), tt),
+        ((text (codes "irq") refl, (text (codes "line") refl, (tt, (ops_texts seed (after_links n) (range_with_len 0 4), tt)))), tt),
       ),
       (
         devices_texts seed n 0 n few (omega arith),

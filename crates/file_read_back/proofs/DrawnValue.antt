@@ -14,7 +14,7 @@ use Rattle.machine_file.specs.Rules.{name_of}
 use Rattle.machine_file.specs.Spelled.{link_of, parent_of}
 use Rattle.machine_file.specs.Spelling.{as_items, count}
 use Rattle.machine_file.specs.Whole.{whole_machine}
-use Rattle.sleep_script.specs.Generated.{draw, drawn_parent, drawn_device, drawn_links, drawn_event, behind_links, generated, once, sleeper}
+use Rattle.sleep_script.specs.Generated.{draw, drawn_parent, drawn_device, drawn_links, drawn_event, after_links, generated, once, sleeper}
 use Rattle.sleep_script.proofs.Generating.{drawn_less}
 use Rattle.file_read_back.proofs.Alike.{EachOf}
 use Rattle.file_read_back.proofs.DrawnNames.{drawn_name, names_from, name_at, name_placed}
@@ -74,7 +74,7 @@ actor_datum kind name repeat ops =
 
 -- the actors
 abbrev pub actors_data : ℕ → ℕ → List Data
-actors_data seed n = actor_datum (codes "user") (codes "sleeper") 4 sleeper_ops ∷ actor_datum (codes "irq") (codes "line") 1 (line_ops seed (behind_links n)) ∷ []
+actors_data seed n = actor_datum (codes "user") (codes "sleeper") 4 sleeper_ops ∷ actor_datum (codes "irq") (codes "line") 1 (line_ops seed (after_links n)) ∷ []
 
 -- the devices, and the links
 abbrev pub devices_data : ℕ → ℕ → List Data
@@ -205,7 +205,7 @@ pub all_links : (seed n : ℕ) → 1 ≤ n → n ≤ 1000 → whole_links (drawn
 all_links seed n some few = ap₂ (λ names ls. map (link_of names) ls) (named_devices seed n) (listed_links seed n) ∙ links_same n (drawn_links seed n (n / 4)) few (links_rise seed n (n / 4) some)
 
 all_scripts : (seed n : ℕ) → whole_scripts (drawn_value seed n) ≡ (generated seed n).actors
-all_scripts seed n = ap (λ steps. sleeper ∷ record { name = codes "line"; kind = Irq; repeat = 1; steps = steps } ∷ []) (steps_same seed n (behind_links n) (range_with_len 0 4))
+all_scripts seed n = ap (λ steps. sleeper ∷ record { name = codes "line"; kind = Irq; repeat = 1; steps = steps } ∷ []) (steps_same seed n (after_links n) (range_with_len 0 4))
 
 -- the value spells the generated machine
 pub spells_drawn : (seed n : ℕ) → 1 ≤ n → n ≤ 1000 → whole_machine (drawn_value seed n) ≡ generated seed n

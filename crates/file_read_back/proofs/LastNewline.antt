@@ -1,4 +1,4 @@
--- The tokens of a printed text are read with a newline behind it, too.
+-- The tokens of a printed text are read with a newline after it, too.
 use Rattle.std.proofs.Common.{◌≡◌, ◌∙◌, ◌&&◌, ℕ, Bool, true, false, cond, List, [], ◌∷◌, ◌++◌, refl, sym, ap, ap₂, append_assoc, append-nil}
 use Rattle.json.specs.Token.{Token, begin_object, end_object, begin_array, end_array, key, string, number, boolean, null, bad}
 use Rattle.json.specs.Word.{ends_word, word}
@@ -26,7 +26,7 @@ lexemes later [] = []
 lexemes later (t ∷ ts) = cond (later && begins t) (comma ∷ []) [] ++ (token_lexemes t ++ lexemes (ends t) ts)
 
 module _ (rest : List ℕ) (ended : ends_word rest ≡ true) where
-  -- behind a value stands a comma, a closing bracket or the rest
+  -- after a value stands a comma, a closing bracket or the rest
   value_ends : (ts : List Token) → ends_word (print_from true ts ++ rest) ≡ true
   unfolding print_from
   value_ends [] = ended
@@ -87,6 +87,6 @@ both_ends : (ts : List Token) → ArePrintable ts → lex between (print ts ++ 1
 unfolding lex
 both_ends ts h = lex-printed (10 ∷ []) refl false ts h ∙ sym (lex-printed [] refl false ts h)
 
--- the tokens that were printed, with a newline behind them
+-- the tokens that were printed, with a newline after them
 pub tokens-newline : (ts : List Token) → ArePrintable ts → tokens (print ts ++ 10 ∷ []) ≡ ts
 tokens-newline ts h = ap (punctuate fresh) (both_ends ts h ∙ ap (lex between) (append-nil (print ts))) ∙ tokens-print ts h

@@ -8,7 +8,7 @@ pub mod OperationsBack
 pub mod ScriptsBack
 pub mod ReportsBack
 pub mod AnswersBack
-pub mod FileKept
+pub mod FileValid
 pub mod MachineBack
 pub mod RulesBack
 pub mod LastNewline

@@ -6,11 +6,11 @@ use Rattle.serde_json.specs.Find.{get, as_str, as_number, as_integer}
 use Rattle.sleep_model.specs.Text.{device}
 use Rattle.machine_file.specs.Look.{is_some_and, is_none_or, is_text, has_only, text_at}
 use Rattle.machine_file.specs.Members.{must_have, may_have, has_text, link_members, notifier_members}
-use Rattle.machine_file.specs.Form.{is_string, is_near, is_one_of, link_states, is_link_form, is_notifier_form}
+use Rattle.machine_file.specs.Form.{is_string, is_bounded, is_one_of, link_states, is_link_form, is_notifier_form}
 use Rattle.machine_file.specs.Names.{is_among_names, spells_name, names_of_link, own_name, devices_named}
 use Rattle.machine_file.specs.Rules.{name_of}
 use Rattle.sleep_model.specs.NameBytes.{is_name}
-use Rattle.machine_file.specs.Spelled.{place_among, link_of}
+use Rattle.machine_file.specs.Spelled.{index_among, link_of}
 use Rattle.machine_file.specs.Devices.{has_ends}
 use Rattle.machine_file.specs.Whole.{whole_machine, whole_notifier, priority_of}
 use Rattle.machine_file.specs.Spelling.{count, integer_unless_zero, link_rows, link_value, notifier_rows, notifier_value}
@@ -55,8 +55,8 @@ pub same_link : (d o : Data) → names_of_link o ≡ true → has_ends (devices_
 same_link d o names ends =
     let there = and_parts (is_among_names (devices_named d) (text_at (codes "supplier") o)) (is_among_names (devices_named d) (text_at (codes "consumer") o)) ends in
     let spell = and_parts (must_have (codes "supplier") spells_name o) (must_have (codes "consumer") spells_name o) names in
-    let supplier : device (whole_machine d) (place_among (devices_named d) (text_at (codes "supplier") o)) ≡ text_at (codes "supplier") o = device_back d (text_at (codes "supplier") o) there.0 in
-    let consumer : device (whole_machine d) (place_among (devices_named d) (text_at (codes "consumer") o)) ≡ text_at (codes "consumer") o = device_back d (text_at (codes "consumer") o) there.1 in
+    let supplier : device (whole_machine d) (index_among (devices_named d) (text_at (codes "supplier") o)) ≡ text_at (codes "supplier") o = device_back d (text_at (codes "supplier") o) there.0 in
+    let consumer : device (whole_machine d) (index_among (devices_named d) (text_at (codes "consumer") o)) ≡ text_at (codes "consumer") o = device_back d (text_at (codes "consumer") o) there.1 in
     let supplier_at : get (codes "supplier") (link_again d o) ≡ Some (string (text_at (codes "supplier") o)) =
     at_name (link_rows (whole_machine d) (link_of (devices_named d) o)) refl (codes "supplier") ∙ ap (λ s. Some (string s)) supplier in
     let consumer_at : get (codes "consumer") (link_again d o) ≡ Some (string (text_at (codes "consumer") o)) =
@@ -97,25 +97,25 @@ integer_back (pos n) = by (n == 0) refl
     by true e = ap pos (sym (eqb-true n 0 e))
     by false e = refl
 
-integer_form : (most : ℕ) (z : ℤ) → nat_le (nat_abs z) most ≡ true → is_none_or (is_near most) (integer_unless_zero z) ≡ true
+integer_form : (most : ℕ) (z : ℤ) → nat_le (nat_abs z) most ≡ true → is_none_or (is_bounded most) (integer_unless_zero z) ≡ true
 integer_form most (negsuc n) e = e
 integer_form most (pos n) e = by (n == 0)
   where
-    by : (b : Bool) → is_none_or (is_near most) (cond b None (Some (count n))) ≡ true
+    by : (b : Bool) → is_none_or (is_bounded most) (cond b None (Some (count n))) ≡ true
     by true = refl
     by false = e
 
-near_or : (most : ℕ) (o : Option ℤ) → is_some_and (λ z. nat_le (nat_abs z) most) o ≡ true → nat_le (nat_abs (unwrap_or o (pos 0))) most ≡ true
-near_or most None e = absurd (false≢true e)
-near_or most (Some z) e = e
+bounded_or : (most : ℕ) (o : Option ℤ) → is_some_and (λ z. nat_le (nat_abs z) most) o ≡ true → nat_le (nat_abs (unwrap_or o (pos 0))) most ≡ true
+bounded_or most None e = absurd (false≢true e)
+bounded_or most (Some z) e = e
 
-pub priority_form : (r : Option Data) → is_none_or (is_near 1000) r ≡ true → nat_le (nat_abs (unwrap_or (option_and_then as_integer (option_and_then as_number r)) (pos 0))) 1000 ≡ true
+pub priority_form : (r : Option Data) → is_none_or (is_bounded 1000) r ≡ true → nat_le (nat_abs (unwrap_or (option_and_then as_integer (option_and_then as_number r)) (pos 0))) 1000 ≡ true
 priority_form None e = refl
-priority_form (Some x) e = near_or 1000 (option_and_then as_integer (as_number x)) e
+priority_form (Some x) e = bounded_or 1000 (option_and_then as_integer (as_number x)) e
 
 pub same_notifier : (o : Data) → is_notifier_form o ≡ true → own_name o ≡ true → SameNotifier o
 same_notifier o form names =
-    let front = and_parts (has_only notifier_members o && must_have (codes "name") is_string o) (may_have (codes "priority") (is_near 1000) o) form in
+    let front = and_parts (has_only notifier_members o && must_have (codes "name") is_string o) (may_have (codes "priority") (is_bounded 1000) o) form in
     let name_at : get (codes "name") (notifier_again o) ≡ Some (string (name_of o)) = at_name (notifier_rows (whole_notifier o)) refl (codes "name") in
     let priority_at : get (codes "priority") (notifier_again o) ≡ integer_unless_zero (priority_of o) = at_name (notifier_rows (whole_notifier o)) refl (codes "priority") in
     record {
@@ -123,6 +123,6 @@ same_notifier o form names =
       priority = ap (λ r. unwrap_or (option_and_then as_integer (option_and_then as_number r)) (pos 0)) priority_at ∙ integer_back (priority_of o);
       form =
           and_from _ _ (and_from _ _ (named notifier_members (notifier_rows (whole_notifier o)) refl refl) (ap (is_some_and is_string) name_at))
-          (ap (is_none_or (is_near 1000)) priority_at ∙ integer_form 1000 (priority_of o) (priority_form (get (codes "priority") o) front.1));
+          (ap (is_none_or (is_bounded 1000)) priority_at ∙ integer_form 1000 (priority_of o) (priority_form (get (codes "priority") o) front.1));
       names = ap (is_some_and spells_name) name_at ∙ spelled (get (codes "name") o) names;
     }

@@ -10,22 +10,22 @@ use Rattle.machine_file.specs.Members.{has_text, list_in, number_at}
 use Rattle.machine_file.specs.Names.{names_of_link, own_name, devices_named, sources_named, names_in, texts_in}
 use Rattle.machine_file.specs.Form.{is_notifier_form}
 use Rattle.machine_file.specs.Rules.{name_of}
-use Rattle.machine_file.specs.Spelled.{place_among, link_of}
+use Rattle.machine_file.specs.Spelled.{index_among, link_of}
 use Rattle.machine_file.specs.Devices.{has_ends, whole_device, whole_devices, whole_links}
-use Rattle.machine_file.specs.Operations.{known_of, whole_step, whole_script, whole_marks, whole_scripts, marks_of, first_places}
+use Rattle.machine_file.specs.Operations.{known_of, whole_step, whole_script, whole_marks, whole_scripts, marks_of, first_occurrences}
 use Rattle.machine_file.specs.Answering.{names_of_kind, platform_steps, answering_phases, thing_of, whole_report, whole_answer, whole_answers}
 use Rattle.machine_file.specs.Whole.{whole_machine, whole_notifier}
 use Rattle.machine_file.specs.Spelling.{machine_rows, machine_value, device_value, link_value, notifier_value, script_value, answer_value}
 use Rattle.file_read_back.proofs.Rows.{at_name, list_found}
 use Rattle.file_read_back.proofs.Numbers.{number_of, number_back}
 use Rattle.file_read_back.proofs.Alike.{EachOf, weaker, mapped, seen_alike}
-use Rattle.file_read_back.proofs.DevicesBack.{KeptDevice, device_again, same_device}
+use Rattle.file_read_back.proofs.DevicesBack.{ValidDevice, device_again, same_device}
 use Rattle.file_read_back.proofs.LinksBack.{link_again, same_link, notifier_again, same_notifier}
-use Rattle.file_read_back.proofs.OperationsBack.{KeptOp, op_again, same_op}
-use Rattle.file_read_back.proofs.ScriptsBack.{KeptActor, actor_again, same_actor, all_marks}
+use Rattle.file_read_back.proofs.OperationsBack.{ValidOperation, op_again, same_op}
+use Rattle.file_read_back.proofs.ScriptsBack.{ValidActor, actor_again, same_actor, all_marks}
 use Rattle.file_read_back.proofs.ReportsBack.{SameReport, report_again}
-use Rattle.file_read_back.proofs.AnswersBack.{KeptAnswer, answer_again, same_answer, same_text}
-use Rattle.file_read_back.proofs.FileKept.{KeptFile}
+use Rattle.file_read_back.proofs.AnswersBack.{ValidAnswer, answer_again, answers_same, same_text}
+use Rattle.file_read_back.proofs.FileValid.{ValidFile}
 
 -- a text, written again
 abbrev pub text_again : Data → Data
@@ -83,14 +83,14 @@ module _ (d : Data) where
   pub texts_same : (name : List ℕ) → list_in name again ≡ map text_again (list_in name d) → texts_in name again ≡ texts_in name d
   texts_same name e = ap (map text_of) e ∙ seen_alike text_of text_again text_of (list_in name d) (each_text (list_in name d))
 
-  module _ (kept : KeptFile d) where
+  module _ (kept : ValidFile d) where
     -- ---- the names
 
     pub devices_named_same : devices_named again ≡ devices_named d
     devices_named_same =
         ap (map name_of) devices_list
         ∙ seen_alike name_of (device_again d) name_of (list_in (codes "devices") d)
-        (weaker (KeptDevice d) (λ o. name_of (device_again d o) ≡ name_of o) (list_in (codes "devices") d) (λ o k. (same_device d o k).name) kept.devices)
+        (weaker (ValidDevice d) (λ o. name_of (device_again d o) ≡ name_of o) (list_in (codes "devices") d) (λ o k. (same_device d o k).name) kept.devices)
 
     pub notifiers_named_same : names_in (codes "notifiers") again ≡ names_in (codes "notifiers") d
     notifiers_named_same =
@@ -102,7 +102,7 @@ module _ (d : Data) where
     actors_named_same =
         ap (map name_of) actors_list
         ∙ seen_alike name_of (actor_again d) name_of (list_in (codes "actors") d)
-        (weaker (KeptActor d) (λ a. name_of (actor_again d a) ≡ name_of a) (list_in (codes "actors") d) (λ a k. (same_actor d a k.form k.names).name) kept.actors)
+        (weaker (ValidActor d) (λ a. name_of (actor_again d a) ≡ name_of a) (list_in (codes "actors") d) (λ a k. (same_actor d a k.form k.names).name) kept.actors)
 
     pub sources_same : sources_named again ≡ sources_named d
     sources_same = texts_same (codes "sources") sources_list
@@ -112,15 +112,15 @@ module _ (d : Data) where
 
     pub marks_same : whole_marks again ≡ whole_marks d
     marks_same =
-        ap (λ actors. first_places [] (Rattle.std.specs.List.flat_map (λ a. marks_of (list_in (codes "script") a)) actors)) actors_list
-        ∙ ap (first_places []) (all_marks d (list_in (codes "actors") d) kept.actors)
+        ap (λ actors. first_occurrences [] (Rattle.std.specs.List.flat_map (λ a. marks_of (list_in (codes "script") a)) actors)) actors_list
+        ∙ ap (first_occurrences []) (all_marks d (list_in (codes "actors") d) kept.actors)
 
     pub known_same : known_of again ≡ known_of d
     known_same = λ i. record { devices = devices_named_same i; sources = sources_same i; marks = marks_same i }
 
     -- ---- the parts
 
-    pub device_same : (o : Data) → KeptDevice d o → whole_device (devices_named d) (device_again d o) ≡ whole_device (devices_named d) o
+    pub device_same : (o : Data) → ValidDevice d o → whole_device (devices_named d) (device_again d o) ≡ whole_device (devices_named d) o
     device_same o k =
         let s = same_device d o k in
         λ i. record { name = s.name i; parent = Rattle.std.specs.Prelude.option_and_then (λ t. Rattle.std.specs.Prelude.position (bytes_eq t) (devices_named d)) (s.parent i); flags = s.flags i }
@@ -129,12 +129,12 @@ module _ (d : Data) where
     whole_devices_same =
         ap₂ (λ names os. map (whole_device names) os) devices_named_same devices_list
         ∙ seen_alike (whole_device (devices_named d)) (device_again d) (whole_device (devices_named d)) (list_in (codes "devices") d)
-        (weaker (KeptDevice d) (λ o. whole_device (devices_named d) (device_again d o) ≡ whole_device (devices_named d) o) (list_in (codes "devices") d) device_same kept.devices)
+        (weaker (ValidDevice d) (λ o. whole_device (devices_named d) (device_again d o) ≡ whole_device (devices_named d) o) (list_in (codes "devices") d) device_same kept.devices)
 
     pub link_same : (o : Data) → (names_of_link o ≡ true) × (has_ends (devices_named d) o ≡ true) → link_of (devices_named d) (link_again d o) ≡ link_of (devices_named d) o
     link_same o k =
         let s = same_link d o k.0 k.1 in
-        λ i. record { supplier = place_among (devices_named d) (s.supplier i); consumer = place_among (devices_named d) (s.consumer i); active = s.active i }
+        λ i. record { supplier = index_among (devices_named d) (s.supplier i); consumer = index_among (devices_named d) (s.consumer i); active = s.active i }
 
     pub whole_links_same : whole_links again ≡ whole_links d
     whole_links_same =
@@ -151,14 +151,14 @@ module _ (d : Data) where
         ∙ seen_alike whole_notifier notifier_again whole_notifier (list_in (codes "notifiers") d)
         (weaker (λ o. (is_notifier_form o ≡ true) × (own_name o ≡ true)) (λ o. whole_notifier (notifier_again o) ≡ whole_notifier o) (list_in (codes "notifiers") d) notifier_same kept.notifiers)
 
-    step_same : (o : Data) → KeptOp d o → whole_step (known_of d) (op_again d o) ≡ whole_step (known_of d) o
+    step_same : (o : Data) → ValidOperation d o → whole_step (known_of d) (op_again d o) ≡ whole_step (known_of d) o
     step_same o k = let s = same_op d o k in λ i. record { op = s.spelled i; times = s.times i }
 
-    steps_same : (os : List Data) → EachOf (KeptOp d) os → map (whole_step (known_of d)) (map (op_again d) os) ≡ map (whole_step (known_of d)) os
+    steps_same : (os : List Data) → EachOf (ValidOperation d) os → map (whole_step (known_of d)) (map (op_again d) os) ≡ map (whole_step (known_of d)) os
     steps_same os h =
-        seen_alike (whole_step (known_of d)) (op_again d) (whole_step (known_of d)) os (weaker (KeptOp d) (λ o. whole_step (known_of d) (op_again d o) ≡ whole_step (known_of d) o) os step_same h)
+        seen_alike (whole_step (known_of d)) (op_again d) (whole_step (known_of d)) os (weaker (ValidOperation d) (λ o. whole_step (known_of d) (op_again d o) ≡ whole_step (known_of d) o) os step_same h)
 
-    script_same : (a : Data) → KeptActor d a → whole_script (known_of d) (actor_again d a) ≡ whole_script (known_of d) a
+    script_same : (a : Data) → ValidActor d a → whole_script (known_of d) (actor_again d a) ≡ whole_script (known_of d) a
     script_same a k =
         let s = same_actor d a k.form k.names in
         let steps = ap (map (whole_step (known_of d))) s.script ∙ steps_same (list_in (codes "script") a) k.ops in
@@ -168,7 +168,7 @@ module _ (d : Data) where
     whole_scripts_same =
         ap₂ (λ known os. map (whole_script known) os) known_same actors_list
         ∙ seen_alike (whole_script (known_of d)) (actor_again d) (whole_script (known_of d)) (list_in (codes "actors") d)
-        (weaker (KeptActor d) (λ a. whole_script (known_of d) (actor_again d a) ≡ whole_script (known_of d) a) (list_in (codes "actors") d) script_same kept.actors)
+        (weaker (ValidActor d) (λ a. whole_script (known_of d) (actor_again d a) ≡ whole_script (known_of d) a) (list_in (codes "actors") d) script_same kept.actors)
 
     -- ---- answers
 
@@ -177,42 +177,42 @@ module _ (d : Data) where
 
     abbrev thing_by : List (List ℕ) → List ℕ → Bool → Bool → Bool → (List ℕ → Bool) → (List ℕ → Bool) → What
     thing_by names name v s n has_phase has_name =
-        let place = place_among names name in
+        let place = index_among names name in
         cond v (what.Device place (unwrap_or (find (λ p. has_phase (Rattle.phase_table.specs.Phases.phase_name p)) answering_phases) Rattle.phase_table.specs.declared.phase.Phase.TheVariants.Prepare))
         (cond s (what.Syscore place) (cond n (what.Notifier place) (what.Platform (unwrap_or (find (λ p. has_name (down_word p)) platform_steps) Rattle.sleep_model.specs.declared.machine.PlatDo.TheVariants.Begin))))
 
-    module _ (a : Data) (k : KeptAnswer d a) where
+    module _ (a : Data) (k : ValidAnswer d a) where
       says_same : (x : List ℕ) → has_text (codes "what") x (answer_again d a) ≡ has_text (codes "what") x a
-      says_same x = same_text (codes "what") x (answer_again d a) a (same_answer d a k).word
+      says_same x = same_text (codes "what") x (answer_again d a) a (answers_same d a k).word
 
       pub name_same : name_of (answer_again d a) ≡ name_of a
-      name_same = ap (λ w. unwrap_or w []) (same_answer d a k).name
+      name_same = ap (λ w. unwrap_or w []) (answers_same d a k).name
 
       pub kinds_same : names_of_kind again (answer_again d a) ≡ names_of_kind d a
       kinds_same = λ i. cond (says_same (codes "device") i) (devices_named_same i) (cond (says_same (codes "syscore") i) (syscore_same i) (cond (says_same (codes "notifier") i) (notifiers_named_same i) (map down_word platform_steps)))
 
       thing_same : thing_of again (answer_again d a) ≡ thing_of d a
       thing_same = λ i. thing_by (kinds_same i) (name_same i) (says_same (codes "device") i) (says_same (codes "syscore") i) (says_same (codes "notifier") i)
-          (λ x. same_text (codes "phase") x (answer_again d a) a (same_answer d a k).phase i) (λ x. same_text (codes "name") x (answer_again d a) a (same_answer d a k).name i)
+          (λ x. same_text (codes "phase") x (answer_again d a) a (answers_same d a k).phase i) (λ x. same_text (codes "name") x (answer_again d a) a (answers_same d a k).name i)
 
       each_call : (rs : List Data) → EachOf (SameReport d) rs → EachOf (λ r. whole_report (sources_named d) (report_again d r) ≡ whole_report (sources_named d) r) rs
       each_call rs h =
           weaker (SameReport d) (λ r. whole_report (sources_named d) (report_again d r) ≡ whole_report (sources_named d) r) rs
-          (λ r s i. record { source = place_among (sources_named d) (unwrap_or (s.source i) []); call = s.call i }) h
+          (λ r s i. record { source = index_among (sources_named d) (unwrap_or (s.source i) []); call = s.call i }) h
 
       reports_same : map (whole_report (sources_named again)) (list_in (codes "reports") (answer_again d a)) ≡ map (whole_report (sources_named d)) (list_in (codes "reports") a)
       reports_same =
-          ap₂ (λ names os. map (whole_report names) os) sources_same (same_answer d a k).reports
-          ∙ seen_alike (whole_report (sources_named d)) (report_again d) (whole_report (sources_named d)) (list_in (codes "reports") a) (each_call (list_in (codes "reports") a) (same_answer d a k).each)
+          ap₂ (λ names os. map (whole_report names) os) sources_same (answers_same d a k).reports
+          ∙ seen_alike (whole_report (sources_named d)) (report_again d) (whole_report (sources_named d)) (list_in (codes "reports") a) (each_call (list_in (codes "reports") a) (answers_same d a k).each)
 
       pub answer_same : whole_answer again (answer_again d a) ≡ whole_answer d a
-      answer_same = λ i. record { what = thing_same i; attempt = (same_answer d a k).attempt i; ret = (same_answer d a k).ret i; reports = reports_same i }
+      answer_same = λ i. record { what = thing_same i; attempt = (answers_same d a k).attempt i; ret = (answers_same d a k).ret i; reports = reports_same i }
 
     whole_answers_same : whole_answers again ≡ whole_answers d
     whole_answers_same =
         ap (map (whole_answer again)) answers_list
         ∙ seen_alike (whole_answer again) (answer_again d) (whole_answer d) (list_in (codes "answers") d)
-        (weaker (KeptAnswer d) (λ a. whole_answer again (answer_again d a) ≡ whole_answer d a) (list_in (codes "answers") d) answer_same kept.answers)
+        (weaker (ValidAnswer d) (λ a. whole_answer again (answer_again d a) ≡ whole_answer d a) (list_in (codes "answers") d) answer_same kept.answers)
 
     -- ---- the machine
 

@@ -8,7 +8,7 @@ use Rattle.sleep_model.specs.Text.{name_in, device_name, notifier_name, device, 
 use Rattle.machine_file.specs.Members.{list_in}
 use Rattle.machine_file.specs.Names.{is_among_names, devices_named, sources_named, names_in, texts_in}
 use Rattle.machine_file.specs.Rules.{name_of}
-use Rattle.machine_file.specs.Spelled.{place_among}
+use Rattle.machine_file.specs.Spelled.{index_among}
 use Rattle.machine_file.specs.Devices.{whole_device}
 use Rattle.machine_file.specs.Operations.{whole_marks}
 use Rattle.machine_file.specs.Whole.{whole_machine, whole_notifier}
@@ -39,7 +39,7 @@ placed (n ∷ names) s e = by (bytes_eq s n) refl e (placed names s)
         }
 
 -- the name at a name's place
-pub at_place : (names : List (List ℕ)) (s : List ℕ) → is_among_names names s ≡ true → name_in (slice_get names (place_among names s)) ≡ s
+pub at_place : (names : List (List ℕ)) (s : List ℕ) → is_among_names names s ≡ true → name_in (slice_get names (index_among names s)) ≡ s
 at_place names s e = let p = placed names s e in ap (λ o. name_in (slice_get names (unwrap_or o 0))) p.first ∙ ap name_in p.there
 
 pub device_at : (names : List (List ℕ)) (ds : List Data) (j : ℕ) → device_name (slice_get (map (whole_device names) ds) j) ≡ name_in (slice_get (map name_of ds) j)
@@ -61,19 +61,19 @@ module _ (d : Data) (s : List ℕ) where
   pub device_named : (j : ℕ) → slice_get (devices_named d) j ≡ Some s → device (whole_machine d) j ≡ s
   device_named j e = device_at (devices_named d) (list_in (codes "devices") d) j ∙ ap name_in e
 
-  pub device_back : is_among_names (devices_named d) s ≡ true → device (whole_machine d) (place_among (devices_named d) s) ≡ s
-  device_back e = device_at (devices_named d) (list_in (codes "devices") d) (place_among (devices_named d) s) ∙ at_place (devices_named d) s e
+  pub device_back : is_among_names (devices_named d) s ≡ true → device (whole_machine d) (index_among (devices_named d) s) ≡ s
+  device_back e = device_at (devices_named d) (list_in (codes "devices") d) (index_among (devices_named d) s) ∙ at_place (devices_named d) s e
 
-  pub notifier_back : is_among_names (names_in (codes "notifiers") d) s ≡ true → notifier (whole_machine d) (place_among (names_in (codes "notifiers") d) s) ≡ s
-  notifier_back e = notifier_at (list_in (codes "notifiers") d) (place_among (names_in (codes "notifiers") d) s) ∙ at_place (names_in (codes "notifiers") d) s e
+  pub notifier_back : is_among_names (names_in (codes "notifiers") d) s ≡ true → notifier (whole_machine d) (index_among (names_in (codes "notifiers") d) s) ≡ s
+  notifier_back e = notifier_at (list_in (codes "notifiers") d) (index_among (names_in (codes "notifiers") d) s) ∙ at_place (names_in (codes "notifiers") d) s e
 
-  pub syscore_back : is_among_names (texts_in (codes "syscore") d) s ≡ true → syscore (whole_machine d) (place_among (texts_in (codes "syscore") d) s) ≡ s
+  pub syscore_back : is_among_names (texts_in (codes "syscore") d) s ≡ true → syscore (whole_machine d) (index_among (texts_in (codes "syscore") d) s) ≡ s
   syscore_back e = at_place (texts_in (codes "syscore") d) s e
 
-  pub mark_back : is_among_names (whole_marks d) s ≡ true → mark (whole_machine d) (place_among (whole_marks d) s) ≡ s
+  pub mark_back : is_among_names (whole_marks d) s ≡ true → mark (whole_machine d) (index_among (whole_marks d) s) ≡ s
   mark_back e = at_place (whole_marks d) s e
 
-  pub source_back : is_among_names (sources_named d) s ≡ true → source (whole_machine d) (place_among (sources_named d) s) ≡ s
+  pub source_back : is_among_names (sources_named d) s ≡ true → source (whole_machine d) (index_among (sources_named d) s) ≡ s
   source_back e =
       let p = placed (sources_named d) s e in
       ap (λ o. source (whole_machine d) (unwrap_or o 0)) p.first ∙ ap name_in (front (sources_named d) (codes "autosleep" ∷ []) p.at s p.there)

@@ -15,19 +15,19 @@ use Rattle.machine_file.specs.Names.{is_among_names, own_name, names_of_device, 
 use Rattle.machine_file.specs.Rules.{name_of}
 use Rattle.sleep_model.specs.NameBytes.{is_name as is_spelled}
 use Rattle.machine_file.specs.Devices.{whole_device}
-use Rattle.machine_file.specs.Operations.{Operation, operations, fits_row, has_mark, marks_of, first_places, whole_marks, known_of, whole_script}
+use Rattle.machine_file.specs.Operations.{Operation, operations, fits_row, has_mark, marks_of, first_occurrences, whole_marks, known_of, whole_script}
 use Rattle.machine_file.specs.Tree.{tree}
 use Rattle.machine_file.specs.Whole.{Broken, rules, first_broken, whole_machine, whole_notifier, unless_broken}
 use Rattle.machine_file.proofs.Accepted.{keeps_all}
 use Rattle.machine_file.proofs.Fitted.{absent}
 use Rattle.log_text.specs.Named.{is_name, are_distinct, are_names, AreNamed}
 use Rattle.file_read_back.proofs.Alike.{EachOf, weaker, made_pass, mapped}
-use Rattle.file_read_back.proofs.DevicesBack.{KeptDevice}
-use Rattle.file_read_back.proofs.OperationsBack.{KeptOp}
-use Rattle.file_read_back.proofs.ScriptsBack.{KeptActor}
-use Rattle.file_read_back.specs.Laws.{AllNamed, AllTold}
+use Rattle.file_read_back.proofs.DevicesBack.{ValidDevice}
+use Rattle.file_read_back.proofs.OperationsBack.{ValidOperation}
+use Rattle.file_read_back.proofs.ScriptsBack.{ValidActor}
+use Rattle.file_read_back.specs.Laws.{AllNamed, TextsAreInjective}
 use Rattle.log_text.proofs.OneLog.{one_log}
-use Rattle.file_read_back.proofs.FileKept.{kept_file}
+use Rattle.file_read_back.proofs.FileValid.{valid_file}
 use Rattle.file_read_back.proofs.ReadBack.{some_is}
 
 -- ---- how names are spelled
@@ -58,7 +58,7 @@ none_of_map : {X Y : Type 0} (f : X → Y) (o : Option X) → option_map f o ≡
 none_of_map f None e = refl
 none_of_map f (Some x) e = absurd (let g : Some (f x) ≡ None = e in cc)
 
--- the first of them passes, and so do those behind it
+-- the first of them passes, and so do those after it
 passes : (test : List (List ℕ) → List ℕ → Bool) (before : List (List ℕ)) (n : ℕ) (x : List ℕ) (xs : List (List ℕ)) → first_not_after test before n (x ∷ xs) ≡ None →
     (test before x ≡ true) × (first_not_after test (x ∷ before) (suc n) xs ≡ None)
 passes test before n x xs e = by (test before x) e
@@ -134,27 +134,27 @@ first_without one before n (x ∷ xs) e =
     turned false h k = refl
     turned true h k = absurd (false≢true (sym k ∙ (bytes_decides x one).1 (sym ((bytes_decides one x).0 h))))
 
-any_behind : (q : List ℕ → Bool) (xs : List (List ℕ)) (y : List ℕ) → list_any q xs ≡ false → q y ≡ false → list_any q (xs ++ y ∷ []) ≡ false
-any_behind q [] y e h = neither (q y) false h refl
-any_behind q (x ∷ xs) y e h = let both = by (q x) (list_any q xs) e in neither (q x) (list_any q (xs ++ y ∷ [])) both.0 (any_behind q xs y both.1 h)
+any_after : (q : List ℕ → Bool) (xs : List (List ℕ)) (y : List ℕ) → list_any q xs ≡ false → q y ≡ false → list_any q (xs ++ y ∷ []) ≡ false
+any_after q [] y e h = neither (q y) false h refl
+any_after q (x ∷ xs) y e h = let both = by (q x) (list_any q xs) e in neither (q x) (list_any q (xs ++ y ∷ [])) both.0 (any_after q xs y both.1 h)
   where
     by : (a b : Bool) → (a || b) ≡ false → (a ≡ false) × (b ≡ false)
     by true b h = absurd (false≢true (sym h))
     by false b h = (refl, h)
 
-all_behind : (q : List ℕ → Bool) (xs : List (List ℕ)) (y : List ℕ) → list_all q xs ≡ true → q y ≡ true → list_all q (xs ++ y ∷ []) ≡ true
-all_behind q [] y e h = and_from (q y) true h refl
-all_behind q (x ∷ xs) y e h = let both = and_parts (q x) (list_all q xs) e in and_from (q x) (list_all q (xs ++ y ∷ [])) both.0 (all_behind q xs y both.1 h)
+all_after : (q : List ℕ → Bool) (xs : List (List ℕ)) (y : List ℕ) → list_all q xs ≡ true → q y ≡ true → list_all q (xs ++ y ∷ []) ≡ true
+all_after q [] y e h = and_from (q y) true h refl
+all_after q (x ∷ xs) y e h = let both = and_parts (q x) (list_all q xs) e in and_from (q x) (list_all q (xs ++ y ∷ [])) both.0 (all_after q xs y both.1 h)
 
--- distinct names and one more behind them
-distinct_behind : (xs : List (List ℕ)) (y : List ℕ) → are_distinct xs ≡ true → is_among_names xs y ≡ false → are_distinct (xs ++ y ∷ []) ≡ true
-distinct_behind [] y e h = refl
-distinct_behind (x ∷ xs) y e h =
+-- distinct names and one more after them
+distinct_after : (xs : List (List ℕ)) (y : List ℕ) → are_distinct xs ≡ true → is_among_names xs y ≡ false → are_distinct (xs ++ y ∷ []) ≡ true
+distinct_after [] y e h = refl
+distinct_after (x ∷ xs) y e h =
     let own = and_parts (not (list_any (bytes_eq x) xs)) (are_distinct xs) e in
     let parts = by (bytes_eq y x) (is_among_names xs y) h in
     and_from (not (list_any (bytes_eq x) (xs ++ y ∷ []))) (are_distinct (xs ++ y ∷ []))
-    (not_false (list_any (bytes_eq x) (xs ++ y ∷ [])) (any_behind (bytes_eq x) xs y (not_true (list_any (bytes_eq x) xs) own.0) (turned (bytes_eq x y) refl parts.0)))
-    (distinct_behind xs y own.1 parts.1)
+    (not_false (list_any (bytes_eq x) (xs ++ y ∷ [])) (any_after (bytes_eq x) xs y (not_true (list_any (bytes_eq x) xs) own.0) (turned (bytes_eq x y) refl parts.0)))
+    (distinct_after xs y own.1 parts.1)
   where
     by : (a b : Bool) → (a || b) ≡ false → (a ≡ false) × (b ≡ false)
     by true b k = absurd (false≢true (sym k))
@@ -164,20 +164,20 @@ distinct_behind (x ∷ xs) y e h =
     turned false k l = refl
     turned true k l = absurd (false≢true (sym l ∙ (bytes_decides y x).1 (sym ((bytes_decides x y).0 k))))
 
--- names of sources, and the one that always exists behind them
-named_behind : (xs : List (List ℕ)) (y : List ℕ) → list_all is_name xs ≡ true → is_name y ≡ true → first_not_after (λ b s. not (is_among_names (y ∷ b) s)) [] 0 xs ≡ None →
+-- names of sources, and the one that always exists after them
+named_after : (xs : List (List ℕ)) (y : List ℕ) → list_all is_name xs ≡ true → is_name y ≡ true → first_not_after (λ b s. not (is_among_names (y ∷ b) s)) [] 0 xs ≡ None →
     are_names (xs ++ y ∷ []) ≡ true
-named_behind xs y all own none =
+named_after xs y all own none =
     let both = first_without y [] 0 xs none in
-    and_from (list_all is_name (xs ++ y ∷ [])) (are_distinct (xs ++ y ∷ [])) (all_behind is_name xs y all own) (distinct_behind xs y (apart [] 0 xs both.0).distinct both.1)
+    and_from (list_all is_name (xs ++ y ∷ [])) (are_distinct (xs ++ y ∷ [])) (all_after is_name xs y all own) (distinct_after xs y (apart [] 0 xs both.0).distinct both.1)
 
 -- ---- marks
 
 -- each mark of an operation of the table is a name: it belongs to the row, or is not there
-abbrev MarkKept : Data → Operation → Type 0
-MarkKept o r = fits_row o r ≡ true → is_none_or is_name (word_at (codes "mark") o) ≡ true
+abbrev ValidMark : Data → Operation → Type 0
+ValidMark o r = fits_row o r ≡ true → is_none_or is_name (word_at (codes "mark") o) ≡ true
 
-no_mark : (o : Data) (r : Operation) → list_any (bytes_eq (codes "mark")) (codes "op" ∷ codes "times" ∷ r.members) ≡ false → MarkKept o r
+no_mark : (o : Data) (r : Operation) → list_any (bytes_eq (codes "mark")) (codes "op" ∷ codes "times" ∷ r.members) ≡ false → ValidMark o r
 no_mark o r none e =
     let names = codes "op" ∷ codes "times" ∷ r.members in
     let front = (and_parts (has_only names o && may_have (codes "times") (is_within 1 20000) o) (r.form o) e).0 in
@@ -195,16 +195,16 @@ member_named : (o : Option Data) → is_some_and spells_name o ≡ true → is_n
 member_named None e = refl
 member_named (Some d) e = text_named (as_str d) e
 
-own_mark : (o : Data) (r : Operation) → (r.form o ≡ true → must_have (codes "mark") spells_name o ≡ true) → MarkKept o r
+own_mark : (o : Data) (r : Operation) → (r.form o ≡ true → must_have (codes "mark") spells_name o ≡ true) → ValidMark o r
 own_mark o r is e =
     let names = codes "op" ∷ codes "times" ∷ r.members in
     member_named (get (codes "mark") o) (is (and_parts (has_only names o && may_have (codes "times") (is_within 1 20000) o) (r.form o) e).1)
 
 -- of a row that was found
-found_kept : (o : Data) (test : Operation → Bool) (rows : List Operation) → EachOf (MarkKept o) rows → is_some_and (fits_row o) (find test rows) ≡ true →
+found_valid : (o : Data) (test : Operation → Bool) (rows : List Operation) → EachOf (ValidMark o) rows → is_some_and (fits_row o) (find test rows) ≡ true →
     is_none_or is_name (word_at (codes "mark") o) ≡ true
-found_kept o test [] h e = absurd (false≢true e)
-found_kept o test (r ∷ rows) h e = by (test r) (found_kept o test rows h.1) e
+found_valid o test [] h e = absurd (false≢true e)
+found_valid o test (r ∷ rows) h e = by (test r) (found_valid o test rows h.1) e
   where
     by : (b : Bool) → (is_some_and (fits_row o) (find test rows) ≡ true → is_none_or is_name (word_at (codes "mark") o) ≡ true) →
         is_some_and (fits_row o) (cond b (Some r) (find test rows)) ≡ true → is_none_or is_name (word_at (codes "mark") o) ≡ true
@@ -218,16 +218,16 @@ OwnsMark r = (list_any (bytes_eq (codes "mark")) (codes "op" ∷ codes "times" �
 rows_own : EachOf OwnsMark operations
 rows_own = (inl refl, (inl refl, (inl refl, (inl refl, (inl refl, (inl refl, (inl refl, (inr refl, (inr refl, (inl refl, (inl refl, (inl refl, (inl refl, (inl refl, (inl refl, tt)))))))))))))))
 
-row_kept : (o : Data) (r : Operation) → OwnsMark r → MarkKept o r
-row_kept o r (inl none) = no_mark o r none
-row_kept o r (inr is) = own_mark o r (λ e. ap (λ (form : Data → Bool). form o) (sym is) ∙ e)
+row_valid : (o : Data) (r : Operation) → OwnsMark r → ValidMark o r
+row_valid o r (inl none) = no_mark o r none
+row_valid o r (inr is) = own_mark o r (λ e. ap (λ (form : Data → Bool). form o) (sym is) ∙ e)
 
-mark_kept : (d o : Data) → KeptOp d o → is_none_or is_name (word_at (codes "mark") o) ≡ true
-mark_kept d o kept = found_kept o (λ r. has_text (codes "op") r.word o) operations (weaker OwnsMark (MarkKept o) operations (row_kept o) rows_own) kept.form
+mark_valid : (d o : Data) → ValidOperation d o → is_none_or is_name (word_at (codes "mark") o) ≡ true
+mark_valid d o kept = found_valid o (λ r. has_text (codes "op") r.word o) operations (weaker OwnsMark (ValidMark o) operations (row_valid o) rows_own) kept.form
 
-marks_named : (d : Data) (os : List Data) → EachOf (KeptOp d) os → list_all is_name (marks_of os) ≡ true
+marks_named : (d : Data) (os : List Data) → EachOf (ValidOperation d) os → list_all is_name (marks_of os) ≡ true
 marks_named d [] h = refl
-marks_named d (o ∷ os) h = by (word_at (codes "mark") o) (mark_kept d o h.0) (marks_named d os h.1)
+marks_named d (o ∷ os) h = by (word_at (codes "mark") o) (mark_valid d o h.0) (marks_named d os h.1)
   where
     by : (w : Option (List ℕ)) → is_none_or is_name w ≡ true → list_all is_name (marks_of os) ≡ true → list_all is_name (cons_option w (marks_of os)) ≡ true
     by None e rest = rest
@@ -237,14 +237,14 @@ all_joined : (q : List ℕ → Bool) (xs ys : List (List ℕ)) → list_all q xs
 all_joined q [] ys e h = h
 all_joined q (x ∷ xs) ys e h = let both = and_parts (q x) (list_all q xs) e in and_from (q x) (list_all q (xs ++ ys)) both.0 (all_joined q xs ys both.1 h)
 
-all_marks : (d : Data) (actors : List Data) → EachOf (KeptActor d) actors → list_all is_name (flat_map (λ a. marks_of (list_in (codes "script") a)) actors) ≡ true
+all_marks : (d : Data) (actors : List Data) → EachOf (ValidActor d) actors → list_all is_name (flat_map (λ a. marks_of (list_in (codes "script") a)) actors) ≡ true
 all_marks d [] h = refl
 all_marks d (a ∷ actors) h =
     all_joined is_name (marks_of (list_in (codes "script") a)) (flat_map (λ b. marks_of (list_in (codes "script") b)) actors)
     (marks_named d (list_in (codes "script") a) h.0.ops) (all_marks d actors h.1)
 
 -- names at their first places alone
-firsts_named : (found names : List (List ℕ)) → list_all is_name found ≡ true → list_all is_name names ≡ true → list_all is_name (first_places found names) ≡ true
+firsts_named : (found names : List (List ℕ)) → list_all is_name found ≡ true → list_all is_name names ≡ true → list_all is_name (first_occurrences found names) ≡ true
 firsts_named found [] e h = e
 firsts_named found (name ∷ names) e h =
     let both = and_parts (is_name name) (list_all is_name names) h in
@@ -252,20 +252,20 @@ firsts_named found (name ∷ names) e h =
   where
     by : (b : Bool) → is_name name ≡ true → list_all is_name (if b then found else found ++ name ∷ []) ≡ true
     by true k = e
-    by false k = all_behind is_name found name e k
+    by false k = all_after is_name found name e k
 
-firsts_distinct : (found names : List (List ℕ)) → are_distinct found ≡ true → are_distinct (first_places found names) ≡ true
+firsts_distinct : (found names : List (List ℕ)) → are_distinct found ≡ true → are_distinct (first_occurrences found names) ≡ true
 firsts_distinct found [] e = e
 firsts_distinct found (name ∷ names) e = firsts_distinct (if is_among_names found name then found else found ++ name ∷ []) names (by (is_among_names found name) refl)
   where
     by : (b : Bool) → is_among_names found name ≡ b → are_distinct (if b then found else found ++ name ∷ []) ≡ true
     by true k = e
-    by false k = distinct_behind found name e k
+    by false k = distinct_after found name e k
 
-marks_apart : (d : Data) → EachOf (KeptActor d) (list_in (codes "actors") d) → are_names (whole_marks d) ≡ true
+marks_apart : (d : Data) → EachOf (ValidActor d) (list_in (codes "actors") d) → are_names (whole_marks d) ≡ true
 marks_apart d h =
     let all = flat_map (λ a. marks_of (list_in (codes "script") a)) (list_in (codes "actors") d) in
-    and_from (list_all is_name (first_places [] all)) (are_distinct (first_places [] all))
+    and_from (list_all is_name (first_occurrences [] all)) (are_distinct (first_occurrences [] all))
     (firsts_named [] all refl (all_marks d (list_in (codes "actors") d) h)) (firsts_distinct [] all refl)
 
 -- ---- the machine
@@ -274,7 +274,7 @@ marks_apart d h =
 pub all_named : (d : Data) → first_broken d ≡ None → AreNamed (whole_machine d)
 all_named d h =
     let r = keeps_all rules d h in
-    let file = kept_file d h in
+    let file = valid_file d h in
     let devices = list_in (codes "devices") d in
     let notifiers = list_in (codes "notifiers") d in
     let actors = list_in (codes "actors") d in
@@ -286,7 +286,7 @@ all_named d h =
     record {
       devices =
           ap are_names (mapped (λ x. x.name) (whole_device (devices_named d)) devices)
-          ∙ named (devices_named d) (made_pass is_name name_of devices (weaker (KeptDevice d) (λ x. is_name (name_of x) ≡ true) devices (λ x k. device_spelled x k.names) file.devices))
+          ∙ named (devices_named d) (made_pass is_name name_of devices (weaker (ValidDevice d) (λ x. is_name (name_of x) ≡ true) devices (λ x k. device_spelled x k.names) file.devices))
           (none_of_map (item_place (codes "devices")) _ device);
       syscore =
           named (texts_in (codes "syscore") d)
@@ -298,14 +298,14 @@ all_named d h =
           (made_pass is_name name_of notifiers (weaker _ (λ x. is_name (name_of x) ≡ true) notifiers (λ x k. own_spelled x k.1) file.notifiers))
           (none_of_map (item_place (codes "notifiers")) _ each.1);
       sources =
-          named_behind (sources_named d) (codes "autosleep")
+          named_after (sources_named d) (codes "autosleep")
           (made_pass is_name text_of (list_in (codes "sources") d) (weaker (λ x. spells_name x ≡ true) (λ x. is_name (text_of x) ≡ true) (list_in (codes "sources") d) text_name file.sources))
           refl (none_of_map (item_place (codes "sources")) _ sources);
       marks = marks_apart d file.actors;
       scripts =
           ap are_names (mapped (λ x. x.name) (whole_script (known_of d)) actors)
           ∙ named (names_in (codes "actors") d)
-          (made_pass is_name name_of actors (weaker (KeptActor d) (λ x. is_name (name_of x) ≡ true) actors (λ x k. own_spelled x k.names) file.actors))
+          (made_pass is_name name_of actors (weaker (ValidActor d) (λ x. is_name (name_of x) ≡ true) actors (λ x k. own_spelled x k.names) file.actors))
           (none_of_map (item_place (codes "actors")) _ scripts);
     }
   where
@@ -329,5 +329,5 @@ pub machines_named : AllNamed
 machines_named m is = by_tree m (tree is.0) is.1
 
 -- so its logs are told apart by their texts
-pub logs_told : AllTold
-logs_told m is a b v w same = one_log m (machines_named m is) a b v w same
+pub texts_injective : TextsAreInjective
+texts_injective m is a b v w same = one_log m (machines_named m is) a b v w same

@@ -52,7 +52,7 @@ maybe_form least most (Some x) e = by (option_and_then as_u64 (as_number x)) e
     by None k = refl
     by (Some n) k = k
 
--- the value true where it holds
+-- the value true if it holds
 abbrev pub if_true : Bool → Option Data
 if_true b = cond b (Some (boolean true)) None
 

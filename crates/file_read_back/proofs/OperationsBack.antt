@@ -12,7 +12,7 @@ use Rattle.machine_file.specs.Members.{must_have, may_have, has_text, number_at,
 use Rattle.machine_file.specs.Form.{Named, is_string, is_truth, is_within, is_time, is_one_of, statuses, link_states}
 use Rattle.machine_file.specs.Names.{spells_name, is_among_names, devices_named, sources_named}
 use Rattle.sleep_model.specs.NameBytes.{is_name}
-use Rattle.machine_file.specs.Spelled.{place_among}
+use Rattle.machine_file.specs.Spelled.{index_among}
 use Rattle.machine_file.specs.Limits.{times_of}
 use Rattle.machine_file.specs.Operations.{Operation, operation, operations, row_of, fits_row, names_source, names_device_at, names_device, has_count, is_state_form, has_short_text, has_length, has_mark, is_runtime_form, has_ends_named, is_link_state_form, has_source, is_event_form, plain, users, tasks, everyone, Known, known_of, thing_at, ms_of, says, spelled_op, whole_op, whole_step, whole_marks}
 use Rattle.machine_file.specs.Whole.{whole_machine}
@@ -23,7 +23,7 @@ use Rattle.machine_file.proofs.Sheets.{are_rising}
 use Rattle.file_read_back.proofs.NamesBack.{device_back, source_back, mark_back}
 use Rattle.file_read_back.proofs.LinksBack.{spelled}
 use Rattle.file_read_back.proofs.Numbers.{number_of, unless_default, number_back, in_range_or, number_form, maybe_back, maybe_form, if_true, truth_back, truth_form}
-use Rattle.machine_file.proofs.ScriptsKept.{member_apart}
+use Rattle.machine_file.proofs.ScriptsValid.{member_apart}
 
 -- what each word of the table spells, by what stands at each name
 abbrev spelled_by : Known → (List ℕ → Option Data) → List (List ℕ × Op)
@@ -35,18 +35,18 @@ spelled_by known g =
     ∷ (codes "sleep", Sleep (unwrap_or (number_of (g (codes "ms"))) 0))
     ∷ (codes "sleep_d", SleepD (unwrap_or (number_of (g (codes "ms"))) 0))
     ∷ (codes "freeze_point", FreezePoint)
-    ∷ (codes "post", Post (place_among known.marks (unwrap_or (option_and_then as_str (g (codes "mark"))) [])))
-    ∷ (codes "wait", Wait (place_among known.marks (unwrap_or (option_and_then as_str (g (codes "mark"))) [])))
-    ∷ (codes "runtime", Runtime (place_among known.devices (unwrap_or (option_and_then as_str (g (codes "device"))) [])) (is_some_and (is_text (codes "suspended")) (g (codes "to"))))
-    ∷ (codes "link", Link (place_among known.devices (unwrap_or (option_and_then as_str (g (codes "supplier"))) [])) (place_among known.devices (unwrap_or (option_and_then as_str (g (codes "consumer"))) [])))
+    ∷ (codes "post", Post (index_among known.marks (unwrap_or (option_and_then as_str (g (codes "mark"))) [])))
+    ∷ (codes "wait", Wait (index_among known.marks (unwrap_or (option_and_then as_str (g (codes "mark"))) [])))
+    ∷ (codes "runtime", Runtime (index_among known.devices (unwrap_or (option_and_then as_str (g (codes "device"))) [])) (is_some_and (is_text (codes "suspended")) (g (codes "to"))))
+    ∷ (codes "link", Link (index_among known.devices (unwrap_or (option_and_then as_str (g (codes "supplier"))) [])) (index_among known.devices (unwrap_or (option_and_then as_str (g (codes "consumer"))) [])))
     ∷ (
       codes "link_state",
-      LinkState (place_among known.devices (unwrap_or (option_and_then as_str (g (codes "supplier"))) [])) (place_among known.devices (unwrap_or (option_and_then as_str (g (codes "consumer"))) []))
+      LinkState (index_among known.devices (unwrap_or (option_and_then as_str (g (codes "supplier"))) [])) (index_among known.devices (unwrap_or (option_and_then as_str (g (codes "consumer"))) []))
           (not (is_some_and (is_text (codes "dormant")) (g (codes "to")))),
     )
-    ∷ (codes "awake", Awake (place_among known.sources (unwrap_or (option_and_then as_str (g (codes "source"))) [])))
-    ∷ (codes "relax", Relax (place_among known.sources (unwrap_or (option_and_then as_str (g (codes "source"))) [])))
-    ∷ (codes "event", Event (place_among known.sources (unwrap_or (option_and_then as_str (g (codes "source"))) [])) (unwrap_or (number_of (g (codes "ms"))) 0) (unwrap_or (option_and_then as_bool (g (codes "hard"))) false))
+    ∷ (codes "awake", Awake (index_among known.sources (unwrap_or (option_and_then as_str (g (codes "source"))) [])))
+    ∷ (codes "relax", Relax (index_among known.sources (unwrap_or (option_and_then as_str (g (codes "source"))) [])))
+    ∷ (codes "event", Event (index_among known.sources (unwrap_or (option_and_then as_str (g (codes "source"))) [])) (unwrap_or (number_of (g (codes "ms"))) 0) (unwrap_or (option_and_then as_bool (g (codes "hard"))) false))
     ∷ []
 
 abbrev op_by : Known → (List ℕ → Option Data) → Op
@@ -72,7 +72,7 @@ pub record SameOp (d o : Data) (op : Op) : Type 0 where
   pub form : is_some_and (fits_row (object_of (rows_again d o op))) (row_of (object_of (rows_again d o op))) ≡ true
 
 -- what is known of an operation of a file that keeps the rules
-pub record KeptOp (d o : Data) : Type 0 where
+pub record ValidOperation (d o : Data) : Type 0 where
   pub form : is_some_and (fits_row o) (row_of o) ≡ true
   pub source : names_source (sources_named d) o ≡ true
   pub device : names_device (devices_named d) o ≡ true
@@ -198,7 +198,7 @@ module _ (d o : Data) where
               ∙ and_from _ _ (and_from _ _ (named names (rows_again d o op) rising own) (ap (is_none_or (is_within 1 20000)) (at (codes "times") ∙ times) ∙ number_form 1 20000 1 (times_of o) often)) form;
         }
 
-  module _ (kept : KeptOp d o) where
+  module _ (kept : ValidOperation d o) where
     abbrev of_row : List (List ℕ) → List ℕ → (Data → Bool) → List (List ℕ) → Operation
     of_row makers word form members = operation word members form makers
 
@@ -280,7 +280,7 @@ module _ (d o : Data) where
         let form : has_mark o ≡ true = formed r is fits in
         made r is fits op refl refl refl refl refl (none_at r is fits (codes "source") refl) (none_at r is fits (codes "device") refl)
         (ap Some (mark_same form) ∙ sym (some_string (get (codes "mark") o) (name_string (get (codes "mark") o) form))) (endless r is fits refl refl)
-        (ap (λ s. Post (place_among (whole_marks d) s)) (mark_same form))
+        (ap (λ s. Post (index_among (whole_marks d) s)) (mark_same form))
         (ap (is_some_and spells_name) (at_name (rows_again d o op) refl (codes "mark")) ∙ spelled_as (mark_same form) (spelled (get (codes "mark") o) form))
 
     wait_again : has_text (codes "op") (codes "wait") o ≡ true → fits_row o (of_row everyone (codes "wait") has_mark (codes "mark" ∷ [])) ≡ true →
@@ -291,7 +291,7 @@ module _ (d o : Data) where
         let form : has_mark o ≡ true = formed r is fits in
         made r is fits op refl refl refl refl refl (none_at r is fits (codes "source") refl) (none_at r is fits (codes "device") refl)
         (ap Some (mark_same form) ∙ sym (some_string (get (codes "mark") o) (name_string (get (codes "mark") o) form))) (endless r is fits refl refl)
-        (ap (λ s. Wait (place_among (whole_marks d) s)) (mark_same form))
+        (ap (λ s. Wait (index_among (whole_marks d) s)) (mark_same form))
         (ap (is_some_and spells_name) (at_name (rows_again d o op) refl (codes "mark")) ∙ spelled_as (mark_same form) (spelled (get (codes "mark") o) form))
 
     runtime_again : has_text (codes "op") (codes "runtime") o ≡ true → fits_row o (of_row tasks (codes "runtime") is_runtime_form (codes "device" ∷ codes "to" ∷ [])) ≡ true →
@@ -302,7 +302,7 @@ module _ (d o : Data) where
         let form = and_parts (must_have (codes "device") is_string o) (must_have (codes "to") (is_one_of statuses) o) (formed r is fits) in
         made r is fits op refl refl refl refl refl (none_at r is fits (codes "source") refl)
         (ap Some (device_same (codes "device") named_devices.0 form.0) ∙ sym (some_string (get (codes "device") o) form.0)) (none_at r is fits (codes "mark") refl) (endless r is fits refl refl)
-        (ap₂ (λ s b. Runtime (place_among (devices_named d) s) b) (device_same (codes "device") named_devices.0 form.0) (status_back (has_text (codes "to") (codes "suspended") o)))
+        (ap₂ (λ s b. Runtime (index_among (devices_named d) s) b) (device_same (codes "device") named_devices.0 form.0) (status_back (has_text (codes "to") (codes "suspended") o)))
         (and_from _ _ (ap (is_some_and is_string) (at_name (rows_again d o op) refl (codes "device")))
         (ap (is_some_and (is_one_of statuses)) (at_name (rows_again d o op) refl (codes "to")) ∙ status_form (has_text (codes "to") (codes "suspended") o)))
 
@@ -331,7 +331,7 @@ module _ (d o : Data) where
         let form : has_ends_named o ≡ true = formed r is fits in
         made r is fits op refl refl refl refl refl (none_at r is fits (codes "source") refl) (none_at r is fits (codes "device") refl) (none_at r is fits (codes "mark") refl)
         (supplier_word form, consumer_word form)
-        (ap₂ (λ s c. Link (place_among (devices_named d) s) (place_among (devices_named d) c)) (supplier_same form) (consumer_same form))
+        (ap₂ (λ s c. Link (index_among (devices_named d) s) (index_among (devices_named d) c)) (supplier_same form) (consumer_same form))
         (and_from _ _ (ap (is_some_and is_string) (at_name (rows_again d o op) refl (codes "supplier"))) (ap (is_some_and is_string) (at_name (rows_again d o op) refl (codes "consumer"))))
 
     link_state_again : has_text (codes "op") (codes "link_state") o ≡ true → fits_row o (of_row tasks (codes "link_state") is_link_state_form (codes "supplier" ∷ codes "consumer" ∷ codes "to" ∷ [])) ≡ true →
@@ -343,7 +343,7 @@ module _ (d o : Data) where
         let form = (and_parts (has_ends_named o) (must_have (codes "to") (is_one_of link_states) o) (formed r is fits)).0 in
         made r is fits op refl refl refl refl refl (none_at r is fits (codes "source") refl) (none_at r is fits (codes "device") refl) (none_at r is fits (codes "mark") refl)
         (supplier_word form, consumer_word form)
-        (λ i. LinkState (place_among (devices_named d) (supplier_same form i)) (place_among (devices_named d) (consumer_same form i)) (active_back active i))
+        (λ i. LinkState (index_among (devices_named d) (supplier_same form i)) (index_among (devices_named d) (consumer_same form i)) (active_back active i))
         (and_from _ _ (and_from _ _ (ap (is_some_and is_string) (at_name (rows_again d o op) refl (codes "supplier"))) (ap (is_some_and is_string) (at_name (rows_again d o op) refl (codes "consumer"))))
         (ap (is_some_and (is_one_of link_states)) (at_name (rows_again d o op) refl (codes "to")) ∙ active_form active))
 
@@ -355,7 +355,7 @@ module _ (d o : Data) where
         let form : has_source o ≡ true = formed r is fits in
         made r is fits op refl refl refl refl refl (ap Some (source_same form) ∙ sym (some_string (get (codes "source") o) form))
         (none_at r is fits (codes "device") refl) (none_at r is fits (codes "mark") refl) (endless r is fits refl refl)
-        (ap (λ s. Awake (place_among (sources_named d) s)) (source_same form))
+        (ap (λ s. Awake (index_among (sources_named d) s)) (source_same form))
         (ap (is_some_and is_string) (at_name (rows_again d o op) refl (codes "source")))
 
     relax_again : has_text (codes "op") (codes "relax") o ≡ true → fits_row o (of_row everyone (codes "relax") has_source (codes "source" ∷ [])) ≡ true →
@@ -366,7 +366,7 @@ module _ (d o : Data) where
         let form : has_source o ≡ true = formed r is fits in
         made r is fits op refl refl refl refl refl (ap Some (source_same form) ∙ sym (some_string (get (codes "source") o) form))
         (none_at r is fits (codes "device") refl) (none_at r is fits (codes "mark") refl) (endless r is fits refl refl)
-        (ap (λ s. Relax (place_among (sources_named d) s)) (source_same form))
+        (ap (λ s. Relax (index_among (sources_named d) s)) (source_same form))
         (ap (is_some_and is_string) (at_name (rows_again d o op) refl (codes "source")))
 
     event_again : has_text (codes "op") (codes "event") o ≡ true → fits_row o (of_row everyone (codes "event") is_event_form (codes "source" ∷ codes "ms" ∷ codes "hard" ∷ [])) ≡ true →
@@ -378,7 +378,7 @@ module _ (d o : Data) where
         let form = and_parts (has_source o) (may_have (codes "ms") (is_time 0) o) both.0 in
         made r is fits op refl refl refl refl refl (ap Some (source_same form.0) ∙ sym (some_string (get (codes "source") o) form.0))
         (none_at r is fits (codes "device") refl) (none_at r is fits (codes "mark") refl) (endless r is fits refl refl)
-        (ap (λ s. Event (place_among (sources_named d) s) (unwrap_or (number_of (unless_default 0 (ms_of o))) 0) (unwrap_or (option_and_then as_bool (if_true (says (codes "hard") o))) false)) (source_same form.0)
+        (ap (λ s. Event (index_among (sources_named d) s) (unwrap_or (number_of (unless_default 0 (ms_of o))) 0) (unwrap_or (option_and_then as_bool (if_true (says (codes "hard") o))) false)) (source_same form.0)
         ∙ ap₂ (λ n b. Event (thing_at (codes "source") (sources_named d) o) n b) (number_back 0 (ms_of o)) (truth_back (says (codes "hard") o)))
         (and_from _ _ (and_from _ _ (ap (is_some_and is_string) (at_name (rows_again d o op) refl (codes "source")))
         (ap (is_none_or (is_time 0)) (at_name (rows_again d o op) refl (codes "ms")) ∙ number_form 0 86400000 0 (ms_of o) (in_range_or 0 86400000 0 (get (codes "ms") o) form.1 refl)))
@@ -412,7 +412,7 @@ along o P (r ∷ rows) (q ∷ ops) a e = by (has_text (codes "op") r.word o) (ha
 abbrev pub op_again : Data → Data → Data
 op_again d o = step_value (whole_machine d) (whole_step (known_of d) o)
 
-pub same_op : (d o : Data) → KeptOp d o → SameOp d o (whole_op (known_of d) o)
+pub same_op : (d o : Data) → ValidOperation d o → SameOp d o (whole_op (known_of d) o)
 same_op d o kept =
     along o (SameOp d o) operations (spelled_op (known_of d) o) (
       refl,

@@ -25,7 +25,7 @@ use Rattle.sleep_model.specs.Runtime.{has_bit, is_async, may_wake}
 use Rattle.sleep_model.specs.Text.{device, source, kind_word, runtime_word, link_word}
 use Rattle.machine_file.specs.Look.{is_some_and, is_none_or, text_of}
 use Rattle.machine_file.specs.Members.{list_in, has_text, number_at}
-use Rattle.machine_file.specs.Form.{Named, is_within, is_ret_form, is_notifier_form, is_near}
+use Rattle.machine_file.specs.Form.{Named, is_within, is_ret_form, is_notifier_form, is_bounded}
 use Rattle.machine_file.specs.Names.{own_name, devices_named, sources_named}
 use Rattle.machine_file.specs.Spelled.{link_of}
 use Rattle.machine_file.specs.Devices.{whole_device}
@@ -38,8 +38,8 @@ use Rattle.file_read_back.proofs.Numbers.{number_of, unless_default, if_true}
 use Rattle.file_read_back.proofs.Alike.{EachOf}
 use Rattle.machine_file.proofs.Accepted.{accepted}
 use Rattle.file_read_back.proofs.LinksBack.{priority_form}
-use Rattle.file_read_back.proofs.AnswersBack.{KeptAnswer, thing_named, with_phase, with_attempt, ret_by, ret_written, ret_back, RetBack}
-use Rattle.file_read_back.proofs.FileKept.{kept_file}
+use Rattle.file_read_back.proofs.AnswersBack.{ValidAnswer, thing_named, with_phase, with_attempt, ret_by, ret_written, ret_back, RetBack}
+use Rattle.file_read_back.proofs.FileValid.{valid_file}
 use Rattle.file_read_back.proofs.TextsIn.{HasTexts, MayHaveTexts, at_texts, of_text, text_utf8, list_texts, device_utf8, source_utf8, mark_utf8}
 use Rattle.file_read_back.proofs.WrittenRead.{IsPlain, ArePlain, AreMembers, stands_first}
 
@@ -222,7 +222,7 @@ module _ (d : Data) (texts : HasTexts d) where
 
   notifier_plain : (o : Data) → HasTexts o → is_notifier_form o ≡ true → IsPlain 3 (notifier_value (whole_notifier o))
   notifier_plain o h form =
-      let near = (and_parts _ (is_none_or (is_near 1000) (get (codes "priority") o)) form).1 in
+      let near = (and_parts _ (is_none_or (is_bounded 1000) (get (codes "priority") o)) form).1 in
       object_plain 2 (notifier_rows (whole_notifier o)) refl refl (text_utf8 (codes "name") o h, (integer_plain (priority_of o) (priority_form (get (codes "priority") o) near), tt))
 
   -- ---- answers
@@ -293,7 +293,7 @@ module _ (d : Data) (texts : HasTexts d) where
   reports_plain (r ∷ rs) a =
       (report_plain (source m (whole_report (sources_named d) r).source) (whole_report (sources_named d) r).call (source_utf8 d texts _) a.1, reports_plain rs a.2)
 
-  answers_plain : (os : List Data) → EachOf HasTexts os → EachOf (KeptAnswer d) os → AreAnswers m (map (whole_answer d) os) → EachOf (IsPlain 3) (map (answer_value m) (map (whole_answer d) os))
+  answers_plain : (os : List Data) → EachOf HasTexts os → EachOf (ValidAnswer d) os → AreAnswers m (map (whole_answer d) os) → EachOf (IsPlain 3) (map (answer_value m) (map (whole_answer d) os))
   answers_plain [] h k a = tt
   answers_plain (o ∷ os) h k a =
       let r = get (codes "ret") o in
@@ -334,7 +334,7 @@ module _ (d : Data) (texts : HasTexts d) where
 
   pub machine_plain : first_broken d ≡ None → IsPlain 5 (machine_value m)
   machine_plain unbroken =
-      let kept = kept_file d unbroken in
+      let kept = valid_file d unbroken in
       let fits : IsAccepted m = accepted d unbroken in
       object_plain 4 (machine_rows m) refl refl (
         list_plain 3 _ (scripts_plain (list_in (codes "actors") d) (list_texts (codes "actors") d texts) fits.scripts),

@@ -9,7 +9,7 @@ use Rattle.file_read_back.specs.Laws.{AllGenerated}
 use Rattle.file_read_back.proofs.DrawnValue.{drawn_value, spells_drawn}
 use Rattle.file_read_back.proofs.DrawnRules.{drawn_unbroken}
 use Rattle.file_read_back.proofs.DrawnTexts.{drawn_texts}
-use Rattle.file_read_back.proofs.FileKept.{kept_file}
+use Rattle.file_read_back.proofs.FileValid.{valid_file}
 use Rattle.file_read_back.proofs.MachineBack.{machine_same}
 use Rattle.file_read_back.proofs.RulesBack.{unbroken_again}
 use Rattle.file_read_back.proofs.WrittenRead.{file_read}
@@ -28,7 +28,7 @@ some_is k l same = ap (pick k) same
 value_back : (d : Data) → HasTexts d → first_broken d ≡ None → ReadsBack (whole_machine d)
 value_back d texts unbroken =
     ap (option_and_then (λ v. unless_broken (first_broken v) (whole_machine v))) (file_read 5 (machine_value (whole_machine d)) (omega arith) (machine_plain d texts unbroken))
-    ∙ ap₂ unless_broken (unbroken_again d unbroken) (machine_same d (kept_file d unbroken))
+    ∙ ap₂ unless_broken (unbroken_again d unbroken) (machine_same d (valid_file d unbroken))
 
 found_back : (d : Data) (m : Machine) → HasTexts d → (o : Option Broken) → first_broken d ≡ o → unless_broken o (whole_machine d) ≡ Some m → ReadsBack m
 found_back d m texts None e is = subst ReadsBack (some_is (whole_machine d) m is) (value_back d texts e)

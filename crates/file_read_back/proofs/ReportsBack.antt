@@ -11,7 +11,7 @@ use Rattle.machine_file.specs.Look.{is_some_and, is_none_or, is_text, has_only, 
 use Rattle.machine_file.specs.Members.{must_have, may_have, has_text, word_at, report_members}
 use Rattle.machine_file.specs.Form.{Named, is_string, is_truth, is_time, is_one_of, is_plain_report, is_event_report, is_report_form}
 use Rattle.machine_file.specs.Names.{sources_named}
-use Rattle.machine_file.specs.Spelled.{place_among}
+use Rattle.machine_file.specs.Spelled.{index_among}
 use Rattle.machine_file.specs.Operations.{names_source, ms_of, says}
 use Rattle.machine_file.specs.Answering.{call_of, whole_report}
 use Rattle.machine_file.specs.Whole.{whole_machine}
@@ -70,7 +70,7 @@ and_false false b e = refl
 
 module _ (d r : Data) (form : is_report_form r ≡ true) (names : names_source (sources_named d) r ≡ true) where
   abbrev written : SourceCall → Data
-  written c = object_of (report_rows (source (whole_machine d) (place_among (sources_named d) (text_at (codes "source") r))) c)
+  written c = object_of (report_rows (source (whole_machine d) (index_among (sources_named d) (text_at (codes "source") r))) c)
 
   abbrev Same : SourceCall → Type 0
   Same c = (word_at (codes "source") (written c) ≡ word_at (codes "source") r) × (call_of (written c) ≡ c) × (is_report_form (written c) ≡ true)
@@ -78,14 +78,14 @@ module _ (d r : Data) (form : is_report_form r ≡ true) (names : names_source (
   parts : (must_have (codes "source") is_string r ≡ true) × ((is_plain_report r || is_event_report r) ≡ true)
   parts = and_parts (must_have (codes "source") is_string r) (is_plain_report r || is_event_report r) form
 
-  source_same : source (whole_machine d) (place_among (sources_named d) (text_at (codes "source") r)) ≡ text_at (codes "source") r
+  source_same : source (whole_machine d) (index_among (sources_named d) (text_at (codes "source") r)) ≡ text_at (codes "source") r
   source_same = source_back d (text_at (codes "source") r) (among_word (sources_named d) (get (codes "source") r) parts.0 names)
 
-  word_same : Some (source (whole_machine d) (place_among (sources_named d) (text_at (codes "source") r))) ≡ word_at (codes "source") r
+  word_same : Some (source (whole_machine d) (index_among (sources_named d) (text_at (codes "source") r))) ≡ word_at (codes "source") r
   word_same = ap Some source_same ∙ sym (some_string (get (codes "source") r) parts.0)
 
   abbrev rows : SourceCall → List (Named (Option Data))
-  rows c = report_rows (source (whole_machine d) (place_among (sources_named d) (text_at (codes "source") r))) c
+  rows c = report_rows (source (whole_machine d) (index_among (sources_named d) (text_at (codes "source") r))) c
 
   awake_again : Same call.Awake
   awake_again = (

@@ -23,7 +23,7 @@ use Rattle.file_read_back.proofs.Rows.{at_name, named, list_found}
 use Rattle.file_read_back.proofs.LinksBack.{spelled}
 use Rattle.file_read_back.proofs.Numbers.{number_of, number_back, in_range_or, number_form}
 use Rattle.file_read_back.proofs.Alike.{EachOf, mapped, none_fails, sum_alike}
-use Rattle.file_read_back.proofs.OperationsBack.{KeptOp, op_again, same_op}
+use Rattle.file_read_back.proofs.OperationsBack.{ValidOperation, op_again, same_op}
 
 -- ---- the kind
 
@@ -111,15 +111,15 @@ same_actor d a form spells =
 -- ---- the operations of actors
 
 -- what is known of an actor of a file that keeps the rules
-pub record KeptActor (d a : Data) : Type 0 where
+pub record ValidActor (d a : Data) : Type 0 where
   pub form : is_actor_form a ≡ true
   pub names : own_name a ≡ true
-  pub ops : EachOf (KeptOp d) (list_in (codes "script") a)
+  pub ops : EachOf (ValidOperation d) (list_in (codes "script") a)
 
-pub same_row : (d o : Data) → KeptOp d o → row_of (op_again d o) ≡ row_of o
+pub same_row : (d o : Data) → ValidOperation d o → row_of (op_again d o) ≡ row_of o
 same_row d o kept = ap (λ test. find test operations) (λ i (r : Operation). (same_op d o kept).word r.word i)
 
-pub same_allowed : (d a o : Data) → KeptActor d a → KeptOp d o → is_allowed (actor_again d a) (op_again d o) ≡ is_allowed a o
+pub same_allowed : (d a o : Data) → ValidActor d a → ValidOperation d o → is_allowed (actor_again d a) (op_again d o) ≡ is_allowed a o
 same_allowed d a o actor kept =
     ap₂ (λ kind row. is_some_and (λ (r : Operation). is_among_names r.makers kind) row) ((same_actor d a actor.form actor.names).kind_word) (same_row d o kept)
 
@@ -135,12 +135,12 @@ none_fails_of test n (a ∷ actors) h =
 option_marks : (v w : Option (List ℕ)) (xs ys : List (List ℕ)) → v ≡ w → xs ≡ ys → cons_option v xs ≡ cons_option w ys
 option_marks v w xs ys e f = ap₂ cons_option e f
 
-pub same_marks : (d : Data) (os : List Data) → EachOf (KeptOp d) os → marks_of (map (op_again d) os) ≡ marks_of os
+pub same_marks : (d : Data) (os : List Data) → EachOf (ValidOperation d) os → marks_of (map (op_again d) os) ≡ marks_of os
 same_marks d [] h = refl
 same_marks d (o ∷ os) h =
     option_marks (word_at (codes "mark") (op_again d o)) (word_at (codes "mark") o) (marks_of (map (op_again d) os)) (marks_of os) (same_op d o h.0).mark (same_marks d os h.1)
 
-pub all_marks : (d : Data) (actors : List Data) → EachOf (KeptActor d) actors →
+pub all_marks : (d : Data) (actors : List Data) → EachOf (ValidActor d) actors →
     flat_map (λ a. marks_of (list_in (codes "script") a)) (map (actor_again d) actors) ≡ flat_map (λ a. marks_of (list_in (codes "script") a)) actors
 all_marks d [] h = refl
 all_marks d (a ∷ actors) h =
@@ -148,12 +148,12 @@ all_marks d (a ∷ actors) h =
 
 -- ---- how often
 
-each_times : (d : Data) (test : Data → Bool) → ((o : Data) → KeptOp d o → test (op_again d o) ≡ test o) → (os : List Data) → EachOf (KeptOp d) os →
+each_times : (d : Data) (test : Data → Bool) → ((o : Data) → ValidOperation d o → test (op_again d o) ≡ test o) → (os : List Data) → EachOf (ValidOperation d) os →
     EachOf (λ o. times_if test (op_again d o) ≡ times_if test o) os
 each_times d test same [] h = tt
 each_times d test same (o ∷ os) h = (ap₂ (λ b n. cond b n 0) (same o h.0) (same_op d o h.0).times, each_times d test same os h.1)
 
-pub same_steps : (d a : Data) (test : Data → Bool) → ((o : Data) → KeptOp d o → test (op_again d o) ≡ test o) → KeptActor d a → script_steps test (actor_again d a) ≡ script_steps test a
+pub same_steps : (d a : Data) (test : Data → Bool) → ((o : Data) → ValidOperation d o → test (op_again d o) ≡ test o) → ValidActor d a → script_steps test (actor_again d a) ≡ script_steps test a
 same_steps d a test same kept =
     let actor = same_actor d a kept.form kept.names in
     ap₂ (λ n s. n * s) actor.repeat

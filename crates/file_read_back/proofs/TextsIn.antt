@@ -13,7 +13,7 @@ use Rattle.machine_file.specs.Look.{text_at, text_of}
 use Rattle.machine_file.specs.Members.{items_of, list_in, word_at}
 use Rattle.machine_file.specs.Names.{is_among_names, devices_named, sources_named}
 use Rattle.machine_file.specs.Rules.{name_of}
-use Rattle.machine_file.specs.Operations.{marks_of, first_places, whole_marks}
+use Rattle.machine_file.specs.Operations.{marks_of, first_occurrences, whole_marks}
 use Rattle.machine_file.specs.Whole.{whole_machine}
 use Rattle.file_read_back.proofs.Alike.{EachOf}
 use Rattle.file_read_back.proofs.NamesBack.{device_at}
@@ -143,7 +143,7 @@ more_utf8 : (b : Bool) (found : List (List ℕ)) (name : List ℕ) → EachOf Is
 more_utf8 true found name h k = h
 more_utf8 false found name h k = each_append IsUtf8 found (name ∷ []) h (k, tt)
 
-places_utf8 : (found names : List (List ℕ)) → EachOf IsUtf8 found → EachOf IsUtf8 names → EachOf IsUtf8 (first_places found names)
+places_utf8 : (found names : List (List ℕ)) → EachOf IsUtf8 found → EachOf IsUtf8 names → EachOf IsUtf8 (first_occurrences found names)
 places_utf8 found [] h k = h
 places_utf8 found (name ∷ names) h k =
     places_utf8 (if is_among_names found name then found else found ++ name ∷ []) names (more_utf8 (is_among_names found name) found name h k.0) k.1

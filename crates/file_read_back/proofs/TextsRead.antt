@@ -187,14 +187,14 @@ abbrev OnRead : {A : Type 0} → (A → Type 0) → Option (A × List Token) →
 OnRead P None = ⊤
 OnRead P (Some p) = P p.0 × GoodTokens p.1
 
-abbrev Reads : {A : Type 0} → (A → Type 0) → Parse A → Type 0
-Reads P p = (ts : List Token) → GoodTokens ts → OnRead P (p ts)
+abbrev ReadsText : {A : Type 0} → (A → Type 0) → Parse A → Type 0
+ReadsText P p = (ts : List Token) → GoodTokens ts → OnRead P (p ts)
 
 mapped : {A B : Type 0} (P : A → Type 0) (Q : B → Type 0) (h : A → B) → ((a : A) → P a → Q (h a)) → (o : Option (A × List Token)) → OnRead P o → OnRead Q (parse_map h o)
 mapped P Q h k None x = tt
 mapped P Q h k (Some p) x = (k p.0 x.0, x.1)
 
-and_more : {B : Type 0} (Q : B → Type 0) (h : json.Json → B → B) → ((j : json.Json) (b : B) → JsonTexts j → Q b → Q (h j b)) → (more : Parse B) → Reads Q more →
+and_more : {B : Type 0} (Q : B → Type 0) (h : json.Json → B → B) → ((j : json.Json) (b : B) → JsonTexts j → Q b → Q (h j b)) → (more : Parse B) → ReadsText Q more →
     (o : Option (json.Json × List Token)) → OnRead JsonTexts o → OnRead Q (option_and_then (λ q. parse_map (h q.0) (more q.1)) o)
 and_more Q h is more reads None x = tt
 and_more Q h is more reads (Some q) x = mapped Q Q (h q.0) (λ b y. is q.0 b x.0 y) (more q.1) (reads q.1 x.1)
@@ -229,27 +229,27 @@ key_good (boolean b ∷ ts) h = tt
 key_good (null ∷ ts) h = tt
 key_good (bad ∷ ts) h = tt
 
-module _ (p : Parse json.Json) (reads : Reads JsonTexts p) where
-  item_turn : (more : Parse json.Items) → Reads ItemTexts more → (ts : List Token) → GoodTokens ts → (o : Option (List Token)) → OnTokens o → OnRead ItemTexts (items_step p more ts o)
+module _ (p : Parse json.Json) (reads : ReadsText JsonTexts p) where
+  item_turn : (more : Parse json.Items) → ReadsText ItemTexts more → (ts : List Token) → GoodTokens ts → (o : Option (List Token)) → OnTokens o → OnRead ItemTexts (items_step p more ts o)
   item_turn more again ts h (Some r) k = (tt, k)
   item_turn more again ts h None k = and_more ItemTexts json.item (λ j b x y. (x, y)) more again (p ts) (reads ts h)
 
-  items_good : (n : ℕ) → Reads ItemTexts (items p n)
+  items_good : (n : ℕ) → ReadsText ItemTexts (items p n)
   unfolding items
   items_good zero ts h = tt
   items_good (suc n) ts h = item_turn (items p n) (items_good n) ts h (after_end_array ts) (end_good ts h)
 
-  member_turn : (more : Parse json.Members) → Reads MemberTexts more → (o : Option (Option (List ℕ) × List Token)) → OnRead (λ k. ⊤) o → OnRead MemberTexts (option_and_then (λ q. members_step p more q.0 q.1) o)
+  member_turn : (more : Parse json.Members) → ReadsText MemberTexts more → (o : Option (Option (List ℕ) × List Token)) → OnRead (λ k. ⊤) o → OnRead MemberTexts (option_and_then (λ q. members_step p more q.0 q.1) o)
   member_turn more again None k = tt
   member_turn more again (Some (None, s)) k = (tt, k.1)
   member_turn more again (Some (Some name, s)) k = and_more MemberTexts (json.member name) (λ j b x y. (x, y)) more again (p s) (reads s k.1)
 
-  members_good : (n : ℕ) → Reads MemberTexts (members p n)
+  members_good : (n : ℕ) → ReadsText MemberTexts (members p n)
   unfolding members
   members_good zero ts h = tt
   members_good (suc n) ts h = member_turn (members p n) (members_good n) (read_key ts) (key_good ts h)
 
-one_level : (a : Parse json.Items) (o : Parse json.Members) → Reads ItemTexts a → Reads MemberTexts o → Reads JsonTexts (value_with a o)
+one_level : (a : Parse json.Items) (o : Parse json.Members) → ReadsText ItemTexts a → ReadsText MemberTexts o → ReadsText JsonTexts (value_with a o)
 one_level a o p q [] h = tt
 one_level a o p q (begin_object ∷ ts) h = mapped MemberTexts JsonTexts json.object (λ ms x. x) (o ts) (q ts h.1)
 one_level a o p q (end_object ∷ ts) h = tt
@@ -262,7 +262,7 @@ one_level a o p q (boolean b ∷ ts) h = (tt, h.1)
 one_level a o p q (null ∷ ts) h = (tt, h.1)
 one_level a o p q (bad ∷ ts) h = tt
 
-value_good : (d : ℕ) → Reads JsonTexts (value d)
+value_good : (d : ℕ) → ReadsText JsonTexts (value d)
 unfolding value
 value_good zero = one_level (λ ts. None) (λ ts. None) (λ ts h. tt) (λ ts h. tt)
 value_good (suc d) =

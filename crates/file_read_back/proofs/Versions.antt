@@ -15,18 +15,18 @@ use Rattle.machine_file.specs.Places.{unless, first_not, first_not_after, first_
 use Rattle.machine_file.specs.Form.{Named, member_forms, item_forms, is_string, is_one_of, link_states, is_device_form, is_link_form, is_notifier_form, is_actor_form, is_answer_form, unformed_member, unformed_item}
 use Rattle.machine_file.specs.Names.{is_among_names, names_of_device, names_of_link, spells_name, own_name, devices_named, repeated, misspelled_item}
 use Rattle.machine_file.specs.Rules.{is_second, has_version, name_of}
-use Rattle.machine_file.specs.Spelled.{place_among, link_of}
+use Rattle.machine_file.specs.Spelled.{index_among, link_of}
 use Rattle.machine_file.specs.Devices.{whole_device, whole_devices, has_parent_before, has_ends, is_new_link, cyclic_link}
-use Rattle.machine_file.specs.Operations.{is_formed, is_allowed, names_source, names_device, unformed_operation, marks_of, first_places, whole_marks, known_of, whole_script}
+use Rattle.machine_file.specs.Operations.{is_formed, is_allowed, names_source, names_device, unformed_operation, marks_of, first_occurrences, whole_marks, known_of, whole_script}
 use Rattle.machine_file.specs.Answering.{platform_steps, is_of_device, has_its_phase, phase_of, step_of, ret_of, is_ret_allowed, may_report, is_same_answer, whole_report, whole_answers, thingless_answer}
 use Rattle.machine_file.specs.Limits.{most_items, too_many, script_steps, is_state_step, is_link_step, has_autosleep, too_much}
 use Rattle.machine_file.specs.Whole.{rules, first_broken, whole_machine, whole_notifier}
 use Rattle.machine_file.proofs.Accepted.{AllPass, all_pass, keeps_all, KeepsAll}
-use Rattle.machine_file.proofs.ScriptsKept.{EachList, each_list, each_item, each_operation, table_row}
+use Rattle.machine_file.proofs.ScriptsValid.{EachList, each_list, each_item, each_operation, table_row}
 use Rattle.file_read_back.specs.Laws.{IsSecondOf, AllVersionsAlike}
 use Rattle.file_read_back.proofs.Alike.{each_passes}
 use Rattle.file_read_back.proofs.Numbers.{number_of}
-use Rattle.file_read_back.proofs.RulesBack.{none_broken, rows_pass, kept_unless, items_pass}
+use Rattle.file_read_back.proofs.RulesBack.{none_broken, rows_pass, valid_unless, items_pass}
 use Rattle.file_read_back.proofs.ScriptsBack.{none_fails_of}
 
 -- ---- what passes in version 1 passes in version 2
@@ -98,7 +98,7 @@ module _ (d e : Data) (of : IsSecondOf d e) where
   names = ap (map name_of) devices
 
   marks : whole_marks e ≡ whole_marks d
-  marks = ap (λ os. first_places [] (flat_map (λ a. marks_of (list_in (codes "script") a)) os)) actors
+  marks = ap (λ os. first_occurrences [] (flat_map (λ a. marks_of (list_in (codes "script") a)) os)) actors
 
   known : known_of e ≡ known_of d
   known = λ i. record { devices = map name_of (devices i); sources = map text_of (sources i); marks = marks i }
@@ -112,7 +112,7 @@ module _ (d e : Data) (of : IsSecondOf d e) where
 
   abbrev thing_by : List (List ℕ) → List (List ℕ) → List (List ℕ) → Data → What
   thing_by v s n a =
-      let place = place_among (kind_by v s n a) (name_of a) in
+      let place = index_among (kind_by v s n a) (name_of a) in
       cond (is_of_device a) (what.Device place (phase_of a)) (cond (has_text (codes "what") (codes "syscore") a) (what.Syscore place)
       (cond (has_text (codes "what") (codes "notifier") a) (what.Notifier place) (what.Platform (step_of a))))
 
@@ -156,16 +156,16 @@ module _ (d e : Data) (of : IsSecondOf d e) where
     not_false true h = absurd (false≢true h)
     not_false false h = refl
 
-    rows_kept : (rows : List (Named (Data → Bool))) → list_all (λ r. not (bytes_eq r.name (codes "version"))) rows ≡ true → AllPass (λ (r : Named (Data → Bool)). may_have r.name r.is d) rows
+    rows_valid : (rows : List (Named (Data → Bool))) → list_all (λ r. not (bytes_eq r.name (codes "version"))) rows ≡ true → AllPass (λ (r : Named (Data → Bool)). may_have r.name r.is d) rows
         → AllPass (λ (r : Named (Data → Bool)). may_have r.name r.is e) rows
-    rows_kept [] h k = tt
-    rows_kept (r ∷ rows) h k =
+    rows_valid [] h k = tt
+    rows_valid (r ∷ rows) h k =
         let both = and_parts (not (bytes_eq r.name (codes "version"))) (list_all (λ x. not (bytes_eq x.name (codes "version"))) rows) h in
-        (ap (is_none_or r.is) (of.others r.name (not_false (bytes_eq r.name (codes "version")) both.0)) ∙ k.0, rows_kept rows both.1 k.1)
+        (ap (is_none_or r.is) (of.others r.name (not_false (bytes_eq r.name (codes "version")) both.0)) ∙ k.0, rows_valid rows both.1 k.1)
 
-    members_kept : unformed_member e ≡ None
-    members_kept =
-        rows_pass (λ (r : Named (Data → Bool)). may_have r.name r.is e) member_forms (rows_kept member_forms refl (all_pass (λ (r : Named (Data → Bool)). may_have r.name r.is d) member_forms own.1.1.0))
+    members_valid : unformed_member e ≡ None
+    members_valid =
+        rows_pass (λ (r : Named (Data → Bool)). may_have r.name r.is e) member_forms (rows_valid member_forms refl (all_pass (λ (r : Named (Data → Bool)). may_have r.name r.is d) member_forms own.1.1.0))
 
     forms : EachList d (item_forms (is_second d))
     forms = each_list d (item_forms (is_second d)) own.1.1.1.0
@@ -182,8 +182,8 @@ module _ (d e : Data) (of : IsSecondOf d e) where
         (each_item (codes "links") (is_link_form (is_second d)) d forms.1.0)
         )
 
-    items_kept : unformed_item e ≡ None
-    items_kept =
+    items_valid : unformed_item e ≡ None
+    items_valid =
         or_none _ _ (each (codes "devices") is_device_form devices forms.0)
         (or_none _ _ link_forms
         (or_none _ _ (each (codes "syscore") is_string syscore forms.1.1.0)
@@ -195,8 +195,8 @@ module _ (d e : Data) (of : IsSecondOf d e) where
     counts : AllPass (λ (n : Named ℕ). nat_le (length (list_in n.name d)) n.is) most_items
     counts = all_pass (λ (n : Named ℕ). nat_le (length (list_in n.name d)) n.is) most_items own.1.1.1.1.0
 
-    few_kept : too_many e ≡ None
-    few_kept =
+    few_valid : too_many e ≡ None
+    few_valid =
         rows_pass (λ (n : Named ℕ). nat_le (length (list_in n.name e)) n.is) most_items (fewer most_items refl counts)
       where
         fewer : (rows : List (Named ℕ)) → list_all (λ r. not (bytes_eq r.name (codes "version"))) rows ≡ true → AllPass (λ (n : Named ℕ). nat_le (length (list_in n.name d)) n.is) rows
@@ -220,11 +220,11 @@ module _ (d e : Data) (of : IsSecondOf d e) where
     cyclic_same = λ i.
         option_map (item_place (codes "links"))
         (first_not_after
-        (λ before l. not (is_among (moved (length (parents_of (all_devices i))) (dependents (parents_of (all_devices i)) (map (link_of (names i)) before)) (place_among (names i) (text_at (codes "consumer") l))) (place_among (names i) (text_at (codes "supplier") l))))
+        (λ before l. not (is_among (moved (length (parents_of (all_devices i))) (dependents (parents_of (all_devices i)) (map (link_of (names i)) before)) (index_among (names i) (text_at (codes "consumer") l))) (index_among (names i) (text_at (codes "supplier") l))))
         [] 0 (links i))
 
-    formed_kept : unformed_operation e ≡ None
-    formed_kept =
+    formed_valid : unformed_operation e ≡ None
+    formed_valid =
         let scripts = list_in (codes "actors") d in
         ap (first_operation_of (is_formed (is_second e)) 0) actors
         ∙ none_fails_of (is_formed (is_second e)) 0 scripts (each_passes (λ a. list_all (is_formed (is_second e) a) (list_in (codes "script") a)) scripts
@@ -252,15 +252,15 @@ module _ (d e : Data) (of : IsSecondOf d e) where
         let twelve = seven.1.1.1.1.1 in
         let seventeen = twelve.1.1.1.1.1 in
         none_broken rules e (
-          kept_unless (has_only file_members e) (codes "top") of.members,
+          valid_unless (has_only file_members e) (codes "top") of.members,
           (
-            kept_unless (has_version e) (codes "version") (ap (is_some_and (λ x. is_number 1 x || is_number 2 x)) of.version),
+            valid_unless (has_version e) (codes "version") (ap (is_some_and (λ x. is_number 1 x || is_number 2 x)) of.version),
             (
-              members_kept,
+              members_valid,
               (
-                items_kept,
+                items_valid,
                 (
-                  few_kept,
+                  few_valid,
                   (
                     spelled_same ∙ seven.0,
                     (
@@ -280,7 +280,7 @@ module _ (d e : Data) (of : IsSecondOf d e) where
                                   (
                                     ap (λ os. repeated (codes "actors") (map name_of os)) actors ∙ twelve.1.1.1.0,
                                     (
-                                      formed_kept,
+                                      formed_valid,
                                       (
                                         ap (first_operation_of is_allowed 0) actors ∙ seventeen.0,
                                         (

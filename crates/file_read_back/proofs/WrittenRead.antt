@@ -1,4 +1,4 @@
--- The compact text of a value, with a newline behind it, is UTF-8 and is read as that value.
+-- The compact text of a value, with a newline after it, is UTF-8 and is read as that value.
 use Rattle.std.proofs.Common.{◌≡◌, ◌∙◌, ◌&&◌, ◌<◌, ◌≤◌, ◌^◌, ℕ, zero, suc, List, [], ◌∷◌, ◌++◌, Bool, true, false, cond, pos, negsuc, Option, Some, None, option_map, option_and_then, Ordering, Less, Equal, Greater, nat_cmp, IsUtf8, refl, sym, ap, arith, append-nil}
 use Rattle.std.specs.Prelude.{⊤}
 use Rattle.std.specs.Cmp.Lexicographic.{slice_cmp}
@@ -58,9 +58,9 @@ abbrev mutual
 
 -- ---- what its outline is read as
 
-abbrev joined : Members → Members → Members
-joined no_members ms = ms
-joined (member k d fs) ms = member k d (joined fs ms)
+abbrev joined_members : Members → Members → Members
+joined_members no_members ms = ms
+joined_members (member k d fs) ms = member k d (joined_members fs ms)
 
 -- each name of the ones stands before those of the others
 abbrev StandBefore : Members → Members → Type 0
@@ -75,21 +75,21 @@ after k l e = nat_list_cmp_total.antisymm l k ∙ ap ordering_reverse (by (slice
     by Equal h = absurd (false≢true h)
     by Greater h = absurd (false≢true h)
 
-put_last : (k : List ℕ) (d : Data) (ms found : Members) → StandBefore found (member k d ms) → put k d found ≡ joined found (member k d no_members)
+put_last : (k : List ℕ) (d : Data) (ms found : Members) → StandBefore found (member k d ms) → put k d found ≡ joined_members found (member k d no_members)
 put_last k d ms no_members h = refl
 put_last k d ms (member l e fs) h =
     let less = (and_parts (is_lt (slice_cmp nat_cmp l k)) (stands_first l ms) h.0).0 in
     ap (λ o. match_ordering o (member k d (member l e fs)) (member l d fs) (member l e (put k d fs))) (after l k less) ∙ ap (member l e) (put_last k d ms fs h.1)
 
-joined_more : (found : Members) (k : List ℕ) (d : Data) (ms : Members) → joined (joined found (member k d no_members)) ms ≡ joined found (member k d ms)
+joined_more : (found : Members) (k : List ℕ) (d : Data) (ms : Members) → joined_members (joined_members found (member k d no_members)) ms ≡ joined_members found (member k d ms)
 joined_more no_members k d ms = refl
 joined_more (member l e fs) k d ms = ap (member l e) (joined_more fs k d ms)
 
-before_more : (found : Members) (k : List ℕ) (d : Data) (ms : Members) → StandBefore found (member k d ms) → stands_first k ms ≡ true → StandBefore (joined found (member k d no_members)) ms
+before_more : (found : Members) (k : List ℕ) (d : Data) (ms : Members) → StandBefore found (member k d ms) → stands_first k ms ≡ true → StandBefore (joined_members found (member k d no_members)) ms
 before_more no_members k d ms h e = (e, tt)
 before_more (member l f fs) k d ms h e = ((and_parts (is_lt (slice_cmp nat_cmp l k)) (stands_first l ms) h.0).1, before_more fs k d ms h.1 e)
 
-joined_none : (found : Members) → joined found no_members ≡ found
+joined_none : (found : Members) → joined_members found no_members ≡ found
 joined_none no_members = refl
 joined_none (member k d fs) = ap (member k d) (joined_none fs)
 
@@ -112,12 +112,12 @@ mutual
   items_read n (item d ds) h =
       ap (option_and_then (λ x. option_map (item x) (of_items (items_outline ds)))) (outline_read n d h.0) ∙ ap (option_map (item d)) (items_read n ds h.1)
 
-  members_read : (n : ℕ) (ms found : Members) → AreMembers n ms → StandBefore found ms → of_members (members_outline ms) found ≡ Some (joined found ms)
+  members_read : (n : ℕ) (ms found : Members) → AreMembers n ms → StandBefore found ms → of_members (members_outline ms) found ≡ Some (joined_members found ms)
   members_read n no_members found h e = ap Some (sym (joined_none found))
   members_read n (member k d ms) found h e =
       ap (option_and_then (λ x. of_members (members_outline ms) (put k x found))) (outline_read n d h.1.0)
       ∙ ap (of_members (members_outline ms)) (put_last k d ms found e)
-      ∙ members_read n ms (joined found (member k d no_members)) h.1.1 (before_more found k d ms e h.0.1)
+      ∙ members_read n ms (joined_members found (member k d no_members)) h.1.1 (before_more found k d ms e h.0.1)
       ∙ ap Some (joined_more found k d ms)
 
 -- ---- its numbers, and how deep it is
@@ -198,14 +198,14 @@ mutual
 
 -- ---- the file
 
-abbrev whole : Option (json.Json × List Rattle.json.specs.Token.Token) → Option Data
-whole o = option_and_then of_json (option_and_then (λ p. json.if_last p.0 p.1) o)
+abbrev whole_read : Option (json.Json × List Rattle.json.specs.Token.Token) → Option Data
+whole_read o = option_and_then of_json (option_and_then (λ p. json.if_last p.0 p.1) o)
 
 text_read : (n : ℕ) (d : Data) → n ≤ 127 → IsPlain n d → read (compact_text d ++ 10 ∷ []) ≡ Some d
 text_read n d few h =
     let ts = tree.json_tokens (outline d) in
     let same : tokens (compact_text d ++ 10 ∷ []) ≡ ts = ap (λ t. tokens (t ++ 10 ∷ [])) (sym (print-outline d)) ∙ tokens-newline ts (ArePrintable-json_tokens (outline d) (numbers n d h)) in
-    ap whole (ap (json.value 127) (same ∙ sym (append-nil ts)) ∙ value-json_tokens (outline d) 127 [] (omega (arith, shallow n d h))) ∙ outline_read n d h
+    ap whole_read (ap (json.value 127) (same ∙ sym (append-nil ts)) ∙ value-json_tokens (outline d) 127 [] (omega (arith, shallow n d h))) ∙ outline_read n d h
 
 -- what is written is read as the value
 pub file_read : (n : ℕ) (d : Data) → n ≤ 127 → IsPlain n d → file.tree (compact_text d ++ 10 ∷ []) ≡ Some d

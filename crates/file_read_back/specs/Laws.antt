@@ -36,8 +36,8 @@ abbrev pub AllNamed : Type 0
 AllNamed = (m : Machine) → IsSpelled m → AreNamed m
 
 -- two logs that fit a machine which a file spells are one log where they have one text
-abbrev pub AllTold : Type 0
-AllTold = (m : Machine) → IsSpelled m → (a b : Log) → IsWritable m a → IsWritable m b → text m a ≡ text m b → a ≡ b
+abbrev pub TextsAreInjective : Type 0
+TextsAreInjective = (m : Machine) → IsSpelled m → (a b : Log) → IsWritable m a → IsWritable m b → text m a ≡ text m b → a ≡ b
 
 -- what is written for the generated machine of each seed and of 1 to 1000 devices is accepted, and spells it
 abbrev pub AllGenerated : Type 0

@@ -6,13 +6,13 @@
 //! every generated machine. Version 2 in place of version 1 spells the same machine. A spelled machine's names are
 //! told apart, so two logs that fit it and have one text are one log. By the clauses of `machines_read_back`,
 //! `values_spell_again`, `generated_machines_read_back`, `versions_spell_alike`, `machines_are_named`,
-//! `texts_tell_logs`.
+//! `log_texts_are_injective`.
 //!
 //! Begin reading in `src/lib.rt`, `specs/Laws.antt`.
 #![tactic(auto)]
 
 ghost use Rattle.machine_file.specs.Spelling.{AllReadBack};
-ghost use Rattle.file_read_back.specs.Laws.{AllGenerated, AllNamed, AllSpellAgain, AllTold, AllVersionsAlike};
+ghost use Rattle.file_read_back.specs.Laws.{AllGenerated, AllNamed, AllSpellAgain, TextsAreInjective, AllVersionsAlike};
 
 /// The value that is written for the machine of a value without a broken rule breaks none, and
 /// spells that machine.
@@ -37,8 +37,8 @@ pub fn machines_are_named()
 {}
 
 /// Two logs that fit a machine which some file spells and have the same text are the same log.
-pub fn texts_tell_logs()
-    ensures { AllTold }
+pub fn log_texts_are_injective()
+    ensures { TextsAreInjective }
 {}
 
 /// The bytes that are written for a generated machine are accepted, and spell it.

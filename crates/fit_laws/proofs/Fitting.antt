@@ -5,7 +5,7 @@ use Rattle.std.proofs.lemmas.Bool.Decides.{nat_tests}
 use Rattle.sleep_model.specs.declared.entry.Entry.{Entry}
 use Rattle.sleep_model.specs.declared.machine.Machine.{Machine}
 use Rattle.sleep_model.specs.Legal.{HistoriesFit, is_there, is_short}
-use Rattle.sleep_model.specs.Parts.{part_of}
+use Rattle.sleep_model.specs.EntryClasses.{class_of}
 use Rattle.sleep_model.specs.Sources.{history, is_of, most_entries}
 
 -- what passes one test passes the other, along a range
@@ -21,11 +21,11 @@ all_of f g a (suc n) h all = by_first (f a) refl all (λ r. all_of f g (a + 1) n
 -- what fits fitted before
 pub fit_rest : (m : Machine) (e : Entry) (past : List Entry) → HistoriesFit m (e ∷ past) → HistoriesFit m past
 fit_rest m e past h = record {
-  there = rest (is_there m (part_of e.kind)) h.there;
-  short = all_of (is_short (e ∷ past)) (is_short past) 0 (length m.sources + 1) (λ s x. shorter s (is_of s (part_of e.kind)) x) h.short;
+  there = rest (is_there m (class_of e.kind)) h.there;
+  short = all_of (is_short (e ∷ past)) (is_short past) 0 (length m.sources + 1) (λ s x. shorter s (is_of s (class_of e.kind)) x) h.short;
 }
   where
-    rest : (b : Bool) → (b && list_all (λ x. is_there m (part_of x.kind)) past) ≡ true → list_all (λ x. is_there m (part_of x.kind)) past ≡ true
+    rest : (b : Bool) → (b && list_all (λ x. is_there m (class_of x.kind)) past) ≡ true → list_all (λ x. is_there m (class_of x.kind)) past ≡ true
     rest true x = x
     rest false x = absurd (cc)
 

@@ -21,18 +21,18 @@ use Rattle.sleep_model.specs.declared.machine.Op.TheVariants as op
 use Rattle.sleep_model.specs.declared.machine.Script.{Script}
 use Rattle.sleep_model.specs.declared.machine.What.{What}
 use Rattle.sleep_model.specs.declared.machine.What.TheVariants as what
-use Rattle.sleep_model.specs.declared.place.AsyncWork.{AsyncWork}
-use Rattle.sleep_model.specs.declared.place.AsyncWork.TheVariants.{Idle, Scheduled, Inside}
-use Rattle.sleep_model.specs.declared.place.Callback.{Callback}
-use Rattle.sleep_model.specs.declared.place.Due.{Due}
-use Rattle.sleep_model.specs.declared.place.Due.TheVariants.{Makes, Waits, Gone}
-use Rattle.sleep_model.specs.declared.place.Freezing.{Freezing}
-use Rattle.sleep_model.specs.declared.place.Seat.{Seat}
-use Rattle.sleep_model.specs.declared.place.Sleep.{Sleep}
-use Rattle.sleep_model.specs.declared.place.Stage.{Stage}
-use Rattle.sleep_model.specs.declared.place.Stage.TheVariants as stage
-use Rattle.sleep_model.specs.declared.place.Work.{Work}
-use Rattle.sleep_model.specs.declared.place.Work.TheVariants.{Resting, Reading, Saving, Attempting, Looking, Napping, Closing}
+use Rattle.sleep_model.specs.declared.progress.AsyncWork.{AsyncWork}
+use Rattle.sleep_model.specs.declared.progress.AsyncWork.TheVariants.{Idle, Scheduled, Inside}
+use Rattle.sleep_model.specs.declared.progress.Callback.{Callback}
+use Rattle.sleep_model.specs.declared.progress.Due.{Due}
+use Rattle.sleep_model.specs.declared.progress.Due.TheVariants.{Makes, Waits, Exited}
+use Rattle.sleep_model.specs.declared.progress.Freezing.{Freezing}
+use Rattle.sleep_model.specs.declared.progress.ScriptPosition.{ScriptPosition}
+use Rattle.sleep_model.specs.declared.progress.Sleep.{Sleep}
+use Rattle.sleep_model.specs.declared.progress.Stage.{Stage}
+use Rattle.sleep_model.specs.declared.progress.Stage.TheVariants as stage
+use Rattle.sleep_model.specs.declared.progress.Work.{Work}
+use Rattle.sleep_model.specs.declared.progress.Work.TheVariants.{Resting, Reading, Saving, Attempting, Looking, Napping, Closing}
 use Rattle.sleep_model.specs.declared.word.EventNow.{EventNow}
 use Rattle.phase_table.specs.declared.phase.Phase.{Phase}
 use Rattle.phase_table.specs.declared.phase.Phase.TheVariants as phase
@@ -41,7 +41,7 @@ use Rattle.sleep_model.specs.Accepted.{IsAccepted, IsOp, AreAnswers, is_ret_of, 
 use Rattle.sleep_model.specs.Answers.{answer, answer_for, answer_number, own_or, is_thing, is_for}
 use Rattle.sleep_model.specs.Attempt.{due_at, enter_due, freeze_due, freeze_since, froze_due, if_left, cpu_kind, gives_up_at, or_next, sleep_of, sleeps_now, stage_due}
 use Rattle.sleep_model.specs.Autosleep.{may_run, work, work_due}
-use Rattle.sleep_model.specs.Devices.{after_device, callback, callback_after, close_down, complete_due, device_due, down_due, is_async_device, is_device, is_direct, next_completed, next_down, next_prepared, next_to_schedule, next_up, phase_failed, prepare_due, stand_in, taken, unless_failed, up_due, waits_above, waits_below, waits_down, waits_up, walk_down, walk_up, work_by}
+use Rattle.sleep_model.specs.Devices.{after_device, callback, callback_after, close_down, complete_due, device_due, down_due, is_async_device, is_device, is_direct, next_completed, next_down, next_prepared, next_to_schedule, next_up, phase_failed, prepare_due, state_in, taken, unless_failed, up_due, waits_above, waits_below, waits_down, waits_up, walk_down, walk_up, work_by}
 use Rattle.sleep_model.specs.Due.{due, is_over, own_due, script_due}
 use Rattle.sleep_model.specs.Fits.{fits_kind, is_answer}
 use Rattle.sleep_model.specs.Freezer.{freezing, freezings, keeps_waiting, left, left_from}
@@ -51,13 +51,13 @@ use Rattle.sleep_model.specs.Lock.{holder, is_on}
 use Rattle.sleep_model.specs.Notifiers.{Ranked, call_order, next_called, next_cpu_off, next_cpu_on, next_posted, next_started, next_stopped, numbers_of, put_ranked, ranked_from}
 use Rattle.sleep_model.specs.Numbers.{time_of}
 use Rattle.sleep_model.specs.Order.{is_among, links_at, order, parents_of}
-use Rattle.sleep_model.specs.Parts.{OfJournal, part_of}
+use Rattle.sleep_model.specs.EntryClasses.{OfJournal, class_of}
 use Rattle.sleep_model.specs.Path.{attempts, is_actor, maker}
 use Rattle.sleep_model.specs.Runtime.{is_async}
 use Rattle.sleep_model.specs.Scripts.{entry_steps}
-use Rattle.sleep_model.specs.Seats.{seat_at, seats}
-use Rattle.sleep_model.specs.Steps.{lock_due, save_due, saved_number, seat_due, slept_due, step_due}
-use Rattle.sleep_model.specs.Table.{behind, stage_of}
+use Rattle.sleep_model.specs.Positions.{position_at, positions}
+use Rattle.sleep_model.specs.Steps.{lock_due, save_due, saved_number, position_due, slept_due, step_due}
+use Rattle.sleep_model.specs.Table.{next_stage, stage_of}
 use Rattle.sleep_model.specs.Tasks.{freezes_at, is_line, is_mem, is_off, is_user}
 use Rattle.sleep_model.specs.Walk.{last_where, or_else}
 use Rattle.sleep_model.specs.Word.{position, visible}
@@ -88,7 +88,7 @@ only_after P (Some d) x h = tt
 only_next : (P : Kind → Type 0) (x y : Due) → OnlyMade P x → OnlyMade P y → OnlyMade P (or_next x y)
 only_next P (Makes k) y h g = h
 only_next P (Waits w) y h g = tt
-only_next P Gone y h g = g
+only_next P Exited y h g = g
 
 only_left : (P : Kind → Type 0) (k : ℕ → Kind) (o : Option ℕ) → ((x : ℕ) → o ≡ Some x → P (k x)) → OnlyMade P (if_left k o)
 only_left P k None f = tt
@@ -148,8 +148,8 @@ ranked_within n (x ∷ xs) d h = by_test (n == d) refl (λ g. ranked_within (suc
     by_test false e f g = omega (arith, f g)
 
 -- the tasks that keep a freeze waiting are scripts of the machine
-left_within : (g : Group) (most i : ℕ) (ss : List Script) (fs : List Freezing) (places : List Seat) → i + length ss ≤ most → Each (λ x. x < most) (left_from g i ss fs places)
-left_within g most i (s ∷ ss) (f ∷ fs) (seat ∷ places) l = by_test (keeps_waiting g s.kind f seat) (left_within g most (suc i) ss fs places (omega (arith, l)))
+left_within : (g : Group) (most i : ℕ) (ss : List Script) (fs : List Freezing) (places : List ScriptPosition) → i + length ss ≤ most → Each (λ x. x < most) (left_from g i ss fs places)
+left_within g most i (s ∷ ss) (f ∷ fs) (script_position ∷ places) l = by_test (keeps_waiting g s.kind f script_position) (left_within g most (suc i) ss fs places (omega (arith, l)))
   where
     by_test : (b : Bool) → Each (λ x. x < most) (left_from g (suc i) ss fs places) → Each (λ x. x < most) (cond b (i ∷ left_from g (suc i) ss fs places) (left_from g (suc i) ss fs places))
     by_test true rest = (omega (arith, l), rest)
@@ -234,7 +234,7 @@ module _ (m : Machine) (acc : IsAccepted m) (past : List Entry) (j : JournalPart
 
   freeze_fits : (g : Group) (o : Option ℕ) → OnlyMade (FitsIf m) (freeze_due m past now g o)
   freeze_fits g None = λ r. refl
-  freeze_fits g (Some since) = froze_fits g since (left m g past) (left_within g (length m.actors) 0 m.actors (freezings m.actors past) (seats (length m.actors) past) (omega arith))
+  freeze_fits g (Some since) = froze_fits g since (left m g past) (left_within g (length m.actors) 0 m.actors (freezings m.actors past) (positions (length m.actors) past) (omega arith))
 
   prepare_fits : (r : Option Errno) (o : Option ℕ) → next_prepared m past ≡ o → OnlyMade (FitsIf m) (prepare_due m past r o)
   prepare_fits (Some r) o e = λ r. refl
@@ -282,8 +282,8 @@ module _ (m : Machine) (acc : IsAccepted m) (past : List Entry) (j : JournalPart
   called_in : (x : ℕ) → is_among (call_order m) x ≡ true → x < length m.notifiers
   called_in x h = omega (arith, ranked_within 0 m.notifiers x h)
 
-  part_in : (x : ℕ) → is_among (range_with_len 0 (length m.syscore)) x ≡ true → x < length m.syscore
-  part_in x h = omega (arith, run_most 0 (length m.syscore) x h)
+  class_in : (x : ℕ) → is_among (range_with_len 0 (length m.syscore)) x ≡ true → x < length m.syscore
+  class_in x h = omega (arith, run_most 0 (length m.syscore) x h)
 
   cpu_fits : (b : Bool) (k : ℕ) → FitsIf m (cpu_kind b k)
   cpu_fits true k = λ r. r
@@ -298,9 +298,9 @@ module _ (m : Machine) (acc : IsAccepted m) (past : List Entry) (j : JournalPart
   stage_fits stage.StopsCpus = only_left (FitsIf m) _ (next_cpu_off m past) (λ k e. cpu_fits (pending past now) k)
   stage_fits stage.StopsIrqs = λ r. refl
   stage_fits stage.Checks = λ r. refl
-  stage_fits stage.StopsSyscore = only_left (FitsIf m) _ (next_stopped m past) (λ x e r. less x (length m.syscore) (part_in x (last_among _ (range_with_len 0 (length m.syscore)) x e)))
+  stage_fits stage.StopsSyscore = only_left (FitsIf m) _ (next_stopped m past) (λ x e r. less x (length m.syscore) (class_in x (last_among _ (range_with_len 0 (length m.syscore)) x e)))
   stage_fits stage.Enters = enter_fits (sleep_of past)
-  stage_fits stage.StartsSyscore = only_left (FitsIf m) _ (next_started m past) (λ x e r. less x (length m.syscore) (part_in x (first_among _ (range_with_len 0 (length m.syscore)) x e)))
+  stage_fits stage.StartsSyscore = only_left (FitsIf m) _ (next_started m past) (λ x e r. less x (length m.syscore) (class_in x (first_among _ (range_with_len 0 (length m.syscore)) x e)))
   stage_fits stage.StartsIrqs = λ r. refl
   stage_fits stage.StartsCpus = only_left (FitsIf m) kind.CpuOn (next_cpu_on m past) (λ k e r. r)
   stage_fits (stage.PlatformUp step) = λ r. refl
@@ -313,7 +313,7 @@ module _ (m : Machine) (acc : IsAccepted m) (past : List Entry) (j : JournalPart
 
   attempt_fits : (o : Option Stage) → OnlyMade (FitsIf m) (due_at m past now o)
   attempt_fits None = tt
-  attempt_fits (Some here) = only_next (FitsIf m) (stage_due m past now here) (stage_due m past now (behind here)) (stage_fits here) (stage_fits (behind here))
+  attempt_fits (Some here) = only_next (FitsIf m) (stage_due m past now here) (stage_due m past now (next_stage here)) (stage_fits here) (stage_fits (next_stage here))
 
   -- ---- a task
 
@@ -327,48 +327,48 @@ module _ (m : Machine) (acc : IsAccepted m) (past : List Entry) (j : JournalPart
   slept_fits None time = tt
   slept_fits (Some until) time = only_if (FitsIf m) (nat_le until time) _ _ (λ r. refl) tt
 
-  step_fits : (seat : Seat) (asked : Bool) (o : Option Op) → ((x : Op) → o ≡ Some x → IsOp m x) → OnlyMade (FitsIf m) (step_due m past now seat asked o)
-  step_fits seat asked None h = λ r. refl
-  step_fits seat asked (Some op.Read) h =
-      only_if (FitsIf m) (now.inpr == 0) _ _ (λ r. r) (only_if (FitsIf m) seat.waits _ _ (only_if (FitsIf m) asked _ _ (λ r. refl) tt) (λ r. refl))
-  step_fits seat asked (Some (op.Save count)) h =
-      only_if (FitsIf m) (is_some (holder past)) _ _ (lock_fits seat.waits asked _ _ (λ r. r) (λ r. r))
-      (only_if (FitsIf m) (is_on past) _ _ (λ r. r) (save_fits (saved_number count seat.last_read)))
-  step_fits seat asked (Some (op.State text if_saved)) h =
-      only_if (FitsIf m) (if_saved && not seat.saved) _ _ (λ r. refl)
-      (only_if (FitsIf m) (is_some (holder past)) _ _ (lock_fits seat.waits asked _ _ (λ r. refl) (λ r. refl))
+  step_fits : (script_position : ScriptPosition) (asked : Bool) (o : Option Op) → ((x : Op) → o ≡ Some x → IsOp m x) → OnlyMade (FitsIf m) (step_due m past now script_position asked o)
+  step_fits script_position asked None h = λ r. refl
+  step_fits script_position asked (Some op.Read) h =
+      only_if (FitsIf m) (now.inpr == 0) _ _ (λ r. r) (only_if (FitsIf m) script_position.waits _ _ (only_if (FitsIf m) asked _ _ (λ r. refl) tt) (λ r. refl))
+  step_fits script_position asked (Some (op.Save count)) h =
+      only_if (FitsIf m) (is_some (holder past)) _ _ (lock_fits script_position.waits asked _ _ (λ r. r) (λ r. r))
+      (only_if (FitsIf m) (is_on past) _ _ (λ r. r) (save_fits (saved_number count script_position.last_read)))
+  step_fits script_position asked (Some (op.State text if_saved)) h =
+      only_if (FitsIf m) (if_saved && not script_position.saved) _ _ (λ r. refl)
+      (only_if (FitsIf m) (is_some (holder past)) _ _ (lock_fits script_position.waits asked _ _ (λ r. refl) (λ r. refl))
       (only_if (FitsIf m) (is_on past) _ _ (λ r. refl) (only_if (FitsIf m) (is_mem text) _ _ (λ r. r) (λ r. refl))))
-  step_fits seat asked (Some (op.Autosleep text)) h =
+  step_fits script_position asked (Some (op.Autosleep text)) h =
       only_if (FitsIf m) (is_mem text || is_off text) _ _
-      (only_if (FitsIf m) seat.waits _ _ (λ r. refl) (only_if (FitsIf m) (is_some (holder past)) _ _ tt (λ r. refl)))
+      (only_if (FitsIf m) script_position.waits _ _ (λ r. refl) (only_if (FitsIf m) (is_some (holder past)) _ _ tt (λ r. refl)))
       (λ r. refl)
-  step_fits seat asked (Some (op.Sleep ms)) h = only_if (FitsIf m) seat.waits _ _ (slept_fits seat.until (time_of past)) (λ r. r)
-  step_fits seat asked (Some (op.SleepD ms)) h = only_if (FitsIf m) seat.waits _ _ (slept_fits seat.until (time_of past)) (λ r. r)
-  step_fits seat asked (Some op.FreezePoint) h = λ r. refl
-  step_fits seat asked (Some (op.Post mark)) h = λ r. less mark (length m.marks) (h (op.Post mark) refl)
-  step_fits seat asked (Some (op.Wait mark)) h = only_if (FitsIf m) (nat_lt 0 (mark_at (raised (length m.marks) past) mark)) _ _ (λ r. less mark (length m.marks) (h (op.Wait mark) refl)) tt
-  step_fits seat asked (Some (op.Runtime d to_suspended)) h = λ r. less d (length m.devices) (h (op.Runtime d to_suspended) refl)
-  step_fits seat asked (Some (op.Link s c)) h = λ r. both _ _ (less s (length m.devices) (h (op.Link s c) refl).0) (less c (length m.devices) (h (op.Link s c) refl).1)
-  step_fits seat asked (Some (op.LinkState s c active)) h = λ r. both _ _ (less s (length m.devices) (h (op.LinkState s c active) refl).0) (less c (length m.devices) (h (op.LinkState s c active) refl).1)
-  step_fits seat asked (Some (op.Awake s)) h = tt
-  step_fits seat asked (Some (op.Relax s)) h = tt
-  step_fits seat asked (Some (op.Event s ms hard)) h = tt
+  step_fits script_position asked (Some (op.Sleep ms)) h = only_if (FitsIf m) script_position.waits _ _ (slept_fits script_position.until (time_of past)) (λ r. r)
+  step_fits script_position asked (Some (op.SleepD ms)) h = only_if (FitsIf m) script_position.waits _ _ (slept_fits script_position.until (time_of past)) (λ r. r)
+  step_fits script_position asked (Some op.FreezePoint) h = λ r. refl
+  step_fits script_position asked (Some (op.Post mark)) h = λ r. less mark (length m.marks) (h (op.Post mark) refl)
+  step_fits script_position asked (Some (op.Wait mark)) h = only_if (FitsIf m) (nat_lt 0 (mark_at (raised (length m.marks) past) mark)) _ _ (λ r. less mark (length m.marks) (h (op.Wait mark) refl)) tt
+  step_fits script_position asked (Some (op.Runtime d to_suspended)) h = λ r. less d (length m.devices) (h (op.Runtime d to_suspended) refl)
+  step_fits script_position asked (Some (op.Link s c)) h = λ r. both _ _ (less s (length m.devices) (h (op.Link s c) refl).0) (less c (length m.devices) (h (op.Link s c) refl).1)
+  step_fits script_position asked (Some (op.LinkState s c active)) h = λ r. both _ _ (less s (length m.devices) (h (op.LinkState s c active) refl).0) (less c (length m.devices) (h (op.LinkState s c active) refl).1)
+  step_fits script_position asked (Some (op.Awake s)) h = tt
+  step_fits script_position asked (Some (op.Relax s)) h = tt
+  step_fits script_position asked (Some (op.Event s ms hard)) h = tt
 
   script_fits : (i : ℕ) → OnlyMade (FitsIf m) (script_due m past now i)
   script_fits i = by_script (slice_get m.actors i) refl
     where
-      seat : Seat
-      seat = seat_at (seats (length m.actors) past) i
+      script_position : ScriptPosition
+      script_position = position_at (positions (length m.actors) past) i
 
-      by_script : (o : Option Script) → slice_get m.actors i ≡ o → OnlyMade (FitsIf m) (seat_due m past now (freezing m i past) o (seat_at (seats (length m.actors) past) i))
+      by_script : (o : Option Script) → slice_get m.actors i ≡ o → OnlyMade (FitsIf m) (position_due m past now (freezing m i past) o (position_at (positions (length m.actors) past) i))
       by_script None e = tt
       by_script (Some s) e =
-          only_if (FitsIf m) (seat_at (seats (length m.actors) past) i).exited _ _ tt
+          only_if (FitsIf m) (position_at (positions (length m.actors) past) i).exited _ _ tt
           (only_if (FitsIf m) (freezing m i past).frozen _ _ tt
           (only_if (FitsIf m) (sleeps_now past && not (is_line s.kind)) _ _ tt
-          (only_if (FitsIf m) ((freezing m i past).asked && freezes_at (is_user s.kind) (seat_at (seats (length m.actors) past) i).waits (slice_get (entry_steps s) (seat_at (seats (length m.actors) past) i).done)) _ _ (λ r. refl)
-          (step_fits (seat_at (seats (length m.actors) past) i) (freezing m i past).asked (slice_get (entry_steps s) (seat_at (seats (length m.actors) past) i).done)
-          (λ x f. entry_operation m acc.scripts i (seat_at (seats (length m.actors) past) i).done s x e f)))))
+          (only_if (FitsIf m) ((freezing m i past).asked && freezes_at (is_user s.kind) (position_at (positions (length m.actors) past) i).waits (slice_get (entry_steps s) (position_at (positions (length m.actors) past) i).done)) _ _ (λ r. refl)
+          (step_fits (position_at (positions (length m.actors) past) i) (freezing m i past).asked (slice_get (entry_steps s) (position_at (positions (length m.actors) past) i).done)
+          (λ x f. entry_operation m acc.scripts i (position_at (positions (length m.actors) past) i).done s x e f)))))
 
   -- ---- the work, and a device
 
@@ -398,8 +398,8 @@ module _ (m : Machine) (acc : IsAccepted m) (past : List Entry) (j : JournalPart
       (only_after (FitsIf m) (waits_above m past (mirror p) d) _ (λ r. less d (length m.devices) l))
   device_fits d l (Inside p) = λ r. less d (length m.devices) l
 
-  own_device_fits : (d : ℕ) (b : Bool) → is_async_device m d ≡ b → OnlyMade (FitsIf m) (device_due m past now d (cond b (work_by (stand_in m past phase.Suspend d) (stand_in m past phase.Late d) (stand_in m past phase.Noirq d)) Idle))
-  own_device_fits d true e = device_fits d (async_within m d e) (work_by (stand_in m past phase.Suspend d) (stand_in m past phase.Late d) (stand_in m past phase.Noirq d))
+  own_device_fits : (d : ℕ) (b : Bool) → is_async_device m d ≡ b → OnlyMade (FitsIf m) (device_due m past now d (cond b (work_by (state_in m past phase.Suspend d) (state_in m past phase.Late d) (state_in m past phase.Noirq d)) Idle))
+  own_device_fits d true e = device_fits d (async_within m d e) (work_by (state_in m past phase.Suspend d) (state_in m past phase.Late d) (state_in m past phase.Noirq d))
   own_device_fits d false e = tt
 
   own_fits : (who : Actor) → OnlyMade (FitsIf m) (own_due m past who now)
@@ -426,7 +426,7 @@ callback_within m acc (e ∷ past) j = begun_within m e.kind (is_device e.actor)
   where
     begun : CallbackIn m (callback past) → (p : Phase) (d : ℕ) → e.kind ≡ kind.Begin p d → d < length m.devices
     begun runs p d is =
-        let step : JournalStep m past e OfJournal = subst (λ (k : Kind). JournalStep m past e (part_of k)) is j.0 in
+        let step : JournalStep m past e OfJournal = subst (λ (k : Kind). JournalStep m past e (class_of k)) is j.0 in
         let made : due m past e.actor e.now ≡ Makes (kind.Begin p d) = step.0 ∙ ap Makes is in
         let fits : FitsIf m (kind.Begin p d) = subst (OnlyMade (FitsIf m)) made (due_fits_if m acc past j.1 runs e.now e.actor) in
         let l : nat_lt d (length m.devices) ≡ true = fits refl in

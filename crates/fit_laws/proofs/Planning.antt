@@ -6,7 +6,7 @@ use Rattle.sleep_model.specs.declared.entry.Actor.TheVariants as actor
 use Rattle.sleep_model.specs.declared.entry.Entry.{Entry}
 use Rattle.sleep_model.specs.declared.entry.Kind.{Kind}
 use Rattle.sleep_model.specs.declared.machine.Machine.{Machine}
-use Rattle.sleep_model.specs.Calls.{calls_at, pieces_in, ends_turn, one_more, turns_ended, calls_of_turn, calls_behind, report_calls, calls_of, calls_due}
+use Rattle.sleep_model.specs.Calls.{calls_at, pieces_in, ends_turn, one_more, turns_ended, calls_of_turn, calls_after_turn, report_calls, calls_of, calls_due}
 use Rattle.sleep_model.specs.Path.{attempts, is_same}
 use Rattle.sleep_model.specs.Scripts.{Piece, Calls, Turns}
 
@@ -31,7 +31,7 @@ abbrev pub calls_until : List Piece → ℕ → List Kind
 calls_until ps zero = calls_at ps 0
 calls_until ps (suc k) = calls_until ps k ++ calls_at ps (suc k)
 
--- those behind it
+-- those after it
 abbrev pub calls_past : List Piece → ℕ → List Kind
 calls_past [] k = []
 calls_past (Calls note ∷ rest) k = calls_past rest k
@@ -49,7 +49,7 @@ next_calls (Calls n ∷ rest) k = next_calls rest k
 next_calls (Turns ∷ rest) zero = first_calls rest
 next_calls (Turns ∷ rest) (suc k) = next_calls rest k
 
--- the calls before a turn, and those behind it, are all
+-- the calls before a turn, and those after it, are all
 pub calls_parted : (ps : List Piece) (k : ℕ) → calls_until ps k ++ calls_past ps k ≡ all_calls ps
 calls_parted ps zero = first_calls ps
 calls_parted ps (suc k) = append_assoc (calls_until ps k) (calls_at ps (suc k)) (calls_past ps (suc k)) ∙ (ap (λ xs. calls_until ps k ++ xs) (next_calls ps k) ∙ calls_parted ps k)
@@ -69,7 +69,7 @@ abbrev pub calls_by_turn : Machine → Actor → ℕ → ℕ
 calls_by_turn m (actor.Script i) k = length (calls_until (pieces_in m i) k)
 calls_by_turn m who k = 0
 
-next_turn : (m : Machine) (who : Actor) (ends : Bool) (k : ℕ) → calls_by_turn m who (one_more ends k) ≡ calls_by_turn m who k + length (calls_behind m who ends (k + 1))
+next_turn : (m : Machine) (who : Actor) (ends : Bool) (k : ℕ) → calls_by_turn m who (one_more ends k) ≡ calls_by_turn m who k + length (calls_after_turn m who ends (k + 1))
 next_turn m who false k = omega arith
 next_turn m (actor.Script i) true k =
     let ps = pieces_in m i in
@@ -86,9 +86,9 @@ parts_len : (xs ys zs : List Kind) → length ((xs ++ ys) ++ zs) ≡ length xs +
 parts_len xs ys zs = length-append (xs ++ ys) zs ∙ ap (λ n. n + length zs) (length-append xs ys)
 
 entry_counted : (m : Machine) (who : Actor) (xs ys : List Kind) (turns reports : ℕ) (mine ends : Bool) → length xs ≡ calls_by_turn m who turns + reports
-    → length (cond mine ((xs ++ ys) ++ calls_behind m who ends (turns + 1)) xs) ≡ calls_by_turn m who (one_more (mine && ends) turns) + cond mine (reports + length ys) reports
+    → length (cond mine ((xs ++ ys) ++ calls_after_turn m who ends (turns + 1)) xs) ≡ calls_by_turn m who (one_more (mine && ends) turns) + cond mine (reports + length ys) reports
 entry_counted m who xs ys turns reports false ends is = is
-entry_counted m who xs ys turns reports true ends is = omega (arith, parts_len xs ys (calls_behind m who ends (turns + 1)), next_turn m who ends turns, is)
+entry_counted m who xs ys turns reports true ends is = omega (arith, parts_len xs ys (calls_after_turn m who ends (turns + 1)), next_turn m who ends turns, is)
 
 -- the calls that an actor has to have made are those before its next turn, and the reports of its callbacks
 pub calls_counted : (m : Machine) (who : Actor) (past : List Entry) → calls_due m who past ≡ calls_by_turn m who (turns_ended who past) + reports_made m who past
@@ -109,5 +109,5 @@ longer false xs ys zs = omega arith
 pub still_due : (m : Machine) (who : Actor) (e : Entry) (past : List Entry) (calls : ℕ) → calls ≤ calls_due m who past → calls ≤ calls_due m who (e ∷ past)
 still_due m who e past calls l =
     let more : calls_due m who past ≤ calls_due m who (e ∷ past) =
-    longer (is_same e.actor who) (calls_of m who past) (report_calls m (attempts past) e.kind) (calls_behind m who (ends_turn e.kind) (turns_ended who past + 1)) in
+    longer (is_same e.actor who) (calls_of m who past) (report_calls m (attempts past) e.kind) (calls_after_turn m who (ends_turn e.kind) (turns_ended who past + 1)) in
     omega (arith, l, more)

@@ -17,7 +17,7 @@ use Rattle.sleep_model.specs.declared.machine.What.{What}
 use Rattle.sleep_model.specs.declared.machine.What.TheVariants as what
 use Rattle.sleep_model.specs.Accepted.{IsAccepted, IsOp, IsReport, AreReports, AreAnswers}
 use Rattle.sleep_model.specs.Answers.{answer, answer_for, answer_reports, own_or, is_thing, is_for}
-use Rattle.sleep_model.specs.Calls.{calls_at, pieces_if, pieces_in, calls_of_turn, calls_behind, note, report_calls, calls_of, ends_turn, turns_ended}
+use Rattle.sleep_model.specs.Calls.{calls_at, pieces_if, pieces_in, calls_of_turn, calls_after_turn, note, report_calls, calls_of, ends_turn, turns_ended}
 use Rattle.sleep_model.specs.Path.{attempts, is_same}
 use Rattle.sleep_model.specs.Scripts.{Piece, Calls, Turns, operations, autosleep_pieces, pieces_of}
 use Rattle.sleep_model.specs.Tasks.{is_mem, is_off}
@@ -35,12 +35,12 @@ abbrev IsPieceOf : Machine → Piece → Type 0
 IsPieceOf m (Calls n) = IsNoteOf m n
 IsPieceOf m Turns = Unit {0}
 
-autosleep_kept : (m : Machine) (b : Bool) → Each (IsPieceOf m) (autosleep_pieces (length m.sources) b)
-autosleep_kept m true = (omega arith, (tt, (omega arith, (tt, tt))))
-autosleep_kept m false = (tt, tt)
+autosleep_preserved : (m : Machine) (b : Bool) → Each (IsPieceOf m) (autosleep_pieces (length m.sources) b)
+autosleep_preserved m true = (omega arith, (tt, (omega arith, (tt, tt))))
+autosleep_preserved m false = (tt, tt)
 
 each_piece : (m : Machine) (o : Op) → IsOp m o → Each (IsPieceOf m) (pieces_of (length m.sources) o)
-each_piece m (op.Autosleep text) h = autosleep_kept m (is_mem text || is_off text)
+each_piece m (op.Autosleep text) h = autosleep_preserved m (is_mem text || is_off text)
 each_piece m (op.Awake s) h = (omega (arith, h), tt)
 each_piece m (op.Relax s) h = (omega (arith, h), tt)
 each_piece m (op.Event s ms hard) h = (omega (arith, h.0), tt)
@@ -56,42 +56,42 @@ each_piece m (op.Runtime d to) h = (tt, tt)
 each_piece m (op.Link supplier consumer) h = (tt, tt)
 each_piece m (op.LinkState supplier consumer active) h = (tt, tt)
 
-pieces_kept : (m : Machine) → IsAccepted m → (i : ℕ) → Each (IsPieceOf m) (pieces_in m i)
-pieces_kept m acc i = by_script (slice_get m.actors i) refl
+pieces_preserved : (m : Machine) → IsAccepted m → (i : ℕ) → Each (IsPieceOf m) (pieces_in m i)
+pieces_preserved m acc i = by_script (slice_get m.actors i) refl
   where
     by_script : (o : Option Script) → slice_get m.actors i ≡ o → Each (IsPieceOf m) (pieces_if (length m.sources) o)
     by_script None e = tt
     by_script (Some s) e = each_flat (IsOp m) (IsPieceOf m) (pieces_of (length m.sources)) (each_piece m) (operations s) (each_operation m s (script_steps m m.actors i s acc.scripts e))
 
-calls_kept : (m : Machine) (ps : List Piece) (k : ℕ) → Each (IsPieceOf m) ps → Each (IsNoteOf m) (calls_at ps k)
-calls_kept m [] k h = tt
-calls_kept m (Calls n ∷ rest) zero h = (h.0, calls_kept m rest zero h.1)
-calls_kept m (Calls n ∷ rest) (suc k) h = calls_kept m rest (suc k) h.1
-calls_kept m (Turns ∷ rest) zero h = tt
-calls_kept m (Turns ∷ rest) (suc k) h = calls_kept m rest k h.1
+calls_preserved : (m : Machine) (ps : List Piece) (k : ℕ) → Each (IsPieceOf m) ps → Each (IsNoteOf m) (calls_at ps k)
+calls_preserved m [] k h = tt
+calls_preserved m (Calls n ∷ rest) zero h = (h.0, calls_preserved m rest zero h.1)
+calls_preserved m (Calls n ∷ rest) (suc k) h = calls_preserved m rest (suc k) h.1
+calls_preserved m (Turns ∷ rest) zero h = tt
+calls_preserved m (Turns ∷ rest) (suc k) h = calls_preserved m rest k h.1
 
-turn_kept : (m : Machine) → IsAccepted m → (who : Actor) (k : ℕ) → Each (IsNoteOf m) (calls_of_turn m who k)
-turn_kept m acc (actor.Script i) k = calls_kept m (pieces_in m i) k (pieces_kept m acc i)
-turn_kept m acc actor.Auto k = tt
-turn_kept m acc (actor.Dev d) k = tt
-turn_kept m acc (actor.Timer s) k = tt
-turn_kept m acc actor.Time k = tt
+turn_preserved : (m : Machine) → IsAccepted m → (who : Actor) (k : ℕ) → Each (IsNoteOf m) (calls_of_turn m who k)
+turn_preserved m acc (actor.Script i) k = calls_preserved m (pieces_in m i) k (pieces_preserved m acc i)
+turn_preserved m acc actor.Auto k = tt
+turn_preserved m acc (actor.Dev d) k = tt
+turn_preserved m acc (actor.Timer s) k = tt
+turn_preserved m acc actor.Time k = tt
 
-behind_kept : (m : Machine) → IsAccepted m → (who : Actor) (b : Bool) (k : ℕ) → Each (IsNoteOf m) (calls_behind m who b k)
-behind_kept m acc who true k = turn_kept m acc who k
-behind_kept m acc who false k = tt
+after_kept : (m : Machine) → IsAccepted m → (who : Actor) (b : Bool) (k : ℕ) → Each (IsNoteOf m) (calls_after_turn m who b k)
+after_kept m acc who true k = turn_preserved m acc who k
+after_kept m acc who false k = tt
 
 -- ---- reports
 
-note_kept : (m : Machine) (s : ℕ) (c : SourceCall) → s < length m.sources → IsReport c → IsNoteOf m (note s c)
-note_kept m s call.Awake l r = omega (arith, l)
-note_kept m s call.Relax l r = omega (arith, l)
-note_kept m s (call.Event ms hard) l r = omega (arith, l)
-note_kept m s call.Expire l r = absurd r
+note_preserved : (m : Machine) (s : ℕ) (c : SourceCall) → s < length m.sources → IsReport c → IsNoteOf m (note s c)
+note_preserved m s call.Awake l r = omega (arith, l)
+note_preserved m s call.Relax l r = omega (arith, l)
+note_preserved m s (call.Event ms hard) l r = omega (arith, l)
+note_preserved m s call.Expire l r = absurd r
 
-notes_kept : (m : Machine) (rs : List Report) → AreReports m rs → Each (IsNoteOf m) (map (λ r. note r.source r.call) rs)
-notes_kept m [] h = tt
-notes_kept m (r ∷ rs) h = (note_kept m r.source r.call h.0 h.1, notes_kept m rs h.2)
+notes_preserved : (m : Machine) (rs : List Report) → AreReports m rs → Each (IsNoteOf m) (map (λ r. note r.source r.call) rs)
+notes_preserved m [] h = tt
+notes_preserved m (r ∷ rs) h = (note_preserved m r.source r.call h.0 h.1, notes_preserved m rs h.2)
 
 found_kept : (m : Machine) (x : What) (n : Option ℕ) (those : List Answer) → AreAnswers m those → AreReports m (answer_reports (answer_for x n those))
 found_kept m x n [] h = tt
@@ -101,27 +101,27 @@ found_kept m x n (a ∷ rest) h = by_test (is_thing a.what x && is_for a.attempt
     by_test true f = h.3
     by_test false f = f
 
-either_kept : (m : Machine) (own general : Option Answer) → AreReports m (answer_reports own) → AreReports m (answer_reports general) → AreReports m (answer_reports (own_or own general))
-either_kept m None general h g = g
-either_kept m (Some a) general h g = h
+either_preserved : (m : Machine) (own general : Option Answer) → AreReports m (answer_reports own) → AreReports m (answer_reports general) → AreReports m (answer_reports (own_or own general))
+either_preserved m None general h g = g
+either_preserved m (Some a) general h g = h
 
-reports_kept : (m : Machine) → IsAccepted m → (n : ℕ) (k : Kind) → Each (IsNoteOf m) (report_calls m n k)
-reports_kept m acc n (kind.Begin p d) =
-    notes_kept m (answer_reports (answer m (what.Device d p) n))
-    (either_kept m (answer_for (what.Device d p) (Some n) m.answers) (answer_for (what.Device d p) None m.answers) (found_kept m (what.Device d p) (Some n) m.answers acc.answers) (found_kept m (what.Device d p) None m.answers acc.answers))
-reports_kept m acc n _ = tt
+reports_preserved : (m : Machine) → IsAccepted m → (n : ℕ) (k : Kind) → Each (IsNoteOf m) (report_calls m n k)
+reports_preserved m acc n (kind.Begin p d) =
+    notes_preserved m (answer_reports (answer m (what.Device d p) n))
+    (either_preserved m (answer_for (what.Device d p) (Some n) m.answers) (answer_for (what.Device d p) None m.answers) (found_kept m (what.Device d p) (Some n) m.answers acc.answers) (found_kept m (what.Device d p) None m.answers acc.answers))
+reports_preserved m acc n _ = tt
 
 -- ---- all calls of an actor
 
 each_call : (m : Machine) → IsAccepted m → (who : Actor) (past : List Entry) → Each (IsNoteOf m) (calls_of m who past)
-each_call m acc who [] = turn_kept m acc who 0
+each_call m acc who [] = turn_preserved m acc who 0
 each_call m acc who (e ∷ past) = by_same (is_same e.actor who) (each_call m acc who past)
   where
     by_same : (b : Bool) → Each (IsNoteOf m) (calls_of m who past)
-        → Each (IsNoteOf m) (cond b (calls_of m who past ++ report_calls m (attempts past) e.kind ++ calls_behind m who (ends_turn e.kind) (turns_ended who past + 1)) (calls_of m who past))
+        → Each (IsNoteOf m) (cond b (calls_of m who past ++ report_calls m (attempts past) e.kind ++ calls_after_turn m who (ends_turn e.kind) (turns_ended who past + 1)) (calls_of m who past))
     by_same true h =
-        each_append (IsNoteOf m) (calls_of m who past ++ report_calls m (attempts past) e.kind) (calls_behind m who (ends_turn e.kind) (turns_ended who past + 1))
-        (each_append (IsNoteOf m) (calls_of m who past) (report_calls m (attempts past) e.kind) h (reports_kept m acc (attempts past) e.kind)) (behind_kept m acc who (ends_turn e.kind) (turns_ended who past + 1))
+        each_append (IsNoteOf m) (calls_of m who past ++ report_calls m (attempts past) e.kind) (calls_after_turn m who (ends_turn e.kind) (turns_ended who past + 1))
+        (each_append (IsNoteOf m) (calls_of m who past) (report_calls m (attempts past) e.kind) h (reports_preserved m acc (attempts past) e.kind)) (after_kept m acc who (ends_turn e.kind) (turns_ended who past + 1))
     by_same false h = h
 
 -- a call that comes next is on a source of the machine, and no expiry

@@ -29,5 +29,5 @@ is_ranged (kind.CpuOn k) = is_word32 k
 is_ranged _ = true
 
 -- so is its time, and its actor is the machine's (own)
-abbrev pub is_told : Machine → Entry → Bool
-is_told m e = is_word64 e.time && fits_actor m e.actor && is_ranged e.kind
+abbrev pub is_ranged_entry : Machine → Entry → Bool
+is_ranged_entry m e = is_word64 e.time && fits_actor m e.actor && is_ranged e.kind

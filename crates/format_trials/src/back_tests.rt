@@ -1,7 +1,7 @@
 //! Machine files that are written and read back.
 
 use file_read_back::{
-    generated_machines_read_back, machines_are_named, machines_read_back, texts_tell_logs,
+    generated_machines_read_back, log_texts_are_injective, machines_are_named, machines_read_back,
     values_spell_again, versions_spell_alike,
 };
 use machine_file::{read_machine, write_machine};
@@ -35,7 +35,7 @@ fn line_of(alloc: Global, text: &str) -> Result<String, Mem> {
 }
 
 // Whether a file is written so, with a newline, and what is written is written so again.
-fn is_kept(alloc: Global, file: &str, text: &str) -> Result<bool, Mem> {
+fn is_read_back(alloc: Global, file: &str, text: &str) -> Result<bool, Mem> {
     let line = line_of(alloc, text)?;
     let once = is_written(alloc, file, line.as_str()) == Ok(true);
     let again = is_written(alloc, line.as_str(), line.as_str()) == Ok(true);
@@ -45,7 +45,7 @@ fn is_kept(alloc: Global, file: &str, text: &str) -> Result<bool, Mem> {
 // That each of these files is written so.
 fn expect_each(rt: &impl Abort, alloc: Global, files: &[(&str, &str)]) {
     for (file, text) in files {
-        assert!(rt; is_kept(alloc, file, text) == Ok(true), "{file}");
+        assert!(rt; is_read_back(alloc, file, text) == Ok(true), "{file}");
     }
 }
 
@@ -58,7 +58,7 @@ fn laws_are_called(rt: HostRuntime) {
     machines_read_back();
     generated_machines_read_back();
     machines_are_named();
-    texts_tell_logs();
+    log_texts_are_injective();
 }
 
 /// The generated machine of seed 0 with one device, which is written as one line.
@@ -66,7 +66,7 @@ fn laws_are_called(rt: HostRuntime) {
 fn one_generated_device(rt: HostRuntime) {
     let text =
         r#"{"actors":[{"kind":"user","name":"sleeper","repeat":4,"script":[{"op":"read"},{"op":"save"},{"if_saved":true,"op":"state","text":"mem"}]},{"kind":"irq","name":"line","script":[{"ms":289,"op":"sleep"},{"op":"event","source":"s2"},{"ms":677,"op":"sleep"},{"op":"event","source":"s0"},{"ms":904,"op":"sleep"},{"op":"event","source":"s1"},{"ms":428,"op":"sleep"},{"op":"event","source":"s2"}]}],"devices":[{"name":"d0"}],"sources":["s0","s1","s2"],"version":2}"#;
-    assert!(rt; is_kept(rt.alloc(), text, text) == Ok(true));
+    assert!(rt; is_read_back(rt.alloc(), text, text) == Ok(true));
 }
 
 /// What has its default is left out, and so is an empty list; what has not is written. By hand.

@@ -5,7 +5,7 @@ ghost use Rattle.std.specs.Bool.{OnTrue};
 ghost use Rattle.sleep_model.specs.declared.entry.Kind.TheVariants.{LinkAdd};
 ghost use Rattle.sleep_model.specs.Accepted.{IsAccepted};
 ghost use Rattle.sleep_model.specs.Order.{parents_of};
-ghost use Rattle.device_links.specs.Passes.{CanStand};
+ghost use Rattle.device_links.specs.Passes.{CanBeAdded};
 ghost use Rattle.sleep_stats.specs.Linked.{added_by, added_links};
 
 use log_commands::{read_log_input, stats_of};
@@ -72,7 +72,7 @@ fn adds_one(log: &Log) -> bool
 // Whether the machine is that of those devices and the log adds that link: then the links at its end stand.
 #[tactic(auto, using(crate::proofs::Chains::stand))]
 fn is_linked(machine: &Machine, log: &Log) -> bool
-    ensures { OnTrue result (CanStand (parents_of machine.now.devices) (added_links machine.now log.now)) }
+    ensures { OnTrue result (CanBeAdded (parents_of machine.now.devices) (added_links machine.now log.now)) }
 {
     has_devices(machine) && adds_one(log)
 }
@@ -95,7 +95,7 @@ fn is_whole(chain: &Chain) -> bool {
 // Whether the longest chain is that of all three devices, and is certified.
 fn is_longest_sure(alloc: Global, machine: &Machine, log: &Log) -> Result<bool, Mem>
     requires accepted { IsAccepted machine.now }
-    requires stand { CanStand (parents_of machine.now.devices) (added_links machine.now log.now) }
+    requires stand { CanBeAdded (parents_of machine.now.devices) (added_links machine.now log.now) }
 {
     let chain = longest(alloc, machine, log)?;
     let is_whole = is_whole(&chain);
@@ -107,7 +107,7 @@ fn is_longest_sure(alloc: Global, machine: &Machine, log: &Log) -> Result<bool, 
 // Whether the chain without its middle is certified.
 fn is_cut_sure(alloc: Global, machine: &Machine, log: &Log) -> Result<bool, Mem>
     requires accepted { IsAccepted machine.now }
-    requires stand { CanStand (parents_of machine.now.devices) (added_links machine.now log.now) }
+    requires stand { CanBeAdded (parents_of machine.now.devices) (added_links machine.now log.now) }
 {
     let cut = chain_of(alloc, &ENDS)?;
     let sure = certified(alloc, machine, log, &cut);
@@ -116,7 +116,7 @@ fn is_cut_sure(alloc: Global, machine: &Machine, log: &Log) -> Result<bool, Mem>
 }
 
 // Whether the first is so, and the second is not.
-fn are_told_apart(alloc: Global, machine: &Machine, log: &Log) -> bool
+fn are_distinct(alloc: Global, machine: &Machine, log: &Log) -> bool
     requires { IsAccepted machine.now }
 {
     if !is_linked(machine, log) {
@@ -127,10 +127,10 @@ fn are_told_apart(alloc: Global, machine: &Machine, log: &Log) -> bool
 }
 
 // Whether both are so of the machine and the log of an input.
-fn are_told_apart_in(alloc: Global, input: &str) -> bool {
+fn are_distinct_in(alloc: Global, input: &str) -> bool {
     match read_log_input(alloc, input.as_bytes()) {
         Ok(read) => {
-            let are_so = are_told_apart(alloc, &read.machine, &read.log);
+            let are_so = are_distinct(alloc, &read.machine, &read.log);
             drop(read);
             are_so
         }
@@ -141,11 +141,11 @@ fn are_told_apart_in(alloc: Global, input: &str) -> bool {
 /// A longest chain is certified, and one without its middle is none.
 #[test]
 fn the_longest_chain_is_certified(rt: HostRuntime) {
-    assert!(rt; are_told_apart_in(rt.alloc(), LINKED));
+    assert!(rt; are_distinct_in(rt.alloc(), LINKED));
 }
 
 // Whether what is told of an input ends so.
-fn is_told(alloc: Global, input: &str, end: &str) -> bool {
+fn is_written(alloc: Global, input: &str, end: &str) -> bool {
     match stats_of(alloc, input.as_bytes()) {
         Ok(text) => text.as_slice().ends_with(end.as_bytes()),
         Err(_) => false,
@@ -154,6 +154,6 @@ fn is_told(alloc: Global, input: &str, end: &str) -> bool {
 
 /// What is told of it is told of the bytes.
 #[test]
-fn the_longest_chain_is_told(rt: HostRuntime) {
-    assert!(rt; is_told(rt.alloc(), LINKED, CHAIN));
+fn the_longest_chain_is_written(rt: HostRuntime) {
+    assert!(rt; is_written(rt.alloc(), LINKED, CHAIN));
 }

@@ -1,5 +1,5 @@
 use crate::log_tests::{Row, TASK, assert_lines, two_devices};
-use crate::reading_tests::{assert_bad, is_kept};
+use crate::reading_tests::{assert_bad, is_read_back};
 use sleep_base::Errno;
 use sleep_model::{Kind, Machine};
 use std::alloc::Global;
@@ -67,7 +67,7 @@ const BAD_LINKS: [(&str, u32); 7] = [
 // What a log of a machine says of links.
 fn expect_links(rt: &impl Abort, alloc: Global, machine: &Machine) {
     assert_lines(rt, alloc, machine, &OF_LINKS);
-    assert!(rt; is_kept(alloc, machine, LOG) == Ok(true));
+    assert!(rt; is_read_back(alloc, machine, LOG) == Ok(true));
     assert_bad(rt, alloc, machine, &BAD_LINKS);
 }
 

@@ -328,7 +328,7 @@ fn is_text(alloc: Global, machine: &Machine, log: &Log, lines: &str) -> Result<b
 }
 
 // Whether a log does, of that machine.
-fn is_told(alloc: Global, log: &Log, lines: &str) -> Result<bool, Mem> {
+fn is_written(alloc: Global, log: &Log, lines: &str) -> Result<bool, Mem> {
     let machine = machine(alloc)?;
     let is_so = is_text(alloc, &machine, log, lines);
     drop(machine);
@@ -344,7 +344,7 @@ fn log_of(alloc: Global, stats: Vec<Stats>, end: LogEnd) -> Log {
     }
 }
 
-// What is behind the entries of a run that is over.
+// What is after the entries of a run that is over.
 fn finished(alloc: Global) -> Result<Log, Mem> {
     let stats = vec![in alloc; stats(1, 50), stats(0, 0)]?;
     Ok(log_of(alloc, stats, LogEnd::Finished))
@@ -355,7 +355,7 @@ const FINISHED: &str = "source lid 1 1 0 0 50 50 50\nsource autosleep 0 0 0 0 0 
 #[test]
 fn writes_sources_and_end(rt: HostRuntime) -> Result<(), Fail> {
     let log = finished(rt.alloc())?;
-    assert!(rt; is_told(rt.alloc(), &log, FINISHED) == Ok(true));
+    assert!(rt; is_written(rt.alloc(), &log, FINISHED) == Ok(true));
     drop(log);
     Ok(())
 }
@@ -371,7 +371,7 @@ const WAITS: [Waiting; 2] = [
     },
 ];
 
-// What is behind the entries of a run that is stuck.
+// What is after the entries of a run that is stuck.
 fn stuck(alloc: Global) -> Result<Log, Mem> {
     let waits = WAITS.to_vec(alloc)?;
     Ok(log_of(alloc, Vec::new(alloc), LogEnd::Stuck(ListOf::of_vec(waits))))
@@ -382,7 +382,7 @@ const STUCK: &str = "stuck task:w mark a\nstuck task:w read\n";
 #[test]
 fn writes_who_is_stuck(rt: HostRuntime) -> Result<(), Fail> {
     let log = stuck(rt.alloc())?;
-    assert!(rt; is_told(rt.alloc(), &log, STUCK) == Ok(true));
+    assert!(rt; is_written(rt.alloc(), &log, STUCK) == Ok(true));
     drop(log);
     Ok(())
 }

@@ -15,7 +15,7 @@ fn file(alloc: Global, more: &str, operations: &str) -> Result<String, AllocErro
     )
 }
 
-// The number of the rule that is named, and 0 where none is.
+// The number of the rule that is named, and 0 if none is.
 fn rule_of(read: &Result<ReadMachine, MachineFault>) -> u8 {
     match read {
         Err(MachineFault::Rule { rule, .. }) => *rule,
@@ -294,7 +294,7 @@ const MAKERS: [(&str, u8, &str); 2] = [
     ),
 ];
 
-/// An operation that its maker may not make, which is tested behind the form of all.
+/// An operation that its maker may not make, which is tested after the form of all.
 #[test]
 fn makers_that_break_a_rule(rt: HostRuntime) {
     expect_each(&rt, rt.alloc(), &MAKERS);

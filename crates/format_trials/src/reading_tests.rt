@@ -49,7 +49,7 @@ const SEVERAL: &str = "0 0/0/0 task:w save 0 ok\n\
 1000 0/0/0 auto after busy\n\
 source lid 1 1 0 0 50 50 50\nsource autosleep 0 0 0 0 0 0 0\n";
 
-// The line of the fault of this text, and 0 where it is a log.
+// The line of the fault of this text, and 0 if it is a log.
 fn bad_line(alloc: Global, machine: &Machine, text: &str) -> Result<u32, LogFault> {
     match read_log(alloc, machine, text.as_bytes()) {
         Ok(_) => Ok(0),
@@ -67,27 +67,32 @@ fn written_again(alloc: Global, machine: &Machine, text: &str) -> Result<Vec<u8>
 }
 
 // Whether the text is a log, of which the text is written again.
-pub fn is_kept(alloc: Global, machine: &Machine, text: &str) -> Result<bool, LogFault> {
+pub fn is_read_back(alloc: Global, machine: &Machine, text: &str) -> Result<bool, LogFault> {
     let again = written_again(alloc, machine, text)?;
     Ok(again.as_slice() == text.as_bytes())
 }
 
-// Lines, and more behind them.
+// Lines, and more after them.
 fn with_end(alloc: Global, lines: &str, end: &str) -> Result<String, Mem> {
     let mut text = String::from_str(alloc, lines)?;
     text.push_str(end)?;
     Ok(text)
 }
 
-// Whether lines with more behind them are.
-fn are_kept(alloc: Global, machine: &Machine, lines: &str, end: &str) -> Result<bool, LogFault> {
+// Whether lines with more after them are.
+fn are_read_back(
+    alloc: Global,
+    machine: &Machine,
+    lines: &str,
+    end: &str,
+) -> Result<bool, LogFault> {
     let text = with_end(alloc, lines, end)?;
-    is_kept(alloc, machine, text.as_str())
+    is_read_back(alloc, machine, text.as_str())
 }
 
 // Lines of the only task, which are kept with their end, and of which line 33, the last one, is cut off.
 fn expect_one_task(rt: &impl Abort, alloc: Global, machine: &Machine) {
-    assert!(rt; are_kept(alloc, machine, SLEEPS_ONCE, "finished\n") == Ok(true));
+    assert!(rt; are_read_back(alloc, machine, SLEEPS_ONCE, "finished\n") == Ok(true));
     assert!(rt; bad_line(alloc, machine, SLEEPS_ONCE) == Ok(33));
 }
 
@@ -117,7 +122,7 @@ const BAD_ENTRIES: [(&str, u32); 8] = [
     ("0 0/0/0 task:w exit\n0 0/0/0 task:w post b\n", 2),
 ];
 
-const BAD_BEHIND: [(&str, u32); 6] = [
+const BAD_AFTER_END: [(&str, u32); 6] = [
     ("", 1),
     ("source autosleep 0 0 0 0 0 0 0\n", 1),
     ("source lid 0 0 0 0 0 0 0\nfinished\n", 2),
@@ -135,12 +140,12 @@ const BAD_BEHIND: [(&str, u32); 6] = [
     ),
 ];
 
-// Entries of several things, which are kept, and the first bad line of entries and behind them.
+// Entries of several things, which are kept, and the first bad line of entries and after them.
 fn expect_several(rt: &impl Abort, alloc: Global, machine: &Machine) {
     let stuck = "stuck task:w read\nstuck task:b mark a\n";
-    assert!(rt; are_kept(alloc, machine, SEVERAL, stuck) == Ok(true));
+    assert!(rt; are_read_back(alloc, machine, SEVERAL, stuck) == Ok(true));
     assert_bad(rt, alloc, machine, &BAD_ENTRIES);
-    assert_bad(rt, alloc, machine, &BAD_BEHIND);
+    assert_bad(rt, alloc, machine, &BAD_AFTER_END);
 }
 
 #[test]

@@ -7,17 +7,17 @@ use Rattle.program_ending.specs.declared.ending.Ending.TheVariants.{Done, Stuck,
 use Rattle.program_ending.specs.Streams.{Stream, Writes}
 use Rattle.idle_commands.specs.Endings.{IdleEnded}
 
--- want of memory, before anything was written
+-- out of memory, before anything was written
 pub idle_none : (z : IdleSizes) (now : Stream) (ending : Ending) → ending ≡ NoMemory → IdleEnded z now now ending
 idle_none z now ending is = subst (IdleEnded z now now) (sym is) refl
 
 -- a text that was written, or a front of it
-pub idle_written : (z : IdleSizes) (old new : Stream) (said : List ℕ) (ending : Ending) → IsIdleText z said → Writes old new said false ending → IdleEnded z old new ending
-idle_written z old new said Done is h = (said, is, h)
-idle_written z old new said Stuck is h = (said, is, h)
-idle_written z old new said Illegal is h = (said, is, h)
-idle_written z old new said NoForm is h = (said, is, h)
-idle_written z old new said ReadFault is h = (said, is, h)
-idle_written z old new said WriteFault is h = (said, is, h)
-idle_written z old new said (Refused refusal) is h = (said, is, h)
-idle_written z old new said NoMemory is h = absurd h
+pub idle_written : (z : IdleSizes) (old new : Stream) (shown_text : List ℕ) (ending : Ending) → IsIdleText z shown_text → Writes old new shown_text false ending → IdleEnded z old new ending
+idle_written z old new shown_text Done is h = (shown_text, is, h)
+idle_written z old new shown_text Stuck is h = (shown_text, is, h)
+idle_written z old new shown_text Illegal is h = (shown_text, is, h)
+idle_written z old new shown_text NoForm is h = (shown_text, is, h)
+idle_written z old new shown_text ReadFault is h = (shown_text, is, h)
+idle_written z old new shown_text WriteFault is h = (shown_text, is, h)
+idle_written z old new shown_text (Refused refusal) is h = (shown_text, is, h)
+idle_written z old new shown_text NoMemory is h = absurd h

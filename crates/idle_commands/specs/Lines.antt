@@ -21,8 +21,8 @@ abbrev pub who_text : ℕ → ℕ → List ℕ
 who_text wakers who = if who == wakers then codes " idle" else codes " waker:" ++ decimal who
 
 -- the line of an entry: how many hard events stand before it, who, and what (own)
-abbrev pub line : ℕ → IdleEntry → List ℕ
-line wakers e = decimal e.hard ++ (who_text wakers e.who ++ what_text e.what)
+abbrev pub idle_line : ℕ → IdleEntry → List ℕ
+idle_line wakers e = decimal e.hard ++ (who_text wakers e.who ++ what_text e.what)
 
 -- the last line (own)
 abbrev pub end_line : Bool → List ℕ
@@ -30,8 +30,8 @@ end_line idle = if idle then codes "end idle\n" else codes "end over\n"
 
 -- the text of a log (own)
 abbrev pub log_text : ℕ → IdleLog → List ℕ
-log_text wakers log = flat_map (line wakers) log.entries.items ++ end_line log.idle
+log_text wakers log = flat_map (idle_line wakers) log.entries.items ++ end_line log.idle
 
 -- it is the text of a whole run of these sizes (s2idle_loop)
 abbrev pub IsIdleText : IdleSizes → List ℕ → Type 0
-IsIdleText z said = (log : IdleLog) × IsIdleRun z log × (said ≡ log_text z.wakers log)
+IsIdleText z shown_text = (log : IdleLog) × IsIdleRun z log × (shown_text ≡ log_text z.wakers log)

@@ -7,14 +7,14 @@ ghost use Rattle.program_ending.specs.Streams.{stream};
 
 use crate::text::log_text;
 use idle_loop::{IdleSizes, run_idle};
-use program_ending::{Ending, Said, write_said};
+use program_ending::{Ending, RunText, write_run_text};
 use sleep_base::ByteSink;
 use std::alloc::Global;
 use std::sync::Wait;
 use std::thread::Threads;
 
 /// What the command `idle` writes: the text of the log of a run by 1 to 64 workers. There are 1 to 16 wakers, and 1
-/// to 1,000 events and sessions. `NoMemory` comes for want of memory.
+/// to 1,000 events and sessions. `NoMemory` comes if it is out of memory.
 pub fn idle_of<R: Threads + Wait + Sync>(
     rt: &R,
     alloc: Global,
@@ -23,7 +23,7 @@ pub fn idle_of<R: Threads + Wait + Sync>(
 ) -> Result<Vec<u8>, Ending>
     requires sizes { AreSizes sizes }
     requires workers { (1 ≤ workers) × (workers ≤ 64) }
-    ensures text { IfOk result (λ said. IsIdleText sizes said.items) }
+    ensures text { IfOk result (λ shown_text. IsIdleText sizes shown_text.items) }
     ensures memory { IfErr result (λ other. other ≡ ending.NoMemory) }
 {
     let Ok(log) = run_idle(rt, alloc, sizes, workers as u8) else {
@@ -37,7 +37,7 @@ pub fn idle_of<R: Threads + Wait + Sync>(
 
 /// Runs wakers against the idler by 1 to 64 workers, and writes the log of the run.
 #[tactic(auto, using(crate::proofs::Idling::idle_none, crate::proofs::Idling::idle_written))]
-pub fn tell_idle<R: Threads + Wait + Sync, K: ByteSink>(
+pub fn write_idle<R: Threads + Wait + Sync, K: ByteSink>(
     rt: &R,
     alloc: Global,
     sizes: IdleSizes,
@@ -49,7 +49,7 @@ pub fn tell_idle<R: Threads + Wait + Sync, K: ByteSink>(
     ensures { IdleEnded sizes (stream (K.written out.old) (K.faults out.old)) (stream (K.written out.new) (K.faults out.new)) result }
 {
     match idle_of(rt, alloc, sizes, workers) {
-        Ok(text) => write_said(out, &Said { text, stuck: false }),
+        Ok(text) => write_run_text(out, &RunText { text, stuck: false }),
         Err(ending) => ending,
     }
 }

@@ -4,7 +4,7 @@
 //!
 //! Promises: What the command `idle` writes is the text of such a log, line by line: how many hard events stand
 //! before an entry, who made it, and what. Only out of memory comes in its place. By the clauses of `idle_of`:
-//! `text`, `memory`; `tell_idle`.
+//! `text`, `memory`; `write_idle`.
 //!
 //! Begin reading in `src/text.rt`, `src/command.rt`; `specs/Lines.antt`, `specs/Endings.antt`.
 #![tactic(auto)]
@@ -12,4 +12,4 @@
 mod command;
 mod text;
 
-pub use command::{idle_of, tell_idle};
+pub use command::{idle_of, write_idle};

@@ -1,5 +1,5 @@
 ghost use Rattle.std.specs.Prelude.{◌≡◌, ◌++◌, IfOk, OnOk, decimal, flat_map};
-ghost use Rattle.idle_commands.specs.Lines.{end_line, line, log_text, what_text, who_text};
+ghost use Rattle.idle_commands.specs.Lines.{end_line, idle_line, log_text, what_text, who_text};
 
 use idle_loop::{IdleEntry, IdleKind, IdleLog};
 use itoa::Buffer;
@@ -19,14 +19,14 @@ fn what_text(what: IdleKind) -> &'static str
     }
 }
 
-/// Puts a text behind others.
+/// Puts a text after others.
 fn push_text(out: &mut Vec<u8>, text: &str) -> Result<(), AllocError>
     ensures { OnOk result (out.new.items ≡ out.old.items ++ text.now) }
 {
     out.extend_from_slice(text.as_bytes())
 }
 
-/// Puts a number behind others.
+/// Puts a number after others.
 fn push_number(out: &mut Vec<u8>, number: u32) -> Result<(), AllocError>
     ensures { OnOk result (out.new.items ≡ out.old.items ++ decimal number) }
 {
@@ -47,7 +47,7 @@ fn push_who(out: &mut Vec<u8>, wakers: u32, who: u32) -> Result<(), AllocError>
 
 /// Puts the line of an entry.
 fn push_line(out: &mut Vec<u8>, wakers: u32, entry: IdleEntry) -> Result<(), AllocError>
-    ensures { OnOk result (out.new.items ≡ out.old.items ++ line wakers entry) }
+    ensures { OnOk result (out.new.items ≡ out.old.items ++ idle_line wakers entry) }
 {
     push_number(out, entry.hard)?;
     push_who(out, wakers, entry.who)?;
@@ -56,7 +56,7 @@ fn push_line(out: &mut Vec<u8>, wakers: u32, entry: IdleEntry) -> Result<(), All
 
 /// Puts the lines of entries, the oldest first.
 fn push_lines(out: &mut Vec<u8>, wakers: u32, entries: &[IdleEntry]) -> Result<(), AllocError>
-    ensures { OnOk result (out.new.items ≡ out.old.items ++ flat_map (line wakers) entries.now) }
+    ensures { OnOk result (out.new.items ≡ out.old.items ++ flat_map (idle_line wakers) entries.now) }
 {
     for entry in entries {
         push_line(out, wakers, *entry)?;

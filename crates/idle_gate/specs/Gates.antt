@@ -33,7 +33,7 @@ is_waked state.Idle = false
 is_waked state.Enter = false
 is_waked state.Wake = true
 
--- the state behind the wait: one that was waked is awake (s2idle_enter)
+-- the state after the wait: one that was waked is awake (s2idle_enter)
 abbrev pub left : IdleState → IdleState
 left state.Idle = state.Idle
 left state.Enter = state.Enter

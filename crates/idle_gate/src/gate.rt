@@ -52,7 +52,7 @@ impl<const BITS: u32> IdleGate<BITS> {
         self.begun += 1;
     }
 
-    /// Looks, and enters exactly where no wakeup is pending; else the session ends (`s2idle_enter`).
+    /// Looks, and enters exactly if no wakeup is pending; else the session ends (`s2idle_enter`).
     pub fn try_enter(&mut self, now: EventNow) -> bool
         requires open { self.old.in_session ≡ true }
         requires state { self.old.state ≡ IdleState.Idle }
@@ -76,7 +76,7 @@ impl<const BITS: u32> IdleGate<BITS> {
         }
     }
 
-    /// Comes back from idle, where a waker has called. Whether one has (`s2idle_enter`, behind its wait).
+    /// Comes back from idle, where a waker has called. Whether one has (`s2idle_enter`, after its wait).
     pub fn leave(&mut self) -> bool
         ensures answer { result ≡ is_waked self.old.state }
         ensures after { self.new ≡ record self.old { state = left self.old.state } }

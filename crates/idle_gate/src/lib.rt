@@ -5,7 +5,7 @@
 //! Promises: The idler's calls do what the rule says, for 1 to 24 visible bits: a session forgets the hard events
 //! so far, a look enters exactly if none came since, a wake calls an idler that has entered, and one that was
 //! called comes back. A waker is through if it has made the wake of each of its hard events. By the clauses of
-//! `IdleGate::begin`, `try_enter`, `wake`, `leave`; `WakerNow::is_through`.
+//! `IdleGate::begin`, `try_enter`, `wake`, `leave`; `WakerNow::is_done`.
 //!
 //! Begin reading in `src/gate.rt`, `specs/Gates.antt`.
 #![tactic(auto)]

@@ -9,7 +9,7 @@ impl WakerNow {
     ghost use Rattle.std.specs.Prelude.{◌≡◌, not, nat_lt};
 
     /// Whether it has made the wake of its last hard event, of which it makes that many (`s2idle_wake`).
-    pub fn is_through(self, events: u32) -> bool
+    pub fn is_done(self, events: u32) -> bool
         ensures { result ≡ not (nat_lt self.wakes events) }
     {
         self.wakes >= events

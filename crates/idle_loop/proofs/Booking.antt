@@ -16,7 +16,7 @@ use Rattle.idle_loop.proofs.Races.{own_adds, other_adds}
 use Rattle.std.proofs.lemmas.Bool.{false≢true}
 use Rattle.idle_gate.specs.Gates as gates
 use Rattle.idle_gate.specs.Gates.{Gate, left}
-use Rattle.idle_loop.specs.Books.{IsBook, AreCounted, Forgot, most_of}
+use Rattle.idle_loop.specs.GateLogs.{IsGateLog, AreCounted, Forgot, most_of}
 use Rattle.idle_loop.specs.Merging.{SeesInOrder, SeeMore, MayEnter, IsJournal, forgot_by, forgotten}
 
 -- all wakes of a journal
@@ -58,8 +58,8 @@ IsWaked state.Idle = ⊥
 IsWaked state.Enter = ⊥
 IsWaked state.Wake = Unit {0}
 
-is_waked : (s : IdleState) → s ≡ state.Wake → IsWaked s
-is_waked s is = subst IsWaked (sym is) tt
+waked_is : (s : IdleState) → s ≡ state.Wake → IsWaked s
+waked_is s is = subst IsWaked (sym is) tt
 
 owe_after : (s : IdleState) (hard : ℕ) → IsAwake s → owing s (Some hard) ≡ 1
 owe_after state.Idle hard awake = refl
@@ -93,7 +93,7 @@ idle_owes (Some f) = omega arith
 
 leave_room : (s : IdleState) (f : Option ℕ) (n w b : ℕ) → s ≡ state.Wake → n + owing s f ≤ 3 * w + 2 * b → suc n + owing state.Idle f ≤ 3 * (w + 0) + 2 * (b + 0)
 leave_room s f n w b waked room =
-    let two : owing s f ≡ 2 = two_owed s f (is_waked s waked) in
+    let two : owing s f ≡ 2 = two_owed s f (waked_is s waked) in
     let one : owing state.Idle f ≤ 1 = idle_owes f in omega (arith, room)
 
 -- a waked gate owes two in every session, an idle one at most one
@@ -172,34 +172,34 @@ few_wakes z journal legal few =
     omega arith
 
 -- a begin has room
-pub room_begin : (z : IdleSizes) (gate : Gate) (journal : List IdleEntry) → IsBook z gate journal → gate.begun < z.sessions → length journal < most_of z
-room_begin z gate journal book few =
-    let room : length journal + owing (state_after journal) (forgotten journal) ≤ 3 * wakes journal + 2 * begun journal = journal_room z journal book.legal in
-    let least : wakes journal ≤ z.wakers * z.events = few_wakes z journal book.legal book.few in
-    let same : gate.begun ≡ begun journal = book.begun.0 in
+pub room_begin : (z : IdleSizes) (gate : Gate) (journal : List IdleEntry) → IsGateLog z gate journal → gate.begun < z.sessions → length journal < most_of z
+room_begin z gate journal gate_log few =
+    let room : length journal + owing (state_after journal) (forgotten journal) ≤ 3 * wakes journal + 2 * begun journal = journal_room z journal gate_log.legal in
+    let least : wakes journal ≤ z.wakers * z.events = few_wakes z journal gate_log.legal gate_log.few in
+    let same : gate.begun ≡ begun journal = gate_log.begun.0 in
     omega arith
 
 -- so has every entry of a gate that keeps to its sizes
-pub room_any : (z : IdleSizes) (gate : Gate) (journal : List IdleEntry) → IsBook z gate journal → length journal < most_of z
-room_any z gate journal book =
-    let room : length journal + owing (state_after journal) (forgotten journal) ≤ 3 * wakes journal + 2 * begun journal = journal_room z journal book.legal in
-    let least : wakes journal ≤ z.wakers * z.events = few_wakes z journal book.legal book.few in
-    let most : begun journal ≤ z.sessions = book.begun.1 in
+pub room_any : (z : IdleSizes) (gate : Gate) (journal : List IdleEntry) → IsGateLog z gate journal → length journal < most_of z
+room_any z gate journal gate_log =
+    let room : length journal + owing (state_after journal) (forgotten journal) ≤ 3 * wakes journal + 2 * begun journal = journal_room z journal gate_log.legal in
+    let least : wakes journal ≤ z.wakers * z.events = few_wakes z journal gate_log.legal gate_log.few in
+    let most : begun journal ≤ z.sessions = gate_log.begun.1 in
     omega arith
 
 -- there is a reserved place for one more entry
-pub room_left : (z : IdleSizes) (gate : Gate) (items : List IdleEntry) (places : ℕ) → IsBook z gate (reverse items) → (len : ℕ) → len ≡ length items → most_of z ≤ places → len < places
-room_left z gate items places book len is most =
-    let low : length (reverse items) < most_of z = room_any z gate (reverse items) book in
+pub room_left : (z : IdleSizes) (gate : Gate) (items : List IdleEntry) (ranks : ℕ) → IsGateLog z gate (reverse items) → (len : ℕ) → len ≡ length items → most_of z ≤ ranks → len < ranks
+room_left z gate items ranks gate_log len is most =
+    let low : length (reverse items) < most_of z = room_any z gate (reverse items) gate_log in
     let same : length (reverse items) ≡ length items = length-reverse items in
     omega arith
 
 -- the journal with one more entry, by its items
-pub book_grown : (z : IdleSizes) (gate next : Gate) (items more : List IdleEntry) (e : IdleEntry) → next ≡ gate → more ≡ items ++ e ∷ [] → IsBook z gate (e ∷ reverse items) → IsBook z next (reverse more)
-book_grown z gate next items more e is grown book =
-    subst (λ (es : List IdleEntry). IsBook z next (reverse es)) (sym grown)
-    (subst (λ (es : List IdleEntry). IsBook z next es) (sym (reverse-append items (e ∷ [])))
-    (subst (λ (h : Gate). IsBook z h (e ∷ reverse items)) (sym is) book))
+pub gate_log_grown : (z : IdleSizes) (gate next : Gate) (items more : List IdleEntry) (e : IdleEntry) → next ≡ gate → more ≡ items ++ e ∷ [] → IsGateLog z gate (e ∷ reverse items) → IsGateLog z next (reverse more)
+gate_log_grown z gate next items more e is grown gate_log =
+    subst (λ (es : List IdleEntry). IsGateLog z next (reverse es)) (sym grown)
+    (subst (λ (es : List IdleEntry). IsGateLog z next es) (sym (reverse-append items (e ∷ [])))
+    (subst (λ (h : Gate). IsGateLog z h (e ∷ reverse items)) (sym is) gate_log))
 
 less_more : (n a most : ℕ) → n ≤ most → a ≡ 0 → n + a ≤ most
 less_more n a most low none = omega arith
@@ -215,44 +215,44 @@ forgot_some : (hard : ℕ) (f : Option ℕ) → Forgot true hard f → f ≡ Som
 forgot_some hard None is = absurd is
 forgot_some hard (Some f) is = ap (λ (n : ℕ). Some n) (sym is)
 
-pub book_begin : (z : IdleSizes) (g : Gate) (journal : List IdleEntry) (hard : ℕ) → IsBook z g journal → g.in_session ≡ false → g.begun < z.sessions
-    → IsBook z (record g { in_session = true; begun = g.begun + 1; forgotten = hard }) (record { hard = hard; who = z.wakers; what = Begin } ∷ journal)
-book_begin z g journal hard book none few =
+pub gate_log_begin : (z : IdleSizes) (g : Gate) (journal : List IdleEntry) (hard : ℕ) → IsGateLog z g journal → g.in_session ≡ false → g.begun < z.sessions
+    → IsGateLog z (record g { in_session = true; begun = g.begun + 1; forgotten = hard }) (record { hard = hard; who = z.wakers; what = Begin } ∷ journal)
+gate_log_begin z g journal hard gate_log none few =
     let e : IdleEntry = record { hard = hard; who = z.wakers; what = Begin } in
-    let same : g.begun ≡ begun journal = book.begun.0 in
+    let same : g.begun ≡ begun journal = gate_log.begun.0 in
     record {
-      sizes = book.sizes;
-      legal = ((refl, forgot_none g.forgotten (forgotten journal) (subst (λ (b : Bool). Forgot b g.forgotten (forgotten journal)) none book.session), omega arith), book.legal);
-      few = still_few z journal e refl book.few;
-      state = book.state;
+      sizes = gate_log.sizes;
+      legal = ((refl, forgot_none g.forgotten (forgotten journal) (subst (λ (b : Bool). Forgot b g.forgotten (forgotten journal)) none gate_log.session), omega arith), gate_log.legal);
+      few = still_few z journal e refl gate_log.few;
+      state = gate_log.state;
       session = refl;
       begun = (ap (λ (n : ℕ). n + 1) same, omega arith);
     }
 
-pub book_ok : (z : IdleSizes) (g : Gate) (journal : List IdleEntry) (hard : ℕ) → IsBook z g journal → g.in_session ≡ true → g.state ≡ state.Idle → hard ≡ g.forgotten
-    → IsBook z (record g { state = state.Enter }) (record { hard = hard; who = z.wakers; what = TryOk } ∷ journal)
-book_ok z g journal hard book opened idle same =
+pub gate_log_ok : (z : IdleSizes) (g : Gate) (journal : List IdleEntry) (hard : ℕ) → IsGateLog z g journal → g.in_session ≡ true → g.state ≡ state.Idle → hard ≡ g.forgotten
+    → IsGateLog z (record g { state = state.Enter }) (record { hard = hard; who = z.wakers; what = TryOk } ∷ journal)
+gate_log_ok z g journal hard gate_log opened idle same =
     let e : IdleEntry = record { hard = hard; who = z.wakers; what = TryOk } in
     record {
-      sizes = book.sizes;
-      legal = ((refl, sym book.state ∙ idle, forgot_some g.forgotten (forgotten journal) (subst (λ (b : Bool). Forgot b g.forgotten (forgotten journal)) opened book.session) ∙ ap (λ (n : ℕ). Some n) (sym same)), book.legal);
-      few = still_few z journal e refl book.few;
+      sizes = gate_log.sizes;
+      legal = ((refl, sym gate_log.state ∙ idle, forgot_some g.forgotten (forgotten journal) (subst (λ (b : Bool). Forgot b g.forgotten (forgotten journal)) opened gate_log.session) ∙ ap (λ (n : ℕ). Some n) (sym same)), gate_log.legal);
+      few = still_few z journal e refl gate_log.few;
       state = refl;
-      session = book.session;
-      begun = (book.begun.0 ∙ sym (none_add (begun journal) 0 refl), less_more (begun journal) 0 z.sessions book.begun.1 refl);
+      session = gate_log.session;
+      begun = (gate_log.begun.0 ∙ sym (none_add (begun journal) 0 refl), less_more (begun journal) 0 z.sessions gate_log.begun.1 refl);
     }
 
-pub book_busy : (z : IdleSizes) (g : Gate) (journal : List IdleEntry) (hard : ℕ) → IsBook z g journal → g.in_session ≡ true → g.state ≡ state.Idle → g.forgotten < hard
-    → IsBook z (record g { in_session = false }) (record { hard = hard; who = z.wakers; what = TryBusy } ∷ journal)
-book_busy z g journal hard book opened idle less =
+pub gate_log_busy : (z : IdleSizes) (g : Gate) (journal : List IdleEntry) (hard : ℕ) → IsGateLog z g journal → g.in_session ≡ true → g.state ≡ state.Idle → g.forgotten < hard
+    → IsGateLog z (record g { in_session = false }) (record { hard = hard; who = z.wakers; what = TryBusy } ∷ journal)
+gate_log_busy z g journal hard gate_log opened idle less =
     let e : IdleEntry = record { hard = hard; who = z.wakers; what = TryBusy } in
     record {
-      sizes = book.sizes;
-      legal = ((refl, sym book.state ∙ idle, g.forgotten, forgot_some g.forgotten (forgotten journal) (subst (λ (b : Bool). Forgot b g.forgotten (forgotten journal)) opened book.session), less), book.legal);
-      few = still_few z journal e refl book.few;
-      state = book.state;
+      sizes = gate_log.sizes;
+      legal = ((refl, sym gate_log.state ∙ idle, g.forgotten, forgot_some g.forgotten (forgotten journal) (subst (λ (b : Bool). Forgot b g.forgotten (forgotten journal)) opened gate_log.session), less), gate_log.legal);
+      few = still_few z journal e refl gate_log.few;
+      state = gate_log.state;
       session = tt;
-      begun = (book.begun.0 ∙ sym (none_add (begun journal) 0 refl), less_more (begun journal) 0 z.sessions book.begun.1 refl);
+      begun = (gate_log.begun.0 ∙ sym (none_add (begun journal) 0 refl), less_more (begun journal) 0 z.sessions gate_log.begun.1 refl);
     }
 
 few_after : (z : IdleSizes) (journal : List IdleEntry) (hard who k : ℕ) → wakes_of who journal < z.events → wakes_of k journal ≤ z.events → wakes_of k journal + (if who == k then 1 else 0) ≤ z.events
@@ -261,15 +261,15 @@ few_after z journal hard who k low few = dite (ℕ_discrete who k)
     subst (λ (a : ℕ). wakes_of k journal + a ≤ z.events) (sym one) (omega (arith, less)))
     (λ (other : who ≢ k). less_more (wakes_of k journal) (if who == k then 1 else 0) z.events few (other_adds who k 1 other))
 
-pub book_wake : (z : IdleSizes) (g : Gate) (journal : List IdleEntry) (hard who : ℕ) → IsBook z g journal → who < z.wakers → wakes_of who journal < z.events
-    → IsBook z (record g { state = woken g.state }) (record { hard = hard; who = who; what = Wake } ∷ journal)
-book_wake z g journal hard who book low few = record {
-  sizes = book.sizes;
-  legal = (low, book.legal);
-  few = λ k. few_after z journal hard who k few (book.few k);
-  state = ap woken book.state;
-  session = book.session;
-  begun = (book.begun.0 ∙ sym (none_add (begun journal) 0 refl), less_more (begun journal) 0 z.sessions book.begun.1 refl);
+pub gate_log_wake : (z : IdleSizes) (g : Gate) (journal : List IdleEntry) (hard who : ℕ) → IsGateLog z g journal → who < z.wakers → wakes_of who journal < z.events
+    → IsGateLog z (record g { state = woken g.state }) (record { hard = hard; who = who; what = Wake } ∷ journal)
+gate_log_wake z g journal hard who gate_log low few = record {
+  sizes = gate_log.sizes;
+  legal = (low, gate_log.legal);
+  few = λ k. few_after z journal hard who k few (gate_log.few k);
+  state = ap woken gate_log.state;
+  session = gate_log.session;
+  begun = (gate_log.begun.0 ∙ sym (none_add (begun journal) 0 refl), less_more (begun journal) 0 z.sessions gate_log.begun.1 refl);
 }
 
 -- no hard event came, and one came, by the look
@@ -292,26 +292,26 @@ left_same state.Idle is = refl
 left_same state.Enter is = refl
 left_same state.Wake is = absurd (false≢true (sym is))
 
-pub book_leave : (z : IdleSizes) (g : Gate) (journal : List IdleEntry) (hard : ℕ) → IsBook z g journal → gates.is_waked g.state ≡ true → IsBook z (record g { state = left g.state }) (record { hard = hard; who = z.wakers; what = Leave } ∷ journal)
-book_leave z g journal hard book waked =
+pub gate_log_leave : (z : IdleSizes) (g : Gate) (journal : List IdleEntry) (hard : ℕ) → IsGateLog z g journal → gates.is_waked g.state ≡ true → IsGateLog z (record g { state = left g.state }) (record { hard = hard; who = z.wakers; what = Leave } ∷ journal)
+gate_log_leave z g journal hard gate_log waked =
     let e : IdleEntry = record { hard = hard; who = z.wakers; what = Leave } in
     record {
-      sizes = book.sizes;
-      legal = ((refl, sym book.state ∙ is_wake_state g.state waked), book.legal);
-      few = still_few z journal e refl book.few;
+      sizes = gate_log.sizes;
+      legal = ((refl, sym gate_log.state ∙ is_wake_state g.state waked), gate_log.legal);
+      few = still_few z journal e refl gate_log.few;
       state = left_idle g.state (is_wake_state g.state waked);
-      session = book.session;
-      begun = (book.begun.0 ∙ sym (none_add (begun journal) 0 refl), less_more (begun journal) 0 z.sessions book.begun.1 refl);
+      session = gate_log.session;
+      begun = (gate_log.begun.0 ∙ sym (none_add (begun journal) 0 refl), less_more (begun journal) 0 z.sessions gate_log.begun.1 refl);
     }
 
-pub book_stays : (z : IdleSizes) (g : Gate) (journal : List IdleEntry) → IsBook z g journal → gates.is_waked g.state ≡ false → IsBook z (record g { state = left g.state }) journal
-book_stays z g journal book not_waked = record {
-  sizes = book.sizes;
-  legal = book.legal;
-  few = book.few;
-  state = left_same g.state not_waked ∙ book.state;
-  session = book.session;
-  begun = book.begun;
+pub gate_log_stays : (z : IdleSizes) (g : Gate) (journal : List IdleEntry) → IsGateLog z g journal → gates.is_waked g.state ≡ false → IsGateLog z (record g { state = left g.state }) journal
+gate_log_stays z g journal gate_log not_waked = record {
+  sizes = gate_log.sizes;
+  legal = gate_log.legal;
+  few = gate_log.few;
+  state = left_same g.state not_waked ∙ gate_log.state;
+  session = gate_log.session;
+  begun = gate_log.begun;
 }
 
 saw_raised : (seen hard : ℕ) (journal : List IdleEntry) → seen ≤ hard → SeesInOrder seen journal → SeesInOrder hard journal

@@ -8,21 +8,21 @@ use Rattle.std.proofs.lemmas.List.{append-nil, length-map, reverse-append, rever
 use Rattle.atomic_table.specs.Seated.{TableId}
 use Rattle.idle_loop.specs.declared.entry.IdleEntry.{IdleEntry}
 use Rattle.idle_loop.specs.declared.entry.IdleSizes.{IdleSizes}
-use Rattle.idle_loop.specs.Books.{Book}
+use Rattle.idle_loop.specs.GateLogs.{GateLogState}
 use Rattle.turn_lock.specs.declared.table.Pass.{Pass}
 use Rattle.turn_lock.specs.declared.table.LockTable.{LockTable}
 use Rattle.turn_lock.specs.declared.view.Made.{Made}
-use Rattle.turn_lock.specs.Books.{AreBelow, bare, made, made_by, of_object}
+use Rattle.turn_lock.specs.Bookings.{AreBelow, empty, made, made_by, of_object}
 use Rattle.turn_lock.specs.Locks.{AreClosed}
 use Rattle.turn_lock.specs.Passes.{Token, AreAll, IsPass, first_of, made_of, number_of}
 use Rattle.turn_lock.specs.Passing.{made_lists, tokens}
-use Rattle.idle_loop.specs.declared.burst.Crew.{Crew}
-use Rattle.idle_loop.specs.declared.parts.Part.{Part}
-use Rattle.idle_loop.specs.declared.parts.Part.TheVariants as part
-use Rattle.idle_loop.specs.declared.worker.Worker.{Worker}
+use Rattle.idle_loop.specs.declared.burst.WorkerPool.{WorkerPool}
+use Rattle.idle_loop.specs.declared.roles.Role.{Role}
+use Rattle.idle_loop.specs.declared.roles.Role.TheVariants as role
+use Rattle.idle_loop.specs.declared.worker.IdleWorker.{IdleWorker}
 use Rattle.idle_loop.specs.Turns.{AreBy, entries_in, own_of, seen_after, seen_by}
-use Rattle.idle_loop.specs.Parts.{IsPart, IsWaker, table_of}
-use Rattle.idle_loop.specs.Crews.{AreAt, AreParts, HasEnded, HaveParted, HavePasses, IsCrew, IsThere}
+use Rattle.idle_loop.specs.Roles.{IsRole, IsWaker, table_of}
+use Rattle.idle_loop.specs.WorkerPools.{AreAt, AreRoles, HasEnded, AreSplit, HavePasses, IsWorkerPool, IsThere}
 use Rattle.idle_loop.proofs.Acting.{same_pass}
 use Rattle.idle_loop.proofs.Alternate.{passed_if, taken_if}
 use Rattle.idle_loop.proofs.Premises.{seen_both}
@@ -30,41 +30,41 @@ use Rattle.idle_loop.proofs.Stepping.{entries_of, sizes_of}
 
 -- ---- passes
 
-is_there : (o : Option (Pass Book IdleEntry)) (p : Pass Book IdleEntry) → o ≡ Some p → IsThere o
+is_there : (o : Option (Pass GateLogState IdleEntry)) (p : Pass GateLogState IdleEntry) → o ≡ Some p → IsThere o
 is_there o p is = subst IsThere (sym is) tt
 
-pub have_passes : (z : IdleSizes) (locks table : TableId) (first : Book) (from : ℕ) (ws : List Worker) → AreAt z locks table first from ws → HavePasses ws
+pub have_passes : (z : IdleSizes) (locks table : TableId) (first : GateLogState) (from : ℕ) (ws : List IdleWorker) → AreAt z locks table first from ws → HavePasses ws
 have_passes z locks table first from [] are = tt
 have_passes z locks table first from (w ∷ ws) are = (is_there w.pass are.0.pass are.0.has, have_passes z locks table first (from + 1) ws are.1)
 
-pub parted_more : (ws : List Worker) (qs : List Part) (ps : List (Pass Book IdleEntry)) (w : Worker) (p : Pass Book IdleEntry) → HaveParted ws qs ps → w.pass ≡ Some p → HaveParted (ws ++ w ∷ []) (qs ++ w.part ∷ []) (ps ++ p ∷ [])
-parted_more [] [] [] w p have is = (refl, is, tt)
-parted_more [] [] (r ∷ ps) w p have is = absurd have
-parted_more [] (s ∷ qs) ps w p have is = absurd have
-parted_more (x ∷ ws) [] ps w p have is = absurd have
-parted_more (x ∷ ws) (s ∷ qs) [] w p have is = absurd have
-parted_more (x ∷ ws) (s ∷ qs) (r ∷ ps) w p have is = (have.0, have.1, parted_more ws qs ps w p have.2 is)
+pub split_more : (ws : List IdleWorker) (qs : List Role) (ps : List (Pass GateLogState IdleEntry)) (w : IdleWorker) (p : Pass GateLogState IdleEntry) → AreSplit ws qs ps → w.pass ≡ Some p → AreSplit (ws ++ w ∷ []) (qs ++ w.role ∷ []) (ps ++ p ∷ [])
+split_more [] [] [] w p have is = (refl, is, tt)
+split_more [] [] (r ∷ ps) w p have is = absurd have
+split_more [] (s ∷ qs) ps w p have is = absurd have
+split_more (x ∷ ws) [] ps w p have is = absurd have
+split_more (x ∷ ws) (s ∷ qs) [] w p have is = absurd have
+split_more (x ∷ ws) (s ∷ qs) (r ∷ ps) w p have is = (have.0, have.1, split_more ws qs ps w p have.2 is)
 
-pub parted_long : (ws : List Worker) (qs : List Part) (ps : List (Pass Book IdleEntry)) → HaveParted ws qs ps → (length qs ≡ length ws) × (length ps ≡ length ws)
-parted_long [] [] [] have = (refl, refl)
-parted_long [] [] (r ∷ ps) have = absurd have
-parted_long [] (s ∷ qs) ps have = absurd have
-parted_long (x ∷ ws) [] ps have = absurd have
-parted_long (x ∷ ws) (s ∷ qs) [] have = absurd have
-parted_long (x ∷ ws) (s ∷ qs) (r ∷ ps) have = let rest = parted_long ws qs ps have.2 in (ap suc rest.0, ap suc rest.1)
+pub split_long : (ws : List IdleWorker) (qs : List Role) (ps : List (Pass GateLogState IdleEntry)) → AreSplit ws qs ps → (length qs ≡ length ws) × (length ps ≡ length ws)
+split_long [] [] [] have = (refl, refl)
+split_long [] [] (r ∷ ps) have = absurd have
+split_long [] (s ∷ qs) ps have = absurd have
+split_long (x ∷ ws) [] ps have = absurd have
+split_long (x ∷ ws) (s ∷ qs) [] have = absurd have
+split_long (x ∷ ws) (s ∷ qs) (r ∷ ps) have = let rest = split_long ws qs ps have.2 in (ap suc rest.0, ap suc rest.1)
 
 -- what the pass at a place is
-back_at : (z : IdleSizes) (locks table : TableId) (first : Book) (from : ℕ) (ws : List Worker) (qs : List Part) (ps : List (Pass Book IdleEntry)) → AreAt z locks table first from ws → HaveParted ws qs ps
-    → (k : ℕ) (t : Token Book IdleEntry) → get_elem? (tokens ps) k ≡ some t → IsPass locks (first ∷ []) t × (number_of t ≡ Some (from + k)) × AreBy (from + k) (own_of (made_of t))
+back_at : (z : IdleSizes) (locks table : TableId) (first : GateLogState) (from : ℕ) (ws : List IdleWorker) (qs : List Role) (ps : List (Pass GateLogState IdleEntry)) → AreAt z locks table first from ws → AreSplit ws qs ps
+    → (k : ℕ) (t : Token GateLogState IdleEntry) → get_elem? (tokens ps) k ≡ some t → IsPass locks (first ∷ []) t × (number_of t ≡ Some (from + k)) × AreBy (from + k) (own_of (made_of t))
 back_at z locks table first from [] [] [] are have k t at = absurd (some-ne-none t (sym at))
 back_at z locks table first from [] [] (r ∷ ps) are have k t at = absurd have
 back_at z locks table first from [] (s ∷ qs) ps are have k t at = absurd have
 back_at z locks table first from (x ∷ ws) [] ps are have k t at = absurd have
 back_at z locks table first from (x ∷ ws) (s ∷ qs) [] are have k t at = absurd have
 back_at z locks table first from (x ∷ ws) (s ∷ qs) (r ∷ ps) are have zero t at =
-    let same : are.0.pass.token ≡ t = ap (λ (p : Pass Book IdleEntry). p.token) (same_pass x.pass are.0.pass r are.0.has have.1) ∙ some-injective r.token t at in
+    let same : are.0.pass.token ≡ t = ap (λ (p : Pass GateLogState IdleEntry). p.token) (same_pass x.pass are.0.pass r are.0.has have.1) ∙ some-injective r.token t at in
     let number : from ≡ from + 0 = omega arith in
-    subst (λ (u : Token Book IdleEntry). IsPass locks (first ∷ []) u × (number_of u ≡ Some (from + 0)) × AreBy (from + 0) (own_of (made_of u))) same
+    subst (λ (u : Token GateLogState IdleEntry). IsPass locks (first ∷ []) u × (number_of u ≡ Some (from + 0)) × AreBy (from + 0) (own_of (made_of u))) same
     (subst (λ (n : ℕ). IsPass locks (first ∷ []) are.0.pass.token × (number_of are.0.pass.token ≡ Some n) × AreBy n (own_of (made_of are.0.pass.token))) number (are.0.is.pass, are.0.is.number, are.0.is.own))
 back_at z locks table first from (x ∷ ws) (s ∷ qs) (r ∷ ps) are have (suc k) t at =
     let next : from + 1 + k ≡ from + suc k = omega arith in
@@ -74,13 +74,13 @@ same_from : (k : ℕ) → 0 + k ≡ k
 same_from k = omega arith
 
 -- all passes are back
-pub all_back : (z : IdleSizes) (table : TableId) (first : Book) (own : Token Book IdleEntry) (ws : List Worker) (qs : List Part) (ps : List (Pass Book IdleEntry)) → first_of own ≡ first ∷ [] → own.me.0.known ≡ [] → own.me.0.next ≡ length ws
-    → AreAt z own.table_id table first 0 ws → HaveParted ws qs ps → AreAll own (tokens ps)
+pub all_back : (z : IdleSizes) (table : TableId) (first : GateLogState) (own : Token GateLogState IdleEntry) (ws : List IdleWorker) (qs : List Role) (ps : List (Pass GateLogState IdleEntry)) → first_of own ≡ first ∷ [] → own.me.0.known ≡ [] → own.me.0.next ≡ length ws
+    → AreAt z own.table_id table first 0 ws → AreSplit ws qs ps → AreAll own (tokens ps)
 all_back z table first own ws qs ps firsts unused count are have = record {
-  counted = length-map ps (λ (p : Pass Book IdleEntry). p.token) ∙ ((parted_long ws qs ps have).1 ∙ sym count);
+  counted = length-map ps (λ (p : Pass GateLogState IdleEntry). p.token) ∙ ((split_long ws qs ps have).1 ∙ sym count);
   unused = unused;
   each_is = λ k t at. let is = back_at z own.table_id table first 0 ws qs ps are have k t at in
-      (subst (λ (l : List Book). IsPass own.table_id l t) (sym firsts) is.0, is.1 ∙ ap (λ (n : ℕ). Some n) (same_from k));
+      (subst (λ (l : List GateLogState). IsPass own.table_id l t) (sym firsts) is.0, is.1 ∙ ap (λ (n : ℕ). Some n) (same_from k));
 }
 
 -- ---- who made the entries
@@ -111,14 +111,14 @@ all_own n place (e ∷ es) below each =
     (by_last e.0 (entries_in rest) e.1 own, all_own n (place + 1) es below.1 (λ k low. rest_if (e.0 == k) k (made 0 place e.1) (made_by k 0 (place + 1) es) (each k low)))
 
 -- what one worker's wakes saw stands in what its pass made
-seen_own : (k place : ℕ) (es : List (ℕ × IdleEntry)) → AllOwn es → seen_by k (reverse (bare es)) ≡ seen_by k (entries_in (made_by k 0 place es))
+seen_own : (k place : ℕ) (es : List (ℕ × IdleEntry)) → AllOwn es → seen_by k (reverse (empty es)) ≡ seen_by k (entries_in (made_by k 0 place es))
 unfolding AllOwn
 seen_own k place [] own = refl
 seen_own k place (e ∷ es) own =
     let rest : List (Made IdleEntry) = made_by k 0 (place + 1) es in
-    let before : seen_by k (reverse (bare es)) ≡ seen_by k (entries_in rest) = seen_own k (place + 1) es own.1 in
-    let parts : seen_by k (reverse (e.1 ∷ bare es)) ≡ seen_by k (reverse (bare es)) ++ seen_by k (e.1 ∷ []) = ap (seen_by k) (reverse-append (e.1 ∷ []) (bare es)) ∙ seen_both k (reverse (bare es)) (e.1 ∷ []) in
-    parts ∙ (ap (λ (l : List ℕ). l ++ seen_by k (e.1 ∷ [])) before ∙ dite (ℕ_discrete e.0 k)
+    let before : seen_by k (reverse (empty es)) ≡ seen_by k (entries_in rest) = seen_own k (place + 1) es own.1 in
+    let roles : seen_by k (reverse (e.1 ∷ empty es)) ≡ seen_by k (reverse (empty es)) ++ seen_by k (e.1 ∷ []) = ap (seen_by k) (reverse-append (e.1 ∷ []) (empty es)) ∙ seen_both k (reverse (empty es)) (e.1 ∷ []) in
+    roles ∙ (ap (λ (l : List ℕ). l ++ seen_by k (e.1 ∷ [])) before ∙ dite (ℕ_discrete e.0 k)
     (λ (same : e.0 ≡ k).
     sym (ap (λ (l : List (Made IdleEntry)). seen_by k (entries_in l)) (taken_if e.0 k (made 0 place e.1 ∷ rest) rest same) ∙ seen_both k (entries_in rest) (e.1 ∷ [])))
     (λ (other : e.0 ≢ k).
@@ -127,33 +127,33 @@ seen_own k place (e ∷ es) own =
 
 -- ---- the gate at the end
 
-made_at : (ps : List (Pass Book IdleEntry)) (k : ℕ) → k < length ps → (p : Pass Book IdleEntry) × (get_elem? (tokens ps) k ≡ some p.token) × (slice_index_or (made_lists ps) k [] ≡ made_of p.token)
+made_at : (ps : List (Pass GateLogState IdleEntry)) (k : ℕ) → k < length ps → (p : Pass GateLogState IdleEntry) × (get_elem? (tokens ps) k ≡ some p.token) × (slice_index_or (made_lists ps) k [] ≡ made_of p.token)
 made_at [] k low = absurd (omega (arith, low))
 made_at (p ∷ ps) zero low = (p, refl, refl)
 made_at (p ∷ ps) (suc k) low = made_at ps k (omega (arith, low))
 
 -- the gate has gained what the passes made
-pub record IsGathered (first y : Book) (ps : List (Pass Book IdleEntry)) : Type 0 where
+pub record IsGathered (first y : GateLogState) (ps : List (Pass GateLogState IdleEntry)) : Type 0 where
   pub gains : List IdleEntry
   pub journal : y.journal ≡ gains ++ first.journal
   pub sizes : y.sizes ≡ first.sizes
-  pub seen : (k : ℕ) (t : Token Book IdleEntry) → get_elem? (tokens ps) k ≡ some t → seen_by k gains ≡ seen_by k (own_of (made_of t))
+  pub seen : (k : ℕ) (t : Token GateLogState IdleEntry) → get_elem? (tokens ps) k ≡ some t → seen_by k gains ≡ seen_by k (own_of (made_of t))
 
-within : (ps : List (Pass Book IdleEntry)) (k : ℕ) (t : Token Book IdleEntry) → get_elem? (tokens ps) k ≡ some t → k < length ps
+within : (ps : List (Pass GateLogState IdleEntry)) (k : ℕ) (t : Token GateLogState IdleEntry) → get_elem? (tokens ps) k ≡ some t → k < length ps
 within [] k t at = absurd (some-ne-none t (sym at))
 within (p ∷ ps) zero t at = omega arith
 within (p ∷ ps) (suc k) t at = let low : k < length ps = within ps k t at in omega (arith, low)
 
-back_to : (first y : Book) (es : List IdleEntry) → reverse y.journal ≡ reverse first.journal ++ es → y.journal ≡ reverse es ++ first.journal
+back_to : (first y : GateLogState) (es : List IdleEntry) → reverse y.journal ≡ reverse first.journal ++ es → y.journal ≡ reverse es ++ first.journal
 back_to first y es is = sym (reverse-reverse y.journal) ∙ (ap (λ (l : List IdleEntry). reverse l) is ∙ (reverse-append (reverse first.journal) es ∙ ap (λ (l : List IdleEntry). reverse es ++ l) (reverse-reverse first.journal)))
 
-pub gathered : (first y : Book) (ps : List (Pass Book IdleEntry)) (values : List Book) → get_elem? values 0 ≡ some y → AreClosed sizes_of entries_of (first ∷ []) (made_lists ps) values
-    → ((k : ℕ) (t : Token Book IdleEntry) → get_elem? (tokens ps) k ≡ some t → AreBy k (own_of (made_of t))) → IsGathered first y ps
+pub gathered : (first y : GateLogState) (ps : List (Pass GateLogState IdleEntry)) (values : List GateLogState) → get_elem? values 0 ≡ some y → AreClosed sizes_of entries_of (first ∷ []) (made_lists ps) values
+    → ((k : ℕ) (t : Token GateLogState IdleEntry) → get_elem? (tokens ps) k ≡ some t → AreBy k (own_of (made_of t))) → IsGathered first y ps
 gathered first y ps values at closed each =
     let es = closed.log 0 in
     let o = closed.objects 0 y at in
     let same : o.0 ≡ first = sym (some-injective first o.0 o.1) in
-    let long : length (made_lists ps) ≡ length ps = length-map ps (λ (p : Pass Book IdleEntry). made_of p.token) in
+    let long : length (made_lists ps) ≡ length ps = length-map ps (λ (p : Pass GateLogState IdleEntry). made_of p.token) in
     let place : ℕ = length (reverse first.journal) in
     let booked : (k : ℕ) → k < length ps → of_object 0 (slice_index_or (made_lists ps) k []) ≡ made_by k 0 place es = λ k low. closed.booked k (subst (λ (n : ℕ). k < n) (sym long) low) 0 first refl in
     let own : AllOwn es = all_own (length (made_lists ps)) place es (closed.makers 0) (λ k low.
@@ -161,55 +161,55 @@ gathered first y ps values at closed each =
     let m = made_at ps k low' in
     subst (λ (l : List (Made IdleEntry)). AreBy k (entries_in l)) (ap (of_object 0) (sym m.2) ∙ booked k low') (each k m.0.token m.1)) in
     record {
-      gains = reverse (bare es);
-      journal = back_to first y (bare es) (o.3 ∙ ap (λ (b : Book). reverse b.journal ++ bare es) same);
+      gains = reverse (empty es);
+      journal = back_to first y (empty es) (o.3 ∙ ap (λ (b : GateLogState). reverse b.journal ++ empty es) same);
       sizes = o.2 ∙ ap sizes_of same;
       seen = λ k t there.
           let low : k < length ps = within ps k t there in
           let m = made_at ps k low in
           let token : m.0.token ≡ t = some-injective m.0.token t (sym m.1 ∙ there) in
-          seen_own k place es own ∙ (ap (λ (l : List (Made IdleEntry)). seen_by k (entries_in l)) (sym (booked k low) ∙ ap (of_object 0) m.2) ∙ ap (λ (u : Token Book IdleEntry). seen_by k (own_of (made_of u))) token);
+          seen_own k place es own ∙ (ap (λ (l : List (Made IdleEntry)). seen_by k (entries_in l)) (sym (booked k low) ∙ ap (of_object 0) m.2) ∙ ap (λ (u : Token GateLogState IdleEntry). seen_by k (own_of (made_of u))) token);
     }
 
-part_on : (z : IdleSizes) (who : ℕ) (own gains first now : List IdleEntry) (q : Part) → now ≡ gains ++ first → seen_by who gains ≡ seen_by who own → IsPart z who (own ++ first) q → IsPart z who now q
-part_on z who own gains first now (part.Wakes w) is same old =
+role_on : (z : IdleSizes) (who : ℕ) (own gains first now : List IdleEntry) (q : Role) → now ≡ gains ++ first → seen_by who gains ≡ seen_by who own → IsRole z who (own ++ first) q → IsRole z who now q
+role_on z who own gains first now (role.Wakes w) is same old =
     let seen : seen_by who (own ++ first) ≡ seen_by who now = seen_both who own first ∙ (ap (λ (l : List ℕ). l ++ seen_by who first) (sym same) ∙ (sym (seen_both who gains first) ∙ ap (seen_by who) (sym is))) in
     subst (λ (l : List ℕ). IsWaker z who l w) seen old
-part_on z who own gains first now (part.Idles look) is same old = old
+role_on z who own gains first now (role.Idles look) is same old = old
 
-parts_on : (z : IdleSizes) (locks table : TableId) (first y : Book) (gains : List IdleEntry) (from : ℕ) (ws : List Worker) (qs : List Part) (ps : List (Pass Book IdleEntry)) → y.journal ≡ gains ++ first.journal
-    → ((k : ℕ) (t : Token Book IdleEntry) → get_elem? (tokens ps) k ≡ some t → seen_by (from + k) gains ≡ seen_by (from + k) (own_of (made_of t))) → AreAt z locks table first from ws → HaveParted ws qs ps → AreParts z table y.journal from qs
-parts_on z locks table first y gains from [] [] [] is same are have = tt
-parts_on z locks table first y gains from [] [] (r ∷ ps) is same are have = absurd have
-parts_on z locks table first y gains from [] (s ∷ qs) ps is same are have = absurd have
-parts_on z locks table first y gains from (x ∷ ws) [] ps is same are have = absurd have
-parts_on z locks table first y gains from (x ∷ ws) (s ∷ qs) [] is same are have = absurd have
-parts_on z locks table first y gains from (x ∷ ws) (s ∷ qs) (r ∷ ps) is same are have =
+roles_on : (z : IdleSizes) (locks table : TableId) (first y : GateLogState) (gains : List IdleEntry) (from : ℕ) (ws : List IdleWorker) (qs : List Role) (ps : List (Pass GateLogState IdleEntry)) → y.journal ≡ gains ++ first.journal
+    → ((k : ℕ) (t : Token GateLogState IdleEntry) → get_elem? (tokens ps) k ≡ some t → seen_by (from + k) gains ≡ seen_by (from + k) (own_of (made_of t))) → AreAt z locks table first from ws → AreSplit ws qs ps → AreRoles z table y.journal from qs
+roles_on z locks table first y gains from [] [] [] is same are have = tt
+roles_on z locks table first y gains from [] [] (r ∷ ps) is same are have = absurd have
+roles_on z locks table first y gains from [] (s ∷ qs) ps is same are have = absurd have
+roles_on z locks table first y gains from (x ∷ ws) [] ps is same are have = absurd have
+roles_on z locks table first y gains from (x ∷ ws) (s ∷ qs) [] is same are have = absurd have
+roles_on z locks table first y gains from (x ∷ ws) (s ∷ qs) (r ∷ ps) is same are have =
     let at = are.0 in
-    let token : at.pass.token ≡ r.token = ap (λ (p : Pass Book IdleEntry). p.token) (same_pass x.pass at.pass r at.has have.1) in
+    let token : at.pass.token ≡ r.token = ap (λ (p : Pass GateLogState IdleEntry). p.token) (same_pass x.pass at.pass r at.has have.1) in
     let number : from + 0 ≡ from = omega arith in
     let seen : seen_by from gains ≡ seen_by from (own_of (made_of at.pass.token)) =
-    subst (λ (u : Token Book IdleEntry). seen_by from gains ≡ seen_by from (own_of (made_of u))) (sym token) (subst (λ (n : ℕ). seen_by n gains ≡ seen_by n (own_of (made_of r.token))) number (same 0 r.token refl)) in
-    let old : IsPart z from (own_of (made_of at.pass.token) ++ first.journal) s = subst (IsPart z from (own_of (made_of at.pass.token) ++ first.journal)) have.0 at.is.part in (
-      part_on z from (own_of (made_of at.pass.token)) gains first.journal y.journal s is seen old,
+    subst (λ (u : Token GateLogState IdleEntry). seen_by from gains ≡ seen_by from (own_of (made_of u))) (sym token) (subst (λ (n : ℕ). seen_by n gains ≡ seen_by n (own_of (made_of r.token))) number (same 0 r.token refl)) in
+    let old : IsRole z from (own_of (made_of at.pass.token) ++ first.journal) s = subst (IsRole z from (own_of (made_of at.pass.token) ++ first.journal)) have.0 at.is.role in (
+      role_on z from (own_of (made_of at.pass.token)) gains first.journal y.journal s is seen old,
       ap table_of (sym have.0) ∙ at.seat,
-      parts_on z locks table first y gains (from + 1) ws qs ps is (λ k t there. let next : from + suc k ≡ from + 1 + k = omega arith in subst (λ (n : ℕ). seen_by n gains ≡ seen_by n (own_of (made_of t))) next (same (suc k) t there)) are.1 have.2,
+      roles_on z locks table first y gains (from + 1) ws qs ps is (λ k t there. let next : from + suc k ≡ from + 1 + k = omega arith in subst (λ (n : ℕ). seen_by n gains ≡ seen_by n (own_of (made_of t))) next (same (suc k) t there)) are.1 have.2,
     )
 
--- the crew behind a burst
-pub back_crew : (z : IdleSizes) (table : TableId) (first y : Book) (locks : LockTable Book IdleEntry) (ws : List Worker) (qs : List Part) (ps : List (Pass Book IdleEntry)) (values : List Book) (c : Crew) → HasEnded z table first locks ws → HaveParted ws qs ps
-    → AreClosed sizes_of entries_of (first_of locks.own) (made_lists ps) values → get_elem? values 0 ≡ some y → c.book ≡ y → c.parts.items ≡ qs → IsCrew z table c
-back_crew z table first y locks ws qs ps values c ended have closed at book parts =
-    let g = gathered first y ps values at (subst (λ (l : List Book). AreClosed sizes_of entries_of l (made_lists ps) values) ended.firsts closed)
+-- the crew after a burst
+pub back_pool : (z : IdleSizes) (table : TableId) (first y : GateLogState) (locks : LockTable GateLogState IdleEntry) (ws : List IdleWorker) (qs : List Role) (ps : List (Pass GateLogState IdleEntry)) (values : List GateLogState) (c : WorkerPool) → HasEnded z table first locks ws → AreSplit ws qs ps
+    → AreClosed sizes_of entries_of (first_of locks.own) (made_lists ps) values → get_elem? values 0 ≡ some y → c.gate_log ≡ y → c.roles.items ≡ qs → IsWorkerPool z table c
+back_pool z table first y locks ws qs ps values c ended have closed at gate_log roles =
+    let g = gathered first y ps values at (subst (λ (l : List GateLogState). AreClosed sizes_of entries_of l (made_lists ps) values) ended.firsts closed)
     (λ k t there. subst (λ (n : ℕ). AreBy n (own_of (made_of t))) (same_from k) (back_at z locks.own.table_id table first 0 ws qs ps ended.at have k t there).2) in
     record {
       sizes = ended.sizes;
-      book = ap sizes_of book ∙ (g.sizes ∙ ended.first_sizes);
-      count = ap length parts ∙ ((parted_long ws qs ps have).0 ∙ ended.long);
-      parts = subst (λ (b : Book). AreParts z table b.journal 0 c.parts.items) (sym book) (subst (AreParts z table y.journal 0) (sym parts)
-          (parts_on z locks.own.table_id table first y g.gains 0 ws qs ps g.journal (λ k t there. subst (λ (n : ℕ). seen_by n g.gains ≡ seen_by n (own_of (made_of t))) (sym (same_from k)) (g.seen k t there)) ended.at have));
+      gate_log = ap sizes_of gate_log ∙ (g.sizes ∙ ended.first_sizes);
+      count = ap length roles ∙ ((split_long ws qs ps have).0 ∙ ended.long);
+      roles = subst (λ (b : GateLogState). AreRoles z table b.journal 0 c.roles.items) (sym gate_log) (subst (AreRoles z table y.journal 0) (sym roles)
+          (roles_on z locks.own.table_id table first y g.gains 0 ws qs ps g.journal (λ k t there. subst (λ (n : ℕ). seen_by n g.gains ≡ seen_by n (own_of (made_of t))) (sym (same_from k)) (g.seen k t there)) ended.at have));
     }
 
-pub there_some : (o : Option (Pass Book IdleEntry)) → IsThere o → IsSome o
+pub there_some : (o : Option (Pass GateLogState IdleEntry)) → IsThere o → IsSome o
 there_some None is = absurd is
 there_some (Some p) is = refl

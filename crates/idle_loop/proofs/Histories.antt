@@ -9,7 +9,7 @@ use Rattle.sleep_model.specs.Word.{position}
 use Rattle.event_word.specs.Steps.{MadeStep}
 use Rattle.event_word.specs.Histories.{SourceStep, word_after, steps_of, AreBelow, IsSeen}
 use Rattle.idle_loop.specs.Turns.{befores, InTurn}
-use Rattle.idle_loop.specs.Makers.{Alternate, AllBelow, places}
+use Rattle.idle_loop.specs.Makers.{Alternate, AllBelow, ranks}
 use Rattle.idle_loop.proofs.Alternate.{taken_if}
 
 -- who made the hard events
@@ -42,15 +42,15 @@ all_hard n (s ∷ past) below each =
     let own : AllHardSteps (step ∷ steps_of s.source past) = subst AllHardSteps (taken_if s.source s.source (step ∷ steps_of s.source past) (steps_of s.source past) refl) (each s.source below.0) in
     (own.0, all_hard n past below.1 (λ k low. rest_if (s.source == k) (record { step = s.step; before = word_after past }) (steps_of k past) (each k low)))
 
-one_more : (n : ℕ) → n + 1 ≡ suc n
-one_more n = omega arith
+suc_is : (n : ℕ) → n + 1 ≡ suc n
+suc_is n = omega arith
 
 -- the word counts them
 pub word_hard : (history : List SourceStep) → AllHard history → word_after history ≡ record { inpr = 0; count = 0; hard = length history }
 word_hard [] all = refl
 word_hard (s ∷ past) all =
     ap (λ (k : WordKind). after_step (Some k) (word_after past)) all.0
-    ∙ (ap (after_step (Some word.Hard)) (word_hard past all.1) ∙ ap (λ (n : ℕ). record { inpr = 0; count = 0; hard = n }) (one_more (length past)))
+    ∙ (ap (after_step (Some word.Hard)) (word_hard past all.1) ∙ ap (λ (n : ℕ). record { inpr = 0; count = 0; hard = n }) (suc_is (length past)))
 
 AllPlain : List MadeStep → Type 0
 AllPlain [] = Unit {0}
@@ -74,10 +74,10 @@ befores_if true s made n ps one rest = ap (λ (k : ℕ). k ∷ befores made) one
 befores_if false s made n ps one rest = rest
 
 -- a waker's steps stand at its places
-pub befores_places : (who : ℕ) (history : List SourceStep) → AllHard history → befores (steps_of who history) ≡ places who (makers_in history)
+pub befores_places : (who : ℕ) (history : List SourceStep) → AllHard history → befores (steps_of who history) ≡ ranks who (makers_in history)
 befores_places who [] all = refl
 befores_places who (s ∷ past) all =
-    befores_if (s.source == who) (record { step = s.step; before = word_after past }) (steps_of who past) (length (makers_in past)) (places who (makers_in past))
+    befores_if (s.source == who) (record { step = s.step; before = word_after past }) (steps_of who past) (length (makers_in past)) (ranks who (makers_in past))
     (ap (λ (w : EventNow). w.hard) (word_hard past all.1) ∙ sym (length-map past (λ (t : SourceStep). t.source))) (befores_places who past all.1)
 
 in_numbers : (owes : Bool) (floor : ℕ) (made : List MadeStep) (seen : List ℕ) → AllPlain made → InTurn owes floor made seen → Alternate owes floor (befores made) seen
@@ -90,7 +90,7 @@ in_numbers true floor [] seen plain is = absurd is
 in_numbers true floor (s ∷ made) seen plain is = subst (λ (n : ℕ). Alternate false n (befores made) seen) plain.0 (in_numbers false (position s.before) made seen plain.1 is.1)
 
 -- a waker's turns, by its places
-pub turns_at_places : (who : ℕ) (history : List SourceStep) (owes : Bool) (floor : ℕ) (seen : List ℕ) → AllHard history → InTurn owes floor (steps_of who history) seen → Alternate owes floor (places who (makers_in history)) seen
+pub turns_at_places : (who : ℕ) (history : List SourceStep) (owes : Bool) (floor : ℕ) (seen : List ℕ) → AllHard history → InTurn owes floor (steps_of who history) seen → Alternate owes floor (ranks who (makers_in history)) seen
 turns_at_places who history owes floor seen all is =
     subst (λ (l : List ℕ). Alternate owes floor l seen) (befores_places who history all) (in_numbers owes floor (steps_of who history) seen (all_plain who history all) is)
 

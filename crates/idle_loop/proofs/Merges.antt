@@ -159,26 +159,26 @@ may_gate z e TryBusy makers journal log may at m wake = let some = open_some (le
     (may.0, m.state ∙ may.1, one.0, some.1 ∙ ap (λ (n : ℕ). Some n) one.1)
 may_gate z e Leave makers journal log may at m wake = (may.0, m.state ∙ may.1)
 
--- the merge of what is left, behind later hard events and newer entries
+-- the merge of what is left, after later hard events and newer entries
 legal_rest : (z : IdleSizes) (all : List ℕ) (whole : List IdleEntry) → HardsInTurn z all whole → WakesInTurn all whole → (later makers : List ℕ) (newer journal log : List IdleEntry) → all ≡ later ++ makers → whole ≡ newer ++ journal → SawLeast (length makers) newer → IsJournal z journal → Merges makers journal log → IsIdleLog z log
-legal_rest z all whole hard wake later makers newer journal log cut parts saw is Nothing = tt
-legal_rest z all whole hard wake later makers newer journal log cut parts saw is (NextHard who hs js rest m) =
+legal_rest z all whole hard wake later makers newer journal log cut roles saw is Nothing = tt
+legal_rest z all whole hard wake later makers newer journal log cut roles saw is (NextHard who hs js rest m) =
     let said = merged z hs js rest is m in
     let least : SawLeast (length hs + 1) newer = subst (λ (n : ℕ). SawLeast n newer) (sym (more_is (length hs))) saw in
-    let turn = hard later hs who newer js cut parts least said.saw in
+    let turn = hard later hs who newer js cut roles least said.saw in
     let count : made_by who hs ≡ wakes_of who js = turn.1 in
     let few : made_by who hs < z.events = turn.2 in
     let made : hards_of who rest ≡ made_by who hs = said.made who in
     let woke : wakes_of who rest ≡ wakes_of who js = said.woke who in (
       sym said.hard,
       (turn.0, omega arith, omega arith),
-      legal_rest z all whole hard wake (later ++ who ∷ []) hs newer js rest (cut ∙ sym (append_assoc later (who ∷ []) hs)) parts (less_saw (length hs) newer least) is m,
+      legal_rest z all whole hard wake (later ++ who ∷ []) hs newer js rest (cut ∙ sym (append_assoc later (who ∷ []) hs)) roles (less_saw (length hs) newer least) is m,
     )
-legal_rest z all whole hard wake later makers newer journal log cut parts saw is (NextEntry e hs js rest at m) =
+legal_rest z all whole hard wake later makers newer journal log cut roles saw is (NextEntry e hs js rest at m) =
     let said = merged z hs js rest is.1 m in (
       at ∙ sym said.hard,
-      may_gate z e e.what hs js rest is.0 at said (λ what. wake later hs e newer js cut parts at what),
-      legal_rest z all whole hard wake later hs (newer ++ e ∷ []) js rest cut (parts ∙ sym (append_assoc newer (e ∷ []) js)) (saw_more (length hs) newer e saw (omega (arith, at))) is.1 m,
+      may_gate z e e.what hs js rest is.0 at said (λ what. wake later hs e newer js cut roles at what),
+      legal_rest z all whole hard wake later hs (newer ++ e ∷ []) js rest cut (roles ∙ sym (append_assoc newer (e ∷ []) js)) (saw_more (length hs) newer e saw (omega (arith, at))) is.1 m,
     )
 
 pub merges_to_legal : MergesToLegal

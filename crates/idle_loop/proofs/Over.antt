@@ -82,6 +82,6 @@ ended_log z past log legal over same idle = record {
   legal = subst (IsIdleLog z) (sym same) legal;
   over = subst (IsOver z) (sym same) over;
   ended = idle ∙ ap (λ (es : List IdleEntry). is_entered (state_after es)) (sym same);
-  none_lost = λ later older parts. loses_none z older (legal_before z later older (subst (IsIdleLog z) (sym same ∙ parts) legal));
+  none_lost = λ later older roles. loses_none z older (legal_before z later older (subst (IsIdleLog z) (sym same ∙ roles) legal));
   none_sleeps = λ who slept. subst (λ (es : List IdleEntry). since_begin who es ≡ 0) (sym same) (sleeps_over_none z past legal over (entered_is (state_after past) (sym idle ∙ slept)) who);
 }

@@ -36,8 +36,8 @@ see_within low most (e ∷ later) sees = let rest : e.hard ≤ most = see_within
 
 pub see_next : (low most : ℕ) (journal : List IdleEntry) (i : ℕ) (e : IdleEntry) → i < length journal → e ≡ get_or journal i e → SeeMore low most (drop i journal) → (low ≤ e.hard) × (e.hard ≤ most) × SeeMore e.hard most (drop (i + 1) journal)
 see_next low most journal i e low_i is sees =
-    let parts : drop i journal ≡ e ∷ drop (i + 1) journal = drop_more journal i e low_i ∙ ap (λ (x : IdleEntry). x ∷ drop (i + 1) journal) (sym is) in
-    let all : SeeMore low most (e ∷ drop (i + 1) journal) = subst (SeeMore low most) parts sees in
+    let roles : drop i journal ≡ e ∷ drop (i + 1) journal = drop_more journal i e low_i ∙ ap (λ (x : IdleEntry). x ∷ drop (i + 1) journal) (sym is) in
+    let all : SeeMore low most (e ∷ drop (i + 1) journal) = subst (SeeMore low most) roles sees in
     (all.0, see_within e.hard most (drop (i + 1) journal) all.1, all.1)
 
 pub see_end : (low most : ℕ) (journal : List IdleEntry) → SeeMore low most journal → low ≤ most

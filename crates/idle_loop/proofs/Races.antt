@@ -40,16 +40,16 @@ IsEntered state.Idle = ⊥
 IsEntered state.Enter = Unit {0}
 IsEntered state.Wake = ⊥
 
-is_entered : (s : IdleState) → s ≡ state.Enter → IsEntered s
-is_entered s is = subst IsEntered (sym is) tt
+entered_is : (s : IdleState) → s ≡ state.Enter → IsEntered s
+entered_is s is = subst IsEntered (sym is) tt
 
 never : (s : IdleState) → woken s ≡ state.Enter → ⊥
-never state.Idle is = is_entered state.Idle is
-never state.Enter is = is_entered state.Wake is
-never state.Wake is = is_entered state.Wake is
+never state.Idle is = entered_is state.Idle is
+never state.Enter is = entered_is state.Wake is
+never state.Wake is = entered_is state.Wake is
 
 pub awake : (s : IdleState) → s ≡ state.Idle → s ≡ state.Enter → ⊥
-awake s is other = subst IsEntered is (is_entered s other)
+awake s is other = subst IsEntered is (entered_is s other)
 
 -- what an entry that is made says, as it counts for one waker
 abbrev pub Due : IdleKind → Bool → IdleState → Option ℕ → ℕ → ℕ → Type 0
@@ -77,7 +77,7 @@ race_step Begin b s o since wakes hards due low before entered some = absurd (om
 race_step Wake b s o since wakes hards due low before entered some = absurd (never s entered)
 race_step TryOk b s o since wakes hards due low before entered some = let most : since ≤ 0 = subst (λ (p : Option ℕ). AtLeast since p) due low in absurd (omega (arith, some))
 race_step TryBusy b s o since wakes hards due low before entered some = absurd (awake s due entered)
-race_step Leave b s o since wakes hards due low before entered some = absurd (is_entered state.Idle entered)
+race_step Leave b s o since wakes hards due low before entered some = absurd (entered_is state.Idle entered)
 
 pub loses_none : LosesNone
 loses_none z [] legal who entered some = absurd (omega (arith, some))
@@ -85,10 +85,10 @@ loses_none z (e ∷ past) legal who entered some = race_step e.what (e.who == wh
     (due_of z past e.who who e.what legal.1) (since_least who past) (loses_none z past legal.2 who) entered some
 
 -- a waker's hard events and wakes are in turn, and keep to their number; the idler, and who is neither, makes none
-abbrev InTurn : IdleSizes → ℕ → ℕ → ℕ → Type 0
-InTurn z who wakes hards = (wakes ≤ hards) × (hards ≤ wakes + 1) × (hards ≤ z.events) × (z.wakers ≤ who → hards ≡ 0)
+abbrev IsInTurn : IdleSizes → ℕ → ℕ → ℕ → Type 0
+IsInTurn z who wakes hards = (wakes ≤ hards) × (hards ≤ wakes + 1) × (hards ≤ z.events) × (z.wakers ≤ who → hards ≡ 0)
 
-turn_step : (z : IdleSizes) (past : List IdleEntry) (maker who : ℕ) (what : IdleKind) → MayMake z past maker what → InTurn z who (wakes_of who past) (hards_of who past) → maker ≡ who → InTurn z who (wakes_of who past + is_wake what) (hards_of who past + is_hard what)
+turn_step : (z : IdleSizes) (past : List IdleEntry) (maker who : ℕ) (what : IdleKind) → MayMake z past maker what → IsInTurn z who (wakes_of who past) (hards_of who past) → maker ≡ who → IsInTurn z who (wakes_of who past + is_wake what) (hards_of who past + is_hard what)
 turn_step z past maker who Hard may before same =
     let low : who < z.wakers = subst (λ (k : ℕ). k < z.wakers) same may.0 in
     let equal : hards_of who past ≡ wakes_of who past = subst (λ (k : ℕ). hards_of k past ≡ wakes_of k past) same may.1 in
@@ -104,7 +104,7 @@ turn_step z past maker who TryOk may before same = (omega (arith, before.0), ome
 turn_step z past maker who TryBusy may before same = (omega (arith, before.0), omega (arith, before.1), omega (arith, before.2), λ high. let none = before.3 high in omega arith)
 turn_step z past maker who Leave may before same = (omega (arith, before.0), omega (arith, before.1), omega (arith, before.2), λ high. let none = before.3 high in omega arith)
 
-same_turn : (z : IdleSizes) (who wakes hards : ℕ) → InTurn z who wakes hards → InTurn z who (wakes + 0) (hards + 0)
+same_turn : (z : IdleSizes) (who wakes hards : ℕ) → IsInTurn z who wakes hards → IsInTurn z who (wakes + 0) (hards + 0)
 same_turn z who wakes hards before = (omega (arith, before.0), omega (arith, before.1), omega (arith, before.2), λ high. let none = before.3 high in omega arith)
 
 few_step : (what : IdleKind) (b : Bool) (since hards : ℕ) → since ≤ hards → since_by what b since ≤ hards + (if b then is_hard what else 0)
@@ -123,14 +123,14 @@ own_adds maker who a same = ap (λ (b : Bool). if b then a else 0) (eq-eqb maker
 pub other_adds : (maker who a : ℕ) → maker ≢ who → (if maker == who then a else 0) ≡ 0
 other_adds maker who a other = ap (λ (b : Bool). if b then a else 0) (ne_eqb maker who other)
 
-pub in_turn : (z : IdleSizes) (past : List IdleEntry) → IsIdleLog z past → (who : ℕ) → InTurn z who (wakes_of who past) (hards_of who past)
+pub in_turn : (z : IdleSizes) (past : List IdleEntry) → IsIdleLog z past → (who : ℕ) → IsInTurn z who (wakes_of who past) (hards_of who past)
 in_turn z [] legal who = (omega arith, omega arith, omega arith, λ high. refl)
 in_turn z (e ∷ past) legal who = dite (ℕ_discrete e.who who)
-    (λ (same : e.who ≡ who). subst (λ (a : ℕ). InTurn z who (wakes_of who past + a) (hards_of who (e ∷ past))) (sym (own_adds e.who who (is_wake e.what) same))
-    (subst (λ (a : ℕ). InTurn z who (wakes_of who past + is_wake e.what) (hards_of who past + a)) (sym (own_adds e.who who (is_hard e.what) same))
+    (λ (same : e.who ≡ who). subst (λ (a : ℕ). IsInTurn z who (wakes_of who past + a) (hards_of who (e ∷ past))) (sym (own_adds e.who who (is_wake e.what) same))
+    (subst (λ (a : ℕ). IsInTurn z who (wakes_of who past + is_wake e.what) (hards_of who past + a)) (sym (own_adds e.who who (is_hard e.what) same))
     (turn_step z past e.who who e.what legal.1 (in_turn z past legal.2 who) same)))
-    (λ (other : e.who ≢ who). subst (λ (a : ℕ). InTurn z who (wakes_of who past + a) (hards_of who (e ∷ past))) (sym (other_adds e.who who (is_wake e.what) other))
-    (subst (λ (a : ℕ). InTurn z who (wakes_of who past + 0) (hards_of who past + a)) (sym (other_adds e.who who (is_hard e.what) other))
+    (λ (other : e.who ≢ who). subst (λ (a : ℕ). IsInTurn z who (wakes_of who past + a) (hards_of who (e ∷ past))) (sym (other_adds e.who who (is_wake e.what) other))
+    (subst (λ (a : ℕ). IsInTurn z who (wakes_of who past + 0) (hards_of who past + a)) (sym (other_adds e.who who (is_hard e.what) other))
     (same_turn z who (wakes_of who past) (hards_of who past) (in_turn z past legal.2 who))))
 
 -- a waker's hard events since the begin are some of its own
@@ -159,5 +159,5 @@ sleeps_over_none z past legal over entered who =
     let lost : 0 < since_begin who past → wakes_of who past < hards_of who past = loses_none z past legal who entered in
     let most : hards_of who past ≤ z.events = turn.2 in
     or_else (who < z.wakers) (z.wakers ≤ who) (since_begin who past ≡ 0) (le_or_lt who z.wakers)
-    (λ low. let through : wakes_of who past ≡ z.events = over.through who low in zero_or (since_begin who past) (λ some. let less = lost some in omega arith))
+    (λ low. let done : wakes_of who past ≡ z.events = over.done who low in zero_or (since_begin who past) (λ some. let less = lost some in omega arith))
     (λ high. let none : hards_of who past ≡ 0 = turn.3 high in omega arith)

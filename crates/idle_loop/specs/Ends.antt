@@ -9,50 +9,50 @@ use Rattle.idle_gate.specs.declared.state.IdleState.TheVariants as state
 use Rattle.idle_loop.specs.declared.entry.IdleEntry.{IdleEntry}
 use Rattle.idle_loop.specs.declared.entry.IdleSizes.{IdleSizes}
 use Rattle.idle_loop.specs.Sizes.{AreSizes}
-use Rattle.idle_loop.specs.declared.closing.Left.{Left}
-use Rattle.idle_loop.specs.declared.parts.Part.{Part}
-use Rattle.idle_loop.specs.declared.parts.Part.TheVariants as part
+use Rattle.idle_loop.specs.declared.closing.RunLeft.{RunLeft}
+use Rattle.idle_loop.specs.declared.roles.Role.{Role}
+use Rattle.idle_loop.specs.declared.roles.Role.TheVariants as role
 use Rattle.idle_loop.specs.Turns.{seen_by, befores, InTurn}
 
 -- the part is a waker's
-abbrev pub IsWakes : Part → Type 0
-IsWakes (part.Wakes w) = Unit {0}
-IsWakes (part.Idles look) = ⊥
+abbrev pub IsWakes : Role → Type 0
+IsWakes (role.Wakes w) = Unit {0}
+IsWakes (role.Idles look) = ⊥
 
 -- the part is the idler's
-abbrev pub IsIdles : Part → Type 0
-IsIdles (part.Wakes w) = ⊥
-IsIdles (part.Idles look) = Unit {0}
+abbrev pub IsIdles : Role → Type 0
+IsIdles (role.Wakes w) = ⊥
+IsIdles (role.Idles look) = Unit {0}
 
 -- all are wakers'
-abbrev pub AreWakes : List Part → Type 0
+abbrev pub AreWakes : List Role → Type 0
 AreWakes [] = Unit {0}
 AreWakes (q ∷ qs) = IsWakes q × AreWakes qs
 
 -- a waker has made its last wake; the idler has none to make
-abbrev pub IsThrough : IdleSizes → Part → Type 0
-IsThrough z (part.Wakes w) = z.events ≤ w.now.wakes
-IsThrough z (part.Idles look) = Unit {0}
+abbrev pub IsDone : IdleSizes → Role → Type 0
+IsDone z (role.Wakes w) = z.events ≤ w.now.wakes
+IsDone z (role.Idles look) = Unit {0}
 
 -- every waker is through
-abbrev pub AreThrough : IdleSizes → List Part → Type 0
-AreThrough z [] = Unit {0}
-AreThrough z (q ∷ qs) = IsThrough z q × AreThrough z qs
+abbrev pub AreDone : IdleSizes → List Role → Type 0
+AreDone z [] = Unit {0}
+AreDone z (q ∷ qs) = IsDone z q × AreDone z qs
 
 -- the idler has nothing to do: it has entered, or is awake with no session open or left (s2idle_loop)
-abbrev pub IsAtRest : IdleSizes → IdleState → Bool → ℕ → Type 0
-IsAtRest z state.Idle in_session begun = (in_session ≡ false) × (z.sessions ≤ begun)
-IsAtRest z state.Enter in_session begun = Unit {0}
-IsAtRest z state.Wake in_session begun = ⊥
+abbrev pub IsIdle : IdleSizes → IdleState → Bool → ℕ → Type 0
+IsIdle z state.Idle in_session begun = (in_session ≡ false) × (z.sessions ≤ begun)
+IsIdle z state.Enter in_session begun = Unit {0}
+IsIdle z state.Wake in_session begun = ⊥
 
 module _ {Z : Type 0} where
   -- a waker's seat, and the places of its hard events, off the table (own)
-  abbrev pub IsOff : Part → EventSeat → Vec ℕ Z → Type 0
-  IsOff (part.Wakes w) seat v = (seat.token ≡ w.seat.token) × (v.items ≡ w.places.items)
-  IsOff (part.Idles look) seat v = ⊥
+  abbrev pub IsOff : Role → EventSeat → Vec ℕ Z → Type 0
+  IsOff (role.Wakes w) seat v = (seat.token ≡ w.seat.token) × (v.items ≡ w.ranks.items)
+  IsOff (role.Idles look) seat v = ⊥
 
   -- those of all wakers (own)
-  abbrev pub AreOff : List Part → List EventSeat → List (Vec ℕ Z) → Type 0
+  abbrev pub AreOff : List Role → List EventSeat → List (Vec ℕ Z) → Type 0
   AreOff [] [] [] = Unit {0}
   AreOff [] [] (v ∷ vs) = ⊥
   AreOff [] (s ∷ ss) vs = ⊥
@@ -68,8 +68,8 @@ module _ {Z : Type 0} where
     pub number : number_of seat.token ≡ Some who
     pub turns : InTurn owes floor (made_of seat.token) seen
     pub few : length (made_of seat.token) ≤ z.events
-    pub through : length seen ≡ z.events
-    pub places : v.items ≡ reverse (befores (made_of seat.token))
+    pub done : length seen ≡ z.events
+    pub ranks : v.items ≡ reverse (befores (made_of seat.token))
 
   -- what the wakers from that number on leave, beside that journal (own)
   abbrev pub AreLeft : IdleSizes → TableId → List IdleEntry → ℕ → List EventSeat → List (Vec ℕ Z) → Type 0
@@ -79,15 +79,15 @@ module _ {Z : Type 0} where
   AreLeft z table journal from (s ∷ ss) (v ∷ vs) = IsLeftAt z table from (seen_by from journal) s v × AreLeft z table journal (from + 1) ss vs
 
 -- what a run that is over leaves; the idler's seat has seen all that the journal saw (own)
-pub record IsLeft (z : IdleSizes) (table : TableId) (l : Left) : Type 0 where
+pub record IsLeft (z : IdleSizes) (table : TableId) (l : RunLeft) : Type 0 where
   pub sizes : AreSizes z
-  pub book : l.book.sizes ≡ z
+  pub gate_log : l.gate_log.sizes ≡ z
   pub look : l.look.token.table_id ≡ table
   pub sources : sources_of l.look.token ≡ z.wakers
   pub count : length l.seats.items ≡ z.wakers
-  pub each : AreLeft z table l.book.journal 0 l.seats.items l.places.items
+  pub each : AreLeft z table l.gate_log.journal 0 l.seats.items l.ranks.items
   pub last : EventNow
   pub more : List EventNow
   pub looked : looked_of l.look.token ≡ last ∷ more
-  pub seen : l.book.seen ≤ last.hard
-  pub rest : IsAtRest z l.book.gate.state l.book.gate.in_session l.book.gate.begun
+  pub seen : l.gate_log.seen ≤ last.hard
+  pub rest : IsIdle z l.gate_log.gate.state l.gate_log.gate.in_session l.gate_log.gate.begun

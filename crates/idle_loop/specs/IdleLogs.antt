@@ -37,7 +37,7 @@ session_by TryOk s = s
 session_by TryBusy s = None
 session_by Leave s = s
 
--- how many hard events stand since the open session's begin; None where no session is open (s2idle_loop)
+-- how many hard events stand since the open session's begin; None if no session is open (s2idle_loop)
 abbrev pub session_of : List IdleEntry → Option ℕ
 session_of [] = None
 session_of (e ∷ past) = session_by e.what (session_of past)
@@ -103,7 +103,7 @@ abbrev pub since_begin : ℕ → List IdleEntry → ℕ
 since_begin who [] = 0
 since_begin who (e ∷ past) = since_by e.what (e.who == who) (since_begin who past)
 
--- behind these entries that one may make this entry: a waker makes a hard event and a wake in turn; the idler begins where
+-- after these entries that one may make this entry: a waker makes a hard event and a wake in turn; the idler begins where
 -- no session is open, enters where no hard event stands since then, else ends the session, and leaves where it was waked
 -- (s2idle_loop, s2idle_enter, s2idle_wake; the numbers are own)
 abbrev pub MayMake : IdleSizes → List IdleEntry → ℕ → IdleKind → Type 0
@@ -121,7 +121,7 @@ IsIdleLog z (e ∷ past) = (e.hard ≡ hards past) × MayMake z past e.who e.wha
 
 -- all wakers are through, and nothing is left for the idler: it is in idle, or all sessions are over (s2idle_loop)
 pub record IsOver (z : IdleSizes) (past : List IdleEntry) : Type 0 where
-  pub through : (who : ℕ) → who < z.wakers → wakes_of who past ≡ z.events
+  pub done : (who : ℕ) → who < z.wakers → wakes_of who past ≡ z.events
   pub nothing : (what : IdleKind) → MayMake z past z.wakers what → ⊥
 
 -- where the idler has entered, a waker that made a hard event in this session still owes its wake: no wakeup is

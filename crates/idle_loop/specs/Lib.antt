@@ -2,11 +2,11 @@ pub mod IdleLogs
 pub mod Laws
 pub mod Sizes
 pub mod Merging
-pub mod Books
+pub mod GateLogs
 pub mod Turns
-pub mod Parts
+pub mod Roles
 pub mod Steps
-pub mod Crews
+pub mod WorkerPools
 pub mod Same
 pub mod Makers
 pub mod Ends

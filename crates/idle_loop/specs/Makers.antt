@@ -16,9 +16,9 @@ Alternate true floor [] qs = ⊥
 Alternate true floor (p ∷ ps) qs = Alternate false p ps qs
 
 -- how many events stood before each of one maker's, of all events by their makers (pm_system_wakeup)
-abbrev pub places : ℕ → List ℕ → List ℕ
-places who [] = []
-places who (m ∷ ms) = if m == who then length ms ∷ places who ms else places who ms
+abbrev pub ranks : ℕ → List ℕ → List ℕ
+ranks who [] = []
+ranks who (m ∷ ms) = if m == who then length ms ∷ ranks who ms else ranks who ms
 
 -- each maker's number is below that (own)
 abbrev pub AllBelow : ℕ → List ℕ → Type 0
@@ -37,24 +37,24 @@ filled who (p ∷ ps) makers = filled who ps (slice_set makers p who)
 
 module _ {Z : Type 0} where
   -- the lists of places are those of the makers from that number on, the oldest place first (own)
-  abbrev pub AreAtPlaces : List ℕ → ℕ → List (Vec ℕ Z) → Type 0
-  AreAtPlaces ms from [] = Unit {0}
-  AreAtPlaces ms from (v ∷ vs) = (v.items ≡ reverse (places from ms)) × AreAtPlaces ms (from + 1) vs
+  abbrev pub HaveRanks : List ℕ → ℕ → List (Vec ℕ Z) → Type 0
+  HaveRanks ms from [] = Unit {0}
+  HaveRanks ms from (v ∷ vs) = (v.items ≡ reverse (ranks from ms)) × HaveRanks ms (from + 1) vs
 
   -- the lists are those of all makers of these events (own)
   pub record AreMakers (count : ℕ) (ms : List ℕ) (lists : List (Vec ℕ Z)) : Type 0 where
     pub counted : count ≡ length ms
     pub few : length lists ≤ 16
     pub below : AllBelow (length lists) ms
-    pub each : AreAtPlaces ms 0 lists
+    pub each : HaveRanks ms 0 lists
 
 -- one waker's events and the hard numbers that its wakes saw stand in turn, and it is through (pm_system_wakeup, s2idle_wake)
 pub record IsMaker (z : IdleSizes) (ms : List ℕ) (journal : List IdleEntry) (who : ℕ) : Type 0 where
   pub owes : Bool
   pub floor : ℕ
-  pub turns : Alternate owes floor (places who ms) (seen_by who journal)
-  pub few : length (places who ms) ≤ z.events
-  pub through : wakes_of who journal ≡ z.events
+  pub turns : Alternate owes floor (ranks who ms) (seen_by who journal)
+  pub few : length (ranks who ms) ≤ z.events
+  pub done : wakes_of who journal ≡ z.events
 
 -- all hard events are by wakers, of which each is one (own)
 pub record AreMade (z : IdleSizes) (ms : List ℕ) (journal : List IdleEntry) : Type 0 where

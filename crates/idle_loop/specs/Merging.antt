@@ -7,11 +7,11 @@ use Rattle.idle_loop.specs.declared.entry.IdleEntry.{IdleEntry}
 use Rattle.idle_loop.specs.declared.entry.IdleSizes.{IdleSizes}
 use Rattle.idle_loop.specs.IdleLogs.{IsIdleLog, state_after, begun, wakes_of}
 
--- a waker's hard event that stands behind n of them (pm_system_wakeup)
+-- a waker's hard event that stands after n of them (pm_system_wakeup)
 abbrev pub hard_entry : ℕ → ℕ → IdleEntry
 hard_entry before who = record { hard = before; who = who; what = Hard }
 
--- the log is the merge of hard events, by their makers, and a journal: each entry stands behind as many hard events as it saw (own)
+-- the log is the merge of hard events, by their makers, and a journal: each entry stands after as many hard events as it saw (own)
 pub data Merges : List ℕ → List IdleEntry → List IdleEntry → Type 0 where
   Nothing : Merges [] [] []
   NextHard : (who : ℕ) (makers : List ℕ) (journal log : List IdleEntry) → Merges makers journal log → Merges (who ∷ makers) journal (hard_entry (length makers) who ∷ log)
@@ -36,12 +36,12 @@ forgot_by TryOk hard f = f
 forgot_by TryBusy hard f = None
 forgot_by Leave hard f = f
 
--- the hard number that the open session forgot; None where none is open (pm_wakeup_clear)
+-- the hard number that the open session forgot; None if none is open (pm_wakeup_clear)
 abbrev pub forgotten : List IdleEntry → Option ℕ
 forgotten [] = None
 forgotten (e ∷ journal) = forgot_by e.what e.hard (forgotten journal)
 
--- the gate may make the entry behind these of its journal, by the hard number that it saw (s2idle_enter, s2idle_wake)
+-- the gate may make the entry after these of its journal, by the hard number that it saw (s2idle_enter, s2idle_wake)
 abbrev pub MayEnter : IdleSizes → List IdleEntry → ℕ → ℕ → IdleKind → Type 0
 MayEnter z journal hard who Hard = ⊥
 MayEnter z journal hard who Wake = who < z.wakers

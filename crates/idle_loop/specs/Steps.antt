@@ -4,15 +4,15 @@ use Rattle.atomic_table.specs.Seated.{TableId}
 use Rattle.idle_loop.specs.declared.entry.IdleEntry.{IdleEntry}
 use Rattle.idle_loop.specs.declared.entry.IdleSizes.{IdleSizes}
 use Rattle.idle_loop.specs.Sizes.{AreSizes}
-use Rattle.idle_loop.specs.Books.{Book}
+use Rattle.idle_loop.specs.GateLogs.{GateLogState}
 use Rattle.turn_lock.specs.Passes.{Token}
-use Rattle.idle_loop.specs.declared.parts.Part.{Part}
-use Rattle.idle_loop.specs.declared.parts.Waker.{Waker}
+use Rattle.idle_loop.specs.declared.roles.Role.{Role}
+use Rattle.idle_loop.specs.declared.roles.Waker.{Waker}
 use Rattle.idle_loop.specs.Turns.{AreBy, seen_by}
-use Rattle.idle_loop.specs.Parts.{IsIn, IsWaker, table_of}
+use Rattle.idle_loop.specs.Roles.{IsIn, IsWaker, table_of}
 
 -- the gate gained entries of one worker (own)
-pub record Gains (who : ℕ) (old new : Book) : Type 0 where
+pub record Gains (who : ℕ) (old new : GateLogState) : Type 0 where
   pub gains : List IdleEntry
   pub journal : new.journal ≡ gains ++ old.journal
   pub by : AreBy who gains
@@ -41,12 +41,12 @@ pub record IsOwing (z : IdleSizes) (who : ℕ) (w : Waker) : Type 0 where
   pub owes : w.now.owes ≡ true
 
 -- the gate gained what a waker's wake added, if anything, and the waker stays at its table (s2idle_wake)
-pub record HasWoken (who : ℕ) (old new : Waker) (before after : Book) : Type 0 where
+pub record HasWoken (who : ℕ) (old new : Waker) (before after : GateLogState) : Type 0 where
   pub gained : Gains who before after
   pub keeps : (seen : List ℕ) → IsWaker before.sizes who seen old → IsWaker before.sizes who (seen_by who gained.gains ++ seen) new
   pub table : new.seat.token.table_id ≡ old.seat.token.table_id
 
 -- a worker's pass and part after a turn go with the burst as they did before (own)
-pub record HasActed (z : IdleSizes) (locks : TableId) (who : ℕ) (old new : Token Book IdleEntry) (before after : Part) : Type 0 where
-  pub keeps : (first : Book) → IsIn z locks who first old before → IsIn z locks who first new after
+pub record HasActed (z : IdleSizes) (locks : TableId) (who : ℕ) (old new : Token GateLogState IdleEntry) (before after : Role) : Type 0 where
+  pub keeps : (first : GateLogState) → IsIn z locks who first old before → IsIn z locks who first new after
   pub table : table_of after ≡ table_of before

@@ -7,7 +7,7 @@ use Rattle.idle_loop.specs.declared.entry.IdleKind.{IdleKind}
 use Rattle.idle_loop.specs.declared.entry.IdleKind.TheVariants.{Hard, Begin, Wake, TryOk, TryBusy, Leave}
 use Rattle.idle_loop.specs.declared.entry.IdleEntry.{IdleEntry}
 use Rattle.turn_lock.specs.declared.view.Made.{Made}
-use Rattle.turn_lock.specs.Books.{of_object}
+use Rattle.turn_lock.specs.Bookings.{of_object}
 
 -- the hard numbers that wakes saw, after an entry (s2idle_wake)
 abbrev pub seen_after : IdleKind → ℕ → List ℕ → List ℕ
@@ -41,7 +41,7 @@ own_of ms = entries_in (of_object 0 ms)
 abbrev pub befores : List MadeStep → List ℕ
 befores made = map (λ (s : MadeStep). s.before.hard) made
 
--- a waker's steps are hard events, and each has a wake behind it that saw it and nothing of the next; where it owes none, no
+-- a waker's steps are hard events, and each has a wake after it that saw it and nothing of the next; where it owes none, no
 -- wake saw more than that many steps (pm_system_wakeup, s2idle_wake)
 abbrev pub InTurn : Bool → ℕ → List MadeStep → List ℕ → Type 0
 InTurn false floor [] [] = Unit {0}
@@ -51,7 +51,7 @@ InTurn false floor (s ∷ made) (hard ∷ seen) = (hard ≤ floor) × (s.before.
 InTurn true floor [] seen = ⊥
 InTurn true floor (s ∷ made) seen = (s.step ≡ word.Hard) × InTurn false (position s.before) made seen
 
--- the newest step stood behind fewer hard events than that (pm_system_wakeup)
-abbrev pub IsBehind : ℕ → List MadeStep → Type 0
-IsBehind least [] = Unit {0}
-IsBehind least (s ∷ made) = s.before.hard < least
+-- the newest step stood after fewer hard events than that (pm_system_wakeup)
+abbrev pub SawFewer : ℕ → List MadeStep → Type 0
+SawFewer least [] = Unit {0}
+SawFewer least (s ∷ made) = s.before.hard < least

@@ -2,16 +2,16 @@
 
 ghost use Rattle.std.specs.Prelude.{◌≡◌, ◌≤◌, ◌<◌, ◌+◌, [], ◌∷◌, All, IfOk, length};
 ghost use Rattle.atomic_table.specs.Seated.{TableId};
-ghost use Rattle.idle_loop.specs.Books.{Book};
+ghost use Rattle.idle_loop.specs.GateLogs.{GateLogState};
 ghost use Rattle.turn_lock.specs.Passes.{AreAll, AreNew, first_of};
 ghost use Rattle.turn_lock.specs.Passing.{tokens};
-ghost use Rattle.idle_loop.specs.Crews.{AreAt, AreMannedBy, HaveParted, HavePasses, HasEnded, IsCrew};
+ghost use Rattle.idle_loop.specs.WorkerPools.{AreAt, AreWorkersOf, AreSplit, HavePasses, HasEnded, IsWorkerPool};
 ghost use Rattle.idle_loop.specs.declared.entry.IdleSizes.{IdleSizes};
 
-use crate::book::IdleBook;
 use crate::entry::IdleSizes;
-use crate::parts::Part;
-use crate::worker::{IdlePass, IdleWorld, Worker, taken};
+use crate::gate_log::GateLog;
+use crate::roles::Role;
+use crate::worker::{IdlePass, IdleWorker, IdleWorld, taken};
 use sleep_base::Mem;
 use sleep_pool::burst;
 use std::alloc::Global;
@@ -22,30 +22,30 @@ use turn_lock::{LockTable, close_locks};
 /// How many turns a worker may make in a burst.
 const TURNS: u64 = 1000;
 
-/// The gate, and what is each worker's own: the wakers in the order of their numbers, and behind them the idler.
+/// The gate, and what is each worker's own: the wakers in the order of their numbers, and after them the idler.
 #[derive(Drop)]
-pub struct Crew<'t> {
-    pub(crate) book: IdleBook<24>,
-    pub(crate) parts: Vec<Part<'t>>,
+pub struct WorkerPool<'t> {
+    pub(crate) gate_log: GateLog<24>,
+    pub(crate) roles: Vec<Role<'t>>,
 }
 
 /// The workers of a burst, with their passes.
-fn manned<'t>(
+fn with_passes<'t>(
     alloc: Global,
-    parts: Vec<Part<'t>>,
+    roles: Vec<Role<'t>>,
     passes: Vec<IdlePass>,
-) -> Result<Vec<Worker<'t>>, Mem>
-    requires same { length passes.items ≡ length parts.items }
-    requires few { length parts.items ≤ 17 }
-    ensures { IfOk result (λ workers. AreMannedBy 0 parts.entry.items passes.items workers.items) }
+) -> Result<Vec<IdleWorker<'t>>, Mem>
+    requires same { length passes.items ≡ length roles.items }
+    requires few { length roles.items ≤ 17 }
+    ensures { IfOk result (λ workers. AreWorkersOf 0 roles.entry.items passes.items workers.items) }
 {
-    let mut workers = Vec::with_capacity(alloc, parts.len())?;
-    for (part, pass) in parts.into_iter().zip(passes) {
+    let mut workers = Vec::with_capacity(alloc, roles.len())?;
+    for (role, pass) in roles.into_iter().zip(passes) {
         let who = workers.len() as u32;
-        workers.push(Worker {
+        workers.push(IdleWorker {
             who,
             pass: Some(pass),
-            part,
+            role,
             left: TURNS,
         })?;
     }
@@ -53,46 +53,46 @@ fn manned<'t>(
 }
 
 /// What is each worker's own, and their passes.
-fn parted<'t>(
+fn split<'t>(
     alloc: Global,
-    workers: Vec<Worker<'t>>,
-) -> Result<(Vec<Part<'t>>, Vec<IdlePass>), Mem>
+    workers: Vec<IdleWorker<'t>>,
+) -> Result<(Vec<Role<'t>>, Vec<IdlePass>), Mem>
     requires { HavePasses workers.items }
-    ensures { IfOk result (λ parts. HaveParted workers.entry.items parts.0.items parts.1.items) }
+    ensures { IfOk result (λ roles. AreSplit workers.entry.items roles.0.items roles.1.items) }
 {
-    let mut parts = Vec::with_capacity(alloc, workers.len())?;
+    let mut roles = Vec::with_capacity(alloc, workers.len())?;
     let mut passes = Vec::with_capacity(alloc, workers.len())?;
     for worker in workers {
-        let Worker {
+        let IdleWorker {
             who: _,
             mut pass,
-            part,
+            role,
             left: _,
         } = worker;
-        parts.push(part)?;
+        roles.push(role)?;
         passes.push(taken(&mut pass))?;
     }
-    Ok((parts, passes))
+    Ok((roles, passes))
 }
 
 /// The table of the gate's lock, and the workers of a burst.
 fn began<'t>(
     alloc: Global,
     sizes: IdleSizes,
-    crew: Crew<'t>,
-) -> Result<(LockTable<IdleBook<24>>, Vec<Worker<'t>>), Mem>
-    requires { (table : TableId) × IsCrew sizes table crew }
-    ensures first { IfOk result (λ made. first_of made.0.own ≡ crew.entry.book ∷ []) }
+    pool: WorkerPool<'t>,
+) -> Result<(LockTable<GateLog<24>>, Vec<IdleWorker<'t>>), Mem>
+    requires { (table : TableId) × IsWorkerPool sizes table pool }
+    ensures first { IfOk result (λ made. first_of made.0.own ≡ pool.entry.gate_log ∷ []) }
     ensures count { IfOk result (λ made. made.0.own.me.0.next ≡ sizes.wakers + 1) }
     ensures unused { IfOk result (λ made. made.0.own.me.0.known ≡ []) }
-    ensures at { IfOk result (λ made. (table : TableId) → IsCrew sizes table crew.entry → AreAt sizes made.0.own.table_id table crew.entry.book 0 made.1.items) }
+    ensures at { IfOk result (λ made. (table : TableId) → IsWorkerPool sizes table pool.entry → AreAt sizes made.0.own.table_id table pool.entry.gate_log 0 made.1.items) }
     ensures left { IfOk result (λ made. All (λ w. 1000 ≤ w.left) made.1.items) }
     ensures long { IfOk result (λ made. length made.1.items ≡ sizes.wakers + 1) }
 {
-    let Crew { book, parts } = crew;
-    let books = vec![in alloc; book]?;
-    let (locks, passes) = LockTable::new(alloc, books, sizes.wakers + 1)?;
-    let workers = manned(alloc, parts, passes)?;
+    let WorkerPool { gate_log, roles } = pool;
+    let gate_logs = vec![in alloc; gate_log]?;
+    let (locks, passes) = LockTable::new(alloc, gate_logs, sizes.wakers + 1)?;
+    let workers = with_passes(alloc, roles, passes)?;
     Ok((locks, workers))
 }
 
@@ -100,55 +100,55 @@ fn began<'t>(
 fn work<R: Threads + Wait + Sync>(
     rt: &R,
     sizes: IdleSizes,
-    locks: &LockTable<IdleBook<24>>,
-    crew: &mut [Worker<'_>],
+    locks: &LockTable<GateLog<24>>,
+    pool: &mut [IdleWorker<'_>],
     workers: u8,
 )
     requires workers { 0 < workers }
-    requires at { (table : TableId) × (first : Book) × AreAt sizes locks.now.own.table_id table first 0 crew.old }
-    requires left { All (λ w. 1000 ≤ w.left) crew.old }
-    requires few { length crew.old ≤ 17 }
-    ensures at { (table : TableId) (first : Book) → AreAt sizes locks.now.own.table_id table first 0 crew.old → AreAt sizes locks.now.own.table_id table first 0 crew.new }
-    ensures long { length crew.new ≡ length crew.old }
+    requires at { (table : TableId) × (first : GateLogState) × AreAt sizes locks.now.own.table_id table first 0 pool.old }
+    requires left { All (λ w. 1000 ≤ w.left) pool.old }
+    requires few { length pool.old ≤ 17 }
+    ensures at { (table : TableId) (first : GateLogState) → AreAt sizes locks.now.own.table_id table first 0 pool.old → AreAt sizes locks.now.own.table_id table first 0 pool.new }
+    ensures long { length pool.new ≡ length pool.old }
 {
     let world = IdleWorld {
         rt,
-        desk: &locks.desk,
+        cells: &locks.cells,
         sizes,
     };
-    burst(rt, crew, &world, 0, workers);
+    burst(rt, pool, &world, 0, workers);
 }
 
-/// The gate and the parts, behind a burst.
+/// The gate and the parts, after a burst.
 fn ended<'t>(
     alloc: Global,
-    locks: LockTable<IdleBook<24>>,
-    workers: Vec<Worker<'t>>,
-) -> Result<Crew<'t>, Mem>
-    requires { (z : IdleSizes) × (table : TableId) × (first : Book) × HasEnded z table first locks workers.items }
-    ensures { IfOk result (λ crew. (z : IdleSizes) (table : TableId) (first : Book) → HasEnded z table first locks workers.entry.items → IsCrew z table crew) }
+    locks: LockTable<GateLog<24>>,
+    workers: Vec<IdleWorker<'t>>,
+) -> Result<WorkerPool<'t>, Mem>
+    requires { (z : IdleSizes) × (table : TableId) × (first : GateLogState) × HasEnded z table first locks workers.items }
+    ensures { IfOk result (λ pool. (z : IdleSizes) (table : TableId) (first : GateLogState) → HasEnded z table first locks workers.entry.items → IsWorkerPool z table pool) }
 {
-    let (parts, passes) = parted(alloc, workers)?;
-    let mut books = close_locks(alloc, locks, passes)?;
-    Ok(Crew {
-        book: books.remove(0),
-        parts,
+    let (roles, passes) = split(alloc, workers)?;
+    let mut gate_logs = close_locks(alloc, locks, passes)?;
+    Ok(WorkerPool {
+        gate_log: gate_logs.remove(0),
+        roles,
     })
 }
 
-/// One burst, in which a worker makes at most a thousand turns. `Mem` where there is no memory.
+/// One burst, in which a worker makes at most a thousand turns. `Mem` if there is no memory.
 pub(crate) fn go_on<'t, R: Threads + Wait + Sync>(
     rt: &R,
     alloc: Global,
     sizes: IdleSizes,
-    crew: Crew<'t>,
+    pool: WorkerPool<'t>,
     workers: u8,
-) -> Result<Crew<'t>, Mem>
+) -> Result<WorkerPool<'t>, Mem>
     requires workers { 0 < workers }
-    requires crew { (table : TableId) × IsCrew sizes table crew }
-    ensures { IfOk result (λ after. (table : TableId) → IsCrew sizes table crew.entry → IsCrew sizes table after) }
+    requires pool { (table : TableId) × IsWorkerPool sizes table pool }
+    ensures { IfOk result (λ after. (table : TableId) → IsWorkerPool sizes table pool.entry → IsWorkerPool sizes table after) }
 {
-    let (locks, mut crew) = began(alloc, sizes, crew)?;
-    work(rt, sizes, &locks, &mut crew, workers);
-    ended(alloc, locks, crew)
+    let (locks, mut pool) = began(alloc, sizes, pool)?;
+    work(rt, sizes, &locks, &mut pool, workers);
+    ended(alloc, locks, pool)
 }

@@ -6,18 +6,18 @@ ghost use Rattle.idle_loop.specs.declared.entry.IdleSizes.{IdleSizes};
 ghost use Rattle.idle_loop.specs.IdleLogs.{IsIdleRun};
 ghost use Rattle.idle_gate.specs.Gates.{is_entered as entered};
 ghost use Rattle.idle_loop.specs.Sizes.{AreSizes};
-ghost use Rattle.idle_loop.specs.declared.parts.Part.TheVariants as variant;
-ghost use Rattle.idle_loop.specs.Crews.{IsCrew};
-ghost use Rattle.idle_loop.specs.Ends.{AreOff, AreThrough, AreWakes, IsAtRest, IsIdles, IsLeft, IsWakes};
+ghost use Rattle.idle_loop.specs.declared.roles.Role.TheVariants as variant;
+ghost use Rattle.idle_loop.specs.WorkerPools.{IsWorkerPool};
+ghost use Rattle.idle_loop.specs.Ends.{AreOff, AreDone, AreWakes, IsIdle, IsIdles, IsLeft, IsWakes};
 ghost use Rattle.idle_loop.specs.Makers.{AreMade};
 
-use crate::book::IdleBook;
-use crate::burst::Crew;
+use crate::burst::WorkerPool;
 use crate::entry::{IdleLog, IdleSizes};
+use crate::gate_log::GateLog;
 use crate::looks::look_for;
 use crate::makers::makers_of;
 use crate::merge::merge_idle;
-use crate::parts::{Part, Waker};
+use crate::roles::{Role, Waker};
 use event_word::{EventSeat, EventTable, LookSeat, TableLook, close};
 use idle_gate::IdleState;
 use sleep_base::Mem;
@@ -26,77 +26,77 @@ use std::sync::Wait;
 
 /// What a run leaves: the gate, the seats off their table, and the places of each waker's hard events.
 #[derive(Drop)]
-pub(crate) struct Left {
-    book: IdleBook<24>,
+pub(crate) struct RunLeft {
+    gate_log: GateLog<24>,
     seats: Vec<EventSeat>,
     look: LookSeat,
-    places: Vec<Vec<u32>>,
+    ranks: Vec<Vec<u32>>,
 }
 
 /// The waker that the part is.
-fn waker_of<'t>(part: Part<'t>) -> Waker<'t>
-    requires { IsWakes part }
-    ensures { part.entry ≡ variant.Wakes result }
+fn waker_of<'t>(role: Role<'t>) -> Waker<'t>
+    requires { IsWakes role }
+    ensures { role.entry ≡ variant.Wakes result }
 {
-    match part {
-        Part::Wakes(waker) => waker,
-        Part::Idles(_) => unreachable!(),
+    match role {
+        Role::Wakes(waker) => waker,
+        Role::Idles(_) => unreachable!(),
     }
 }
 
 /// The idler's seat that the part is.
-fn idler_of<'t>(part: Part<'t>) -> TableLook<'t>
-    requires { IsIdles part }
-    ensures { part.entry ≡ variant.Idles result }
+fn idler_of<'t>(role: Role<'t>) -> TableLook<'t>
+    requires { IsIdles role }
+    ensures { role.entry ≡ variant.Idles result }
 {
-    match part {
-        Part::Idles(look) => look,
-        Part::Wakes(_) => unreachable!(),
+    match role {
+        Role::Idles(look) => look,
+        Role::Wakes(_) => unreachable!(),
     }
 }
 
 /// The last part, which is the idler's, and the parts before it.
-fn apart<'t>(mut parts: Vec<Part<'t>>) -> (Vec<Part<'t>>, Part<'t>)
-    requires { 0 < length parts.items }
-    ensures { parts.entry.items ≡ result.0.items ++ result.1 ∷ [] }
+fn apart<'t>(mut roles: Vec<Role<'t>>) -> (Vec<Role<'t>>, Role<'t>)
+    requires { 0 < length roles.items }
+    ensures { roles.entry.items ≡ result.0.items ++ result.1 ∷ [] }
 {
-    match parts.pop() {
-        Some(part) => (parts, part),
+    match roles.pop() {
+        Some(role) => (roles, role),
         None => unreachable!(),
     }
 }
 
 /// The seats and the places of the wakers that the parts are.
-fn wakers_of(alloc: Global, parts: Vec<Part<'_>>) -> Result<(Vec<EventSeat>, Vec<Vec<u32>>), Mem>
-    requires { AreWakes parts.items }
-    ensures { IfOk result (λ off. AreOff parts.entry.items off.0.items off.1.items) }
+fn wakers_of(alloc: Global, roles: Vec<Role<'_>>) -> Result<(Vec<EventSeat>, Vec<Vec<u32>>), Mem>
+    requires { AreWakes roles.items }
+    ensures { IfOk result (λ off. AreOff roles.entry.items off.0.items off.1.items) }
 {
-    let mut seats = Vec::with_capacity(alloc, parts.len())?;
-    let mut places = Vec::with_capacity(alloc, parts.len())?;
-    for part in parts {
-        let waker = waker_of(part);
+    let mut seats = Vec::with_capacity(alloc, roles.len())?;
+    let mut ranks = Vec::with_capacity(alloc, roles.len())?;
+    for role in roles {
+        let waker = waker_of(role);
         seats.push(waker.seat.off())?;
-        places.push(waker.places)?;
+        ranks.push(waker.ranks)?;
     }
-    Ok((seats, places))
+    Ok((seats, ranks))
 }
 
 /// Takes all seats off their table. The idler has seen all that the journal saw.
-pub(crate) fn leave<R: Wait>(rt: &R, alloc: Global, crew: Crew<'_>) -> Result<Left, Mem>
-    requires { (z : IdleSizes) × (table : TableId) × IsCrew z table crew }
-    ensures { IfOk result (λ left. (z : IdleSizes) (table : TableId) → IsCrew z table crew.entry → AreThrough z crew.entry.parts.items
-        → IsAtRest z crew.entry.book.gate.state crew.entry.book.gate.in_session crew.entry.book.gate.begun → IsLeft z table left) }
+pub(crate) fn leave<R: Wait>(rt: &R, alloc: Global, pool: WorkerPool<'_>) -> Result<RunLeft, Mem>
+    requires { (z : IdleSizes) × (table : TableId) × IsWorkerPool z table pool }
+    ensures { IfOk result (λ left. (z : IdleSizes) (table : TableId) → IsWorkerPool z table pool.entry → AreDone z pool.entry.roles.items
+        → IsIdle z pool.entry.gate_log.gate.state pool.entry.gate_log.gate.in_session pool.entry.gate_log.gate.begun → IsLeft z table left) }
 {
-    let Crew { book, parts } = crew;
-    let (parts, last) = apart(parts);
+    let WorkerPool { gate_log, roles } = pool;
+    let (roles, last) = apart(roles);
     let mut look = idler_of(last);
-    look_for(rt, &mut look, u64::from(book.seen()));
-    let (seats, places) = wakers_of(alloc, parts)?;
-    Ok(Left {
-        book,
+    look_for(rt, &mut look, u64::from(gate_log.seen()));
+    let (seats, ranks) = wakers_of(alloc, roles)?;
+    Ok(RunLeft {
+        gate_log,
         seats,
         look: look.off(),
-        places,
+        ranks,
     })
 }
 
@@ -111,18 +111,18 @@ fn is_entered(state: IdleState) -> bool
 fn merged_log(
     alloc: Global,
     sizes: IdleSizes,
-    book: IdleBook<24>,
+    gate_log: GateLog<24>,
     makers: &[u32],
 ) -> Result<IdleLog, Mem>
-    requires sizes { book.sizes ≡ sizes }
-    requires made { AreMade sizes (reverse makers.now) book.journal }
+    requires sizes { gate_log.sizes ≡ sizes }
+    requires made { AreMade sizes (reverse makers.now) gate_log.journal }
     requires few { length makers.now < 2 ^ 32 }
-    requires seen { book.seen ≤ length makers.now }
-    requires rest { IsAtRest sizes book.gate.state book.gate.in_session book.gate.begun }
+    requires seen { gate_log.seen ≤ length makers.now }
+    requires rest { IsIdle sizes gate_log.gate.state gate_log.gate.in_session gate_log.gate.begun }
     ensures { IfOk result (IsIdleRun sizes) }
 {
-    let idle = is_entered(book.state());
-    let journal = book.into_journal();
+    let idle = is_entered(gate_log.state());
+    let journal = gate_log.into_journal();
     let entries = merge_idle(alloc, &journal, makers)?;
     Ok(IdleLog { entries, idle })
 }
@@ -132,18 +132,18 @@ pub(crate) fn log_of(
     alloc: Global,
     table: EventTable,
     sizes: IdleSizes,
-    left: Left,
+    left: RunLeft,
 ) -> Result<IdleLog, Mem>
-    requires { IsLeft sizes table.desk.shared.table_id left }
+    requires { IsLeft sizes table.cells.shared.table_id left }
     ensures { IfOk result (IsIdleRun sizes) }
 {
-    let Left {
-        book,
+    let RunLeft {
+        gate_log,
         seats,
         look,
-        places,
+        ranks,
     } = left;
     let now = close(table, seats, look)?;
-    let makers = makers_of(alloc, now.hard, &places)?;
-    merged_log(alloc, sizes, book, &makers)
+    let makers = makers_of(alloc, now.hard, &ranks)?;
+    merged_log(alloc, sizes, gate_log, &makers)
 }

@@ -13,7 +13,7 @@ pub enum IdleKind {
     TryOk,
     /// The idler looks, finds a wakeup pending, and ends the session (`s2idle_enter`).
     TryBusy,
-    /// The idler comes back from idle (`s2idle_enter`, behind its wait).
+    /// The idler comes back from idle (`s2idle_enter`, after its wait).
     Leave,
 }
 

@@ -15,27 +15,27 @@
 //! hard events and wakes in turn by the numbers that the wakes saw, every merge is a legal log of suspend-to-idle.
 //! The gate with its journal, which stands under a lock, adds one entry a call, takes no memory after its making,
 //! and gives back a journal that is one of the gate by itself and in order. By the clauses of `merge_idle`;
-//! `journal_and_hard_events_merge`; `IdleBook::new`, `begin`, `try_enter`, `wake`, `leave`, `into_journal`.
+//! `journal_and_hard_events_merge`; `GateLog::new`, `begin`, `try_enter`, `wake`, `leave`, `into_journal`.
 //!
-//! Begin reading in `specs/IdleLogs.antt`, `src/run.rt`; `src/book.rt`, `src/merge.rt`, `src/worker.rt`,
+//! Begin reading in `specs/IdleLogs.antt`, `src/run.rt`; `src/gate_log.rt`, `src/merge.rt`, `src/worker.rt`,
 //! `src/closing.rt`.
 #![tactic(auto)]
 
-mod book;
 mod burst;
 mod closing;
 mod entry;
+mod gate_log;
 mod laws;
 mod looks;
 mod makers;
 mod merge;
-mod parts;
+mod roles;
 mod run;
 mod steps;
 mod worker;
 
-pub use book::IdleBook;
 pub use entry::{IdleEntry, IdleKind, IdleLog, IdleSizes};
+pub use gate_log::GateLog;
 pub use idle_gate::{IdleGate, IdleState, WakerNow};
 pub use laws::{journal_and_hard_events_merge, no_hard_event_sleeps, no_wakeup_is_lost};
 pub use merge::merge_idle;

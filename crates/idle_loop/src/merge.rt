@@ -9,7 +9,7 @@ use sleep_base::Mem;
 use std::alloc::Global;
 
 /// Hard events from a number to another, by their makers.
-fn place_hards(log: &mut Vec<IdleEntry>, makers: &[u32], from: u32, to: u32) -> Result<(), Mem>
+fn put_hards(log: &mut Vec<IdleEntry>, makers: &[u32], from: u32, to: u32) -> Result<(), Mem>
     requires { (from ≤ to) × (to ≤ length makers.now) }
     ensures { IfOk result (λ _. (journal : List IdleEntry) → Merges (reverse (take from makers.now)) journal (reverse log.old.items) → Merges (reverse (take to makers.now)) journal (reverse log.new.items)) }
 {
@@ -24,7 +24,7 @@ fn place_hards(log: &mut Vec<IdleEntry>, makers: &[u32], from: u32, to: u32) -> 
 }
 
 /// The one log of a gate's journal and of the hard events, of which the makers are given in order, all the oldest first:
-/// each entry of the journal stands behind as many hard events as it saw. `Mem` where there is no memory for the log.
+/// each entry of the journal stands after as many hard events as it saw. `Mem` if there is no memory for the log.
 pub fn merge_idle(
     alloc: Global,
     journal: &[IdleEntry],
@@ -37,10 +37,10 @@ pub fn merge_idle(
     let mut log = Vec::new(alloc);
     let mut placed = 0;
     for entry in journal {
-        place_hards(&mut log, makers, placed, entry.hard)?;
+        put_hards(&mut log, makers, placed, entry.hard)?;
         log.push(*entry)?;
         placed = entry.hard;
     }
-    place_hards(&mut log, makers, placed, makers.len() as u32)?;
+    put_hards(&mut log, makers, placed, makers.len() as u32)?;
     Ok(log)
 }

@@ -6,14 +6,14 @@ ghost use Rattle.event_word.specs.Lists.{tokens};
 ghost use Rattle.event_word.specs.Seats.{AreNew};
 ghost use Rattle.idle_loop.specs.IdleLogs.{IsIdleRun};
 ghost use Rattle.idle_loop.specs.Sizes.{AreSizes};
-ghost use Rattle.idle_loop.specs.Crews.{AreParts};
-ghost use Rattle.idle_loop.specs.Ends.{AreThrough, IsAtRest, IsLeft, IsThrough};
+ghost use Rattle.idle_loop.specs.WorkerPools.{AreRoles};
+ghost use Rattle.idle_loop.specs.Ends.{AreDone, IsIdle, IsLeft, IsDone};
 
-use crate::book::IdleBook;
-use crate::burst::{Crew, go_on};
-use crate::closing::{Left, leave, log_of};
+use crate::burst::{WorkerPool, go_on};
+use crate::closing::{RunLeft, leave, log_of};
 use crate::entry::{IdleLog, IdleSizes};
-use crate::parts::{Part, Waker};
+use crate::gate_log::GateLog;
+use crate::roles::{Role, Waker};
 use event_word::{EventSeat, EventTable, LookSeat};
 use idle_gate::{IdleState, WakerNow};
 use sleep_base::Mem;
@@ -22,51 +22,51 @@ use std::sync::Wait;
 use std::thread::Threads;
 
 /// The wakers and the idler at the table, before all steps.
-fn parts_of<'t>(
+fn roles_of<'t>(
     alloc: Global,
     sizes: IdleSizes,
     table: &'t EventTable,
     seats: Vec<EventSeat>,
     look: LookSeat,
-) -> Result<Vec<Part<'t>>, Mem>
-    requires look { look.token.table_id ≡ table.now.desk.shared.table_id }
+) -> Result<Vec<Role<'t>>, Mem>
+    requires look { look.token.table_id ≡ table.now.cells.shared.table_id }
     requires seats { AreNew look.token (tokens seats.items) }
     requires count { length seats.items ≡ sizes.wakers }
-    ensures long { IfOk result (λ parts. length parts.items ≡ sizes.wakers + 1) }
-    ensures parts { IfOk result (λ parts. AreParts sizes table.now.desk.shared.table_id [] 0 parts.items) }
+    ensures long { IfOk result (λ roles. length roles.items ≡ sizes.wakers + 1) }
+    ensures roles { IfOk result (λ roles. AreRoles sizes table.now.cells.shared.table_id [] 0 roles.items) }
 {
-    let mut parts = Vec::with_capacity(alloc, seats.len())?;
+    let mut roles = Vec::with_capacity(alloc, seats.len())?;
     for seat in seats {
-        parts.push(Part::Wakes(Waker {
+        roles.push(Role::Wakes(Waker {
             seat: seat.on(table),
             now: WakerNow {
                 wakes: 0,
                 owes: false,
             },
             least: 0,
-            places: Vec::with_capacity(alloc, sizes.events as usize)?,
+            ranks: Vec::with_capacity(alloc, sizes.events as usize)?,
         }))?;
     }
-    parts.push(Part::Idles(look.on(table)))?;
-    Ok(parts)
+    roles.push(Role::Idles(look.on(table)))?;
+    Ok(roles)
 }
 
 /// Whether that part's waker is through.
-fn is_through(sizes: IdleSizes, part: &Part<'_>) -> bool
-    ensures { OnTrue result (IsThrough sizes part.now) }
+fn is_done(sizes: IdleSizes, role: &Role<'_>) -> bool
+    ensures { OnTrue result (IsDone sizes role.now) }
 {
-    match part {
-        Part::Wakes(waker) => waker.now.is_through(sizes.events),
-        Part::Idles(_) => true,
+    match role {
+        Role::Wakes(waker) => waker.now.is_done(sizes.events),
+        Role::Idles(_) => true,
     }
 }
 
 /// Whether every waker is through.
-fn are_through(sizes: IdleSizes, parts: &[Part<'_>]) -> bool
-    ensures { OnTrue result (AreThrough sizes parts.now) }
+fn are_done(sizes: IdleSizes, roles: &[Role<'_>]) -> bool
+    ensures { OnTrue result (AreDone sizes roles.now) }
 {
-    for part in parts {
-        if !is_through(sizes, part) {
+    for role in roles {
+        if !is_done(sizes, role) {
             return false;
         }
     }
@@ -74,11 +74,11 @@ fn are_through(sizes: IdleSizes, parts: &[Part<'_>]) -> bool
 }
 
 /// Whether the idler has nothing to do: it has entered, or no session is left.
-fn has_nothing(sizes: IdleSizes, book: &IdleBook<24>) -> bool
-    ensures { OnTrue result (IsAtRest sizes book.now.gate.state book.now.gate.in_session book.now.gate.begun) }
+fn has_nothing(sizes: IdleSizes, gate_log: &GateLog<24>) -> bool
+    ensures { OnTrue result (IsIdle sizes gate_log.now.gate.state gate_log.now.gate.in_session gate_log.now.gate.begun) }
 {
-    match book.state() {
-        IdleState::Idle => !book.is_open() && book.begun() >= sizes.sessions,
+    match gate_log.state() {
+        IdleState::Idle => !gate_log.is_open() && gate_log.begun() >= sizes.sessions,
         IdleState::Enter => true,
         IdleState::Wake => false,
     }
@@ -93,29 +93,29 @@ fn to_end<R: Threads + Wait + Sync>(
     table: &EventTable,
     seats: Vec<EventSeat>,
     look: LookSeat,
-) -> Result<Left, Mem>
+) -> Result<RunLeft, Mem>
     requires sizes { AreSizes sizes }
     requires workers { 0 < workers }
-    requires look { look.token.table_id ≡ table.now.desk.shared.table_id }
+    requires look { look.token.table_id ≡ table.now.cells.shared.table_id }
     requires seats { AreNew look.token (tokens seats.items) }
     requires count { length seats.items ≡ sizes.wakers }
-    ensures { IfOk result (IsLeft sizes table.now.desk.shared.table_id) }
+    ensures { IfOk result (IsLeft sizes table.now.cells.shared.table_id) }
 {
-    let mut crew = Crew {
-        book: IdleBook::new(alloc, sizes)?,
-        parts: parts_of(alloc, sizes, table, seats, look)?,
+    let mut pool = WorkerPool {
+        gate_log: GateLog::new(alloc, sizes)?,
+        roles: roles_of(alloc, sizes, table, seats, look)?,
     };
     for _ in rt.forever() {
-        if are_through(sizes, &crew.parts) && has_nothing(sizes, &crew.book) {
-            return leave(rt, alloc, crew);
+        if are_done(sizes, &pool.roles) && has_nothing(sizes, &pool.gate_log) {
+            return leave(rt, alloc, pool);
         }
-        crew = go_on(rt, alloc, sizes, crew, workers)?;
+        pool = go_on(rt, alloc, sizes, pool, workers)?;
     }
     unreachable!()
 }
 
 /// Runs wakers and idler by several workers (`kernel/power/suspend.c`, `s2idle_loop`). There are 1 to 16 wakers, and 1 to
-/// 1,000 events and sessions. `Mem` where there is no memory.
+/// 1,000 events and sessions. `Mem` if there is no memory.
 pub fn run_idle<R: Threads + Wait + Sync>(
     rt: &R,
     alloc: Global,

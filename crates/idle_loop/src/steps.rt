@@ -4,9 +4,9 @@ ghost use Rattle.std.specs.Prelude.{◌≡◌, ◌<◌, true, false};
 ghost use Rattle.idle_gate.specs.declared.state.IdleState.TheVariants as state;
 ghost use Rattle.idle_loop.specs.Steps.{Gains, HasMadeHard, HasWoken, IsFree, IsOwing};
 
-use crate::book::IdleBook;
+use crate::gate_log::GateLog;
 use crate::looks::look_for;
-use crate::parts::Waker;
+use crate::roles::Waker;
 use event_word::{Bump, Events};
 use idle_gate::{IdleState, WakerNow};
 use sleep_pool::Turn;
@@ -19,23 +19,28 @@ impl Waker<'_> {
         ensures { HasMadeHard self.old self.new }
     {
         let before = self.seat.hard();
-        self.places.push_reserved(before.hard);
+        self.ranks.push_reserved(before.hard);
         self.least = u64::from(before.hard) + 1;
         self.now.owes = true;
     }
 
-    /// The wake behind its hard event, under the gate's lock (`s2idle_wake`).
-    pub(crate) fn make_wake<R: Wait>(&mut self, rt: &R, book: &mut IdleBook<24>, who: u32) -> Turn
-        requires { IsOwing book.old.sizes who self.old }
-        ensures { HasWoken who self.old self.new book.old book.new }
+    /// The wake after its hard event, under the gate's lock (`s2idle_wake`).
+    pub(crate) fn make_wake<R: Wait>(
+        &mut self,
+        rt: &R,
+        gate_log: &mut GateLog<24>,
+        who: u32,
+    ) -> Turn
+        requires { IsOwing gate_log.old.sizes who self.old }
+        ensures { HasWoken who self.old self.new gate_log.old gate_log.new }
     {
         // The gate counts its wakes as it does.
-        if book.wakes(who) != self.now.wakes {
+        if gate_log.wakes(who) != self.now.wakes {
             return Turn::NotYet;
         }
-        let least = self.least.max(u64::from(book.seen()));
+        let least = self.least.max(u64::from(gate_log.seen()));
         let now = look_for(rt, &mut self.seat, least);
-        book.wake(now, who);
+        gate_log.wake(now, who);
         self.now = WakerNow {
             wakes: self.now.wakes + 1,
             owes: false,
@@ -45,36 +50,36 @@ impl Waker<'_> {
 }
 
 /// The idler begins a session.
-fn begin<R: Wait, E: Events>(rt: &R, book: &mut IdleBook<24>, events: &mut E) -> Turn
-    requires none { book.old.gate.in_session ≡ false }
-    requires few { book.old.gate.begun < book.old.sizes.sessions }
-    ensures gains { Gains book.old.sizes.wakers book.old book.new }
+fn begin<R: Wait, E: Events>(rt: &R, gate_log: &mut GateLog<24>, events: &mut E) -> Turn
+    requires none { gate_log.old.gate.in_session ≡ false }
+    requires few { gate_log.old.gate.begun < gate_log.old.sizes.sessions }
+    ensures gains { Gains gate_log.old.sizes.wakers gate_log.old gate_log.new }
     ensures root { E.root events.new ≡ E.root events.old }
 {
-    let now = look_for(rt, events, u64::from(book.seen()));
-    book.begin(now);
+    let now = look_for(rt, events, u64::from(gate_log.seen()));
+    gate_log.begin(now);
     Turn::Did
 }
 
 /// The idler looks, and enters or ends the session (`s2idle_enter`).
-fn try_enter<R: Wait, E: Events>(rt: &R, book: &mut IdleBook<24>, events: &mut E) -> Turn
-    requires open { book.old.gate.in_session ≡ true }
-    requires state { book.old.gate.state ≡ state.Idle }
-    ensures gains { Gains book.old.sizes.wakers book.old book.new }
+fn try_enter<R: Wait, E: Events>(rt: &R, gate_log: &mut GateLog<24>, events: &mut E) -> Turn
+    requires open { gate_log.old.gate.in_session ≡ true }
+    requires state { gate_log.old.gate.state ≡ state.Idle }
+    ensures gains { Gains gate_log.old.sizes.wakers gate_log.old gate_log.new }
     ensures root { E.root events.new ≡ E.root events.old }
 {
-    let now = look_for(rt, events, u64::from(book.seen()));
-    book.try_enter(now);
+    let now = look_for(rt, events, u64::from(gate_log.seen()));
+    gate_log.try_enter(now);
     Turn::Did
 }
 
-/// The idler comes back from idle, where a waker has called (`s2idle_enter`, behind its wait).
-fn leave<R: Wait, E: Events>(rt: &R, book: &mut IdleBook<24>, events: &mut E) -> Turn
-    ensures gains { Gains book.old.sizes.wakers book.old book.new }
+/// The idler comes back from idle, where a waker has called (`s2idle_enter`, after its wait).
+fn leave<R: Wait, E: Events>(rt: &R, gate_log: &mut GateLog<24>, events: &mut E) -> Turn
+    ensures gains { Gains gate_log.old.sizes.wakers gate_log.old gate_log.new }
     ensures root { E.root events.new ≡ E.root events.old }
 {
-    let now = look_for(rt, events, u64::from(book.seen()));
-    if book.leave(now) {
+    let now = look_for(rt, events, u64::from(gate_log.seen()));
+    if gate_log.leave(now) {
         Turn::Did
     } else {
         Turn::NotYet
@@ -82,14 +87,20 @@ fn leave<R: Wait, E: Events>(rt: &R, book: &mut IdleBook<24>, events: &mut E) ->
 }
 
 /// The idler's next step, if it has one, under the gate's lock (`s2idle_loop`).
-pub(crate) fn idle_step<R: Wait, E: Events>(rt: &R, book: &mut IdleBook<24>, events: &mut E) -> Turn
-    ensures gains { Gains book.old.sizes.wakers book.old book.new }
+pub(crate) fn idle_step<R: Wait, E: Events>(
+    rt: &R,
+    gate_log: &mut GateLog<24>,
+    events: &mut E,
+) -> Turn
+    ensures gains { Gains gate_log.old.sizes.wakers gate_log.old gate_log.new }
     ensures root { E.root events.new ≡ E.root events.old }
 {
-    match book.state() {
-        IdleState::Idle if book.is_open() => try_enter(rt, book, events),
-        IdleState::Idle if book.begun() < book.sizes().sessions => begin(rt, book, events),
+    match gate_log.state() {
+        IdleState::Idle if gate_log.is_open() => try_enter(rt, gate_log, events),
+        IdleState::Idle if gate_log.begun() < gate_log.sizes().sessions => begin(
+            rt, gate_log, events,
+        ),
         IdleState::Idle => Turn::Done,
-        IdleState::Enter | IdleState::Wake => leave(rt, book, events),
+        IdleState::Enter | IdleState::Wake => leave(rt, gate_log, events),
     }
 }

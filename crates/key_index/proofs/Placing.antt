@@ -46,6 +46,6 @@ module _ {K : Type 0} (eq : K → K → Bool) (laws : IsEquivalence eq) where
   pub placed_all : (keys : List K) (i : ℕ) → i ≡ 0 → (q : K) → placed eq laws keys i q ≡ position (eq q) keys
   placed_all keys i e q = rw e (plain (position (eq q) keys))
 
-  -- from behind the last key on
+  -- from after the last key on
   pub placed_none : (keys : List K) (q : K) → placed eq laws keys (length keys) q ≡ None
   placed_none keys q = rw (drop-length keys) refl

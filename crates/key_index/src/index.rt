@@ -8,7 +8,7 @@ use std::marker::Model;
 #[derive(Drop)]
 pub struct KeyIndex<K: Hash + Eq + Copy> {
     keys: Vec<K>,
-    places: IndexMap<K, usize>,
+    indices: IndexMap<K, usize>,
 }
 
 impl<K: Hash + Eq + Copy> Model for KeyIndex<K> {
@@ -19,7 +19,7 @@ impl<K: Hash + Eq + Copy> Model for KeyIndex<K> {
 
     ghost view = { λ p. p.keys.items };
 
-    ghost invariant = { λ p. (k : K) → get K.eq p.places k ≡ position (K.eq k) p.keys.items };
+    ghost invariant = { λ p. (k : K) → get K.eq p.indices k ≡ position (K.eq k) p.keys.items };
 }
 
 impl<K: Hash + Eq + Copy> KeyIndex<K> {
@@ -29,8 +29,8 @@ impl<K: Hash + Eq + Copy> KeyIndex<K> {
     pub fn new(alloc: Global, keys: Vec<K>) -> Result<Self, Mem>
         ensures { IfOk result (λ p. p ≡ keys.items) }
     {
-        let places = places_of(alloc, &keys)?;
-        Ok(KeyIndex { keys, places })
+        let indices = first_indices(alloc, &keys)?;
+        Ok(KeyIndex { keys, indices })
     }
 
     /// The keys, in order.
@@ -40,12 +40,12 @@ impl<K: Hash + Eq + Copy> KeyIndex<K> {
         self.keys.as_slice()
     }
 
-    /// The first place of a key. None exactly where it is none of them.
+    /// The first place of a key. None exactly if it is none of them.
     pub fn place(&self, key: &K) -> Option<usize>
         ensures place { result ≡ position (K.eq key.now) self.now }
         ensures within { IfSome result (λ i. i < length self.now) }
     {
-        self.places.get(key).copied()
+        self.indices.get(key).copied()
     }
 }
 
@@ -53,12 +53,12 @@ ghost use Rattle.std.specs.Prelude.{◌≡◌, IfOk, position};
 ghost use Rattle.indexmap.specs.IndexMap.{get};
 
 /// The first place of each key, from the last key on.
-fn places_of<K: Hash + Eq + Copy>(alloc: Global, keys: &[K]) -> Result<IndexMap<K, usize>, Mem>
+fn first_indices<K: Hash + Eq + Copy>(alloc: Global, keys: &[K]) -> Result<IndexMap<K, usize>, Mem>
     ensures { IfOk result (λ m. (k : K) → get K.eq m k ≡ position (K.eq k) keys.now) }
 {
-    let mut places = IndexMap::with_capacity(alloc, keys.len())?;
+    let mut indices = IndexMap::with_capacity(alloc, keys.len())?;
     for i in (0..keys.len()).rev() {
-        places.insert(keys[i], i)?;
+        indices.insert(keys[i], i)?;
     }
-    Ok(places)
+    Ok(indices)
 }

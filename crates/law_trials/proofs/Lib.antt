@@ -1,4 +1,4 @@
-pub mod MergeTelling
+pub mod MergeShown
 pub mod Passed
-pub mod RunTelling
+pub mod RunShown
 pub mod Tabled

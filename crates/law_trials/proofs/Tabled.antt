@@ -3,8 +3,8 @@ use Rattle.std.proofs.Common.{◌≡◌, ◌<◌, ℕ, zero, suc, List, [], ◌�
 use Rattle.sleep_model.specs.declared.word.WordKind.TheVariants as step
 use Rattle.event_word.specs.Histories.{AreClosed, SourceStep, steps_of}
 use Rattle.merge_laws.specs.Apart.{source_past}
-use Rattle.run_laws.specs.Laid.{IsLaid}
-use Rattle.wakeup_source.specs.Told as told
+use Rattle.run_laws.specs.ClosedOver.{IsClosedOver}
+use Rattle.wakeup_source.specs.Shown as told
 use Rattle.law_trials.specs.BrokenRuns.{asleep, begun, looks, made_start}
 use Rattle.law_trials.specs.Terms.{word}
 
@@ -16,7 +16,7 @@ each_made zero less = refl
 each_made (suc zero) less = refl
 each_made (suc (suc n)) less = absurd (omega (arith, less))
 
-each_history : (source : ℕ) → source < 2 → slice_index_or made_start source [] ≡ told.steps_of (source_past begun source)
+each_history : (source : ℕ) → source < 2 → slice_index_or made_start source [] ≡ told.steps_in (source_past begun source)
 each_history zero less = refl
 each_history (suc zero) less = refl
 each_history (suc (suc n)) less = absurd (omega (arith, less))
@@ -32,8 +32,8 @@ is_closed = record {
   seen = (((inr refl, tt), (tt, ((inl refl, tt), tt))), (tt, (tt, (tt, tt))));
 }
 
-pub is_laid : IsLaid made_start looks (word 1 0 0) asleep begun
-is_laid = record {
+pub is_closed_over : IsClosedOver made_start looks (word 1 0 0) asleep begun
+is_closed_over = record {
   closed = is_closed;
   count = refl;
   each_made = each_history;

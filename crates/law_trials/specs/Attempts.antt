@@ -17,11 +17,11 @@ use Rattle.sleep_model.specs.declared.machine.SourceCall.TheVariants as call
 use Rattle.sleep_model.specs.declared.machine.TaskKind.TheVariants as task
 use Rattle.sleep_model.specs.declared.machine.What.TheVariants as what
 use Rattle.phase_table.specs.declared.phase.Phase.TheVariants as phase
-use Rattle.law_trials.specs.Terms.{entry, word, device, script, once, times, answer, report, bare, stats, unused, log_of}
+use Rattle.law_trials.specs.Terms.{entry, word, device, script, once, times, answer, report, empty_machine, stats, unused, log_of}
 
 -- an attempt of a machine without devices, under a saved count: its machine
 abbrev pub smallest_attempt_machine : Machine
-smallest_attempt_machine = record bare {
+smallest_attempt_machine = record empty_machine {
   actors =
       script (codes "w") task.User 1 (once op.Read ∷ once (op.Save None) ∷ once (op.State (codes "mem") false) ∷ [])
       ∷ [];
@@ -29,7 +29,7 @@ smallest_attempt_machine = record bare {
 
 -- an attempt of a parent and its child that nothing disturbs: its machine
 abbrev pub parent_and_child_machine : Machine
-parent_and_child_machine = record bare {
+parent_and_child_machine = record empty_machine {
   devices = device (codes "p") None 0 ∷ device (codes "c") (Some 0) 0 ∷ [];
   sources = codes "lid" ∷ [];
   actors =
@@ -39,7 +39,7 @@ parent_and_child_machine = record bare {
 
 -- an event while the first of two devices suspends: the second is skipped, and a second attempt sleeps: its machine
 abbrev pub event_stops_a_device_machine : Machine
-event_stops_a_device_machine = record bare {
+event_stops_a_device_machine = record empty_machine {
   devices = device (codes "disk") None 0 ∷ device (codes "net") None 0 ∷ [];
   sources = codes "lid" ∷ [];
   marks = codes "a" ∷ codes "x" ∷ [];
@@ -165,7 +165,7 @@ event_stops_a_device = log_of event_stops_a_device_entries (stats 1 1 0 0 0 0 0 
 
 -- a hard event gives up an attempt without a saved count; the next attempt forgets it and sleeps: its machine
 abbrev pub hard_event_machine : Machine
-hard_event_machine = record bare {
+hard_event_machine = record empty_machine {
   sources = codes "lid" ∷ [];
   marks = codes "a" ∷ codes "x" ∷ [];
   actors =
@@ -247,7 +247,7 @@ hard_event = log_of hard_event_entries (stats 1 1 0 0 0 0 0 ∷ unused ∷ [])
 
 -- a device's own suspend reports an event: its parent is skipped: its machine
 abbrev pub callback_reports_machine : Machine
-callback_reports_machine = record bare {
+callback_reports_machine = record empty_machine {
   devices = device (codes "pci") None 0 ∷ device (codes "nic") (Some 0) 0 ∷ [];
   sources = codes "lan" ∷ [];
   actors =

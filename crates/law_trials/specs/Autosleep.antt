@@ -15,11 +15,11 @@ use Rattle.sleep_model.specs.declared.machine.PlatDo.TheVariants as down
 use Rattle.sleep_model.specs.declared.machine.PlatUndo.TheVariants as up
 use Rattle.sleep_model.specs.declared.machine.TaskKind.TheVariants as task
 use Rattle.phase_table.specs.declared.phase.Phase.TheVariants as phase
-use Rattle.law_trials.specs.Terms.{entry, word, script, once, bare, stats, log_of}
+use Rattle.law_trials.specs.Terms.{entry, word, script, once, empty_machine, stats, log_of}
 
 -- autosleep is turned on, sleeps once, and is turned off: its machine
 abbrev pub autosleep_machine : Machine
-autosleep_machine = record bare {
+autosleep_machine = record empty_machine {
   actors =
       script (codes "w") task.User 1 (
       once (op.Autosleep (codes "mem"))

@@ -5,15 +5,15 @@ use Rattle.sleep_model.specs.declared.entry.JournalEntry.{JournalEntry}
 use Rattle.sleep_model.specs.declared.entry.SourceEntry.{SourceEntry}
 use Rattle.sleep_model.specs.Merge.{all_entries, is_chained}
 use Rattle.merge_laws.specs.Apart.{steps_of}
-use Rattle.merge_laws.specs.Fitting.{are_counted, are_raised, has_time, is_look, jumps, no_steps, stands_right}
+use Rattle.merge_laws.specs.Fitting.{are_counted, are_raised, has_time, is_look, jumps, no_steps, is_ordered}
 use Rattle.law_trials.specs.Merging.{all_ticked, histories_among, journal_among}
 use Rattle.law_trials.specs.Timers.{event_expires_machine, event_expires_entries}
 
 -- the entries, of which number n is changed
 abbrev pub changed : ℕ → (JournalEntry → JournalEntry) → List JournalEntry → List JournalEntry
 changed n change [] = []
-changed zero change (e ∷ rest) = change e ∷ rest
-changed (suc n) change (e ∷ rest) = e ∷ changed n change rest
+changed zero change (e ∷ after_idle_round) = change e ∷ after_idle_round
+changed (suc n) change (e ∷ after_idle_round) = e ∷ changed n change after_idle_round
 
 -- the entry with another position
 abbrev pub with_pos : ℕ → JournalEntry → JournalEntry
@@ -69,7 +69,7 @@ jumps_fit entries = are_raised 0 0 (filter jumps (journal_in entries))
 
 -- each entry has one side of each jump
 abbrev pub sides_fit : List JournalEntry → Bool
-sides_fit entries = list_all (λ e. list_all (stands_right e) (all_in entries)) (all_in entries)
+sides_fit entries = list_all (λ e. list_all (is_ordered e) (all_in entries)) (all_in entries)
 
 -- each entry has the time of a jump, or none
 abbrev pub times_fit : List JournalEntry → Bool

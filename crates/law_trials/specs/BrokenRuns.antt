@@ -34,7 +34,7 @@ start_of_another = stamped 0 2 (entry 0 (word 0 0 0) (actor.Timer 0) (kind.Start
 abbrev pub start_too_early : JournalEntry
 start_too_early = stamped 0 1 (entry 0 (word 0 0 0) (actor.Script 0) (kind.Start 0))
 
--- the sleep behind the call, at the position before its start
+-- the sleep after the call, at the position before its start
 abbrev pub sleep_at_an_older_word : JournalEntry
 sleep_at_an_older_word = stamped 0 3 (entry 0 (word 1 0 0) (actor.Script 0) (kind.Sleep 50))
 
@@ -61,7 +61,7 @@ begun =
     ∷ []
     ∷ []
 
--- the sleep behind it
+-- the sleep after it
 abbrev pub asleep : List JournalEntry
 asleep = stamped 1 3 (entry 0 (word 1 0 0) (actor.Script 0) (kind.Sleep 50)) ∷ []
 
@@ -85,7 +85,7 @@ older_looks = (word 0 0 0 ∷ []) ∷ [] ∷ (word 0 0 0 ∷ []) ∷ []
 abbrev pub short_floor : Stamp
 short_floor = record { pos = 1; tick = 11 }
 
--- what the line knew behind its note
+-- what the line knew after its note
 abbrev pub note_floor : Stamp
 note_floor = record { pos = 0; tick = 1 }
 

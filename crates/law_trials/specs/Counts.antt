@@ -7,11 +7,11 @@ use Rattle.sleep_model.specs.declared.entry.Actor.TheVariants as actor
 use Rattle.sleep_model.specs.declared.entry.Kind.TheVariants as kind
 use Rattle.sleep_model.specs.declared.machine.Op.TheVariants as op
 use Rattle.sleep_model.specs.declared.machine.TaskKind.TheVariants as task
-use Rattle.law_trials.specs.Terms.{entry, word, script, once, bare, stats, unused, log_of}
+use Rattle.law_trials.specs.Terms.{entry, word, script, once, empty_machine, stats, unused, log_of}
 
 -- a read waits until the event in progress ends: its machine
 abbrev pub read_waits_machine : Machine
-read_waits_machine = record bare {
+read_waits_machine = record empty_machine {
   sources = codes "lid" ∷ [];
   marks = codes "a" ∷ [];
   actors =
@@ -44,7 +44,7 @@ read_waits = log_of read_waits_entries (stats 1 1 0 0 50 50 50 ∷ unused ∷ []
 
 -- a task that raises a mark, and an interrupt line that makes two calls on a source: its machine
 abbrev pub calls_of_a_line_machine : Machine
-calls_of_a_line_machine = record bare {
+calls_of_a_line_machine = record empty_machine {
   sources = codes "lid" ∷ [];
   marks = codes "a" ∷ [];
   actors =

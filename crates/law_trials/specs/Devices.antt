@@ -13,11 +13,11 @@ use Rattle.sleep_model.specs.declared.machine.PlatDo.TheVariants as down
 use Rattle.sleep_model.specs.declared.machine.PlatUndo.TheVariants as up
 use Rattle.sleep_model.specs.declared.machine.TaskKind.TheVariants as task
 use Rattle.phase_table.specs.declared.phase.Phase.TheVariants as phase
-use Rattle.law_trials.specs.Terms.{entry, word, device, link, script, once, times, bare}
+use Rattle.law_trials.specs.Terms.{entry, word, device, link, script, once, times, empty_machine}
 
 -- a camera on a bus whose port needs a line: its machine
 abbrev pub first_link_machine : Machine
-first_link_machine = record bare {
+first_link_machine = record empty_machine {
   devices =
       device (codes "bus") None 0
       ∷ device (codes "usb") (Some 0) 0
@@ -31,7 +31,7 @@ first_link_machine = record bare {
 
 -- the same, where the line needs a clock: its machine
 abbrev pub two_links_machine : Machine
-two_links_machine = record bare {
+two_links_machine = record empty_machine {
   devices =
       device (codes "bus") None 0
       ∷ device (codes "usb") (Some 0) 0
@@ -45,7 +45,7 @@ two_links_machine = record bare {
 
 -- requests at run time while the device is prepared, and after its late suspend began: its machine
 abbrev pub runtime_requests_machine : Machine
-runtime_requests_machine = record bare {
+runtime_requests_machine = record empty_machine {
   devices = device (codes "d") None 0 ∷ [];
   marks = codes "a" ∷ codes "x" ∷ [];
   actors =

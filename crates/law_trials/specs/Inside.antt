@@ -6,18 +6,18 @@ use Rattle.sleep_model.specs.declared.entry.Kind.TheVariants as kind
 use Rattle.sleep_model.specs.declared.machine.Machine.{Machine}
 use Rattle.sleep_model.specs.declared.machine.Op.TheVariants as op
 use Rattle.sleep_model.specs.declared.machine.TaskKind.TheVariants as task
-use Rattle.law_trials.specs.Terms.{bare, entry, once, script, word}
+use Rattle.law_trials.specs.Terms.{empty_machine, entry, once, script, word}
 
 -- a line that reports one event on the first of two sources
 abbrev pub one_event_machine : Machine
-one_event_machine = record bare {
+one_event_machine = record empty_machine {
   sources = codes "lid" ∷ codes "key" ∷ [];
   actors = script (codes "k") task.Irq 1 (once (op.Event 0 100 false) ∷ []) ∷ [];
 }
 
 -- a line that reports one event on each of them
 abbrev pub two_events_machine : Machine
-two_events_machine = record bare {
+two_events_machine = record empty_machine {
   sources = codes "lid" ∷ codes "key" ∷ [];
   actors = script (codes "k") task.Irq 1 (once (op.Event 0 100 false) ∷ once (op.Event 1 100 false) ∷ []) ∷ [];
 }

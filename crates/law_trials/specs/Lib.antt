@@ -8,7 +8,7 @@ pub mod Devices
 pub mod Failures
 pub mod Ending
 pub mod Inside
-pub mod KeptApart
+pub mod InLists
 pub mod Links
 pub mod MergeTests
 pub mod Merging

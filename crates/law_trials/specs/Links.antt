@@ -13,11 +13,11 @@ use Rattle.sleep_model.specs.declared.machine.PlatDo.TheVariants as down
 use Rattle.sleep_model.specs.declared.machine.PlatUndo.TheVariants as up
 use Rattle.sleep_model.specs.declared.machine.TaskKind.TheVariants as task
 use Rattle.phase_table.specs.declared.phase.Phase.TheVariants as phase
-use Rattle.law_trials.specs.Terms.{entry, word, device, script, once, bare}
+use Rattle.law_trials.specs.Terms.{entry, word, device, script, once, empty_machine}
 
 -- a task links two devices and then sleeps: the supplier is prepared first, and suspends last: its machine
 abbrev pub link_added_machine : Machine
-link_added_machine = record bare {
+link_added_machine = record empty_machine {
   devices = device (codes "a") None 0 ∷ device (codes "b") None 0 ∷ [];
   actors =
       script (codes "w") task.User 1 (once (op.Link 1 0) ∷ once (op.Link 0 1) ∷ once (op.State (codes "mem") false) ∷ [])

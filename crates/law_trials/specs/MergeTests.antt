@@ -10,7 +10,7 @@ use Rattle.sleep_model.specs.Merge.{actors_of, all_entries, is_chained, of_sourc
 use Rattle.sleep_model.specs.Path.{is_same}
 use Rattle.sleep_model.specs.Sources.{most_entries}
 use Rattle.merge_laws.specs.Apart.{AreJumps, IsActor, IsSource, are_of, calls_after, is_inside, is_journals, own_entries, past_of, source_past, steps_of}
-use Rattle.merge_laws.specs.Fitting.{FitApart, are_counted, are_raised, has_time, is_look, jumps, no_steps, stands_right}
+use Rattle.merge_laws.specs.Fitting.{FitApart, are_counted, are_raised, has_time, is_look, jumps, no_steps, is_ordered}
 use Rattle.merge_laws.specs.Merging.{AreLegalApart}
 
 -- so for each number below n
@@ -21,7 +21,7 @@ Below P (suc n) = P n × Below P n
 -- so for each of these actors
 abbrev pub OfEach : (Actor → Type 0) → List Actor → Type 0
 OfEach P [] = Unit {0}
-OfEach P (who ∷ rest) = P who × OfEach P rest
+OfEach P (who ∷ after_idle_round) = P who × OfEach P after_idle_round
 
 -- the entries fit, each by itself
 pub record FitTested (m : Machine) (journal : List JournalEntry) (histories : List (List SourceEntry)) : Type 0 where
@@ -39,7 +39,7 @@ pub record FitTested (m : Machine) (journal : List JournalEntry) (histories : Li
   pub looks : list_all (is_look (steps_of journal histories)) (all_entries journal histories) ≡ true
   pub ticks : list_all (λ e. nat_lt 0 e.stamp.tick) (all_entries journal histories) ≡ true
   pub raised : are_raised 0 0 (filter jumps journal) ≡ true
-  pub sides : list_all (λ e. list_all (stands_right e) (all_entries journal histories)) (all_entries journal histories)
+  pub sides : list_all (λ e. list_all (is_ordered e) (all_entries journal histories)) (all_entries journal histories)
       ≡ true
   pub times : list_all (has_time (all_entries journal histories)) (all_entries journal histories) ≡ true
 
@@ -53,8 +53,8 @@ pub record LegalTested (m : Machine) (journal : List JournalEntry) (histories : 
   pub of_jumps : AreJumps m (past_of journal) (source_past histories)
 
 -- entries that pass the tests meet the premises of the law
-abbrev pub TestsTell : Type 0
-TestsTell =
+abbrev pub TestsShowPremises : Type 0
+TestsShowPremises =
     (m : Machine) (journal : List JournalEntry) (histories : List (List SourceEntry)) → FitTested m journal histories
     → LegalTested m journal histories
     → FitApart m journal histories (λ who. own_entries who journal histories)

@@ -8,7 +8,7 @@ use Rattle.sleep_model.specs.declared.entry.Kind.TheVariants as kind
 use Rattle.sleep_model.specs.declared.entry.SourceEntry.{SourceEntry}
 use Rattle.sleep_model.specs.declared.machine.Machine.{Machine}
 use Rattle.sleep_model.specs.Merge.{IsFit, merge}
-use Rattle.sleep_model.specs.Parts.{is_kept, part_of}
+use Rattle.sleep_model.specs.EntryClasses.{is_in_journal, class_of}
 use Rattle.sleep_model.specs.Sources.{is_of}
 use Rattle.sleep_model.specs.Word.{position}
 use Rattle.law_trials.specs.Terms.{entry, word}
@@ -20,7 +20,7 @@ ticked tick e = record { stamp = record { pos = position e.now; tick = tick }; e
 -- the entries as one worker makes them: each knows the one before it, so that ticks rise by one
 abbrev pub all_ticked : ℕ → List Entry → List JournalEntry
 all_ticked tick [] = []
-all_ticked tick (e ∷ rest) = ticked tick e ∷ all_ticked (suc tick) rest
+all_ticked tick (e ∷ after_idle_round) = ticked tick e ∷ all_ticked (suc tick) after_idle_round
 
 -- the same entry in a source's history
 abbrev pub in_history : JournalEntry → SourceEntry
@@ -28,11 +28,11 @@ in_history e = record { stamp = e.stamp; entry = e.entry }
 
 -- the journal among these entries
 abbrev pub journal_among : List JournalEntry → List JournalEntry
-journal_among entries = filter (λ e. is_kept (part_of e.entry.kind)) entries
+journal_among entries = filter (λ e. is_in_journal (class_of e.entry.kind)) entries
 
 -- the history of a source among them
 abbrev pub history_among : ℕ → List JournalEntry → List SourceEntry
-history_among s entries = map in_history (filter (λ e. is_of s (part_of e.entry.kind)) entries)
+history_among s entries = map in_history (filter (λ e. is_of s (class_of e.entry.kind)) entries)
 
 -- the histories of all sources of a machine, autosleep last
 abbrev pub histories_among : Machine → List JournalEntry → List (List SourceEntry)

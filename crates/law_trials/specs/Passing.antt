@@ -5,7 +5,7 @@ use Rattle.sleep_model.specs.declared.entry.Actor.TheVariants as actor
 use Rattle.sleep_model.specs.declared.entry.JournalEntry.{JournalEntry}
 use Rattle.sleep_model.specs.declared.entry.Kind.TheVariants as kind
 use Rattle.turn_lock.specs.declared.view.Made.{Made}
-use Rattle.turn_lock.specs.Books.{made}
+use Rattle.turn_lock.specs.Bookings.{made}
 use Rattle.run_laws.specs.Passes.{Noted}
 use Rattle.law_trials.specs.BrokenRuns.{stamped}
 use Rattle.law_trials.specs.Terms.{entry, word}
@@ -18,7 +18,7 @@ exit_of line tick = stamped 0 tick (entry 0 (word 0 0 0) (actor.Script line) kin
 abbrev pub first_exit : Noted
 first_exit = record { entry = exit_of 0 1; past = [] }
 
--- the second line's exit, behind the first's
+-- the second line's exit, after the first's
 abbrev pub second_exit : Noted
 second_exit = record { entry = exit_of 1 2; past = exit_of 0 1 ∷ [] }
 

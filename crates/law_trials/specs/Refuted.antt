@@ -231,7 +231,7 @@ never_woken_entries =
     ∷ entry 1000 (word 0 0 0) (actor.Script 0) kind.Exit
     ∷ []
 
--- the devices go down in noirq alone, in neither suspend nor late, and the machine enters sleep
+-- the devices go down only in noirq, in neither suspend nor late, and the machine enters sleep
 abbrev pub down_in_noirq_alone_entries : List Entry
 down_in_noirq_alone_entries =
     entry 0 (word 0 0 0) (actor.Script 0) (kind.Read 0)

@@ -1,4 +1,4 @@
--- The log of a machine with one worker, by the definitions alone: each job in turn makes what is due of it.
+-- The log of a machine with one worker, only by the definitions: each job in turn makes what is due of it.
 use Rattle.std.specs.Prelude.{ℕ, zero, suc, ◌+◌, Bool, true, false, ◌==◌, List, [], ◌∷◌, ◌++◌, filter, length, reverse, slice_get, Option, Some, None}
 use Rattle.std.specs.List.{range_with_len}
 use Rattle.sleep_model.specs.declared.entry.Actor.{Actor}
@@ -7,8 +7,8 @@ use Rattle.sleep_model.specs.declared.entry.Entry.{Entry}
 use Rattle.sleep_model.specs.declared.entry.Kind.{Kind}
 use Rattle.sleep_model.specs.declared.entry.Kind.TheVariants as kind
 use Rattle.sleep_model.specs.declared.machine.Machine.{Machine}
-use Rattle.sleep_model.specs.declared.place.Due.{Due}
-use Rattle.sleep_model.specs.declared.place.Due.TheVariants.{Makes}
+use Rattle.sleep_model.specs.declared.progress.Due.{Due}
+use Rattle.sleep_model.specs.declared.progress.Due.TheVariants.{Makes}
 use Rattle.sleep_model.specs.declared.word.WordKind.{WordKind}
 use Rattle.sleep_model.specs.declared.word.WordKind.TheVariants as step
 use Rattle.sleep_model.specs.Calls.{calls_of, made}
@@ -16,7 +16,7 @@ use Rattle.sleep_model.specs.Devices.{is_async_device}
 use Rattle.sleep_model.specs.Due.{due}
 use Rattle.sleep_model.specs.Legal.{is_finished_after, next_time}
 use Rattle.sleep_model.specs.Numbers.{numbers, time_of}
-use Rattle.sleep_model.specs.Parts.{Part, Notes, part_of, journal}
+use Rattle.sleep_model.specs.EntryClasses.{EntryClass, Notes, class_of, journal}
 use Rattle.sleep_model.specs.Sources.{history, owed, expiry, has_expired}
 
 -- an entry of that actor, with the time and the word of its place, before the others
@@ -37,13 +37,13 @@ put_steps s who [] past = past
 put_steps s who (step ∷ steps) past = put_steps s who steps (put past who (step_kind s step))
 
 -- all steps that a source owes
-abbrev pub put_owed : Part → Actor → List Entry → List Entry
+abbrev pub put_owed : EntryClass → Actor → List Entry → List Entry
 put_owed (Notes s made) who past = put_steps s who (owed (history s past)) past
 put_owed part who past = past
 
 -- a whole call: its note and its steps
 abbrev pub put_call : List Entry → Actor → Kind → List Entry
-put_call past who k = put_owed (part_of k) who (put past who k)
+put_call past who k = put_owed (class_of k) who (put past who k)
 
 -- the entry that is due, if one is
 abbrev pub put_due : List Entry → Actor → Due → List Entry
@@ -87,7 +87,7 @@ jobs m =
 -- one turn of each of these jobs
 abbrev pub round : Machine → List Actor → List Entry → List Entry
 round m [] past = past
-round m (who ∷ rest) past = round m rest (turn m past who)
+round m (who ∷ after_idle_round) past = round m after_idle_round (turn m past who)
 
 -- a run under way, or at its end, with its entries, the newest first
 pub data Run : Type 0 where
@@ -100,13 +100,13 @@ jump past None = Ended past
 jump past (Some at) = Goes (record { time = at; now = numbers past; actor = actor.Time; kind = kind.Jump } ∷ past)
 
 -- where a round did nothing the run is over, or time jumps
-abbrev pub rest : Machine → List Entry → Bool → Run
-rest m past true = Ended past
-rest m past false = jump past (next_time m (journal past) (λ s. history s past))
+abbrev pub after_idle_round : Machine → List Entry → Bool → Run
+after_idle_round m past true = Ended past
+after_idle_round m past false = jump past (next_time m (journal past) (λ s. history s past))
 
 -- after a round: whether it did nothing, and its entries
 abbrev pub after_round : Machine → Bool → List Entry → Run
-after_round m true past = rest m past (is_finished_after m past)
+after_round m true past = after_idle_round m past (is_finished_after m past)
 after_round m false past = Goes past
 
 -- one round, and what follows it

@@ -3,7 +3,7 @@ use Rattle.std.specs.Prelude.{ℕ, Bool, true, false, List, [], ◌∷◌, take,
 use Rattle.sleep_model.specs.declared.entry.Entry.{Entry}
 use Rattle.sleep_model.specs.declared.machine.Machine.{Machine}
 use Rattle.sleep_model.specs.Order.{is_among}
-use Rattle.sleep_model.specs.Parts.{part_of}
+use Rattle.sleep_model.specs.EntryClasses.{class_of}
 use Rattle.rule_definitions.specs.Entry.{Rule, Links, Numbers, Attempts, Reads, Walk, Skip, Runtime, Owed, Freezer, Path, Answers, Restored, Steps, Enabled, Source, KeepsRule}
 
 -- what may be asked of an entry, by the entries before it
@@ -21,8 +21,8 @@ HoldsAt question m k entries = HoldsNext question m (reverse (take k entries)) (
 
 -- an entry breaks a rule or keeps it, as is said
 abbrev pub Judged : Bool → Rule → Question
-Judged true rule m past e = KeepsRule m past e (part_of e.kind) rule → ⊥
-Judged false rule m past e = KeepsRule m past e (part_of e.kind) rule
+Judged true rule m past e = KeepsRule m past e (class_of e.kind) rule → ⊥
+Judged false rule m past e = KeepsRule m past e (class_of e.kind) rule
 
 -- an entry breaks the rules with these numbers, and no other
 abbrev pub BreaksJust : List ℕ → Question

@@ -67,8 +67,8 @@ abbrev pub report : ℕ → SourceCall → Report
 report source call = record { source = source; call = call }
 
 -- a machine with nothing in it
-abbrev pub bare : Machine
-bare = record {
+abbrev pub empty_machine : Machine
+empty_machine = record {
   alarm_ms = 1000;
   cpus = 1;
   auto_cycles = 16;

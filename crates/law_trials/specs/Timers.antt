@@ -7,11 +7,11 @@ use Rattle.sleep_model.specs.declared.entry.Actor.TheVariants as actor
 use Rattle.sleep_model.specs.declared.entry.Kind.TheVariants as kind
 use Rattle.sleep_model.specs.declared.machine.Op.TheVariants as op
 use Rattle.sleep_model.specs.declared.machine.TaskKind.TheVariants as task
-use Rattle.law_trials.specs.Terms.{entry, word, script, once, bare, stats, unused, log_of}
+use Rattle.law_trials.specs.Terms.{entry, word, script, once, empty_machine, stats, unused, log_of}
 
 -- events of several lengths on one source: the latest end counts: its machine
 abbrev pub event_expires_machine : Machine
-event_expires_machine = record bare {
+event_expires_machine = record empty_machine {
   sources = codes "lid" ∷ [];
   actors =
       script (codes "k") task.Irq 1 (

@@ -14,7 +14,7 @@ pub fn events_wake()
     ensures through { events_wake_first (reverse slept_through) ≡ false }
     // It wakes by the event, but time has passed before.
     ensures late { events_wake_first (reverse woken_late) ≡ false }
-    // An event that was made before it entered does not count, one behind does.
+    // An event that was made before it entered does not count, one after does.
     ensures on { events_wake_first (reverse sleeps_on) ≡ true }
 {}
 

@@ -34,7 +34,7 @@ pub fn never_woken_is_refused()
     ensures { FailsAt (λ m past k. Restored m past k) smallest_attempt_machine 28 never_woken_entries }
 {}
 
-/// The devices go down in noirq alone, in neither suspend nor late, and the machine enters sleep.
+/// The devices go down only in noirq, in neither suspend nor late, and the machine enters sleep.
 pub fn down_in_noirq_alone_is_refused()
     ensures { FailsAt (λ m past k. EntersDown m past k) parent_and_child_machine 22 down_in_noirq_alone_entries }
 {}

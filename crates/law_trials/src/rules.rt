@@ -1,5 +1,5 @@
 //! The rules of a log are apart: an entry of a broken copy breaks one of them and no other, which no verdict of the checker
-//! tells. Behind a legal journal no entry breaks those of what is owed and of what is restored alone (`owed_follows` of
+//! tells. After a legal journal no entry breaks those of what is owed and of what is restored alone (`owed_follows` of
 //! `log_rules`).
 
 ghost use Rattle.std.specs.Prelude.{[], ◌∷◌, None, Some, pos, true};

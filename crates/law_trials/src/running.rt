@@ -6,14 +6,14 @@ ghost use Rattle.sleep_model.specs.declared.machine.SourceCall.TheVariants.{Even
 ghost use Rattle.sleep_model.specs.declared.entry.Actor.TheVariants.{Script, Time};
 ghost use Rattle.wakeup_source.specs.SourceStates.{new_source};
 ghost use Rattle.run_laws.specs.Called.{IsReady};
-ghost use Rattle.run_laws.specs.Held.{nothing};
-ghost use Rattle.run_laws.specs.Laid.{IsLaid, IsSeenLast};
+ghost use Rattle.run_laws.specs.Invariant.{nothing};
+ghost use Rattle.run_laws.specs.ClosedOver.{IsClosedOver, IsSeenLast};
 ghost use Rattle.run_laws.specs.Passes.{HaveMakers};
 ghost use Rattle.run_laws.specs.Seated.{IsSeated};
 ghost use Rattle.run_laws.specs.Turned.{MayLeap, MayTurn};
 ghost use Rattle.law_trials.specs.BrokenRuns.{asleep, begun, begun_back, by_line, finish_too, first_of, jump_one_source_short, jump_too_far, looks, made_nothing, made_start, note_floor, older_looks, short_floor, sleep_at_an_older_word, sleep_in_the_call, slept_too_early, start_made, start_of_another, start_too_early};
 ghost use Rattle.law_trials.specs.Passing.{lines, one_line, two_passes};
-ghost use Rattle.law_trials.specs.RunTests.{IsTestedRun, Tested, TestsTellHeld, made_of};
+ghost use Rattle.law_trials.specs.RunTests.{IsTestedRun, Tested, TestsShowInvariant, made_of};
 ghost use Rattle.law_trials.specs.Attempts.{callback_reports_entries, callback_reports_machine, hard_event_entries, hard_event_machine};
 ghost use Rattle.law_trials.specs.Terms.{word};
 ghost use Rattle.law_trials.specs.Timers.{event_expires_entries, event_expires_machine};
@@ -26,9 +26,9 @@ pub fn worked_logs_may_be_made()
     ensures report { IsTestedRun callback_reports_machine callback_reports_entries }
 {}
 
-/// Of what passes the tests all is known that `what_is_held_merges` asks.
-pub fn tests_tell_what_is_held()
-    ensures { TestsTellHeld }
+/// Of what passes the tests all is known that `invariant_merges` asks.
+pub fn tests_show_the_invariant()
+    ensures { TestsShowInvariant }
 {}
 
 /// These may not be made: a turn inside a call; a step of another's call; an entry with its actor's last
@@ -45,15 +45,15 @@ pub fn broken_entries_may_not_be_made()
 {}
 
 /// The table of one start lays it; one that lacks the start lays nothing, nor does one whose machine never
-/// saw the word behind it.
-pub fn a_table_lays_its_steps()
-    ensures laid { IsLaid made_start looks (word 1 0 0) asleep begun }
-    ensures lacks { IsLaid made_nothing looks (word 1 0 0) asleep begun → ⊥ }
-    ensures unseen { IsLaid made_start older_looks (word 1 0 0) asleep begun → ⊥ }
+/// saw the word after it.
+pub fn a_table_covers_its_steps()
+    ensures closed_over { IsClosedOver made_start looks (word 1 0 0) asleep begun }
+    ensures lacks { IsClosedOver made_nothing looks (word 1 0 0) asleep begun → ⊥ }
+    ensures unseen { IsClosedOver made_start older_looks (word 1 0 0) asleep begun → ⊥ }
 {}
 
-/// The look behind the start saw the last word, and the look before it did not.
-pub fn the_last_look_is_behind_all()
+/// The look after the start saw the last word, and the look before it did not.
+pub fn the_last_look_is_after_all()
     ensures last { IsSeenLast looks begun (word 1 0 0) }
     ensures older { IsSeenLast looks begun (word 0 0 0) → ⊥ }
 {}

@@ -7,7 +7,7 @@ use Rattle.sleep_model.specs.declared.machine.Link.{Link}
 use Rattle.sleep_model.specs.Order.{children_from, suppliers_of, parent_of, EachAfterParent}
 use Rattle.sleep_model.specs.Links.{is_linked}
 use Rattle.sleep_model.proofs.Children.{children_push}
-use Rattle.sleep_model.proofs.FirstPlaces.{list_any_among, suppliers_linked}
+use Rattle.sleep_model.proofs.FirstOccurrences.{list_any_among, suppliers_linked}
 use Rattle.device_rows.specs.Table.{with_number}
 use Rattle.link_rows.specs.Rows.{IsTableOf}
 

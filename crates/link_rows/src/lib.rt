@@ -5,7 +5,7 @@
 //!
 //! Promises: A row with one more number, and the rows without links, are what they say. A link is left out of what
 //! is waited for exactly if it is dormant, or between a parent and its child. By the clauses of `children_of`,
-//! `parents_of`, `hang_near`, `push_unless`, `is_left_out`.
+//! `parents_of`, `push_and_reserve`, `push_unless`, `is_left_out`.
 //!
 //! Begin reading in `src/rows.rt`, `specs/Rows.antt`.
 #![tactic(auto)]
@@ -13,6 +13,6 @@
 mod rows;
 
 pub use rows::{
-    children_of, dependents_of, hang_near, is_left_out, is_parent, make_near, parents_of,
-    places_for, push_unless,
+    children_of, dependents_of, is_left_out, is_parent, parents_of, push_and_reserve, push_unless,
+    reserve_one, room_for,
 };

@@ -2,8 +2,8 @@
 
 ghost use Rattle.std.specs.Prelude.{◌≡◌, ◌<◌, ◌≤◌, ◌+◌, ◌^◌, ℕ, IfOk, IfSome, OnOk, Some, length, map, option_to_list, slice_index, if◌then◌else◌};
 ghost use Rattle.sleep_model.specs.Order.{EachAfterParent, children_from, is_parent};
-ghost use Rattle.device_rows.specs.Table.{places_at, row_at, with_number};
-ghost use Rattle.link_rows.specs.Rows.{IsNear, IsTableOf, is_left_out};
+ghost use Rattle.device_rows.specs.Table.{room_at, row_at, with_number};
+ghost use Rattle.link_rows.specs.Rows.{IsPushed, IsTableOf, is_left_out};
 
 use device_rows::Rows;
 use sleep_base::Mem;
@@ -65,21 +65,21 @@ pub fn is_left_out(parents: &[Option<u32>], link: Link) -> bool
 }
 
 /// Places for a row's numbers, for a link's end, and for a parent.
-pub fn places_for(table: &Rows, row: u32) -> usize
+pub fn room_for(table: &Rows, row: u32) -> usize
     ensures { result ≡ length (row_at table.now row) + 2 }
 {
     table.row(row).len() + 2
 }
 
 /// Gives a row places for `count` numbers, and for one more than it has.
-pub fn make_near(table: &mut Rows, row: u32, count: usize) -> Result<(), Mem>
+pub fn reserve_one(table: &mut Rows, row: u32, count: usize) -> Result<(), Mem>
     requires { row < length table.old.rows }
     ensures rows { table.new.rows ≡ table.old.rows }
-    ensures places { (d : ℕ) → places_at table.old d ≤ places_at table.new d }
+    ensures places { (d : ℕ) → room_at table.old d ≤ room_at table.new d }
     ensures room { OnOk result (0 < slice_index table.new.room row) }
-    ensures made { OnOk result (count ≤ places_at table.new row) }
+    ensures made { OnOk result (count ≤ room_at table.new row) }
 {
-    table.make_places(row, count)?;
+    table.reserve_row(row, count)?;
     table.make_room(row)?;
     Ok(())
 }
@@ -89,7 +89,7 @@ pub fn push_unless(table: &mut Rows, left_out: bool, row: u32, number: u32)
     requires { 0 < slice_index table.old.room row }
     ensures rows { table.new.rows ≡
         (if left_out then table.old.rows else with_number table.old.rows (Some row) number) }
-    ensures places { (d : ℕ) → places_at table.old d ≤ places_at table.new d }
+    ensures places { (d : ℕ) → room_at table.old d ≤ room_at table.new d }
 {
     if !left_out {
         table.push(row, number);
@@ -97,7 +97,7 @@ pub fn push_unless(table: &mut Rows, left_out: bool, row: u32, number: u32)
 }
 
 /// Puts a number at the end of a row, unless it is left out, and gives the row places for `count` numbers.
-pub fn hang_near(
+pub fn push_and_reserve(
     table: &mut Rows,
     left_out: bool,
     row: u32,
@@ -105,9 +105,9 @@ pub fn hang_near(
     count: usize,
 ) -> Result<(), Mem>
     requires { row < length table.old.rows }
-    ensures { OnOk result (IsNear left_out row number count table.old table.new) }
+    ensures { OnOk result (IsPushed left_out row number count table.old table.new) }
 {
-    table.make_places(row, count)?;
+    table.reserve_row(row, count)?;
     if !left_out {
         table.append(row, number)?;
     }

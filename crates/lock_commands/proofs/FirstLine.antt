@@ -1,28 +1,28 @@
--- The first line of a text, and what stands behind it.
+-- The first line of a text, and what stands after it.
 use Rattle.std.proofs.Common.{◌≡◌, ◌≢◌, ℕ, ◌==◌, ◌<◌, ◌≤◌, Bool, true, false, List, [], ◌∷◌, length, if◌then◌else◌, refl, ap, arith}
 use Rattle.std.specs.List.{onto_first}
-use Rattle.lock_commands.specs.Lines.{lines, before, behind}
+use Rattle.lock_commands.specs.Lines.{lines, before, after_first}
 
--- what stands behind is no longer than the text
-no_longer : (mark : ℕ) (text : List ℕ) → length (behind mark text) ≤ length text
+-- what stands after is no longer than the text
+no_longer : (mark : ℕ) (text : List ℕ) → length (after_first mark text) ≤ length text
 no_longer mark [] = omega arith
 no_longer mark (b ∷ text) = on (b == mark) (no_longer mark text)
   where
-    on : (t : Bool) → length (behind mark text) ≤ length text → length (if t then text else behind mark text) ≤ length (b ∷ text)
+    on : (t : Bool) → length (after_first mark text) ≤ length text → length (if t then text else after_first mark text) ≤ length (b ∷ text)
     on true ih = omega arith
     on false ih = omega arith
 
--- what stands behind the first line is shorter than the text
-pub shorter : (text : List ℕ) → text ≢ [] → length (behind 10 text) < length text
+-- what stands after the first line is shorter than the text
+pub shorter : (text : List ℕ) → text ≢ [] → length (after_first 10 text) < length text
 shorter [] n = absurd (n refl)
 shorter (b ∷ text) n = on (b == 10) (no_longer 10 text)
   where
-    on : (t : Bool) → length (behind 10 text) ≤ length text → length (if t then text else behind 10 text) < length (b ∷ text)
+    on : (t : Bool) → length (after_first 10 text) ≤ length text → length (if t then text else after_first 10 text) < length (b ∷ text)
     on true ih = omega arith
     on false ih = omega arith
 
 -- the lines are the first one and those of the rest
-pub first_of : (text : List ℕ) → text ≢ [] → lines text ≡ before 10 text ∷ lines (behind 10 text)
+pub first_of : (text : List ℕ) → text ≢ [] → lines text ≡ before 10 text ∷ lines (after_first 10 text)
 first_of [] n = absurd (n refl)
 first_of (b ∷ []) n = on (b == 10)
   where
@@ -31,8 +31,8 @@ first_of (b ∷ []) n = on (b == 10)
     on false = refl
 first_of (b ∷ c ∷ text) n = on (b == 10) (first_of (c ∷ text) (λ e. cc))
   where
-    on : (t : Bool) → lines (c ∷ text) ≡ before 10 (c ∷ text) ∷ lines (behind 10 (c ∷ text)) →
+    on : (t : Bool) → lines (c ∷ text) ≡ before 10 (c ∷ text) ∷ lines (after_first 10 (c ∷ text)) →
         (if t then [] ∷ lines (c ∷ text) else onto_first b (lines (c ∷ text)))
-        ≡ (if t then [] else b ∷ before 10 (c ∷ text)) ∷ lines (if t then c ∷ text else behind 10 (c ∷ text))
+        ≡ (if t then [] else b ∷ before 10 (c ∷ text)) ∷ lines (if t then c ∷ text else after_first 10 (c ∷ text))
     on true ih = refl
     on false ih = ap (onto_first b) ih

@@ -1,7 +1,7 @@
 -- Lines of which none is of no form.
 use Rattle.std.proofs.Common.{◌≡◌, ◌+◌, ◌&&◌, ℕ, Bool, true, false, List, [], ◌∷◌, if◌then◌else◌, Some, None, refl}
 use Rattle.std.specs.List.{list_all}
-use Rattle.lock_commands.specs.Told.{first_bad}
+use Rattle.lock_commands.specs.TextAnswers.{first_bad}
 use Rattle.lock_commands.specs.Verbs.{is_line}
 
 -- where no line is the first of no form, all are of a form

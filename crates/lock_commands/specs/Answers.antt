@@ -4,7 +4,7 @@ use Rattle.sleep_model.specs.Text.{newline, source_line, space}
 use Rattle.wake_locks.specs.declared.answer.LockAnswer.{LockAnswer}
 use Rattle.wake_locks.specs.declared.answer.LockAnswer.TheVariants.{Done, BadText, NoSpace}
 use Rattle.wake_locks.specs.declared.lock.LockStats.{LockStats}
-use Rattle.wake_locks.specs.Counted.{counted}
+use Rattle.wake_locks.specs.Counted.{lock_stats}
 use Rattle.wake_locks.specs.Locks.{LockState}
 
 -- what a write answers, as a line: 0, or the error's name (wake_lock_store)
@@ -17,7 +17,7 @@ answer_text NoSpace = codes "ENOSPC" ++ newline
 abbrev pub spaced : List ℕ → List ℕ
 spaced name = space ++ name
 
--- names behind a word, as a line (pm_show_wakelocks)
+-- names after a word, as a line (pm_show_wakelocks)
 abbrev pub names_line : List ℕ → List (List ℕ) → List ℕ
 names_line word names = word ++ flat_map spaced names ++ newline
 
@@ -27,4 +27,4 @@ counted_line c = source_line c.name c.stats
 
 -- a line for the source of each lock, in order, at that moment (wakeup_sources_stats_seq_show)
 abbrev pub source_lines : ℕ → List LockState → List ℕ
-source_lines now locks = flat_map counted_line (map (counted now) locks)
+source_lines now locks = flat_map counted_line (map (lock_stats now) locks)

@@ -3,5 +3,5 @@ pub mod Command
 pub mod Endings
 pub mod Lines
 pub mod Steps
-pub mod Told
+pub mod TextAnswers
 pub mod Verbs

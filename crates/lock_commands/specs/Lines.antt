@@ -12,15 +12,15 @@ abbrev pub before : ℕ → List ℕ → List ℕ
 before mark [] = []
 before mark (b ∷ bytes) = if b == mark then [] else b ∷ before mark bytes
 
--- the bytes behind the first of that value, none where there is none (strchr)
-abbrev pub behind : ℕ → List ℕ → List ℕ
-behind mark [] = []
-behind mark (b ∷ bytes) = if b == mark then bytes else behind mark bytes
+-- the bytes after the first of that value, none if there is none (strchr)
+abbrev pub after_first : ℕ → List ℕ → List ℕ
+after_first mark [] = []
+after_first mark (b ∷ bytes) = if b == mark then bytes else after_first mark bytes
 
 -- what stands before the first space
 abbrev pub word : List ℕ → List ℕ
 word line = before 32 line
 
--- what stands behind the first space
+-- what stands after the first space
 abbrev pub rest : List ℕ → List ℕ
-rest line = behind 32 line
+rest line = after_first 32 line

@@ -4,8 +4,8 @@ use Rattle.std.specs.List.{list_all}
 use Rattle.std.specs.Str.{bytes_eq}
 use Rattle.sleep_base.specs.Digits.{is_digit}
 use Rattle.wake_locks.specs.Texts.{value_of}
-use Rattle.lock_commands.specs.declared.verb.Verb.{Verb}
-use Rattle.lock_commands.specs.declared.verb.Verb.TheVariants.{Lock, Unlock, After, Active, Inactive}
+use Rattle.lock_commands.specs.declared.verb.LockVerb.{LockVerb}
+use Rattle.lock_commands.specs.declared.verb.LockVerb.TheVariants.{Lock, Unlock, After, Active, Inactive}
 use Rattle.lock_commands.specs.Lines.{word, rest}
 
 -- a first digit that is no 0
@@ -20,18 +20,18 @@ milliseconds digits =
     then Some (value_of digits) else None
 
 -- a line that is one word: the names that are active, or those that are not (wake_lock_show, wake_unlock_show)
-abbrev pub verb_alone : List ℕ → Option Verb
+abbrev pub verb_alone : List ℕ → Option LockVerb
 verb_alone w = if bytes_eq w (codes "active") then Some Active else (if bytes_eq w (codes "inactive") then Some Inactive else None)
 
--- a word with a text behind it: a write, or a wait (wake_lock_store, wake_unlock_store)
-abbrev pub verb_before : List ℕ → List ℕ → Option Verb
+-- a word with a text after it: a write, or a wait (wake_lock_store, wake_unlock_store)
+abbrev pub verb_before : List ℕ → List ℕ → Option LockVerb
 verb_before w text =
     if bytes_eq w (codes "lock") then Some Lock
     else (if bytes_eq w (codes "unlock") then Some Unlock
     else (if bytes_eq w (codes "after") then option_map After (milliseconds text) else None))
 
 -- what a line asks for, by whether it has a space
-abbrev pub verb_of : List ℕ → Option Verb
+abbrev pub verb_of : List ℕ → Option LockVerb
 verb_of line = if length (word line) == length line then verb_alone (word line) else verb_before (word line) (rest line)
 
 -- a line of a form
@@ -39,6 +39,6 @@ abbrev pub is_line : List ℕ → Bool
 is_line line = is_some (verb_of line)
 
 -- a wait is at most a day
-abbrev pub IsShort : Verb → Type 0
+abbrev pub IsShort : LockVerb → Type 0
 IsShort (After ms) = ms ≤ 86400000
 IsShort _ = Unit {0}

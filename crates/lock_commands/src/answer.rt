@@ -1,11 +1,11 @@
 ghost use Rattle.std.specs.Prelude.{◌≡◌, ◌≤◌, Ok, length, IfOk, IfErr, OnOk};
 ghost use Rattle.lock_commands.specs.Lines.{lines};
-ghost use Rattle.lock_commands.specs.Told.{AgreeAfter, first_bad, told};
-ghost use Rattle.lock_commands.specs.Steps.{IsRefusal};
+ghost use Rattle.lock_commands.specs.TextAnswers.{AgreeAfter, first_bad, text_answer};
+ghost use Rattle.lock_commands.specs.Steps.{IsRefusalOfLines};
 
-use crate::board::LockBoard;
 use crate::cut::first_line;
 use crate::fault::LinesFault;
+use crate::state::LineRunner;
 use crate::verb::verb_of;
 use std::alloc::Global;
 use std::sync::Wait;
@@ -39,24 +39,24 @@ fn first_bad(bytes: &[u8]) -> Option<u32>
 /// - `active`, `inactive`: the answer is the word, with a space and a name for each lock that is active, or not, in
 ///   order (`pm_show_wakelocks`).
 ///
-/// Behind the answers comes a line for the source of each known lock, in order (`print_wakeup_source_stats`).
+/// After the answers comes a line for the source of each known lock, in order (`print_wakeup_source_stats`).
 ///
 /// All lines are tried before the first is carried out: `Line` is the first of no form. `Full` names the first lock
-/// on which a call is to be made though its history has fewer than four places left. `Mem` comes for want of memory.
+/// on which a call is to be made though its history has fewer than four places left. `Mem` comes if it is out of memory.
 ///
-/// What names show and what sources show agree: a name is active exactly where its source has an event in
+/// What names show and what sources show agree: a name is active exactly if its source has an event in
 /// progress, and until when that ends.
 #[tactic(auto, using(crate::proofs::Agreeing::agreed))]
 pub fn answer_lines<R: Wait>(rt: &R, alloc: Global, bytes: &[u8]) -> Result<Vec<u8>, LinesFault>
     requires { length bytes.now ≤ MOST_BYTES }
-    ensures text { IfOk result (λ text. told bytes.now ≡ Ok text.items) }
+    ensures text { IfOk result (λ text. text_answer bytes.now ≡ Ok text.items) }
     ensures agree { OnOk result (AgreeAfter bytes.now) }
-    ensures refused { IfErr result (IsRefusal (told bytes.now)) }
+    ensures refused { IfErr result (IsRefusalOfLines (text_answer bytes.now)) }
 {
     if let Some(number) = first_bad(bytes) {
         return Err(LinesFault::Line(number));
     }
-    let mut board = LockBoard::new(alloc);
-    board.carry_lines(rt, bytes)?;
-    board.finish()
+    let mut state = LineRunner::new(alloc);
+    state.carry_lines(rt, bytes)?;
+    state.finish()
 }

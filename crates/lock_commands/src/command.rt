@@ -1,20 +1,20 @@
 ghost use Rattle.std.specs.Prelude.{◌≤◌, IfErr, IfOk, OnOk, length};
-ghost use Rattle.program_ending.specs.Telling.{Refuses};
-ghost use Rattle.lock_commands.specs.Told.{AgreeAfter};
-ghost use Rattle.lock_commands.specs.Command.{IsEndingOf, IsLocksOf, RefusesLocks};
+ghost use Rattle.program_ending.specs.CommandEndings.{Refuses};
+ghost use Rattle.lock_commands.specs.TextAnswers.{AgreeAfter};
+ghost use Rattle.lock_commands.specs.Command.{IsEndingOfLines, IsLocksOf, RefusesLocks};
 ghost use Rattle.lock_commands.specs.Endings.{LocksEnded};
 ghost use Rattle.program_ending.specs.Streams.{stream, streams};
 
 use crate::answer::{MOST_BYTES, answer_lines};
 use crate::fault::LinesFault;
-use program_ending::{Ending, Refusal, read_input, write_told};
+use program_ending::{Ending, Refusal, read_input, write_result};
 use sleep_base::{ByteSink, ByteSource};
 use std::alloc::Global;
 use std::sync::Wait;
 
 /// How the program ends where lines are not answered.
 fn ending_of(fault: LinesFault) -> Ending
-    ensures { IsEndingOf fault result }
+    ensures { IsEndingOfLines fault result }
 {
     match fault {
         LinesFault::Line(number) => Ending::Refused(Refusal::BadLockLine(number)),
@@ -26,11 +26,11 @@ fn ending_of(fault: LinesFault) -> Ending
 /// What the command `locks` tells of an input: the answers to its lines, as [`answer_lines`] gives them.
 ///
 /// `BadLockLine` is the first line of no form. `SourceFull` names the first lock on which a call is to be made though its
-/// history has fewer than four places left. `NoMemory` comes for want of memory.
+/// history has fewer than four places left. `NoMemory` comes if it is out of memory.
 #[tactic(auto, using(crate::proofs::Ending::refuses))]
 pub fn locks_of<R: Wait>(rt: &R, alloc: Global, bytes: &[u8]) -> Result<Vec<u8>, Ending>
     requires { length bytes.now ≤ MOST_BYTES }
-    ensures told { IfOk result (λ said. IsLocksOf bytes.now said.items) }
+    ensures text_answer { IfOk result (λ shown_text. IsLocksOf bytes.now shown_text.items) }
     ensures agree { OnOk result (AgreeAfter bytes.now) }
     ensures refused { IfErr result (Refuses (RefusesLocks bytes.now)) }
 {
@@ -41,7 +41,7 @@ pub fn locks_of<R: Wait>(rt: &R, alloc: Global, bytes: &[u8]) -> Result<Vec<u8>,
 }
 
 /// Reads lines that lock and unlock names, and writes their answers.
-pub fn tell_locks<R: Wait, S: ByteSource, K: ByteSink>(
+pub fn write_locks<R: Wait, S: ByteSource, K: ByteSink>(
     rt: &R,
     alloc: Global,
     input: &mut S,
@@ -53,7 +53,7 @@ pub fn tell_locks<R: Wait, S: ByteSource, K: ByteSink>(
         result }
 {
     match read_input(alloc, input, MOST_BYTES, Refusal::LongLocks) {
-        Ok(bytes) => write_told(out, locks_of(rt, alloc, &bytes)),
+        Ok(bytes) => write_result(out, locks_of(rt, alloc, &bytes)),
         Err(ending) => ending,
     }
 }

@@ -6,20 +6,20 @@
 //! of lines: each line is cut, read and carried out as its definition says, over the names of `wake_locks`. The
 //! first line of no form is named before any is carried out. A full source is named exactly if a call meets it
 //! first. After all lines each name stands as its source's entries say: it is active exactly if an event is in
-//! progress, and until when that ends. By the clauses of `answer_lines`, `locks_of`: `told`, `refused`, `agree`.
+//! progress, and until when that ends. By the clauses of `answer_lines`, `locks_of`: `outcome`, `refused`, `agree`.
 //!
-//! Begin reading in `src/answer.rt`, `src/board.rt`; `specs/Steps.antt`, `specs/Verbs.antt`, `specs/Told.antt`.
+//! Begin reading in `src/answer.rt`, `src/state.rt`; `specs/Steps.antt`, `specs/Verbs.antt`, `specs/TextAnswers.antt`.
 #![tactic(auto)]
 
 mod answer;
-mod board;
 mod command;
 mod cut;
 mod fault;
+mod state;
 mod text;
 mod verb;
 
 pub use answer::{MOST_BYTES, answer_lines};
-pub use command::{locks_of, tell_locks};
+pub use command::{locks_of, write_locks};
 pub use fault::LinesFault;
-pub use verb::Verb;
+pub use verb::LockVerb;

@@ -18,14 +18,14 @@ pub(crate) fn answer_text(answer: LockAnswer) -> &'static str
     }
 }
 
-/// Puts a text behind others.
+/// Puts a text after others.
 pub(crate) fn push_text(out: &mut Vec<u8>, text: &str) -> Result<(), AllocError>
     ensures { OnOk result (out.new.items ≡ out.old.items ++ text.now) }
 {
     out.extend_from_slice(text.as_bytes())
 }
 
-/// Puts a byte behind others.
+/// Puts a byte after others.
 fn push_byte(out: &mut Vec<u8>, byte: u8) -> Result<(), AllocError>
     ensures { OnOk result (out.new.items ≡ out.old.items ++ (byte ∷ [])) }
 {
@@ -33,7 +33,7 @@ fn push_byte(out: &mut Vec<u8>, byte: u8) -> Result<(), AllocError>
     Ok(())
 }
 
-/// Puts a number behind others, after a space.
+/// Puts a number after others, after a space.
 fn push_number(out: &mut Vec<u8>, number: u64) -> Result<(), AllocError>
     ensures { OnOk result (out.new.items ≡ out.old.items ++ (space ++ decimal number)) }
 {

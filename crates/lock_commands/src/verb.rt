@@ -11,9 +11,9 @@ const MOST_MS: u64 = 86_400_000;
 
 const MOST_DIGITS: usize = 8;
 
-/// What a line asks for. The text of a lock or an unlock stands behind the line's first space.
+/// What a line asks for. The text of a lock or an unlock stands after the line's first space.
 #[derive(Clone, Copy, Debug, PartialEq, Eq)]
-pub enum Verb {
+pub enum LockVerb {
     /// To write the text to `wake_lock`.
     Lock,
     /// To write the text to `wake_unlock`.
@@ -62,39 +62,39 @@ fn milliseconds(digits: &[u8]) -> Option<u64>
 }
 
 /// What a line that is one word asks for.
-fn verb_alone(word: &[u8]) -> Option<Verb>
+fn verb_alone(word: &[u8]) -> Option<LockVerb>
     ensures is { result ≡ verb_alone word.now }
     ensures few { IfSome result IsShort }
 {
     if is(word, "active") {
-        return Some(Verb::Active);
+        return Some(LockVerb::Active);
     }
     if is(word, "inactive") {
-        return Some(Verb::Inactive);
+        return Some(LockVerb::Inactive);
     }
     None
 }
 
-/// What a line asks for that has this word before its first space, and this text behind it.
-fn verb_before(word: &[u8], text: &[u8]) -> Option<Verb>
+/// What a line asks for that has this word before its first space, and this text after it.
+fn verb_before(word: &[u8], text: &[u8]) -> Option<LockVerb>
     ensures is { result ≡ verb_before word.now text.now }
     ensures few { IfSome result IsShort }
 {
     if is(word, "lock") {
-        return Some(Verb::Lock);
+        return Some(LockVerb::Lock);
     }
     if is(word, "unlock") {
-        return Some(Verb::Unlock);
+        return Some(LockVerb::Unlock);
     }
     if is(word, "after") {
         let ms = milliseconds(text)?;
-        return Some(Verb::After(ms));
+        return Some(LockVerb::After(ms));
     }
     None
 }
 
-/// What a line asks for. `None` where it is of no form.
-pub(crate) fn verb_of(line: &[u8]) -> Option<Verb>
+/// What a line asks for. `None` if it is of no form.
+pub(crate) fn verb_of(line: &[u8]) -> Option<LockVerb>
     ensures is { result ≡ verb_of line.now }
     ensures few { IfSome result IsShort }
 {
@@ -106,7 +106,7 @@ pub(crate) fn verb_of(line: &[u8]) -> Option<Verb>
     }
 }
 
-/// What stands behind the first space of a line.
+/// What stands after the first space of a line.
 pub(crate) fn rest(line: &[u8]) -> &[u8]
     ensures { result.now ≡ rest line.now }
 {

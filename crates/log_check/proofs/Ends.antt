@@ -1,4 +1,4 @@
--- What is judged behind the last entry.
+-- What is judged after the last entry.
 use Rattle.std.proofs.Common.{◌≡◌, ◌+◌, ◌∙◌, ℕ, List, length, reverse, Option, Some, None, sym, ap, subst}
 use Rattle.sleep_model.specs.declared.entry.Entry.{Entry}
 use Rattle.sleep_model.specs.declared.log.Log.{Log}

@@ -1,4 +1,4 @@
--- What is judged at an entry, behind those that were passed.
+-- What is judged at an entry, after those that were passed.
 use Rattle.std.proofs.Common.{◌≡◌, ◌+◌, ◌++◌, ◌∙◌, ℕ, suc, true, List, [], ◌∷◌, length, reverse, take, drop, Option, Some, None, refl, sym, ap, ap₂, subst, arith, slice_get}
 use Rattle.std.proofs.lemmas.List.{length-reverse, length-take-le}
 use Rattle.std.proofs.lemmas.Option.{slice_get_within}
@@ -9,7 +9,7 @@ use Rattle.sleep_model.specs.Accepted.{IsAccepted}
 use Rattle.sleep_model.specs.Fits.{IsWritable, fits_entry}
 use Rattle.rule_definitions.specs.Entry.{KeepsEach, KeepsEntry}
 use Rattle.rule_definitions.specs.Verdict.{AtEntry}
-use Rattle.check_past.specs.Parts.{MayAdd, state_of}
+use Rattle.check_past.specs.JournalStates.{MayAdd, state_of}
 use Rattle.check_past.specs.Passing.{Passage, journal_of, past_of}
 use Rattle.check_rules.specs.Judging.{IsBroken}
 use Rattle.log_check.specs.declared.ending.Verdict.{Verdict}
@@ -23,8 +23,8 @@ module _ (m : Machine) (log : Log) (p : Passage) (machine : p.machine ≡ m) (en
   pub whole : [] ≡ drop p.passed log.entries → past_of p ≡ reverse log.entries
   whole none = ap (λ (xs : List Entry). reverse (take p.passed xs)) entries ∙ all_passed log.entries p.passed none
 
-  pub all_kept : [] ≡ drop p.passed log.entries → KeepsEach p.machine (reverse log.entries)
-  all_kept none = subst (λ (k : Machine). KeepsEach k (reverse log.entries)) (sym machine) (subst (KeepsEach m) (whole none) kept)
+  pub all_preserved : [] ≡ drop p.passed log.entries → KeepsEach p.machine (reverse log.entries)
+  all_preserved none = subst (λ (k : Machine). KeepsEach k (reverse log.entries)) (sym machine) (subst (KeepsEach m) (whole none) kept)
 
   module _ (e : Entry) (rest : List Entry) (left : drop p.passed log.entries ≡ e ∷ rest) where
     first : slice_get log.entries p.passed ≡ Some e
@@ -64,8 +64,8 @@ module _ (m : Machine) (log : Log) (p : Passage) (machine : p.machine ≡ m) (en
       keeps = broken_is o None b none
 
       -- it breaks none, and adds no link that may not stand
-      pub may_link : IsAccepted m → IsWritable m log → MayAdd (state_of p.machine (journal_of p)).ties e.kind
-      may_link a fits = subst (λ (k : Machine). MayAdd (state_of k (journal_of p)).ties e.kind) (sym machine) (may_add m a (past_of p) kept e keeps (fits_model fits))
+      pub may_link : IsAccepted m → IsWritable m log → MayAdd (state_of p.machine (journal_of p)).graph e.kind
+      may_link a fits = subst (λ (k : Machine). MayAdd (state_of k (journal_of p)).graph e.kind) (sym machine) (may_add m a (past_of p) kept e keeps (fits_model fits))
 
       module _ (q : Passage) (is : q ≡ record p { passed = p.passed + 1 }) where
         pub same_machine : q.machine ≡ m
@@ -74,8 +74,8 @@ module _ (m : Machine) (log : Log) (p : Passage) (machine : p.machine ≡ m) (en
         pub same_entries : q.entries ≡ log.entries
         same_entries = ap (λ (x : Passage). x.entries) is ∙ entries
 
-        pub kept_then : KeepsEach m (past_of q)
-        kept_then =
+        pub preserved_then : KeepsEach m (past_of q)
+        preserved_then =
             subst (λ (x : Passage). KeepsEach m (past_of x)) (sym is)
             (subst (KeepsEach m) (sym (one_more p.entries p.passed (p.passed + 1) e here refl)) (keeps, kept))
 

@@ -1,4 +1,4 @@
-//! What is judged behind the last entry: the statistics of each source, and whether the log is finished.
+//! What is judged after the last entry: the statistics of each source, and whether the log is finished.
 
 ghost use Rattle.std.specs.Prelude.{◌≡◌, ◌≤◌, ◌↔◌, ◌+◌, IsTrue, IfOk, length, reverse};
 ghost use Rattle.log_check.specs.declared.ending.Verdict.TheVariants.{Bad};
@@ -10,7 +10,7 @@ ghost use Rattle.check_past.specs.Passing.{past_of};
 ghost use Rattle.log_check.specs.Verdicts.{Differ, IsVerdict};
 
 use check_past::Passed;
-use check_rules::is_at_rest;
+use check_rules::is_idle_outside;
 use sleep_base::Mem;
 use sleep_model::{Log, LogEnd, Stats};
 
@@ -30,7 +30,7 @@ pub enum Verdict {
     Bad { line: u32, definition: u8 },
 }
 
-// The sum of two numbers of lines. `Mem` where the sum has no room.
+// The sum of two numbers of lines. `Mem` if the sum has no room.
 fn lines(some: usize, more: usize) -> Result<usize, Mem>
     ensures { IfOk result (λ n. n ≡ some + more) }
 {
@@ -40,7 +40,7 @@ fn lines(some: usize, more: usize) -> Result<usize, Mem>
     }
 }
 
-/// The verdict that the first bad line comes right behind `before` lines. `Mem` where its number has no room.
+/// The verdict that the first bad line comes right after `before` lines. `Mem` if its number has no room.
 pub(crate) fn bad(before: usize, definition: u8) -> Result<Verdict, Mem>
     ensures { IfOk result (λ v. v ≡ Bad (before + 1) definition) }
 {
@@ -50,7 +50,7 @@ pub(crate) fn bad(before: usize, definition: u8) -> Result<Verdict, Mem>
     }
 }
 
-// A source's statistics at the end. `Mem` where a sum has no room.
+// A source's statistics at the end. `Mem` if a sum has no room.
 fn stats_of(past: &Passed<'_>, source: u32) -> Result<Stats, Mem>
     ensures { IfOk result (λ s. s ≡ stats_at (history source (past_of past.now)) (time_of (past_of past.now))) }
 {
@@ -64,7 +64,7 @@ fn is_same(told: Stats, own: Stats) -> bool
     told == own
 }
 
-// The first source whose statistics are not those that the log tells, if there is one. `Mem` where a sum has no room.
+// The first source whose statistics are not those that the log tells, if there is one. `Mem` if a sum has no room.
 fn first_wrong(past: &Passed<'_>, told: &[Stats]) -> Result<Option<usize>, Mem>
     requires each { length told.now ≡ length past.now.machine.sources + 1 }
     requires few { length past.now.machine.sources ≤ 255 }
@@ -79,16 +79,16 @@ fn first_wrong(past: &Passed<'_>, told: &[Stats]) -> Result<Option<usize>, Mem>
     Ok(None)
 }
 
-// Whether every script has exited, no attempt is open, and nobody can make anything. `Mem` where a moment is beyond all
+// Whether every script has exited, no attempt is open, and nobody can make anything. `Mem` if a moment is beyond all
 // time, a number has no room, or if there is no memory for a walk.
 fn is_finished(past: &Passed<'_>) -> Result<bool, Mem>
     ensures { IfOk result (λ b. b ≡ is_finished_after past.now.machine (past_of past.now)) }
 {
-    let rests = is_at_rest(past, past.word())?;
-    Ok(past.all_gone() && rests)
+    let is_idle_script = is_idle_outside(past, past.word())?;
+    Ok(past.have_all_exited() && is_idle_script)
 }
 
-// Whether the log says that it is finished, and is. `Mem` where a sum or a number has no room, or if there is no memory for
+// Whether the log says that it is finished, and is. `Mem` if a sum or a number has no room, or if there is no memory for
 // a walk.
 fn ends_finished(past: &Passed<'_>, log: &Log) -> Result<bool, Mem>
     requires { past_of past.now ≡ reverse log.now.entries }
@@ -100,7 +100,7 @@ fn ends_finished(past: &Passed<'_>, log: &Log) -> Result<bool, Mem>
     }
 }
 
-/// The verdict on a log all of whose entries keep the rules and were passed. `Mem` where a sum or a number has no room, or
+/// The verdict on a log all of whose entries keep the rules and were passed. `Mem` if a sum or a number has no room, or
 /// if there is no memory for a walk.
 pub(crate) fn judge_end(past: &Passed<'_>, log: &Log) -> Result<Verdict, Mem>
     requires all { past_of past.now ≡ reverse log.now.entries }

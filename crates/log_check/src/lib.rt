@@ -1,4 +1,4 @@
-//! The checker of logs: yes exactly where a log is legal and finished, else its first bad line and the least rule
+//! The checker of logs: yes exactly if a log is legal and finished, else its first bad line and the least rule
 //! that this breaks. Its tests are in `row_trials`, by the command `check`.
 //!
 //! Promises: The verdict on a log that fits its machine: good exactly if the log is legal and finished; else its

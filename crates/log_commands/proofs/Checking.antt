@@ -5,7 +5,7 @@ use Rattle.program_ending.specs.declared.ending.Ending.{Ending}
 use Rattle.program_ending.specs.declared.ending.Ending.TheVariants.{Done, Stuck, Illegal, NoForm, ReadFault, WriteFault, Refused, NoMemory}
 use Rattle.program_ending.specs.declared.refusal.Refusal.TheVariants.{LongInput}
 use Rattle.program_ending.specs.Streams.{Streams, KeepsOut, ReadWhole, ReadsInput}
-use Rattle.program_ending.specs.Telling.{Refuses}
+use Rattle.program_ending.specs.CommandEndings.{Refuses}
 use Rattle.log_commands.specs.declared.verdict.Judged.{Judged}
 use Rattle.log_commands.specs.Judging.{IsJudged, RefusesCheck}
 use Rattle.log_commands.specs.Endings.{CheckEnded, WritesJudged, WritesVerdict}
@@ -22,15 +22,15 @@ module _ (old new : Streams) where
   check_unread NoForm h out = absurd h
   check_unread WriteFault h out = absurd h
 
-  written : (bytes said : List ℕ) (good : Bool) (ending : Ending) → ReadWhole 268435456 old.input new.input bytes → IsJudged bytes said good → WritesJudged old.output new.output said good ending → CheckEnded old new ending
-  written bytes said good Done read judged h = (bytes, said, good, read, judged, h)
-  written bytes said good Illegal read judged h = (bytes, said, good, read, judged, h)
-  written bytes said good WriteFault read judged h = (bytes, said, good, read, judged, h)
-  written bytes said good Stuck read judged h = absurd h
-  written bytes said good NoForm read judged h = absurd h
-  written bytes said good ReadFault read judged h = absurd h
-  written bytes said good (Refused refusal) read judged h = absurd h
-  written bytes said good NoMemory read judged h = absurd h
+  written : (bytes shown_text : List ℕ) (good : Bool) (ending : Ending) → ReadWhole 268435456 old.input new.input bytes → IsJudged bytes shown_text good → WritesJudged old.output new.output shown_text good ending → CheckEnded old new ending
+  written bytes shown_text good Done read judged h = (bytes, shown_text, good, read, judged, h)
+  written bytes shown_text good Illegal read judged h = (bytes, shown_text, good, read, judged, h)
+  written bytes shown_text good WriteFault read judged h = (bytes, shown_text, good, read, judged, h)
+  written bytes shown_text good Stuck read judged h = absurd h
+  written bytes shown_text good NoForm read judged h = absurd h
+  written bytes shown_text good ReadFault read judged h = absurd h
+  written bytes shown_text good (Refused refusal) read judged h = absurd h
+  written bytes shown_text good NoMemory read judged h = absurd h
 
   refused : (bytes : List ℕ) (ending : Ending) → ReadWhole 268435456 old.input new.input bytes → Refuses (RefusesCheck bytes) ending → KeepsOut old new → CheckEnded old new ending
   refused bytes (Refused refusal) read h out = (inr (bytes, read, h), out)

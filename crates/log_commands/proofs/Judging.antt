@@ -29,10 +29,10 @@ good_text m bytes _ (OfLog log v fits is h) e = record { log = log; fits = fits;
 good_text m bytes _ (OfLine line h) e = absurd (true≢false (sym e))
 
 -- a log that is told to be legal is, and is finished
-pub told_good : (bytes said : List ℕ) (m : Machine) → machine_in (file_in bytes) ≡ Some m → IsJudged bytes said true → IsGoodText m (text_in bytes)
-told_good bytes said m spells j =
+pub good_log_text : (bytes shown_text : List ℕ) (m : Machine) → machine_in (file_in bytes) ≡ Some m → IsJudged bytes shown_text true → IsGoodText m (text_in bytes)
+good_log_text bytes shown_text m spells j =
     let same = one_machine j.machine m (sym j.spells ∙ spells) in
-    subst (λ (k : Machine). IsGoodText k (text_in bytes)) same (good_text j.machine (text_in bytes) j.told.verdict j.told.is (sym j.told.is_good))
+    subst (λ (k : Machine). IsGoodText k (text_in bytes)) same (good_text j.machine (text_in bytes) j.outcome.verdict j.outcome.is (sym j.outcome.is_good))
 
 module _ (file : List ℕ) (m : Machine) (spells : machine_in file ≡ Some m) (bytes : List ℕ) (g : IsGoodText m bytes) where
   bad_log : (log : Log) (v : Verdict) → IsWritable m log → text m log ≡ bytes → IsVerdict m log v → is_good v ≡ false → ⊥
@@ -45,10 +45,10 @@ module _ (file : List ℕ) (m : Machine) (spells : machine_in file ≡ Some m) (
   bad_text _ (OfLine line h) e = none_bad m (named file m spells) g.log g.fits line (subst (λ (t : List ℕ). IsFirstBad m t line) (sym g.is_text) h)
 
 -- a log of which a bad line is told is not legal, or not finished
-pub told_bad : (bytes said : List ℕ) (m : Machine) → machine_in (file_in bytes) ≡ Some m → IsJudged bytes said false → IsGoodText m (text_in bytes) → ⊥
-told_bad bytes said m spells j g =
+pub bad_log_text : (bytes shown_text : List ℕ) (m : Machine) → machine_in (file_in bytes) ≡ Some m → IsJudged bytes shown_text false → IsGoodText m (text_in bytes) → ⊥
+bad_log_text bytes shown_text m spells j g =
     let same = one_machine j.machine m (sym j.spells ∙ spells) in
-    bad_text (file_in bytes) m spells (text_in bytes) g j.told.verdict (subst (λ (k : Machine). IsVerdictOf k (text_in bytes) j.told.verdict) same j.told.is) (sym j.told.is_good)
+    bad_text (file_in bytes) m spells (text_in bytes) g j.outcome.verdict (subst (λ (k : Machine). IsVerdictOf k (text_in bytes) j.outcome.verdict) same j.outcome.is) (sym j.outcome.is_good)
 
 -- an input that has a machine is not refused
 pub machine_stands : (bytes : List ℕ) (m : Machine) → length (file_in bytes) ≤ 16777216 → machine_in (file_in bytes) ≡ Some m → (refusal : Refusal) → RefusesCheck bytes refusal → ⊥

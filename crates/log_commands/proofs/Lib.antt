@@ -2,5 +2,5 @@ mod Checking
 pub mod Fitting
 pub mod Judging
 pub mod Rows
-pub mod Standing
+pub mod Linked
 pub mod Trying

@@ -1,4 +1,4 @@
--- A link that is tried behind those that stand.
+-- A link that is tried after those that stand.
 use Rattle.std.proofs.Common.{◌≡◌, ◌≤◌, ◌<◌, ◌∙◌, ◌||◌, ℕ, Bool, true, false, cond, List, [], ◌∷◌, ◌++◌, length, reverse, nat_le, Some, None, refl, sym, ap, subst, arith, le-leb, leb-true}
 use Rattle.std.proofs.lemmas.List.{length-reverse, reverse-append, reverse-reverse}
 use Rattle.sleep_model.specs.declared.entry.Kind.TheVariants as kind
@@ -10,7 +10,7 @@ use Rattle.sleep_model.proofs.Paths.{no_path_moved, path_below}
 use Rattle.device_links.specs.Adds.{Closes, IsOpen, with_link}
 use Rattle.device_links.specs.Linked.{Linked}
 use Rattle.program_ending.specs.declared.refusal.Refusal.TheVariants.{TooManyLinks, LinkCycle}
-use Rattle.log_commands.specs.Taking.{IsTaken, Stands, link_refusal}
+use Rattle.log_commands.specs.Taking.{IsTaken, LinksAreOrdered, link_refusal}
 
 exchanged : (a b c : Bool) → (a || (b || c)) ≡ (b || (a || c))
 exchanged true true c = refl
@@ -34,7 +34,7 @@ not_many : (n : ℕ) (b : Bool) → nat_le 4000 n ≡ b → n < 4000 → b ≡ f
 not_many n false e few = refl
 not_many n true e few = absurd (omega (arith, leb-true 4000 n e, few))
 
-module _ (l : Linked) (s c : ℕ) (stands : Stands l) where
+module _ (l : Linked) (s c : ℕ) (stands : LinksAreOrdered l) where
   few_reversed : length l.links < 4000 → nat_le 4000 (length (reverse l.links)) ≡ false
   few_reversed few = not_many (length (reverse l.links)) _ refl (subst (λ (n : ℕ). n < 4000) (sym (length-reverse l.links)) few)
 

@@ -6,7 +6,7 @@ use Rattle.program_ending.specs.declared.ending.Ending.{Ending}
 use Rattle.program_ending.specs.declared.ending.Ending.TheVariants.{Done, Stuck, Illegal, NoForm, ReadFault, WriteFault, Refused, NoMemory}
 use Rattle.program_ending.specs.declared.refusal.Refusal.TheVariants.{LongInput}
 use Rattle.program_ending.specs.Streams.{KeepsOut, ReadWhole, RefusesInput, Stream, Streams, Writes}
-use Rattle.program_ending.specs.Telling.{TellEnded}
+use Rattle.program_ending.specs.CommandEndings.{CommandEnded}
 use Rattle.log_commands.specs.declared.verdict.Judged.{Judged}
 use Rattle.log_commands.specs.Judging.{IsJudged, RefusesCheck}
 use Rattle.log_commands.specs.Stats.{IsStatsOf, RefusesStats}
@@ -17,10 +17,10 @@ most_input = 268435456
 
 -- the text for a log, good or not, was written whole; where a write failed, a front of it
 abbrev pub WritesJudged : Stream → Stream → List ℕ → Bool → Ending → Type 0
-WritesJudged old new said good Done = (good ≡ true) × Appends old.bytes new.bytes said
-WritesJudged old new said good Illegal = (good ≡ false) × Appends old.bytes new.bytes said
-WritesJudged old new said good WriteFault = Writes old new said false WriteFault
-WritesJudged old new said good _ = ⊥
+WritesJudged old new shown_text good Done = (good ≡ true) × Appends old.bytes new.bytes shown_text
+WritesJudged old new shown_text good Illegal = (good ≡ false) × Appends old.bytes new.bytes shown_text
+WritesJudged old new shown_text good WriteFault = Writes old new shown_text false WriteFault
+WritesJudged old new shown_text good _ = ⊥
 
 -- the text for a log was written, or a front of it, or nothing
 abbrev pub WritesVerdict : Result Judged Ending → Stream → Stream → Ending → Type 0
@@ -30,8 +30,8 @@ WritesVerdict (Err other) old new ending = (ending ≡ other) × (new ≡ old)
 -- the whole input was a machine and a text, and the verdict on that as a log of it was written, or a front of it
 abbrev pub WroteVerdict : Streams → Streams → Ending → Type 0
 WroteVerdict old new ending =
-    (bytes said : List ℕ) × (good : Bool) × ReadWhole most_input old.input new.input bytes × IsJudged bytes said good
-    × WritesJudged old.output new.output said good ending
+    (bytes shown_text : List ℕ) × (good : Bool) × ReadWhole most_input old.input new.input bytes × IsJudged bytes shown_text good
+    × WritesJudged old.output new.output shown_text good ending
 
 -- what an ending of check means: done where the log is legal and finished, and else illegal
 abbrev pub CheckEnded : Streams → Streams → Ending → Type 0
@@ -48,4 +48,4 @@ CheckEnded old new NoForm = ⊥
 
 -- what an ending of stats means
 abbrev pub StatsEnded : Streams → Streams → Ending → Type 0
-StatsEnded old new ending = TellEnded most_input LongInput IsStatsOf RefusesStats old new ending
+StatsEnded old new ending = CommandEnded most_input LongInput IsStatsOf RefusesStats old new ending

@@ -1,4 +1,4 @@
--- A machine with a log of it in one input: the machine's file up to the first newline, and behind it the log's text (own).
+-- A machine with a log of it in one input: the machine's file up to the first newline, and after it the log's text (own).
 use Rattle.std.specs.Prelude.{◌≡◌, ◌≤◌, ◌<◌, ℕ, ◌+◌, ◌==◌, List, length, take, drop, string_bytes, Some}
 use Rattle.std.specs.List.{position_or_len}
 use Rattle.sleep_model.specs.declared.log.Log.{Log}
@@ -19,11 +19,11 @@ line_length bytes = position_or_len (λ b. b == 10) bytes
 abbrev pub file_in : List ℕ → List ℕ
 file_in bytes = take (line_length bytes) bytes
 
--- the log's text: the bytes behind it
+-- the log's text: the bytes after it
 abbrev pub text_in : List ℕ → List ℕ
 text_in bytes = drop (line_length bytes + 1) bytes
 
--- the machine that its file spells, and the log that fits it whose text stands behind
+-- the machine that its file spells, and the log that fits it whose text stands after
 pub record IsLogIn (bytes : List ℕ) (m : Machine) (log : Log) : Type 0 where
   pub few : length (file_in bytes) ≤ most_machine
   pub spells : machine_in (file_in bytes) ≡ Some m

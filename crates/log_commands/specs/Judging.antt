@@ -31,18 +31,18 @@ is_good Good = true
 is_good (Bad line definition) = false
 
 -- a text has a verdict, and this is its text
-pub record TellsVerdict (m : Machine) (bytes said : List ℕ) (good : Bool) : Type 0 where
+pub record ShowsVerdict (m : Machine) (bytes shown_text : List ℕ) (good : Bool) : Type 0 where
   pub verdict : Verdict
   pub is : IsVerdictOf m bytes verdict
-  pub is_text : said ≡ verdict_text verdict
+  pub is_text : shown_text ≡ verdict_text verdict
   pub is_good : good ≡ is_good verdict
 
--- a machine stands in the bytes, and this is the text of the verdict on what stands behind it
-pub record IsJudged (bytes said : List ℕ) (good : Bool) : Type 0 where
+-- a machine stands in the bytes, and this is the text of the verdict on what stands after it
+pub record IsJudged (bytes shown_text : List ℕ) (good : Bool) : Type 0 where
   pub machine : Machine
   pub few : length (file_in bytes) ≤ most_machine
   pub spells : machine_in (file_in bytes) ≡ Some machine
-  pub told : TellsVerdict machine (text_in bytes) said good
+  pub outcome : ShowsVerdict machine (text_in bytes) shown_text good
 
 -- why there is no verdict: the machine's file is refused so
 abbrev pub RefusesCheck : List ℕ → Refusal → Type 0

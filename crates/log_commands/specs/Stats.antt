@@ -13,26 +13,26 @@ use Rattle.log_commands.specs.Taking.{refusal_of}
 use Rattle.log_commands.specs.Telling.{stats_text}
 
 -- the text is that of the counts of a log, and of the longest chain of devices at its end (suspend_stats_show)
-pub record IsToldOf (m : Machine) (log : Log) (said : List ℕ) : Type 0 where
+pub record IsTextOf (m : Machine) (log : Log) (shown_text : List ℕ) : Type 0 where
   pub chain : Chain
   pub longest : IsLongest (last_linked m log) chain
-  pub is_text : said ≡ stats_text m (counts_of log.entries) chain
+  pub is_text : shown_text ≡ stats_text m (counts_of log.entries) chain
 
--- the first link of the log that is refused behind the machine's is so
+-- the first link of the log that is refused after the machine's is so
 abbrev pub IsBadLink : Machine → Log → Refusal → Type 0
 IsBadLink m log refusal = refusal_of (parents_of m.devices) m.links log.entries ≡ Some refusal
 
 -- no link of the log is refused, and the text is that of both
-pub record IsGoodTold (m : Machine) (log : Log) (said : List ℕ) : Type 0 where
+pub record IsTextOfGood (m : Machine) (log : Log) (shown_text : List ℕ) : Type 0 where
   pub good : refusal_of (parents_of m.devices) m.links log.entries ≡ None
-  pub told : IsToldOf m log said
+  pub outcome : IsTextOf m log shown_text
 
 -- a machine and its log stand in the bytes, no link of the log is refused, and the text is that of them
-pub record IsStatsOf (bytes said : List ℕ) : Type 0 where
+pub record IsStatsOf (bytes shown_text : List ℕ) : Type 0 where
   pub machine : Machine
   pub log : Log
   pub read : IsLogIn bytes machine log
-  pub told : IsGoodTold machine log said
+  pub outcome : IsTextOfGood machine log shown_text
 
 -- a machine and its log stand in the bytes, and the first link of the log that is refused is so
 pub record HasBadLink (bytes : List ℕ) (refusal : Refusal) : Type 0 where

@@ -1,4 +1,4 @@
--- The links that a log adds, each tried behind those that stand (drivers/base/core.c, device_link_add).
+-- The links that a log adds, each tried after those that stand (drivers/base/core.c, device_link_add).
 use Rattle.std.specs.Prelude.{◌≡◌, ◌≤◌, ◌<◌, ℕ, nat_le, List, [], ◌∷◌, length, reverse, if◌then◌else◌, Option, Some, None}
 use Rattle.std.specs.Option.{option_or}
 use Rattle.sleep_model.specs.declared.entry.Entry.{Entry}
@@ -12,7 +12,7 @@ use Rattle.sleep_stats.specs.Linked.{added_after}
 use Rattle.program_ending.specs.declared.refusal.Refusal.{Refusal}
 use Rattle.program_ending.specs.declared.refusal.Refusal.TheVariants.{TooManyLinks, LinkCycle}
 
--- why a link is refused behind these, the oldest first: as many stand as may, or it closes a cycle; one that stands is passed over (device_link_add; the number is own)
+-- why a link is refused after these, the oldest first: as many stand as may, or it closes a cycle; one that stands is passed over (device_link_add; the number is own)
 abbrev pub link_refusal : List (Option ℕ) → List Link → ℕ → ℕ → Option Refusal
 link_refusal parents links supplier consumer =
     if nat_le 4000 (length links) then Some TooManyLinks
@@ -20,7 +20,7 @@ link_refusal parents links supplier consumer =
     else if is_dependent parents (reverse links) consumer supplier then Some LinkCycle
     else None
 
--- why the link that an entry adds is refused behind these, if it is
+-- why the link that an entry adds is refused after these, if it is
 abbrev pub refusal_at : List (Option ℕ) → List Link → Kind → Option Refusal
 refusal_at parents links (kind.LinkAdd supplier consumer None) = link_refusal parents links supplier consumer
 refusal_at parents links what = None
@@ -33,8 +33,8 @@ refusal_of parents links (e ∷ later) =
 
 -- ---- as they are taken
 
--- the links stand, each device behind its parent
-pub record Stands (l : Linked) : Type 0 where
+-- the links stand, each device after its parent
+pub record LinksAreOrdered (l : Linked) : Type 0 where
   pub after : EachAfterParent 0 l.parents
   pub few : length l.links ≤ 4000
   pub linked : AreLinks l.parents l.links
@@ -54,4 +54,4 @@ pub record IsTaken (old new : Linked) (what : Kind) : Type 0 where
   pub good : refusal_at old.parents (reverse old.links) what ≡ None
   pub parents : new.parents ≡ old.parents
   pub links : reverse new.links ≡ added_after what (reverse old.links)
-  pub stands : Stands new
+  pub stands : LinksAreOrdered new

@@ -10,7 +10,7 @@ use Rattle.device_chain.specs.declared.chain.Chain.{Chain}
 use Rattle.sleep_stats.specs.declared.counts.Counts.{Counts}
 use Rattle.sleep_stats.specs.declared.counts.LastDev.{LastDev}
 
--- a number behind its word
+-- a number after its word
 abbrev pub counted : List ℕ → ℕ → List ℕ
 counted word n = word ++ decimal n
 
@@ -51,7 +51,7 @@ abbrev pub failures_text : Machine → Counts → List ℕ
 failures_text m c =
     dev_row m c.last_devs.newest ++ dev_row m c.last_devs.older ++ errno_row c.last_errnos.newest ++ errno_row c.last_errnos.older
 
--- the names of devices, each behind a space
+-- the names of devices, each after a space
 abbrev pub names_text : Machine → List ℕ → List ℕ
 names_text m devices = flat_map (λ d. space ++ device m d) devices
 

@@ -7,7 +7,7 @@ ghost use Rattle.sleep_model.specs.Text.{text};
 ghost use Rattle.machine_file.specs.Reading.{links_among};
 ghost use Rattle.machine_file.specs.Whole.{IsSpelled, machine_in};
 ghost use Rattle.program_ending.specs.Streams.{most_machine};
-ghost use Rattle.program_ending.specs.Telling.{Refuses};
+ghost use Rattle.program_ending.specs.CommandEndings.{Refuses};
 ghost use Rattle.log_commands.specs.Input.{IsBadInput, IsBadLog, IsBadMachine, IsLogIn, file_in, line_length, text_in};
 
 use device_links::Links;
@@ -38,7 +38,7 @@ fn line_length(bytes: &[u8]) -> usize
     bytes.len()
 }
 
-/// The bytes before the first newline, and those behind it; without one, all and none.
+/// The bytes before the first newline, and those after it; without one, all and none.
 pub(crate) fn cut_line(bytes: &[u8]) -> (&[u8], &[u8])
     ensures file { result.0.now ≡ file_in bytes.now }
     ensures text { result.1.now ≡ text_in bytes.now }
@@ -84,10 +84,10 @@ fn log_of(alloc: Global, machine: &Machine, bytes: &[u8]) -> Result<Log, Ending>
     }
 }
 
-/// The machine that the bytes up to their first newline spell, and the log whose text those behind it are.
+/// The machine that the bytes up to their first newline spell, and the log whose text those after it are.
 ///
-/// `LongMachine` where the machine's bytes are more than 16,777,216, `Broken` where they break a rule of the format,
-/// `BadLine` where the others are the text of no log that fits the machine. `NoMemory` for want of memory.
+/// `LongMachine` if the machine's bytes are more than 16,777,216, `Broken` if they break a rule of the format,
+/// `BadLine` if the others are the text of no log that fits the machine. `NoMemory` if it is out of memory.
 pub fn read_log_input(alloc: Global, bytes: &[u8]) -> Result<LogInput, Ending>
     ensures read { IfOk result (λ r. IsLogIn bytes.now r.machine r.log) }
     ensures links { IfOk result (λ r. r.links ≡ links_among r.machine) }

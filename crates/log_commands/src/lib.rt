@@ -6,21 +6,21 @@
 //! Promises: The verdict on a text that is to be a log of a machine. For a machine with its log the text of the
 //! counts, of a longest chain and of all levels; or the first cause that refuses them, the machine's before the
 //! log's, and that before the first link that is refused. An input of a machine and a log that fits it, no link of
-//! which is refused, is never refused. By the clauses of `read_log_input`: `read`, `refused`; `stats_of`: `told`,
+//! which is refused, is never refused. By the clauses of `read_log_input`: `read`, `refused`; `stats_of`: `outcome`,
 //! `refused`; `judge`: `judged`, `refused`; `proofs/Fitting.antt`.
 //!
-//! Begin reading in `src/told.rt`, `src/input.rt`, `src/verdict.rt`, `src/links.rt`, `src/stats.rt`;
+//! Begin reading in `src/texts.rt`, `src/input.rt`, `src/verdict.rt`, `src/links.rt`, `src/stats.rt`;
 //! `specs/Endings.antt`, `specs/Input.antt`, `specs/Judging.antt`, `specs/Stats.antt`.
 #![tactic(auto)]
 
+mod commands;
 mod input;
 mod links;
 mod stats;
-mod telling;
-mod told;
+mod texts;
 mod verdict;
 
+pub use commands::{write_check, write_stats};
 pub use input::{LogInput, read_log_input};
 pub use stats::stats_of;
-pub use told::{tell_check, tell_stats};
 pub use verdict::{Judged, judge};

@@ -1,11 +1,11 @@
-//! The links that a log adds, each tried behind those of its machine.
+//! The links that a log adds, each tried after those of its machine.
 
 ghost use Rattle.std.specs.Prelude.{◌≡◌, ◌<◌, None, Some, IfErr, OnOk, length, reverse};
 ghost use Rattle.sleep_model.specs.declared.entry.Kind.TheVariants.{LinkAdd};
-ghost use Rattle.device_links.specs.Passes.{CanStand};
+ghost use Rattle.device_links.specs.Passes.{CanBeAdded};
 ghost use Rattle.sleep_stats.specs.Linked.{added_by};
-ghost use Rattle.program_ending.specs.Telling.{Refuses};
-ghost use Rattle.log_commands.specs.Taking.{AddsWithin, AllWithin, IsTaken, Stands, refusal_at, refusal_of};
+ghost use Rattle.program_ending.specs.CommandEndings.{Refuses};
+ghost use Rattle.log_commands.specs.Taking.{AddsWithin, AllWithin, IsTaken, LinksAreOrdered, refusal_at, refusal_of};
 
 use device_links::{LinkFault, Links};
 use program_ending::{Ending, Refusal};
@@ -13,7 +13,7 @@ use sleep_model::{Kind, Log};
 
 /// Adds a link that is active. One that stands is passed over.
 fn add_link(links: &mut Links, supplier: u32, consumer: u32) -> Result<(), Ending>
-    requires stands { Stands links.old }
+    requires stands { LinksAreOrdered links.old }
     requires supplier { supplier < length links.old.parents }
     requires consumer { consumer < length links.old.parents }
     ensures taken { OnOk result (IsTaken links.old links.new (LinkAdd supplier consumer None)) }
@@ -32,7 +32,7 @@ fn add_link(links: &mut Links, supplier: u32, consumer: u32) -> Result<(), Endin
 
 /// Adds the link that an entry adds.
 fn take_link(links: &mut Links, kind: Kind) -> Result<(), Ending>
-    requires stands { Stands links.old }
+    requires stands { LinksAreOrdered links.old }
     requires within { AddsWithin (length links.old.parents) kind }
     ensures taken { OnOk result (IsTaken links.old links.new kind) }
     ensures refused { IfErr result (Refuses (λ r.
@@ -48,13 +48,13 @@ fn take_link(links: &mut Links, kind: Kind) -> Result<(), Ending>
     }
 }
 
-/// Tries the links that a log adds, in turn behind those that stand. `TooManyLinks` where 4,000 links stand before an
+/// Tries the links that a log adds, in turn after those that stand. `TooManyLinks` where 4,000 links stand before an
 /// entry that adds one, `LinkCycle` where fewer stand and it closes a cycle: the first entry of which either is so.
 pub(crate) fn take_links(links: Links, log: &Log) -> Result<(), Ending>
-    requires stands { Stands links }
+    requires stands { LinksAreOrdered links }
     requires within { AllWithin (length links.parents) log.now.entries }
     ensures taken { OnOk result (refusal_of links.parents (reverse links.links) log.now.entries ≡ None) }
-    ensures stand { OnOk result (CanStand links.parents (added_by (reverse links.links) log.now.entries)) }
+    ensures stand { OnOk result (CanBeAdded links.parents (added_by (reverse links.links) log.now.entries)) }
     ensures refused { IfErr result (Refuses (λ r.
         refusal_of links.parents (reverse links.links) log.now.entries ≡ Some r)) }
 {

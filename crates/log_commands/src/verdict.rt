@@ -3,11 +3,11 @@
 ghost use Rattle.std.specs.Prelude.{◌≡◌, IfErr, IfOk};
 ghost use Rattle.sleep_model.specs.Accepted.{IsAccepted};
 ghost use Rattle.machine_file.specs.Whole.{IsSpelled};
-ghost use Rattle.program_ending.specs.Telling.{Refuses};
-ghost use Rattle.log_commands.specs.Judging.{IsJudged, IsVerdictOf, RefusesCheck, TellsVerdict, is_good, verdict_text};
+ghost use Rattle.program_ending.specs.CommandEndings.{Refuses};
+ghost use Rattle.log_commands.specs.Judging.{IsJudged, IsVerdictOf, RefusesCheck, ShowsVerdict, is_good, verdict_text};
 
 use crate::input::{cut_line, machine_of};
-use crate::telling::{put_count, put_row};
+use crate::texts::{put_count, put_row};
 use log_check::{Verdict, check};
 use log_text::{LogFault, read_log};
 use program_ending::Ending;
@@ -71,7 +71,7 @@ fn is_good(verdict: Verdict) -> bool
 fn judge_text(alloc: Global, machine: &Machine, bytes: &[u8]) -> Result<Judged, Mem>
     requires spelled { IsSpelled machine.now }
     requires accepted { IsAccepted machine.now }
-    ensures { IfOk result (λ j. TellsVerdict machine.now bytes.now j.text.items j.good) }
+    ensures { IfOk result (λ j. ShowsVerdict machine.now bytes.now j.text.items j.good) }
 {
     let verdict = verdict_on(alloc, machine, bytes)?;
     let text = verdict_text(alloc, verdict)?;
@@ -82,8 +82,8 @@ fn judge_text(alloc: Global, machine: &Machine, bytes: &[u8]) -> Result<Judged, 
 /// What `check` writes of the machine and the log in these bytes: whether the log is legal and finished, else its first bad line
 /// and the number of what that breaks.
 ///
-/// Refused where the bytes up to the first newline are no machine's file: `LongMachine` where they are more than 16,777,216,
-/// `Broken` where they break a rule of the format. `NoMemory` for want of memory.
+/// Refused where the bytes up to the first newline are no machine's file: `LongMachine` if they are more than 16,777,216,
+/// `Broken` if they break a rule of the format. `NoMemory` if it is out of memory.
 pub fn judge(alloc: Global, bytes: &[u8]) -> Result<Judged, Ending>
     ensures judged { IfOk result (λ j. IsJudged bytes.now j.text.items j.good) }
     ensures refused { IfErr result (Refuses (RefusesCheck bytes.now)) }

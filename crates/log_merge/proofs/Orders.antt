@@ -4,7 +4,7 @@ use Rattle.std.proofs.lemmas.Bool.Decides.{nat_tests}
 use Rattle.std.proofs.lemmas.List.Sorted.{IsStrictWeakOrder-by_number}
 use Rattle.std.specs.Cmp.{IsStrictWeakOrder}
 use Rattle.sleep_model.specs.declared.entry.JournalEntry.{JournalEntry}
-use Rattle.sleep_model.specs.Merge.{actor_number, actor_rank, before_or, stands_before, step_number}
+use Rattle.sleep_model.specs.Merge.{actor_number, actor_rank, before_or, precedes, step_number}
 
 before_once : (a b : ℕ) (r s : Bool) → (r ≡ true → s ≡ false) → before_or a b r ≡ true → before_or b a s ≡ false
 before_once a b r s h e = grind (arith, nat_tests)
@@ -21,20 +21,20 @@ then_by n rest o = record {
   chain = λ x y z. before_chain (n x) (n y) (n z) (rest x y) (rest y z) (rest x z) (o.chain x y z);
 }
 
-pub log_order : IsStrictWeakOrder stands_before
+pub log_order : IsStrictWeakOrder precedes
 log_order =
     then_by (λ (e : JournalEntry). e.stamp.pos) _ (then_by step_number _ (then_by (λ (e : JournalEntry). e.stamp.tick) _
     (then_by (λ (e : JournalEntry). actor_rank e.entry.actor) _
     (IsStrictWeakOrder-by_number (λ (e : JournalEntry). actor_number e.entry.actor)))))
 
 -- the same of what is seen through f
-pub order_through : {X : Type 0} (f : X → JournalEntry) → IsStrictWeakOrder (λ x y. stands_before (f x) (f y))
+pub order_through : {X : Type 0} (f : X → JournalEntry) → IsStrictWeakOrder (λ x y. precedes (f x) (f y))
 order_through f = record {
   one_way = λ x y. log_order.one_way (f x) (f y);
   chain = λ x y z. log_order.chain (f x) (f y) (f z);
 }
 
--- what rises in ticks, and in positions behind a step, stands in order
+-- what rises in ticks, and in positions after a step, stands in order
 pub rises_stands : (p s t p' s' t' : ℕ) (r : Bool) → t < t' → p + s ≤ p'
     → before_or p' p (before_or s' s (before_or t' t r)) ≡ false
 rises_stands p s t p' s' t' r a b = grind (arith, nat_tests)

@@ -5,10 +5,10 @@ use Rattle.sleep_model.specs.declared.entry.Entry.{Entry}
 use Rattle.sleep_model.specs.declared.entry.JournalEntry.{JournalEntry}
 use Rattle.sleep_model.specs.declared.entry.SourceEntry.{SourceEntry}
 use Rattle.sleep_model.specs.declared.entry_list.OtherEntry.{OtherEntry}
-use Rattle.sleep_model.specs.Merge.{in_order, merge, of_source, rises, stands_before}
-use Rattle.sleep_model.specs.Woven.{woven}
-use Rattle.log_merge.specs.Placed.{pass, placed}
-use Rattle.log_merge.specs.Rests.{bare, is_in_order, leads, seen, sources_entries}
+use Rattle.sleep_model.specs.Merge.{in_order, merge, of_source, rises, precedes}
+use Rattle.sleep_model.specs.Interleaved.{interleaved}
+use Rattle.log_merge.specs.WithCounts.{pass, with_counts}
+use Rattle.log_merge.specs.Remainders.{unstamped, is_in_order, leads, seen, sources_entries}
 use denote.Ref.{Bor}
 use Rattle.log_merge.proofs.Reading.{both_right, in_order_from, journal_first, log_of_all, order_same, other_first, rising_in_order, sorted_in_order}
 
@@ -21,12 +21,12 @@ if_false true x y h = absurd (true≢false h)
 if_false false x y h = refl
 
 -- an entry of a source that does not stand before the next of the journal
-pub pass_on : (other e : JournalEntry) (n : ℕ) (rest : List JournalEntry) → stands_before other e ≡ false → pass other n (e ∷ rest) ≡ pass other (suc n) rest
-pass_on other e n rest h = if_false (stands_before other e) _ _ h
+pub pass_on : (other e : JournalEntry) (n : ℕ) (rest : List JournalEntry) → precedes other e ≡ false → pass other n (e ∷ rest) ≡ pass other (suc n) rest
+pass_on other e n rest h = if_false (precedes other e) _ _ h
 
 -- one that does
-pub pass_here : (other e : JournalEntry) (n : ℕ) (rest : List JournalEntry) → stands_before other e ≡ true → pass other n (e ∷ rest) ≡ (n, e ∷ rest)
-pass_here other e n rest h = if_true (stands_before other e) _ _ h
+pub pass_here : (other e : JournalEntry) (n : ℕ) (rest : List JournalEntry) → precedes other e ≡ true → pass other n (e ∷ rest) ≡ (n, e ∷ rest)
+pass_here other e n rest h = if_true (precedes other e) _ _ h
 
 -- an entry of a source that stands before all that is left passes none of it
 pub passed_all : (other : JournalEntry) (n : ℕ) (journal : List JournalEntry) → leads other journal ≡ true → pass other n journal ≡ (n, journal)
@@ -38,15 +38,15 @@ pub passed_one : (other : JournalEntry) (n : ℕ) (old new : List JournalEntry) 
     → (pass other n old ≡ pass other (suc n) new) × (length old ≡ suc (length new))
 passed_one other n old new None h m = absurd (true≢false (ap (leads other) (sym m.0) ∙ h))
 passed_one other n old new (Some e) h m =
-    let no : stands_before other e ≡ false = ap (leads other) (sym m) ∙ h in
+    let no : precedes other e ≡ false = ap (leads other) (sym m) ∙ h in
     (ap (pass other n) m ∙ pass_on other e n new no, ap (λ (l : List JournalEntry). length l) m)
 
 -- no fewer are passed then
 pass_up : (other : JournalEntry) (n : ℕ) (journal : List JournalEntry) → n ≤ (pass other n journal).0
 pass_up other n [] = omega arith
-pass_up other n (e ∷ rest) = by (stands_before other e) refl (pass_up other (suc n) rest)
+pass_up other n (e ∷ rest) = by (precedes other e) refl (pass_up other (suc n) rest)
   where
-    by : (b : Bool) → stands_before other e ≡ b → suc n ≤ (pass other (suc n) rest).0 → n ≤ (pass other n (e ∷ rest)).0
+    by : (b : Bool) → precedes other e ≡ b → suc n ≤ (pass other (suc n) rest).0 → n ≤ (pass other n (e ∷ rest)).0
     by true h more = rw (pass_here other e n rest h) (omega arith)
     by false h more = rw (pass_on other e n rest h) (omega (arith, more))
 
@@ -58,74 +58,74 @@ at_most a b h = grind (arith, nat_tests)
 above : (a b : ℕ) → b < a → nat_le a b ≡ false
 above a b h = grind (arith, nat_tests)
 
-woven_other : (n : ℕ) (e : JournalEntry) (rest : List JournalEntry) (x : OtherEntry) (xs : List OtherEntry) → x.before ≤ n → woven n (e ∷ rest) (x ∷ xs) ≡ x.entry ∷ woven n (e ∷ rest) xs
-woven_other n e rest x xs h = if_true (nat_le x.before n) _ _ (at_most x.before n h)
+interleaved_other : (n : ℕ) (e : JournalEntry) (rest : List JournalEntry) (x : OtherEntry) (xs : List OtherEntry) → x.before ≤ n → interleaved n (e ∷ rest) (x ∷ xs) ≡ x.entry ∷ interleaved n (e ∷ rest) xs
+interleaved_other n e rest x xs h = if_true (nat_le x.before n) _ _ (at_most x.before n h)
 
-woven_own : (n : ℕ) (e : JournalEntry) (rest : List JournalEntry) (x : OtherEntry) (xs : List OtherEntry) → n < x.before → woven n (e ∷ rest) (x ∷ xs) ≡ e.entry ∷ woven (suc n) rest (x ∷ xs)
-woven_own n e rest x xs h = if_false (nat_le x.before n) _ _ (above x.before n h)
+interleaved_own : (n : ℕ) (e : JournalEntry) (rest : List JournalEntry) (x : OtherEntry) (xs : List OtherEntry) → n < x.before → interleaved n (e ∷ rest) (x ∷ xs) ≡ e.entry ∷ interleaved (suc n) rest (x ∷ xs)
+interleaved_own n e rest x xs h = if_false (nat_le x.before n) _ _ (above x.before n h)
 
 -- a list of the journal alone
-woven_alone : (n : ℕ) (journal : List JournalEntry) → woven n journal [] ≡ bare journal
-woven_alone n [] = refl
-woven_alone n (e ∷ rest) = ap (λ (l : List Entry). e.entry ∷ l) (woven_alone (suc n) rest)
+interleaved_alone : (n : ℕ) (journal : List JournalEntry) → interleaved n journal [] ≡ unstamped journal
+interleaved_alone n [] = refl
+interleaved_alone n (e ∷ rest) = ap (λ (l : List Entry). e.entry ∷ l) (interleaved_alone (suc n) rest)
 
-abbrev Weaves : List JournalEntry → Type 0
-Weaves others = (n : ℕ) (journal : List JournalEntry) → is_in_order journal ≡ true → woven n journal (placed n journal others) ≡ bare (in_order (journal ++ others))
+abbrev Interleaves : List JournalEntry → Type 0
+Interleaves others = (n : ℕ) (journal : List JournalEntry) → is_in_order journal ≡ true → interleaved n journal (with_counts n journal others) ≡ unstamped (in_order (journal ++ others))
 
-weaves_none : Weaves []
-weaves_none n journal u =
-    woven_alone n journal ∙ ap bare (sym (order_same journal (in_order_from journal u)) ∙ ap in_order (sym (append-nil journal)))
+interleaves_none : Interleaves []
+interleaves_none n journal u =
+    interleaved_alone n journal ∙ ap unstamped (sym (order_same journal (in_order_from journal u)) ∙ ap in_order (sym (append-nil journal)))
 
-weaves_more : (other : JournalEntry) (others : List JournalEntry) → is_in_order (other ∷ others) ≡ true → Weaves others → Weaves (other ∷ others)
-weaves_more other others v more n [] u =
+interleaves_more : (other : JournalEntry) (others : List JournalEntry) → is_in_order (other ∷ others) ≡ true → Interleaves others → Interleaves (other ∷ others)
+interleaves_more other others v more n [] u =
     ap (λ (l : List Entry). other.entry ∷ l) (more n [] refl) ∙ sym (other_first other [] others refl refl v)
-weaves_more other others v more n (e ∷ rest) u =
-    by (stands_before other e) refl (weaves_more other others v more (suc n) rest (both_right _ (is_in_order rest) u))
+interleaves_more other others v more n (e ∷ rest) u =
+    by (precedes other e) refl (interleaves_more other others v more (suc n) rest (both_right _ (is_in_order rest) u))
   where
-    by : (b : Bool) → stands_before other e ≡ b → woven (suc n) rest (placed (suc n) rest (other ∷ others)) ≡ bare (in_order (rest ++ other ∷ others))
-        → woven n (e ∷ rest) (placed n (e ∷ rest) (other ∷ others)) ≡ bare (in_order (e ∷ (rest ++ other ∷ others)))
+    by : (b : Bool) → precedes other e ≡ b → interleaved (suc n) rest (with_counts (suc n) rest (other ∷ others)) ≡ unstamped (in_order (rest ++ other ∷ others))
+        → interleaved n (e ∷ rest) (with_counts n (e ∷ rest) (other ∷ others)) ≡ unstamped (in_order (e ∷ (rest ++ other ∷ others)))
     by true h last =
         let here : pass other n (e ∷ rest) ≡ (n, e ∷ rest) = pass_here other e n rest h in
-        ap (λ (p : ℕ × List JournalEntry). woven n (e ∷ rest) (record { before = p.0; entry = other.entry } ∷ placed p.0 p.1 others)) here
-        ∙ (woven_other n e rest (record { before = n; entry = other.entry }) (placed n (e ∷ rest) others) (omega arith)
+        ap (λ (p : ℕ × List JournalEntry). interleaved n (e ∷ rest) (record { before = p.0; entry = other.entry } ∷ with_counts p.0 p.1 others)) here
+        ∙ (interleaved_other n e rest (record { before = n; entry = other.entry }) (with_counts n (e ∷ rest) others) (omega arith)
         ∙ (ap (λ (l : List Entry). other.entry ∷ l) (more n (e ∷ rest) u)
         ∙ sym (other_first other (e ∷ rest) others h u v)))
     by false h last =
         let on : pass other n (e ∷ rest) ≡ pass other (suc n) rest = pass_on other e n rest h in
-        ap (λ (p : ℕ × List JournalEntry). woven n (e ∷ rest) (record { before = p.0; entry = other.entry } ∷ placed p.0 p.1 others)) on
-        ∙ (woven_own n e rest (record { before = (pass other (suc n) rest).0; entry = other.entry }) (placed (pass other (suc n) rest).0 (pass other (suc n) rest).1 others) (omega (arith, pass_up other (suc n) rest))
+        ap (λ (p : ℕ × List JournalEntry). interleaved n (e ∷ rest) (record { before = p.0; entry = other.entry } ∷ with_counts p.0 p.1 others)) on
+        ∙ (interleaved_own n e rest (record { before = (pass other (suc n) rest).0; entry = other.entry }) (with_counts (pass other (suc n) rest).0 (pass other (suc n) rest).1 others) (omega (arith, pass_up other (suc n) rest))
         ∙ (ap (λ (l : List Entry). e.entry ∷ l) last
         ∙ sym (journal_first e rest (other ∷ others) (ap not h) u v)))
 
-weaves : (others : List JournalEntry) → is_in_order others ≡ true → Weaves others
-weaves [] v = weaves_none
-weaves (other ∷ others) v = weaves_more other others v (weaves others (both_right _ (is_in_order others) v))
+interleaves : (others : List JournalEntry) → is_in_order others ≡ true → Interleaves others
+interleaves [] v = interleaves_none
+interleaves (other ∷ others) v = interleaves_more other others v (interleaves others (both_right _ (is_in_order others) v))
 
 -- the entries of the sources, in order and placed in the journal, give the definition's log
 pub placed_merge : (journal : List JournalEntry) (histories : List (List SourceEntry)) → rises journal ≡ true
-    → woven 0 journal (placed 0 journal (in_order (sources_entries histories))) ≡ merge journal histories
+    → interleaved 0 journal (with_counts 0 journal (in_order (sources_entries histories))) ≡ merge journal histories
 placed_merge journal histories h =
-    weaves (in_order (sources_entries histories)) (sorted_in_order (sources_entries histories)) 0 journal (rising_in_order journal h)
+    interleaves (in_order (sources_entries histories)) (sorted_in_order (sources_entries histories)) 0 journal (rising_in_order journal h)
     ∙ log_of_all journal histories
 
 -- the next of the entries of sources is placed
 placed_on : (n : ℕ) (journal : List JournalEntry) (others : List (Bor SourceEntry)) (k : ℕ) (other d : Bor SourceEntry) → k < length others → other ≡ get_or others k d
-    → placed n journal (drop k (seen others))
-    ≡ record { before = (pass (of_source other.now) n journal).0; entry = other.now.entry } ∷ placed (pass (of_source other.now) n journal).0 (pass (of_source other.now) n journal).1 (drop (suc k) (seen others))
+    → with_counts n journal (drop k (seen others))
+    ≡ record { before = (pass (of_source other.now) n journal).0; entry = other.now.entry } ∷ with_counts (pass (of_source other.now) n journal).0 (pass (of_source other.now) n journal).1 (drop (suc k) (seen others))
 placed_on n journal [] k other d l h = absurd (omega (arith, l))
 placed_on n journal (x ∷ xs) zero other d l h = rw h refl
 placed_on n journal (x ∷ xs) (suc k) other d l h = placed_on n journal xs k other d (omega (arith, l)) h
 
 -- with it the entries that are placed stay those of all
 pub placed_next : (all new : List OtherEntry) (n : ℕ) (journal : List JournalEntry) (others : List (Bor SourceEntry)) (k : ℕ) (other d : Bor SourceEntry) (m : ℕ) (rest : List JournalEntry) (end : List OtherEntry)
-    → k < length others → other ≡ get_or others k d → (m, rest) ≡ pass (of_source other.now) n journal → new ≡ all ++ record { before = m; entry = other.now.entry } ∷ [] → all ++ placed n journal (drop k (seen others)) ≡ end
-    → new ++ placed m rest (drop (k + 1) (seen others)) ≡ end
+    → k < length others → other ≡ get_or others k d → (m, rest) ≡ pass (of_source other.now) n journal → new ≡ all ++ record { before = m; entry = other.now.entry } ∷ [] → all ++ with_counts n journal (drop k (seen others)) ≡ end
+    → new ++ with_counts m rest (drop (k + 1) (seen others)) ≡ end
 placed_next all new n journal others k other d m rest end l at is more so =
-    let here : placed n journal (drop k (seen others)) ≡ record { before = m; entry = other.now.entry } ∷ placed m rest (drop (suc k) (seen others)) =
+    let here : with_counts n journal (drop k (seen others)) ≡ record { before = m; entry = other.now.entry } ∷ with_counts m rest (drop (suc k) (seen others)) =
     placed_on n journal others k other d l at
-    ∙ ap (λ (q : ℕ × List JournalEntry). record { before = q.0; entry = other.now.entry } ∷ placed q.0 q.1 (drop (suc k) (seen others))) (sym is) in
+    ∙ ap (λ (q : ℕ × List JournalEntry). record { before = q.0; entry = other.now.entry } ∷ with_counts q.0 q.1 (drop (suc k) (seen others))) (sym is) in
     let one : k + 1 ≡ suc k = omega arith in
     rw one
-    (ap (λ (l : List OtherEntry). l ++ placed m rest (drop (suc k) (seen others))) more
-    ∙ (append_assoc all (record { before = m; entry = other.now.entry } ∷ []) (placed m rest (drop (suc k) (seen others)))
+    (ap (λ (l : List OtherEntry). l ++ with_counts m rest (drop (suc k) (seen others))) more
+    ∙ (append_assoc all (record { before = m; entry = other.now.entry } ∷ []) (with_counts m rest (drop (suc k) (seen others)))
     ∙ (ap (λ (l : List OtherEntry). all ++ l) (sym here) ∙ so)))

@@ -10,9 +10,9 @@ use Rattle.std.proofs.lemmas.Fn.{always_returns_same}
 use denote.Param.Members.{Mut}
 use denote.Ref.{Bor}
 use Rattle.sleep_model.specs.declared.entry.SourceEntry.{SourceEntry}
-use Rattle.log_merge.specs.Rests.{seen}
+use Rattle.log_merge.specs.Remainders.{seen}
 use Rattle.sleep_model.specs.declared.entry.JournalEntry.{JournalEntry}
-use Rattle.sleep_model.specs.Merge.{in_order, of_source, put_in_order, stands_before}
+use Rattle.sleep_model.specs.Merge.{in_order, of_source, put_in_order, precedes}
 use Rattle.log_merge.proofs.Orders.{log_order, order_through}
 
 pub head_of : {X : Type 0} (x y : X) (xs ys : List X) → x ∷ xs ≡ y ∷ ys → x ≡ y
@@ -100,12 +100,12 @@ module _ {X : Type 0} (lt : X → X → Bool) where
         by false false true d ha hb hc hd p q = absurd (true≢false (sym p))
         by false false false d ha hb hc hd p q = absurd (true≢false (sym h ∙ o.chain y z x hb hc))
 
-    one_kept : (x y : X) (l : List X) (a b : Bool) → (a ≡ true → b ≡ true → ⊥)
+    one_preserved : (x y : X) (l : List X) (a b : Bool) → (a ≡ true → b ≡ true → ⊥)
         → cond b (y ∷ cond a (x ∷ l) l) (cond a (x ∷ l) l) ≡ cond a (x ∷ cond b (y ∷ l) l) (cond b (y ∷ l) l)
-    one_kept x y l true true h = absurd (h refl refl)
-    one_kept x y l true false h = refl
-    one_kept x y l false true h = refl
-    one_kept x y l false false h = refl
+    one_preserved x y l true true h = absurd (h refl refl)
+    one_preserved x y l true false h = refl
+    one_preserved x y l false true h = refl
+    one_preserved x y l false false h = refl
 
     stable_put : (x : X) (ys : List X) (z : X) → filter (ties lt z) (put x ys) ≡ filter (ties lt z) (x ∷ ys)
     stable_put x [] z = refl
@@ -113,17 +113,17 @@ module _ {X : Type 0} (lt : X → X → Bool) where
       where
         by : (b : Bool) → lt y x ≡ b → filter (ties lt z) (put x ys) ≡ filter (ties lt z) (x ∷ ys)
             → filter (ties lt z) (if b then y ∷ put x ys else x ∷ y ∷ ys) ≡ filter (ties lt z) (x ∷ y ∷ ys)
-        by true e kept =
-            ap (λ (l : List X). cond (ties lt z y) (y ∷ l) l) kept
-            ∙ one_kept x y (filter (ties lt z) ys) (ties lt z x) (ties lt z y) (untied x y z e)
-        by false e kept = refl
+        by true e journal_of_entries =
+            ap (λ (l : List X). cond (ties lt z y) (y ∷ l) l) journal_of_entries
+            ∙ one_preserved x y (filter (ties lt z) ys) (ties lt z x) (ties lt z y) (untied x y z e)
+        by false e journal_of_entries = refl
 
     stable_order : (xs : List X) (z : X) → filter (ties lt z) (order xs) ≡ filter (ties lt z) xs
     stable_order [] z = refl
     stable_order (x ∷ xs) z =
         stable_put x (order xs) z ∙ ap (λ (l : List X). cond (ties lt z x) (x ∷ l) l) (stable_order xs z)
 
-    -- what passes a test stands before nothing that all of the list stand behind
+    -- what passes a test stands before nothing that all of the list stand after
     found : (p : X → Bool) (a x : X) (zs l : List X) → Low a zs → filter p zs ≡ x ∷ l → lt x a ≡ false
     found p a x [] l w e = cc
     found p a x (z ∷ zs) l w e = by (p z) e (found p a x zs l w.1)
@@ -134,8 +134,8 @@ module _ {X : Type 0} (lt : X → X → Bool) where
             let P : X → Type 0 = λ v. lt v a ≡ false in subst P same w.0
         by false e later = later e
 
-    kept_first : (p : X → Bool) (x : X) (xs : List X) → p x ≡ true → filter p (x ∷ xs) ≡ x ∷ filter p xs
-    kept_first p x xs h = rw h refl
+    preserved_first : (p : X → Bool) (x : X) (xs : List X) → p x ≡ true → filter p (x ∷ xs) ≡ x ∷ filter p xs
+    preserved_first p x xs h = rw h refl
 
     ties_itself : (x : X) → ties lt x x ≡ true
     ties_itself x = tied x x (never x) (never x)
@@ -147,15 +147,15 @@ module _ {X : Type 0} (lt : X → X → Bool) where
     -- two lists in order with the same ties are the same
     same : (xs ys : List X) → Up xs → Up ys → ((z : X) → filter (ties lt z) xs ≡ filter (ties lt z) ys) → xs ≡ ys
     same [] [] u v h = refl
-    same [] (y ∷ ys) u v h = let e = h y ∙ kept_first (ties lt y) y ys (ties_itself y) in cc
-    same (x ∷ xs) [] u v h = let e = sym (h x) ∙ kept_first (ties lt x) x xs (ties_itself x) in cc
+    same [] (y ∷ ys) u v h = let e = h y ∙ preserved_first (ties lt y) y ys (ties_itself y) in cc
+    same (x ∷ xs) [] u v h = let e = sym (h x) ∙ preserved_first (ties lt x) x xs (ties_itself x) in cc
     same (x ∷ xs) (y ∷ ys) u v h =
         let xy : lt x y ≡ false = found (ties lt x) y x (y ∷ ys) (filter (ties lt x) xs) (never y, v.0)
-        (sym (h x) ∙ kept_first (ties lt x) x xs (ties_itself x)) in
+        (sym (h x) ∙ preserved_first (ties lt x) x xs (ties_itself x)) in
         let yx : lt y x ≡ false = found (ties lt y) x y (x ∷ xs) (filter (ties lt y) ys) (never x, u.0)
-        (h y ∙ kept_first (ties lt y) y ys (ties_itself y)) in
+        (h y ∙ preserved_first (ties lt y) y ys (ties_itself y)) in
         let first : x ≡ y = head_of x y (filter (ties lt x) xs) (filter (ties lt x) ys)
-        (sym (kept_first (ties lt x) x xs (ties_itself x)) ∙ h x ∙ kept_first (ties lt x) y ys (tied x y xy yx)) in
+        (sym (preserved_first (ties lt x) x xs (ties_itself x)) ∙ h x ∙ preserved_first (ties lt x) y ys (tied x y xy yx)) in
         let rest : xs ≡ ys = same xs ys u.1 v.1 (λ z. without_first (ties lt z x) x (filter (ties lt z) xs) (filter (ties lt z) ys)
         (let P : X → Type 0 = λ w. filter (ties lt z) (x ∷ xs) ≡ cond (ties lt z w) (w ∷ filter (ties lt z) ys) (filter (ties lt z) ys)
         in subst P (sym first) (h z))) in
@@ -168,63 +168,63 @@ module _ {X : Type 0} (lt : X → X → Bool) where
 
 module _ {X : Type 0} (f : X → JournalEntry) where
   put_through : (x : X) (ys : List X)
-      → map f (put (λ x y. stands_before (f x) (f y)) x ys) ≡ put_in_order (f x) (map f ys)
+      → map f (put (λ x y. precedes (f x) (f y)) x ys) ≡ put_in_order (f x) (map f ys)
   put_through x [] = refl
-  put_through x (y ∷ ys) = by (stands_before (f y) (f x)) (put_through x ys)
+  put_through x (y ∷ ys) = by (precedes (f y) (f x)) (put_through x ys)
     where
-      by : (b : Bool) → map f (put (λ x y. stands_before (f x) (f y)) x ys) ≡ put_in_order (f x) (map f ys)
-          → map f (if b then y ∷ put (λ x y. stands_before (f x) (f y)) x ys else x ∷ y ∷ ys)
+      by : (b : Bool) → map f (put (λ x y. precedes (f x) (f y)) x ys) ≡ put_in_order (f x) (map f ys)
+          → map f (if b then y ∷ put (λ x y. precedes (f x) (f y)) x ys else x ∷ y ∷ ys)
           ≡ (if b then f y ∷ put_in_order (f x) (map f ys) else f x ∷ f y ∷ map f ys)
       by true rest = ap (λ (l : List JournalEntry). f y ∷ l) rest
       by false rest = refl
 
-  order_is : (xs : List X) → map f (order (λ x y. stands_before (f x) (f y)) xs) ≡ in_order (map f xs)
+  order_is : (xs : List X) → map f (order (λ x y. precedes (f x) (f y)) xs) ≡ in_order (map f xs)
   order_is [] = refl
   order_is (x ∷ xs) =
-      put_through x (order (λ x y. stands_before (f x) (f y)) xs)
+      put_through x (order (λ x y. precedes (f x) (f y)) xs)
       ∙ ap (λ (l : List JournalEntry). put_in_order (f x) l) (order_is xs)
 
   -- what is seen of a stable sort is in the order of the log
-  pub sort_through : (xs ys : List X) → IsSortedBy (λ x y. stands_before (f x) (f y)) ys
-      → IsStableBy (λ x y. stands_before (f x) (f y)) xs ys → map f ys ≡ in_order (map f xs)
+  pub sort_through : (xs ys : List X) → IsSortedBy (λ x y. precedes (f x) (f y)) ys
+      → IsStableBy (λ x y. precedes (f x) (f y)) xs ys → map f ys ≡ in_order (map f xs)
   sort_through xs ys up stable =
-      ap (λ (l : List X). map f l) (sort_is (λ x y. stands_before (f x) (f y)) (order_through f) xs ys up stable)
+      ap (λ (l : List X). map f l) (sort_is (λ x y. precedes (f x) (f y)) (order_through f) xs ys up stable)
       ∙ order_is xs
 
-put_is : (x : JournalEntry) (ys : List JournalEntry) → put stands_before x ys ≡ put_in_order x ys
+put_is : (x : JournalEntry) (ys : List JournalEntry) → put precedes x ys ≡ put_in_order x ys
 put_is x [] = refl
-put_is x (y ∷ ys) = by (stands_before y x) (put_is x ys)
+put_is x (y ∷ ys) = by (precedes y x) (put_is x ys)
   where
-    by : (b : Bool) → put stands_before x ys ≡ put_in_order x ys
-        → (if b then y ∷ put stands_before x ys else x ∷ y ∷ ys) ≡ (if b then y ∷ put_in_order x ys else x ∷ y ∷ ys)
+    by : (b : Bool) → put precedes x ys ≡ put_in_order x ys
+        → (if b then y ∷ put precedes x ys else x ∷ y ∷ ys) ≡ (if b then y ∷ put_in_order x ys else x ∷ y ∷ ys)
     by true rest = ap (λ (l : List JournalEntry). y ∷ l) rest
     by false rest = refl
 
-in_order_is : (xs : List JournalEntry) → order stands_before xs ≡ in_order xs
+in_order_is : (xs : List JournalEntry) → order precedes xs ≡ in_order xs
 in_order_is [] = refl
 in_order_is (x ∷ xs) =
-    put_is x (order stands_before xs) ∙ ap (λ (l : List JournalEntry). put_in_order x l) (in_order_is xs)
+    put_is x (order precedes xs) ∙ ap (λ (l : List JournalEntry). put_in_order x l) (in_order_is xs)
 
-pub up_in_order : (xs : List JournalEntry) → Up stands_before (in_order xs)
+pub up_in_order : (xs : List JournalEntry) → Up precedes (in_order xs)
 up_in_order xs =
-    let P : List JournalEntry → Type 0 = λ l. Up stands_before l in subst P (in_order_is xs) (up_order stands_before log_order xs)
+    let P : List JournalEntry → Type 0 = λ l. Up precedes l in subst P (in_order_is xs) (up_order precedes log_order xs)
 
-pub low_put_in_order : (a x : JournalEntry) (ys : List JournalEntry) → stands_before x a ≡ false
-    → Low stands_before a ys → Low stands_before a (put_in_order x ys)
+pub low_put_in_order : (a x : JournalEntry) (ys : List JournalEntry) → precedes x a ≡ false
+    → Low precedes a ys → Low precedes a (put_in_order x ys)
 low_put_in_order a x ys h l =
-    let P : List JournalEntry → Type 0 = λ l. Low stands_before a l in
-    subst P (put_is x ys) (low_put stands_before log_order a x ys h l)
+    let P : List JournalEntry → Type 0 = λ l. Low precedes a l in
+    subst P (put_is x ys) (low_put precedes log_order a x ys h l)
 
 -- what a stable sort of references gives, where each call compares as the log does
 pub sorted_as_seen : {F : Type 0} {g : Mut F (Bor (Bor SourceEntry) × (Bor (Bor SourceEntry) × Unit {0})) Ordering} {f : F}
     (xs ys : List (Bor SourceEntry)) → IsSortedByClosure g f ys → IsStableByClosure g f xs ys
     → ((a : Bor (Bor SourceEntry) × (Bor (Bor SourceEntry) × Unit {0})) (r : Ordering) (f' : F) → Called g f a r f'
-    → (is_lt r ≡ stands_before (of_source a.0.now.now) (of_source a.1.0.now.now)) × (f' ≡ f))
+    → (is_lt r ≡ precedes (of_source a.0.now.now) (of_source a.1.0.now.now)) × (f' ≡ f))
     → seen ys ≡ in_order (seen xs)
 sorted_as_seen {g = g} {f = f} xs ys up stable h =
     let through : Bor SourceEntry → JournalEntry = λ b. of_source b.now in
     let compares = always_returns_same g (λ (a : Bor (Bor SourceEntry) × (Bor (Bor SourceEntry) × Unit {0})) (r : Ordering).
-    is_lt r ≡ stands_before (of_source a.0.now.now) (of_source a.1.0.now.now)) f h in
+    is_lt r ≡ precedes (of_source a.0.now.now) (of_source a.1.0.now.now)) f h in
     sort_through through xs ys
-    (up (λ x y. stands_before (of_source x.now) (of_source y.now)) (order_through through) compares)
-    (stable (λ x y. stands_before (of_source x.now) (of_source y.now)) (order_through through) compares)
+    (up (λ x y. precedes (of_source x.now) (of_source y.now)) (order_through through) compares)
+    (stable (λ x y. precedes (of_source x.now) (of_source y.now)) (order_through through) compares)

@@ -1,4 +1,4 @@
 pub mod Journals
 pub mod Orders
-pub mod Placed
-pub mod Rests
+pub mod WithCounts
+pub mod Remainders

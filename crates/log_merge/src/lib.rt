@@ -4,16 +4,16 @@
 //! Promises: The one log of a journal and the sources' histories is the merge that is defined: the journal, as it
 //! is kept, with the sources' entries placed in it. By the clauses of `merge_journal`, `merge`; `rises`.
 //!
-//! Begin reading in `src/placed.rt`, `src/merged.rt`.
+//! Begin reading in `src/with_counts.rt`, `src/merged.rt`.
 #![tactic(auto)]
 
 mod journal;
 mod merged;
 mod order;
-mod placed;
 mod sources;
+mod with_counts;
 
 pub use journal::rises;
 pub use merged::merge;
-pub use placed::merge_journal;
 pub use sources::{in_order, with_history};
+pub use with_counts::merge_journal;

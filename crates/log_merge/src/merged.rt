@@ -3,13 +3,13 @@
 ghost use Rattle.std.specs.Prelude.{◌≡◌, true, IfOk, reverse};
 ghost use Rattle.sleep_model.specs.Merge.{merge, rises};
 
-use crate::placed::merge_journal;
+use crate::with_counts::merge_journal;
 use sleep_base::Mem;
 use sleep_model::{EntryList, Journal, JournalEntry, SourceList};
 use std::alloc::Global;
 
-/// The journal of these entries. `Mem` where there is no memory.
-fn kept(alloc: Global, entries: &[JournalEntry]) -> Result<Journal, Mem>
+/// The journal of these entries. `Mem` if there is no memory.
+fn journal_of_entries(alloc: Global, entries: &[JournalEntry]) -> Result<Journal, Mem>
     ensures { IfOk result (λ journal. reverse journal.past ≡ entries.now) }
 {
     let mut journal = Journal::new(alloc);
@@ -20,7 +20,7 @@ fn kept(alloc: Global, entries: &[JournalEntry]) -> Result<Journal, Mem>
     Ok(journal)
 }
 
-/// The one log of a journal, whose ticks and positions rise, and of the sources' histories, as a list. `Mem` where there is
+/// The one log of a journal, whose ticks and positions rise, and of the sources' histories, as a list. `Mem` if there is
 /// no memory.
 pub fn merge(
     alloc: Global,
@@ -30,5 +30,5 @@ pub fn merge(
     requires { rises journal.now ≡ true }
     ensures { IfOk result (λ log. log ≡ merge journal.now histories.now) }
 {
-    merge_journal(alloc, kept(alloc, journal)?, histories)
+    merge_journal(alloc, journal_of_entries(alloc, journal)?, histories)
 }

@@ -1,7 +1,7 @@
 //! Which of two entries stands first in the one log (own: Linux keeps no such log).
 
 ghost use Rattle.std.specs.Prelude.{◌≡◌};
-ghost use Rattle.sleep_model.specs.Merge.{actor_number, actor_rank, is_actor_before, of_source, stands_before};
+ghost use Rattle.sleep_model.specs.Merge.{actor_number, actor_rank, is_actor_before, of_source, precedes};
 ghost use Rattle.log_merge.specs.Orders.{is_step};
 
 use sleep_model::{Actor, Entry, JournalEntry, Kind, SourceEntry, Stamp};
@@ -56,7 +56,7 @@ pub(crate) fn is_step(kind: Kind) -> bool
 fn breaks_tie(stamp: &Stamp, entry: &Entry, than: &Stamp, other: &Entry) -> bool
     requires { stamp.now.pos ≡ than.now.pos }
     ensures { result
-        ≡ stands_before (record { stamp = stamp.now; entry = entry.entry.now })
+        ≡ precedes (record { stamp = stamp.now; entry = entry.entry.now })
         (record { stamp = than.now; entry = other.entry.now }) }
 {
     match (is_step(entry.kind), is_step(other.kind)) {
@@ -70,9 +70,9 @@ fn breaks_tie(stamp: &Stamp, entry: &Entry, than: &Stamp, other: &Entry) -> bool
 /// Whether an entry with its stamp stands before another in the one log: by position, steps on the
 /// word after the others, then by tick, then by actor.
 #[inline]
-pub(crate) fn stands_before(stamp: &Stamp, entry: &Entry, than: &Stamp, other: &Entry) -> bool
+pub(crate) fn precedes(stamp: &Stamp, entry: &Entry, than: &Stamp, other: &Entry) -> bool
     ensures { result
-        ≡ stands_before (record { stamp = stamp.now; entry = entry.entry.now })
+        ≡ precedes (record { stamp = stamp.now; entry = entry.entry.now })
         (record { stamp = than.now; entry = other.entry.now }) }
 {
     if stamp.pos == than.pos {
@@ -85,7 +85,7 @@ pub(crate) fn stands_before(stamp: &Stamp, entry: &Entry, than: &Stamp, other: &
 /// Whether an entry of a source stands before one of the journal.
 #[inline]
 pub(crate) fn is_ahead(other: &SourceEntry, entry: &JournalEntry) -> bool
-    ensures { result ≡ stands_before (of_source other.now) entry.now }
+    ensures { result ≡ precedes (of_source other.now) entry.now }
 {
-    stands_before(&other.stamp, &other.entry, &entry.stamp, &entry.entry)
+    precedes(&other.stamp, &other.entry, &entry.stamp, &entry.entry)
 }

@@ -2,10 +2,10 @@
 
 ghost use Rattle.std.specs.Prelude.{◌≡◌, ◌++◌, IfOk, map};
 ghost use Rattle.std.specs.Ordering.{is_lt};
-ghost use Rattle.sleep_model.specs.Merge.{in_order, of_source, stands_before};
-ghost use Rattle.log_merge.specs.Rests.{sources_entries, seen};
+ghost use Rattle.sleep_model.specs.Merge.{in_order, of_source, precedes};
+ghost use Rattle.log_merge.specs.Remainders.{sources_entries, seen};
 
-use crate::order::stands_before;
+use crate::order::precedes;
 use sleep_base::Mem;
 use sleep_model::{SourceEntry, SourceList};
 use std::alloc::Global;
@@ -14,18 +14,18 @@ use std::cmp::Ordering;
 /// How two entries of sources stand to each other.
 #[inline]
 fn compare(a: &SourceEntry, b: &SourceEntry) -> Ordering
-    ensures { is_lt result ≡ stands_before (of_source a.now) (of_source b.now) }
+    ensures { is_lt result ≡ precedes (of_source a.now) (of_source b.now) }
 {
-    if stands_before(&a.stamp, &a.entry, &b.stamp, &b.entry) {
+    if precedes(&a.stamp, &a.entry, &b.stamp, &b.entry) {
         Ordering::Less
-    } else if stands_before(&b.stamp, &b.entry, &a.stamp, &a.entry) {
+    } else if precedes(&b.stamp, &b.entry, &a.stamp, &a.entry) {
         Ordering::Greater
     } else {
         Ordering::Equal
     }
 }
 
-/// These entries, and those of a history behind them. `Mem` where there is no memory.
+/// These entries, and those of a history after them. `Mem` if there is no memory.
 pub fn with_history<'a>(
     mut entries: Vec<&'a SourceEntry>,
     history: &'a [SourceEntry],
@@ -38,7 +38,7 @@ pub fn with_history<'a>(
     Ok(entries)
 }
 
-/// The entries of all sources, history by history. `Mem` where there is no memory.
+/// The entries of all sources, history by history. `Mem` if there is no memory.
 fn gathered(alloc: Global, histories: &[SourceList]) -> Result<Vec<&SourceEntry>, Mem>
     ensures { IfOk result (λ all. seen all.items ≡ sources_entries histories.now) }
 {
@@ -49,7 +49,7 @@ fn gathered(alloc: Global, histories: &[SourceList]) -> Result<Vec<&SourceEntry>
     Ok(entries)
 }
 
-/// Entries in the order of the one log, equal ones as they stood. `Mem` where there is no memory.
+/// Entries in the order of the one log, equal ones as they stood. `Mem` if there is no memory.
 pub fn in_order(mut entries: Vec<&SourceEntry>) -> Result<Vec<&SourceEntry>, Mem>
     ensures { IfOk result (λ all. seen all.items ≡ in_order (seen entries.entry.items)) }
 {

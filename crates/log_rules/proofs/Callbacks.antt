@@ -10,19 +10,19 @@ use Rattle.sleep_model.specs.declared.entry.Kind.{Kind}
 use Rattle.sleep_model.specs.declared.entry.Kind.TheVariants as kind
 use Rattle.sleep_model.specs.declared.entry.SkipCause.{SkipCause}
 use Rattle.sleep_model.specs.declared.machine.Machine.{Machine}
-use Rattle.sleep_model.specs.declared.place.AsyncWork.{AsyncWork}
-use Rattle.sleep_model.specs.declared.place.AsyncWork.TheVariants.{Inside}
-use Rattle.sleep_model.specs.declared.place.Callback.{Callback}
-use Rattle.sleep_model.specs.declared.place.Stage.{Stage}
-use Rattle.sleep_model.specs.declared.place.Stage.TheVariants as stage
+use Rattle.sleep_model.specs.declared.progress.AsyncWork.{AsyncWork}
+use Rattle.sleep_model.specs.declared.progress.AsyncWork.TheVariants.{Inside}
+use Rattle.sleep_model.specs.declared.progress.Callback.{Callback}
+use Rattle.sleep_model.specs.declared.progress.Stage.{Stage}
+use Rattle.sleep_model.specs.declared.progress.Stage.TheVariants as stage
 use Rattle.sleep_model.specs.declared.word.EventNow.{EventNow}
 use Rattle.sleep_model.specs.Devices.{async_work, callback, device_error, is_async_device}
 use Rattle.sleep_model.specs.Legal.{JournalPart}
 use Rattle.sleep_model.specs.Path.{maker, is_actor}
 use Rattle.sleep_model.specs.Table.{stage_of}
 use Rattle.sleep_laws.proofs.Boards.{three}
-use Rattle.sleep_laws.proofs.Holding.{held, StageMaker}
-use Rattle.sleep_laws.proofs.Standing.{CallIf}
+use Rattle.sleep_laws.proofs.LockHolding.{lock_agrees, StageMaker}
+use Rattle.sleep_laws.proofs.DevicePhases.{CallIf}
 use Rattle.rule_definitions.specs.All.{KeepsMost}
 use Rattle.rule_definitions.specs.Path.{IsOfDown, IsOfUp, IsOfRowIf, PathOf}
 use Rattle.rule_definitions.specs.Questions.{is_maker, row_now}
@@ -113,7 +113,7 @@ module _ (m : Machine) (past : List Entry) (now : EventNow) (k : Kind) (j : Jour
 pub ends_own : (m : Machine) (past : List Entry) (now : EventNow) (who : Actor) (k : Kind) → JournalPart m past → KeepsMost m past now who k → is_in_callback m past who ≡ true → EndsOwn past who k
 ends_own m past now (actor.Dev d) k j h i =
     device_ends past d (async_work m past d) k i
-    (subst (λ (b : Bool). StepsOf m past now (actor.Dev d) b k) (device_makes_none d (maker past) (stage_of past) (held m past j).2) h.steps)
+    (subst (λ (b : Bool). StepsOf m past now (actor.Dev d) b k) (device_makes_none d (maker past) (stage_of past) (lock_agrees m past j).2) h.steps)
 ends_own m past now (actor.Script n) k j h i = own k (maker_ends m past now k j (actor.Script n) i h)
   where
     own : (k : Kind) → Ending (callback past) k → EndsOwn past (actor.Script n) k

@@ -9,9 +9,9 @@ use Rattle.sleep_model.specs.declared.entry.Kind.TheVariants as kind
 use Rattle.sleep_model.specs.declared.entry.SkipCause.{SkipCause}
 use Rattle.sleep_model.specs.declared.entry.SkipCause.TheVariants as skip
 use Rattle.sleep_model.specs.declared.machine.Machine.{Machine}
-use Rattle.sleep_model.specs.declared.place.AsyncWork.{AsyncWork}
-use Rattle.sleep_model.specs.declared.place.AsyncWork.TheVariants.{Idle, Scheduled, Inside}
-use Rattle.sleep_model.specs.declared.place.Due.TheVariants.{Makes}
+use Rattle.sleep_model.specs.declared.progress.AsyncWork.{AsyncWork}
+use Rattle.sleep_model.specs.declared.progress.AsyncWork.TheVariants.{Idle, Scheduled, Inside}
+use Rattle.sleep_model.specs.declared.progress.Due.TheVariants.{Makes}
 use Rattle.sleep_model.specs.declared.word.EventNow.{EventNow}
 use Rattle.phase_table.specs.declared.phase.Phase.{Phase}
 use Rattle.phase_table.specs.Phases.{is_down, mirror}
@@ -20,7 +20,7 @@ use Rattle.sleep_model.specs.Devices.{after_device, async_work, device_due, devi
 use Rattle.sleep_model.specs.Legal.{JournalPart}
 use Rattle.sleep_model.specs.Numbers.{time_of}
 use Rattle.sleep_model.specs.Path.{maker, is_actor}
-use Rattle.sleep_laws.proofs.DevicesStand.{all_owed}
+use Rattle.sleep_laws.proofs.DeviceLaws.{all_owed}
 use Rattle.sleep_laws.proofs.Made.{Down, InSuspend, InLate, InNoirq, Up, InResume, InEarly, InResumeNoirq, ScheduledAt, DeviceMade, EntryMade, ByMaker, ByTask, ByWork, ByDevice, ByTime}
 use Rattle.sleep_laws.proofs.MakingOwn.{made}
 use Rattle.rule_definitions.specs.All.{KeepsAll, KeepsMost}
@@ -105,7 +105,7 @@ step_at : (d : ℕ) (p : Phase) (w : AsyncWork) (k : Kind) → w ≡ Scheduled p
 step_at d p w k e h = subst (λ (x : AsyncWork). IsDeviceStep d x k) (sym e) h
 
 turn_at : (m : Machine) (past : List Entry) (p : Phase) (d : ℕ) → Down p → ScheduledAt m past p d → IsScheduledDown m past p d
-turn_at m past p d w g = record { down = down_is p w; stands = g.stands; waits = g.waits }
+turn_at m past p d w g = record { down = down_is p w; states = g.states; waits = g.waits }
 
 skips : (m : Machine) (past : List Entry) (now : EventNow) (p : Phase) (d : ℕ) (cause : SkipCause) → Down p → ScheduledAt m past p d → turn_of m past now p d ≡ kind.Skip p d cause → Own m past now d (kind.Skip p d cause)
 skips m past now p d cause w g e =

@@ -5,13 +5,13 @@ use Rattle.sleep_model.specs.declared.entry.Entry.{Entry}
 use Rattle.sleep_model.specs.declared.entry.Kind.{Kind}
 use Rattle.sleep_model.specs.declared.entry.Kind.TheVariants as kind
 use Rattle.sleep_model.specs.declared.machine.Machine.{Machine}
-use Rattle.sleep_model.specs.declared.place.Due.{Due}
-use Rattle.sleep_model.specs.declared.place.Due.TheVariants.{Makes, Waits, Gone}
-use Rattle.sleep_model.specs.declared.place.Sleep.{Sleep}
+use Rattle.sleep_model.specs.declared.progress.Due.{Due}
+use Rattle.sleep_model.specs.declared.progress.Due.TheVariants.{Makes, Waits, Exited}
+use Rattle.sleep_model.specs.declared.progress.Sleep.{Sleep}
 use Rattle.sleep_model.specs.declared.word.EventNow.{EventNow}
 use Rattle.sleep_model.specs.Attempt.{freeze_since, sleep_of}
 use Rattle.sleep_model.specs.Laws.{Owed, Restored}
-use Rattle.sleep_model.specs.Parts.{Part, OfJournal, OfTime}
+use Rattle.sleep_model.specs.EntryClasses.{EntryClass, OfJournal, OfTime}
 use Rattle.rule_definitions.specs.Answers.{KeepsAnswers}
 use Rattle.rule_definitions.specs.Enabled.{WakesBy}
 use Rattle.rule_definitions.specs.Freezer.{FreezeEnds}
@@ -35,24 +35,24 @@ only_is P d k h e = subst (OnlyMade P) e h
 pub only_map : (P Q : Kind → Type 0) → ((k : Kind) → P k → Q k) → (d : Due) → OnlyMade P d → OnlyMade Q d
 only_map P Q f (Makes k) h = f k h
 only_map P Q f (Waits w) h = tt
-only_map P Q f Gone h = tt
+only_map P Q f Exited h = tt
 
 -- what is due is itself due
 pub itself : (d : Due) → OnlyMade (λ k. d ≡ Makes k) d
 itself (Makes k) = refl
 itself (Waits w) = tt
-itself Gone = tt
+itself Exited = tt
 
 -- nothing is due
-abbrev IsGone : Due → Type 0
-IsGone Gone = Unit {0}
-IsGone _ = ⊥
+abbrev IsExited : Due → Type 0
+IsExited Exited = Unit {0}
+IsExited _ = ⊥
 
-pub gone : (k : Kind) → Gone ≡ Makes k → ⊥
-gone k e = subst IsGone e tt
+pub gone : (k : Kind) → Exited ≡ Makes k → ⊥
+gone k e = subst IsExited e tt
 
 -- an entry of the journal is none of time
-abbrev IsOfJournal : Part → Type 0
+abbrev IsOfJournal : EntryClass → Type 0
 IsOfJournal OfJournal = Unit {0}
 IsOfJournal _ = ⊥
 
@@ -155,6 +155,6 @@ pub plain_wake : (m : Machine) (past : List Entry) (now : EventNow) (k : Kind) �
 plain_wake m past now k h = wake_else m past now (sleep_of past) k (no_wake k h)
 
 -- what is owed, waking left out
-pub owed_kept : (m : Machine) (past : List Entry) (k : Kind) → Owed m past k → KeepsOwed m past k
-owed_kept m past (kind.Wake by_event) h = tt
-owed_kept m past _ h = h
+pub owed_preserved : (m : Machine) (past : List Entry) (k : Kind) → Owed m past k → KeepsOwed m past k
+owed_preserved m past (kind.Wake by_event) h = tt
+owed_preserved m past _ h = h

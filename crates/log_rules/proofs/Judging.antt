@@ -6,13 +6,13 @@ use Rattle.sleep_model.specs.declared.log.Log.{Log}
 use Rattle.sleep_model.specs.declared.log.Stats.{Stats}
 use Rattle.sleep_model.specs.declared.machine.Machine.{Machine}
 use Rattle.sleep_model.specs.Legal.{stats_of}
-use Rattle.sleep_model.specs.Parts.{part_of}
+use Rattle.sleep_model.specs.EntryClasses.{class_of}
 use Rattle.rule_definitions.specs.Entry.{Rule, Links, Numbers, Attempts, Reads, Walk, Skip, Runtime, Owed, Freezer, Path, Answers, Restored, Steps, Enabled, Source, KeepsRule, KeepsEntry, KeepsEach}
 use Rattle.rule_definitions.specs.Verdict.{number_of, BreaksFirst, IsFirstBad, AtEntry, AtStats, AtEnd, IsGood, GoodHasNone, FirstBadIsOne}
 use Rattle.log_rules.proofs.Legal.{lists}
 
 -- what keeps each rule keeps the rule of that name
-keeps_rule : (m : Machine) (past : List Entry) (e : Entry) (rule : Rule) → KeepsEntry m past e → KeepsRule m past e (part_of e.kind) rule
+keeps_rule : (m : Machine) (past : List Entry) (e : Entry) (rule : Rule) → KeepsEntry m past e → KeepsRule m past e (class_of e.kind) rule
 keeps_rule m past e Links k = k.links
 keeps_rule m past e Numbers k = k.numbers
 keeps_rule m past e Attempts k = k.attempts
@@ -49,7 +49,7 @@ none_of_good = good_has_none
 
 -- ---- one first bad line
 
--- of two entries of a list, either they are one, or one stands behind the other
+-- of two entries of a list, either they are one, or one stands after the other
 data Apart (past other : List Entry) (e f : Entry) : Type 0 where
   Same : past ≡ other → e ≡ f → Apart past other e f
   Later : (mid : List Entry) → past ≡ mid ++ f ∷ other → Apart past other e f

@@ -1,4 +1,4 @@
--- Legal lists of entries: one more is legal exactly where it keeps all rules.
+-- Legal lists of entries: one more is legal exactly if it keeps all rules.
 use Rattle.std.proofs.Common.{◌≡◌, ◌<◌, ◌+◌, ◌∙◌, ℕ, suc, arith, nat_le, Bool, true, false, ◌&&◌, List, [], ◌∷◌, length, Option, Some, None, cond, refl, sym, ap, subst}
 use Rattle.std.proofs.lemmas.Bool.Decides.{nat_tests}
 use Rattle.std.specs.List.{list_all, range_with_len}
@@ -12,11 +12,11 @@ use Rattle.sleep_model.specs.declared.word.WordKind.{WordKind}
 use Rattle.sleep_model.specs.Calls.{is_left}
 use Rattle.sleep_model.specs.Legal.{IsLegal, is_short, IsOwnTurn, IsOnTime, HistoriesFit, JournalPart, JournalStep, JointStep, OwnStep}
 use Rattle.sleep_model.specs.Numbers.{numbers}
-use Rattle.sleep_model.specs.Parts.{Part, OfJournal, Notes, Moves, OfTime, part_of, is_kept, journal}
+use Rattle.sleep_model.specs.EntryClasses.{EntryClass, OfJournal, Notes, Moves, OfTime, class_of, is_in_journal, journal}
 use Rattle.sleep_model.specs.Path.{maker, is_actor}
 use Rattle.sleep_model.specs.Sources.{history, is_of, most_entries, owed, caller, IsNext, SourceStep}
 use Rattle.sleep_model.specs.Table.{stage_of}
-use Rattle.sleep_laws.proofs.Holding.{held}
+use Rattle.sleep_laws.proofs.LockHolding.{lock_agrees}
 use Rattle.rule_definitions.specs.All.{KeepsAll, KeepsMost}
 use Rattle.rule_definitions.specs.Entry.{KeepsPart, KeepsEach, OneForEntries, OneForLists}
 use Rattle.rule_definitions.specs.Law.{IsDue}
@@ -27,7 +27,7 @@ use Rattle.rule_definitions.specs.Steps.{is_inside}
 use Rattle.rule_definitions.specs.Walk.{ReportsMade, is_in_callback}
 use Rattle.log_rules.proofs.Callbacks.{ends_own}
 use Rattle.log_rules.proofs.Facts.{never}
-use Rattle.log_rules.proofs.Inside.{JournalIf, grown, earlier, and_left, and_right, newest, inside_behind, time_journal, time_makes_none, actor_same, same_actor}
+use Rattle.log_rules.proofs.Inside.{JournalIf, grown, earlier, and_left, and_right, newest, inside_after, time_journal, time_makes_none, actor_same, same_actor}
 use Rattle.log_rules.proofs.Makers.{all}
 use Rattle.log_rules.proofs.Quiet.{note_reports, note_thawed, step_thawed_actor}
 use Rattle.log_rules.proofs.Turns.{at_turn, freezes_back, freezes_then, goes_on, inside_turn, note_turn}
@@ -35,7 +35,7 @@ use Rattle.log_rules.proofs.Turns.{at_turn, freezes_back, freezes_then, goes_on,
 -- ---- legality of one entry, by its part
 
 -- what makes one more entry of that part legal
-record Pieces (m : Machine) (past : List Entry) (e : Entry) (p : Part) : Type 0 where
+record Pieces (m : Machine) (past : List Entry) (e : Entry) (p : EntryClass) : Type 0 where
   in_journal : JournalIf m past e p
   own : OwnStep past e p
   fits : HistoriesFit m (e ∷ past)
@@ -44,7 +44,7 @@ record Pieces (m : Machine) (past : List Entry) (e : Entry) (p : Part) : Type 0 
   joint : JointStep m past e p
 
 module _ (m : Machine) (past : List Entry) (e : Entry) where
-  pieces : IsLegal m (e ∷ past) → Pieces m past e (part_of e.kind)
+  pieces : IsLegal m (e ∷ past) → Pieces m past e (class_of e.kind)
   pieces h = record {
     in_journal = newest m past e h.journal;
     own = h.sources.0;
@@ -54,16 +54,16 @@ module _ (m : Machine) (past : List Entry) (e : Entry) where
     joint = h.joint.0;
   }
 
-  legal : IsLegal m past → Pieces m past e (part_of e.kind) → IsLegal m (e ∷ past)
+  legal : IsLegal m past → Pieces m past e (class_of e.kind) → IsLegal m (e ∷ past)
   legal l h = record {
-    journal = by_part (part_of e.kind) refl h.in_journal;
+    journal = by_part (class_of e.kind) refl h.in_journal;
     sources = (h.own, l.sources);
     histories = h.fits;
     placed = (h.now, h.time, l.placed);
     joint = (h.joint, l.joint);
   }
     where
-      by_part : (p : Part) → part_of e.kind ≡ p → JournalIf m past e p → JournalPart m (cond (is_kept p) (e ∷ journal past) (journal past))
+      by_part : (p : EntryClass) → class_of e.kind ≡ p → JournalIf m past e p → JournalPart m (cond (is_in_journal p) (e ∷ journal past) (journal past))
       by_part OfJournal q h = (subst (JournalStep m (journal past) e) (sym q) h, l.journal)
       by_part OfTime q h = (subst (JournalStep m (journal past) e) (sym q) h, l.journal)
       by_part (Notes s c) q h = l.journal
@@ -83,7 +83,7 @@ module _ (m : Machine) (past : List Entry) (e : Entry) where
   own_inside : (x : WordKind) (s : ℕ) → IsNext x (owed (history s past)) × (caller (history s past) ≡ Some e.actor) → is_inside (history s past) e.actor ≡ true
   own_inside x s h = rw (left_next x (owed (history s past)) h.0) (rw h.1 (same_actor e.actor))
 
-  keeps : IsLegal m past → (p : Part) → Pieces m past e p → KeepsPart m past e p
+  keeps : IsLegal m past → (p : EntryClass) → Pieces m past e p → KeepsPart m past e p
   keeps l OfJournal h =
       let k : KeepsAll m (journal past) (numbers past) e.actor e.kind = subst (λ (w : EventNow). KeepsAll m (journal past) w e.actor e.kind) h.now ((all m (journal past) e.now e.actor e.kind).keeps l.journal h.in_journal.0) in
       record {
@@ -142,12 +142,12 @@ module _ (m : Machine) (past : List Entry) (e : Entry) where
     numbers = (h.now, h.time);
     attempts = tt;
     reads = tt;
-    walk = subst (λ (x : Actor). is_in_callback m (journal past) x ≡ false) (sym h.in_journal.0) (rw (time_makes_none (maker (journal past)) (stage_of (journal past)) (held m (journal past) l.journal).2) refl);
+    walk = subst (λ (x : Actor). is_in_callback m (journal past) x ≡ false) (sym h.in_journal.0) (rw (time_makes_none (maker (journal past)) (stage_of (journal past)) (lock_agrees m (journal past) l.journal).2) refl);
     skip = tt;
     runtime = tt;
     owed = tt;
     freezer = subst (λ (x : Actor). GoesOnEntry m past x (is_maker (journal past) x)) (sym h.in_journal.0) tt;
-    path = subst (λ (x : Actor). PathOf m (journal past) (numbers past) (is_maker (journal past) x) e.kind) (sym h.in_journal.0) (subst (λ (b : Bool). PathOf m (journal past) (numbers past) b e.kind) (sym (time_makes_none (maker (journal past)) (stage_of (journal past)) (held m (journal past) l.journal).2)) tt);
+    path = subst (λ (x : Actor). PathOf m (journal past) (numbers past) (is_maker (journal past) x) e.kind) (sym h.in_journal.0) (subst (λ (b : Bool). PathOf m (journal past) (numbers past) b e.kind) (sym (time_makes_none (maker (journal past)) (stage_of (journal past)) (lock_agrees m (journal past) l.journal).2)) tt);
     answers = tt;
     restored = tt;
     steps = h.in_journal.0;
@@ -161,7 +161,7 @@ module _ (m : Machine) (past : List Entry) (e : Entry) where
   is_caller who None i = never i
   is_caller who (Some x) i = ap Some (actor_same x who i)
 
-  makes : IsLegal m past → (p : Part) → KeepsPart m past e p → Pieces m past e p
+  makes : IsLegal m past → (p : EntryClass) → KeepsPart m past e p → Pieces m past e p
   makes l OfJournal k =
       let kept : KeepsMost m (journal past) (numbers past) e.actor e.kind = record {
         links = k.links;
@@ -198,7 +198,7 @@ module _ (m : Machine) (past : List Entry) (e : Entry) where
     fits = k.source.1;
     now = k.numbers.0;
     time = k.numbers.1;
-    joint = inside_behind m past l s e.actor k.steps.0;
+    joint = inside_after m past l s e.actor k.steps.0;
   }
   makes l OfTime k = record {
     in_journal = (k.steps, subst (λ (t : ℕ). t < e.time) (sym (time_journal past)) k.enabled.1);
@@ -209,11 +209,11 @@ module _ (m : Machine) (past : List Entry) (e : Entry) where
     joint = k.enabled.0;
   }
 
--- behind legal entries one more is legal exactly where it keeps each rule
+-- after legal entries one more is legal exactly if it keeps each rule
 pub entries : OneForEntries
 entries m past e l = record {
-  keeps = λ h. keeps m past e l (part_of e.kind) (pieces m past e h);
-  legal = λ k. legal m past e l (makes m past e l (part_of e.kind) k);
+  keeps = λ h. keeps m past e l (class_of e.kind) (pieces m past e h);
+  legal = λ k. legal m past e l (makes m past e l (class_of e.kind) k);
 }
 
 -- ---- whole lists
@@ -235,7 +235,7 @@ less : (a n : ℕ) → nat_le (suc a) n ≡ true → nat_le a n ≡ true
 less a n h = grind (arith, nat_tests)
 
 shorter : (past : List Entry) (e : Entry) (s : ℕ) → is_short (e ∷ past) s ≡ true → is_short past s ≡ true
-shorter past e s h = by_source (is_of s (part_of e.kind)) h
+shorter past e s h = by_source (is_of s (class_of e.kind)) h
   where
     by_source : (b : Bool) → nat_le (length (cond b (e ∷ history s past) (history s past))) most_entries ≡ true → nat_le (length (history s past)) most_entries ≡ true
     by_source true h = less (length (history s past)) most_entries h
@@ -267,6 +267,6 @@ each_legal : (m : Machine) (past : List Entry) → KeepsEach m past → IsLegal 
 each_legal m [] k = first m
 each_legal m (e ∷ past) k = (entries m past e (each_legal m past k.1)).legal k.0
 
--- a list of entries is legal exactly where each of them keeps each rule
+-- a list of entries is legal exactly if each of them keeps each rule
 pub lists : OneForLists
 lists m past = record { keeps = keeps_each m past; legal = each_legal m past }

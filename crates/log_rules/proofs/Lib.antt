@@ -3,7 +3,7 @@ pub mod Devices
 pub mod Facts
 pub mod Inside
 pub mod Judging
-pub mod Keeping
+pub mod RulesAtRows
 pub mod Legal
 pub mod Makers
 pub mod Making

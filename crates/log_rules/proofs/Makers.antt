@@ -6,9 +6,9 @@ use Rattle.sleep_model.specs.declared.entry.Entry.{Entry}
 use Rattle.sleep_model.specs.declared.entry.Kind.{Kind}
 use Rattle.sleep_model.specs.declared.entry.Kind.TheVariants as kind
 use Rattle.sleep_model.specs.declared.machine.Machine.{Machine}
-use Rattle.sleep_model.specs.declared.place.Due.TheVariants.{Makes, Gone}
-use Rattle.sleep_model.specs.declared.place.Stage.{Stage}
-use Rattle.sleep_model.specs.declared.place.Stage.TheVariants as stage
+use Rattle.sleep_model.specs.declared.progress.Due.TheVariants.{Makes, Exited}
+use Rattle.sleep_model.specs.declared.progress.Stage.{Stage}
+use Rattle.sleep_model.specs.declared.progress.Stage.TheVariants as stage
 use Rattle.sleep_model.specs.declared.word.EventNow.{EventNow}
 use Rattle.sleep_model.specs.Attempt.{attempt_due}
 use Rattle.sleep_model.specs.Devices.{callback}
@@ -16,15 +16,15 @@ use Rattle.sleep_model.specs.Due.{own_due}
 use Rattle.sleep_model.specs.Laws.{AnswersFailure}
 use Rattle.sleep_model.specs.Legal.{JournalPart, JournalStep}
 use Rattle.sleep_model.specs.Numbers.{time_of}
-use Rattle.sleep_model.specs.Parts.{part_of}
+use Rattle.sleep_model.specs.EntryClasses.{class_of}
 use Rattle.sleep_model.specs.Path.{maker, is_actor}
 use Rattle.sleep_model.specs.Table.{stage_of}
 use Rattle.sleep_laws.proofs.Answering.{answers_failure}
 use Rattle.sleep_laws.proofs.Boards.{three}
-use Rattle.sleep_laws.proofs.DevicesStand.{all_owed, all_restored}
+use Rattle.sleep_laws.proofs.DeviceLaws.{all_owed, all_restored}
 use Rattle.sleep_laws.proofs.Making.{ProperIf}
-use Rattle.sleep_laws.proofs.Passing.{standing, standing_made}
-use Rattle.sleep_laws.proofs.Standing.{CallIf, Standing}
+use Rattle.sleep_laws.proofs.Passing.{device_phases, device_phases_made}
+use Rattle.sleep_laws.proofs.DevicePhases.{CallIf, DevicePhases}
 use Rattle.rule_definitions.specs.All.{KeepsAll, KeepsMost}
 use Rattle.rule_definitions.specs.Answers.{KeepsAnswers}
 use Rattle.rule_definitions.specs.Enabled.{AwakeActor}
@@ -35,9 +35,9 @@ use Rattle.rule_definitions.specs.Questions.{is_maker, row_at, row_now}
 use Rattle.rule_definitions.specs.Reads.{ReadsActor, ReadsElse}
 use Rattle.rule_definitions.specs.Steps.{IsMakerStep, StepsOf}
 use Rattle.log_rules.proofs.Devices.{the_devices}
-use Rattle.log_rules.proofs.Facts.{never, only_is, gone, owed_kept}
-use Rattle.log_rules.proofs.Keeping.{row_back}
-use Rattle.log_rules.proofs.Making.{PhaseAnswers, RowKept, row_made}
+use Rattle.log_rules.proofs.Facts.{never, only_is, gone, owed_preserved}
+use Rattle.log_rules.proofs.RulesAtRows.{row_back}
+use Rattle.log_rules.proofs.Making.{PhaseAnswers, RowKeepsRules, row_made}
 use Rattle.log_rules.proofs.Rows.{due_in_row, maker_due, comes, row_proper}
 use Rattle.log_rules.proofs.Scripts.{scripts}
 use Rattle.log_rules.proofs.Work.{the_work}
@@ -81,7 +81,7 @@ row_journal m past now s _ o = tt
 abbrev placed : List Entry → EventNow → Actor → Kind → Entry
 placed past now who k = record { time = time_of past; now = now; actor = who; kind = k }
 
-is_step : (m : Machine) (past : List Entry) (now : EventNow) (who : Actor) (k : Kind) → IsJournal k → IsDue m past now who k → JournalStep m past (placed past now who k) (part_of k)
+is_step : (m : Machine) (past : List Entry) (now : EventNow) (who : Actor) (k : Kind) → IsJournal k → IsDue m past now who k → JournalStep m past (placed past now who k) (class_of k)
 is_step m past now who (kind.Awake s) h e = absurd h
 is_step m past now who (kind.Relax s) h e = absurd h
 is_step m past now who (kind.Event s ms hard) h e = absurd h
@@ -142,13 +142,13 @@ pub call_row : (m : Machine) (past : List Entry) → JournalPart m past → Call
 call_row m past j = by_stage (stage_of past) refl
   where
     by_stage : (o : Option Stage) → stage_of past ≡ o → CallIf m (row_at m past o) (callback past) (three m past)
-    by_stage None e = (subst (Standing m past) e (standing m past j)).1
-    by_stage (Some here) e = (standing_made m past j here _ e (comes m past here)).1
+    by_stage None e = (subst (DevicePhases m past) e (device_phases m past j)).1
+    by_stage (Some here) e = (device_phases_made m past j here _ e (comes m past here)).1
 
 forth : (m : Machine) (past : List Entry) (now : EventNow) (who : Actor) (k : Kind) → is_maker past who ≡ true → JournalPart m past → IsDue m past now who k → KeepsAll m past now who k
 forth m past now who k e j x = by_row (row_now m past) refl (row_proper m past) (call_row m past j) (sym (maker_due m past now) ∙ subst (λ (b : Bool). cond b (attempt_due m past now) (own_due m past who now) ≡ Makes k) e x)
   where
-    filled : (s : Stage) → row_now m past ≡ Some s → RowKept m past now s k → KeepsAll m past now who k
+    filled : (s : Stage) → row_now m past ≡ Some s → RowKeepsRules m past now s k → KeepsAll m past now who k
     filled s f r =
         let legal : JournalPart m (placed past now who k ∷ past) = (is_step m past now who k (row_journal m past now s k r.of_row) x, j) in
         record {
@@ -165,13 +165,13 @@ forth m past now who k e j x = by_row (row_now m past) refl (row_proper m past) 
             steps = subst (λ (b : Bool). StepsOf m past now who b k) (sym e) (walk_step m past now who k r.beside);
             enabled = (subst (λ (b : Bool). AwakeActor m past who b) (sym e) (no_sleep m past who), r.wakes);
           };
-          owed = owed_kept m past k (all_owed m past (placed past now who k) legal);
+          owed = owed_preserved m past k (all_owed m past (placed past now who k) legal);
           restored = all_restored m past (placed past now who k) legal;
         }
 
     by_row : (o : Option Stage) → row_now m past ≡ o → ProperIf o → CallIf m o (callback past) (three m past) → due_in_row m past now o ≡ Makes k → KeepsAll m past now who k
     by_row None f i c d = absurd (gone k d)
-    by_row (Some s) f i c d = filled s f (only_is (RowKept m past now s) _ k (row_made m past now s i f (maker_there who (maker past) e) c) d)
+    by_row (Some s) f i c d = filled s f (only_is (RowKeepsRules m past now s) _ k (row_made m past now s i f (maker_there who (maker past) e) c) d)
 
 -- who makes the open attempt
 pub the_makers : OneForMakers
@@ -180,7 +180,7 @@ the_makers m past now who k e = record { keeps = forth m past now who k e; makes
 -- ---- all
 
 -- timers and time make nothing of the journal of their own
-none_makes : (m : Machine) (past : List Entry) (now : EventNow) (who : Actor) (k : Kind) → is_maker past who ≡ false → own_due m past who now ≡ Gone → (KeepsMost m past now who k → ⊥) → AreOne m past now who k
+none_makes : (m : Machine) (past : List Entry) (now : EventNow) (who : Actor) (k : Kind) → is_maker past who ≡ false → own_due m past who now ≡ Exited → (KeepsMost m past now who k → ⊥) → AreOne m past now who k
 none_makes m past now who k e g n = record {
   keeps = λ j d. absurd (gone k (sym g ∙ subst (λ (b : Bool). cond b (attempt_due m past now) (own_due m past who now) ≡ Makes k) e d));
   makes = λ h. absurd (n h);

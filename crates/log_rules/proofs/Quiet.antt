@@ -14,24 +14,24 @@ use Rattle.sleep_model.specs.declared.machine.Op.{Op}
 use Rattle.sleep_model.specs.declared.machine.Script.{Script}
 use Rattle.sleep_model.specs.declared.machine.TaskKind.{TaskKind}
 use Rattle.sleep_model.specs.declared.machine.TaskKind.TheVariants.{Kthread}
-use Rattle.sleep_model.specs.declared.place.Callback.{Callback}
-use Rattle.sleep_model.specs.declared.place.Freezing.{Freezing}
-use Rattle.sleep_model.specs.declared.place.Seat.{Seat}
-use Rattle.sleep_model.specs.declared.place.Stage.{Stage}
-use Rattle.sleep_model.specs.declared.place.Work.{Work}
+use Rattle.sleep_model.specs.declared.progress.Callback.{Callback}
+use Rattle.sleep_model.specs.declared.progress.Freezing.{Freezing}
+use Rattle.sleep_model.specs.declared.progress.ScriptPosition.{ScriptPosition}
+use Rattle.sleep_model.specs.declared.progress.Stage.{Stage}
+use Rattle.sleep_model.specs.declared.progress.Work.{Work}
 use Rattle.sleep_model.specs.declared.word.EventNow.{EventNow}
 use Rattle.sleep_model.specs.declared.word.WordKind.{WordKind}
 use Rattle.sleep_model.specs.Calls.{calls_of, calls_due, ends_turn, is_note_of, made, notes_of, report_calls}
 use Rattle.sleep_model.specs.Attempt.{failed}
 use Rattle.sleep_model.specs.Devices.{callback, callback_after, is_device}
 use Rattle.sleep_model.specs.Freezer.{all_asked, all_let_go, freezing, freezing_at, freezings, freezings_after, is_in, is_task, let_go, unasked}
-use Rattle.sleep_model.specs.Legal.{IsOwnCall, JournalPart, JournalStep, JointStep, is_behind}
-use Rattle.sleep_model.specs.Parts.{Part, OfJournal, Notes, Moves, OfTime, part_of, is_kept, journal}
+use Rattle.sleep_model.specs.Legal.{IsOwnCall, JournalPart, JournalStep, JointStep, last_is_of}
+use Rattle.sleep_model.specs.EntryClasses.{EntryClass, OfJournal, Notes, Moves, OfTime, class_of, is_in_journal, journal}
 use Rattle.sleep_model.specs.Path.{attempts, maker, maker_after, is_actor, is_same}
 use Rattle.sleep_model.specs.Sources.{history, is_of}
 use Rattle.sleep_model.specs.Table.{stage_of}
-use Rattle.sleep_laws.proofs.DevicesStand.{all_restored}
-use Rattle.sleep_laws.proofs.Holding.{held, StageMaker}
+use Rattle.sleep_laws.proofs.DeviceLaws.{all_restored}
+use Rattle.sleep_laws.proofs.LockHolding.{lock_agrees, StageMaker}
 use Rattle.sleep_laws.proofs.Made.{Made, StepMade, TaskMade, WorkMade, DeviceMade, EntryMade, ByMaker, ByTask, ByWork, ByDevice, ByTime}
 use Rattle.sleep_laws.proofs.MakingOwn.{entry_made}
 use Rattle.sleep_laws.proofs.Telling.{none≢some, some≢none}
@@ -55,43 +55,43 @@ past_none (x ∷ xs) = past_none xs
 pub past_end : {A : Type 0} (xs : List A) (n : ℕ) (x : A) → n ≡ length xs → slice_get xs n ≡ Some x → ⊥
 past_end xs n x e f = none≢some x (sym (past_none xs) ∙ subst (λ (k : ℕ). slice_get xs k ≡ Some x) e f)
 
-notes_other : (e : Entry) (past : List Entry) (who : Actor) (s : ℕ) → is_note_of who e (part_of e.kind) ≡ false → notes_of who (history s (e ∷ past)) ≡ notes_of who (history s past)
-notes_other e past who s h = by_source (is_of s (part_of e.kind))
+notes_other : (e : Entry) (past : List Entry) (who : Actor) (s : ℕ) → is_note_of who e (class_of e.kind) ≡ false → notes_of who (history s (e ∷ past)) ≡ notes_of who (history s past)
+notes_other e past who s h = by_source (is_of s (class_of e.kind))
   where
     by_source : (b : Bool) → notes_of who (cond b (e ∷ history s past) (history s past)) ≡ notes_of who (history s past)
     by_source true = rw h refl
     by_source false = refl
 
-made_other : (n : ℕ) (e : Entry) (past : List Entry) (who : Actor) → is_note_of who e (part_of e.kind) ≡ false → made n (λ s. history s (e ∷ past)) who ≡ made n (λ s. history s past) who
+made_other : (n : ℕ) (e : Entry) (past : List Entry) (who : Actor) → is_note_of who e (class_of e.kind) ≡ false → made n (λ s. history s (e ∷ past)) who ≡ made n (λ s. history s past) who
 made_other zero e past who h = refl
 made_other (suc n) e past who h = rw (notes_other e past who n h, made_other n e past who h) refl
 
-no_note : (e : Entry) (who : Actor) (p : Part) → is_same e.actor who ≡ false → is_note_of who e p ≡ false
+no_note : (e : Entry) (who : Actor) (p : EntryClass) → is_same e.actor who ≡ false → is_note_of who e p ≡ false
 no_note e who (Notes s c) h = h
 no_note e who (Moves s x) h = refl
 no_note e who OfJournal h = refl
 no_note e who OfTime h = refl
 
-no_note_kept : (e : Entry) (who : Actor) (p : Part) → is_kept p ≡ true → is_note_of who e p ≡ false
-no_note_kept e who OfJournal h = refl
-no_note_kept e who OfTime h = refl
-no_note_kept e who (Notes s c) h = never h
-no_note_kept e who (Moves s x) h = never h
+no_note_preserved : (e : Entry) (who : Actor) (p : EntryClass) → is_in_journal p ≡ true → is_note_of who e p ≡ false
+no_note_preserved e who OfJournal h = refl
+no_note_preserved e who OfTime h = refl
+no_note_preserved e who (Notes s c) h = never h
+no_note_preserved e who (Moves s x) h = never h
 
-no_note_moves : (e : Entry) (who : Actor) (p : Part) (s : ℕ) (x : WordKind) → p ≡ Moves s x → is_note_of who e p ≡ false
-no_note_moves e who p s x q = subst (λ (y : Part). is_note_of who e y ≡ false) (sym q) refl
+no_note_moves : (e : Entry) (who : Actor) (p : EntryClass) (s : ℕ) (x : WordKind) → p ≡ Moves s x → is_note_of who e p ≡ false
+no_note_moves e who p s x q = subst (λ (y : EntryClass). is_note_of who e y ≡ false) (sym q) refl
 
 -- another's entry leaves an actor's calls as they were
 calls_other : (m : Machine) (e : Entry) (past : List Entry) (who : Actor) → is_same e.actor who ≡ false → calls_due m who (e ∷ past) ≡ calls_due m who past
 calls_other m e past who h = rw h refl
 
-nil_behind : {A : Type 0} (xs : List A) → xs ++ [] ++ [] ≡ xs
-nil_behind [] = refl
-nil_behind (x ∷ xs) = ap (λ ys. x ∷ ys) (nil_behind xs)
+nil_after : {A : Type 0} (xs : List A) → xs ++ [] ++ [] ≡ xs
+nil_after [] = refl
+nil_after (x ∷ xs) = ap (λ ys. x ∷ ys) (nil_after xs)
 
 -- an entry that begins no callback and ends no turn brings no calls
 calls_quiet : (m : Machine) (e : Entry) (past : List Entry) (who : Actor) → is_same e.actor who ≡ true → report_calls m (attempts past) e.kind ≡ [] → ends_turn e.kind ≡ false → calls_due m who (e ∷ past) ≡ calls_due m who past
-calls_quiet m e past who h r t = rw h (rw r (rw t (ap length (nil_behind (calls_of m who past)))))
+calls_quiet m e past who h r t = rw h (rw r (rw t (ap length (nil_after (calls_of m who past)))))
 
 -- ---- what entries do to the maker and its callback
 
@@ -121,18 +121,18 @@ abbrev IsAttempt : Kind → Type 0
 IsAttempt (kind.Attempt n guarded) = Unit {0}
 IsAttempt _ = ⊥
 
-abbrev IsCalm : Kind → Type 0
-IsCalm k = ((a : Actor) (o : Option Actor) → maker_after k a o ≡ o) × ((b : Bool) (o : Option Callback) → callback_after k b o ≡ o)
+abbrev IsQuiescent : Kind → Type 0
+IsQuiescent k = ((a : Actor) (o : Option Actor) → maker_after k a o ≡ o) × ((b : Bool) (o : Option Callback) → callback_after k b o ≡ o)
 
-step_effect : (m : Machine) (past : List Entry) (now : EventNow) (seat : Seat) (asked : Bool) (o : Option Op) (k : Kind) → StepMade m past now seat asked o k → IsCalm k ⊎ IsAttempt k
-step_effect m past now seat asked _ _ (StepMade.Attempts text if_saved f o) = inr tt
-step_effect m past now seat asked _ _ _ = inl (λ a o. refl, λ b o. refl)
+step_effect : (m : Machine) (past : List Entry) (now : EventNow) (position : ScriptPosition) (asked : Bool) (o : Option Op) (k : Kind) → StepMade m past now position asked o k → IsQuiescent k ⊎ IsAttempt k
+step_effect m past now position asked _ _ (StepMade.Attempts text if_saved f o) = inr tt
+step_effect m past now position asked _ _ _ = inl (λ a o. refl, λ b o. refl)
 
-task_effect : (m : Machine) (past : List Entry) (now : EventNow) (i : ℕ) (k : Kind) → TaskMade m past now i k → IsCalm k ⊎ IsAttempt k
+task_effect : (m : Machine) (past : List Entry) (now : EventNow) (i : ℕ) (k : Kind) → TaskMade m past now i k → IsQuiescent k ⊎ IsAttempt k
 task_effect m past now i _ (TaskMade.Freezes s go f) = inl (λ a o. refl, λ b o. refl)
 task_effect m past now i _ (TaskMade.Steps s k o go e x) = step_effect m past now _ _ o k x
 
-work_effect : (m : Machine) (past : List Entry) (now : EventNow) (w : Work) (k : Kind) → WorkMade m past now w k → IsCalm k ⊎ IsAttempt k
+work_effect : (m : Machine) (past : List Entry) (now : EventNow) (w : Work) (k : Kind) → WorkMade m past now w k → IsQuiescent k ⊎ IsAttempt k
 work_effect m past now _ _ (WorkMade.Attempts c o) = inr tt
 work_effect m past now _ _ _ = inl (λ a o. refl, λ b o. refl)
 
@@ -142,7 +142,7 @@ Lasts m past a k who =
     (is_same a who ≡ false → (is_actor who (maker past) ≡ true) × (callback past ≡ None))
     × (is_same a who ≡ true → (report_calls m (attempts past) k ≡ []) × (ends_turn k ≡ false))
 
-effect_lasts : (m : Machine) (past : List Entry) (a : Actor) (k : Kind) (who : Actor) → is_actor a (maker past) ≡ false → IsCalm k ⊎ IsAttempt k → is_actor who (maker_after k a (maker past)) ≡ true → callback_after k (is_device a) (callback past) ≡ None → Lasts m past a k who
+effect_lasts : (m : Machine) (past : List Entry) (a : Actor) (k : Kind) (who : Actor) → is_actor a (maker past) ≡ false → IsQuiescent k ⊎ IsAttempt k → is_actor who (maker_after k a (maker past)) ≡ true → callback_after k (is_device a) (callback past) ≡ None → Lasts m past a k who
 effect_lasts m past a k who f (inl h) x c =
     let there : is_actor who (maker past) ≡ true = subst (λ (o : Option Actor). is_actor who o ≡ true) (h.0 a (maker past)) x in
     (λ s. (there, sym (h.1 (is_device a) (callback past)) ∙ c), λ s. never (sym f ∙ subst (λ (y : Actor). is_actor y (maker past) ≡ true) (sym (actor_same a who s)) there))
@@ -179,35 +179,35 @@ no_next m past of actor.Time k y h e c = past_end (calls_of m actor.Time past) _
 
 pub maker_even : (m : Machine) (past : List Entry) → Grown m past → (who : Actor) → is_actor who (maker (journal past)) ≡ true → callback (journal past) ≡ None → Even m past who
 maker_even m [] g who x c = never x
-maker_even m (e ∷ past) g who x c = by_part (part_of e.kind) refl (maker_even m past (earlier m past e g) who) g.in_journal g.joint.0 x c
+maker_even m (e ∷ past) g who x c = by_part (class_of e.kind) refl (maker_even m past (earlier m past e g) who) g.in_journal g.joint.0 x c
   where
     held_here : StageMaker (maker (journal past)) (stage_of (journal past))
-    held_here = (held m (journal past) (earlier m past e g).in_journal).2
+    held_here = (lock_agrees m (journal past) (earlier m past e g).in_journal).2
 
-    kept : (p : Part) → part_of e.kind ≡ p → is_kept p ≡ true → JointStep m past e p → JournalPart m (e ∷ journal past) → (is_actor who (maker (journal past)) ≡ true → callback (journal past) ≡ None → Even m past who) → is_actor who (maker (e ∷ journal past)) ≡ true → callback (e ∷ journal past) ≡ None → made (length m.sources + 1) (λ s. history s (e ∷ past)) who ≡ calls_due m who (e ∷ journal past)
+    kept : (p : EntryClass) → class_of e.kind ≡ p → is_in_journal p ≡ true → JointStep m past e p → JournalPart m (e ∷ journal past) → (is_actor who (maker (journal past)) ≡ true → callback (journal past) ≡ None → Even m past who) → is_actor who (maker (e ∷ journal past)) ≡ true → callback (e ∷ journal past) ≡ None → made (length m.sources + 1) (λ s. history s (e ∷ past)) who ≡ calls_due m who (e ∷ journal past)
     kept p q k t j i x c =
         let last : Lasts m (journal past) e.actor e.kind who = entry_lasts m (journal past) e.now e.actor e.kind who (entry_made m (journal past) e j) held_here x c in
-        made_other (length m.sources + 1) e past who (no_note_kept e who (part_of e.kind) (ap is_kept q ∙ k)) ∙ by_actor (is_same e.actor who) refl p q t k last
+        made_other (length m.sources + 1) e past who (no_note_preserved e who (class_of e.kind) (ap is_in_journal q ∙ k)) ∙ by_actor (is_same e.actor who) refl p q t k last
       where
-        by_actor : (b : Bool) → is_same e.actor who ≡ b → (p : Part) → part_of e.kind ≡ p → JointStep m past e p → is_kept p ≡ true → Lasts m (journal past) e.actor e.kind who → made (length m.sources + 1) (λ s. history s past) who ≡ calls_due m who (e ∷ journal past)
+        by_actor : (b : Bool) → is_same e.actor who ≡ b → (p : EntryClass) → class_of e.kind ≡ p → JointStep m past e p → is_in_journal p ≡ true → Lasts m (journal past) e.actor e.kind who → made (length m.sources + 1) (λ s. history s past) who ≡ calls_due m who (e ∷ journal past)
         by_actor false s p q t k l = i (l.0 s).0 (l.0 s).1 ∙ sym (calls_other m e (journal past) who s)
         by_actor true s OfJournal q t k l = subst (λ (y : Actor). made (length m.sources + 1) (λ s. history s past) y ≡ calls_due m y (journal past)) (actor_same e.actor who s) t.0 ∙ sym (calls_quiet m e (journal past) who s (l.1 s).0 (l.1 s).1)
         by_actor true s OfTime q t k l =
             let time : e.actor ≡ actor.Time = (subst (JournalStep m (journal past) e) q j.0).0 in
             let own : who ≡ actor.Time = sym (actor_same e.actor who s) ∙ time in
-            never (sym (time_makes_none (maker (e ∷ journal past)) (stage_of (e ∷ journal past)) (held m (e ∷ journal past) j).2) ∙ subst (λ (y : Actor). is_actor y (maker (e ∷ journal past)) ≡ true) own x)
+            never (sym (time_makes_none (maker (e ∷ journal past)) (stage_of (e ∷ journal past)) (lock_agrees m (e ∷ journal past) j).2) ∙ subst (λ (y : Actor). is_actor y (maker (e ∷ journal past)) ≡ true) own x)
         by_actor true s (Notes u v) q t k l = never k
         by_actor true s (Moves u v) q t k l = never k
 
     noted : (b : Bool) → is_same e.actor who ≡ b → Even m past who → IsOwnCall m (journal past) (λ t. history t past) e.actor e.kind → is_actor who (maker (journal past)) ≡ true → made (length m.sources + 1) (λ s. history s (e ∷ past)) who ≡ calls_due m who (journal past)
-    noted false s i c x = made_other (length m.sources + 1) e past who (no_note e who (part_of e.kind) s) ∙ i
+    noted false s i c x = made_other (length m.sources + 1) e past who (no_note e who (class_of e.kind) s) ∙ i
     noted true s i c x = absurd (no_next m (journal past) (λ t. history t past) who e.kind x held_here i (subst (λ (y : Actor). IsOwnCall m (journal past) (λ t. history t past) y e.kind) (actor_same e.actor who s) c))
 
-    by_part : (p : Part) → part_of e.kind ≡ p → (is_actor who (maker (journal past)) ≡ true → callback (journal past) ≡ None → Even m past who) → JournalPart m (cond (is_kept p) (e ∷ journal past) (journal past)) → JointStep m past e p → is_actor who (maker (cond (is_kept p) (e ∷ journal past) (journal past))) ≡ true → callback (cond (is_kept p) (e ∷ journal past) (journal past)) ≡ None → made (length m.sources + 1) (λ s. history s (e ∷ past)) who ≡ calls_due m who (cond (is_kept p) (e ∷ journal past) (journal past))
+    by_part : (p : EntryClass) → class_of e.kind ≡ p → (is_actor who (maker (journal past)) ≡ true → callback (journal past) ≡ None → Even m past who) → JournalPart m (cond (is_in_journal p) (e ∷ journal past) (journal past)) → JointStep m past e p → is_actor who (maker (cond (is_in_journal p) (e ∷ journal past) (journal past))) ≡ true → callback (cond (is_in_journal p) (e ∷ journal past) (journal past)) ≡ None → made (length m.sources + 1) (λ s. history s (e ∷ past)) who ≡ calls_due m who (cond (is_in_journal p) (e ∷ journal past) (journal past))
     by_part OfJournal q i j t x c = kept OfJournal q refl t j i x c
     by_part OfTime q i j t x c = kept OfTime q refl t j i x c
     by_part (Notes s v) q i j t x c = noted (is_same e.actor who) refl (i x c) t.0 x
-    by_part (Moves s y) q i j t x c = made_other (length m.sources + 1) e past who (no_note_moves e who (part_of e.kind) s y q) ∙ i x c
+    by_part (Moves s y) q i j t x c = made_other (length m.sources + 1) e past who (no_note_moves e who (class_of e.kind) s y q) ∙ i x c
 
 -- ---- a frozen task
 
@@ -255,7 +255,7 @@ other_frozen ss a _ fs i s h = h
 
 -- all its calls are made, and its last entry is no source's
 abbrev Rests : Machine → List Entry → Actor → Type 0
-Rests m past who = Even m past who × ((s : ℕ) → is_behind s who past ≡ false)
+Rests m past who = Even m past who × ((s : ℕ) → last_is_of s who past ≡ false)
 
 abbrev IsTask : Actor → Type 0
 IsTask (actor.Script i) = Unit {0}
@@ -265,9 +265,9 @@ IsTask _ = ⊥
 abbrev SaysFrozen : Machine → List Entry → ℕ → Kind → Type 0
 SaysFrozen m past i k = (freezing_at (freezings_after m.actors (actor.Script i) k (freezings m.actors past)) i).frozen ≡ true → k ≡ kind.Frozen
 
-step_thawed : (m : Machine) (past : List Entry) (now : EventNow) (i : ℕ) (seat : Seat) (asked : Bool) (o : Option Op) (k : Kind) → StepMade m past now seat asked o k → (freezing m i past).frozen ≡ false → SaysFrozen m past i k
-step_thawed m past now i seat asked _ _ StepMade.Exits f h = never (sym f ∙ h)
-step_thawed m past now i seat asked _ _ _ f h = never (sym f ∙ h)
+step_thawed : (m : Machine) (past : List Entry) (now : EventNow) (i : ℕ) (position : ScriptPosition) (asked : Bool) (o : Option Op) (k : Kind) → StepMade m past now position asked o k → (freezing m i past).frozen ≡ false → SaysFrozen m past i k
+step_thawed m past now i position asked _ _ StepMade.Exits f h = never (sym f ∙ h)
+step_thawed m past now i position asked _ _ _ f h = never (sym f ∙ h)
 
 task_thawed : (m : Machine) (past : List Entry) (now : EventNow) (i : ℕ) (k : Kind) → TaskMade m past now i k → SaysFrozen m past i k
 task_thawed m past now i _ (TaskMade.Freezes s go f) h = refl
@@ -297,7 +297,7 @@ own_frozen m past time now _ k i (ByWork w _ y sl o e t) s j x h = absurd (subst
 own_frozen m past time now _ k i (ByDevice d _ y t) s j x h = absurd (subst IsTask (sym s) tt)
 own_frozen m past time now _ _ i ByTime s j x h = absurd (subst IsTask (sym s) tt)
 
-by_effect : (m : Machine) (past : List Entry) (a : Actor) (k : Kind) (who : Actor) → KeepsAttempts past k → IsCalm k ⊎ IsAttempt k → is_actor who (maker_after k a (maker past)) ≡ false → is_actor who (maker past) ≡ false
+by_effect : (m : Machine) (past : List Entry) (a : Actor) (k : Kind) (who : Actor) → KeepsAttempts past k → IsQuiescent k ⊎ IsAttempt k → is_actor who (maker_after k a (maker past)) ≡ false → is_actor who (maker past) ≡ false
 by_effect m past a k who n (inl h) x = subst (λ (o : Option Actor). is_actor who o ≡ false) (h.0 a (maker past)) x
 by_effect m past a (kind.Attempt i guarded) who n (inr h) x = rw n.2 refl
 by_effect m past a _ who n (inr h) x = absurd h
@@ -318,7 +318,7 @@ other_maker m past time now _ k who (ByWork w _ y sl o e t) h n s x = by_effect 
 other_maker m past time now _ k who (ByDevice d _ y t) h n s x = by_device m past now d k who t x
 other_maker m past time now _ _ who ByTime h n s x = x
 
-time_attempts : (past : List Entry) (k : Kind) → part_of k ≡ OfTime → KeepsAttempts past k
+time_attempts : (past : List Entry) (k : Kind) → class_of k ≡ OfTime → KeepsAttempts past k
 time_attempts past (kind.Attempt n guarded) h = absurd (journal_no_time h)
 time_attempts past (kind.Over n r) h = absurd (journal_no_time h)
 time_attempts past _ h = tt
@@ -326,20 +326,20 @@ time_attempts past _ h = tt
 -- a frozen task that makes no attempt has no call left, and is inside none
 pub frozen_rests : (m : Machine) (past : List Entry) → Grown m past → (i : ℕ) → is_actor (actor.Script i) (maker (journal past)) ≡ false → (freezing m i (journal past)).frozen ≡ true → Rests m past (actor.Script i)
 frozen_rests m [] g i x f = never (sym (none_frozen m.actors i) ∙ f)
-frozen_rests m (e ∷ past) g i x f = by_part (part_of e.kind) refl (frozen_rests m past (earlier m past e g) i) g.in_journal g.joint.0 x f
+frozen_rests m (e ∷ past) g i x f = by_part (class_of e.kind) refl (frozen_rests m past (earlier m past e g) i) g.in_journal g.joint.0 x f
   where
     -- what another's entry leaves
-    beside : is_same e.actor (actor.Script i) ≡ false → Rests m past (actor.Script i) → (made (length m.sources + 1) (λ s. history s (e ∷ past)) (actor.Script i) ≡ calls_due m (actor.Script i) (journal past)) × ((s : ℕ) → is_behind s (actor.Script i) (e ∷ past) ≡ false)
-    beside s r = (made_other (length m.sources + 1) e past (actor.Script i) (no_note e (actor.Script i) (part_of e.kind) s) ∙ r.0, λ t. rw s (r.1 t))
+    beside : is_same e.actor (actor.Script i) ≡ false → Rests m past (actor.Script i) → (made (length m.sources + 1) (λ s. history s (e ∷ past)) (actor.Script i) ≡ calls_due m (actor.Script i) (journal past)) × ((s : ℕ) → last_is_of s (actor.Script i) (e ∷ past) ≡ false)
+    beside s r = (made_other (length m.sources + 1) e past (actor.Script i) (no_note e (actor.Script i) (class_of e.kind) s) ∙ r.0, λ t. rw s (r.1 t))
 
-    kept : (p : Part) → part_of e.kind ≡ p → is_kept p ≡ true → KeepsAttempts (journal past) e.kind → JointStep m past e p → JournalPart m (e ∷ journal past) → (is_actor (actor.Script i) (maker (journal past)) ≡ false → (freezing m i (journal past)).frozen ≡ true → Rests m past (actor.Script i)) → is_actor (actor.Script i) (maker (e ∷ journal past)) ≡ false → (freezing m i (e ∷ journal past)).frozen ≡ true → (made (length m.sources + 1) (λ s. history s (e ∷ past)) (actor.Script i) ≡ calls_due m (actor.Script i) (e ∷ journal past)) × ((s : ℕ) → is_behind s (actor.Script i) (e ∷ past) ≡ false)
+    kept : (p : EntryClass) → class_of e.kind ≡ p → is_in_journal p ≡ true → KeepsAttempts (journal past) e.kind → JointStep m past e p → JournalPart m (e ∷ journal past) → (is_actor (actor.Script i) (maker (journal past)) ≡ false → (freezing m i (journal past)).frozen ≡ true → Rests m past (actor.Script i)) → is_actor (actor.Script i) (maker (e ∷ journal past)) ≡ false → (freezing m i (e ∷ journal past)).frozen ≡ true → (made (length m.sources + 1) (λ s. history s (e ∷ past)) (actor.Script i) ≡ calls_due m (actor.Script i) (e ∷ journal past)) × ((s : ℕ) → last_is_of s (actor.Script i) (e ∷ past) ≡ false)
     kept p q k n t j r x f = by_actor (is_same e.actor (actor.Script i)) refl p q k t
       where
-        by_actor : (b : Bool) → is_same e.actor (actor.Script i) ≡ b → (p : Part) → part_of e.kind ≡ p → is_kept p ≡ true → JointStep m past e p → (made (length m.sources + 1) (λ s. history s (e ∷ past)) (actor.Script i) ≡ calls_due m (actor.Script i) (e ∷ journal past)) × ((s : ℕ) → is_behind s (actor.Script i) (e ∷ past) ≡ false)
+        by_actor : (b : Bool) → is_same e.actor (actor.Script i) ≡ b → (p : EntryClass) → class_of e.kind ≡ p → is_in_journal p ≡ true → JointStep m past e p → (made (length m.sources + 1) (λ s. history s (e ∷ past)) (actor.Script i) ≡ calls_due m (actor.Script i) (e ∷ journal past)) × ((s : ℕ) → last_is_of s (actor.Script i) (e ∷ past) ≡ false)
         by_actor false s p q k t =
             let made_by : EntryMade m (journal past) e.now e.actor e.kind = entry_made m (journal past) e j in
-            let role : is_actor (actor.Script i) (maker (journal past)) ≡ false = other_maker m (journal past) e.time e.now e.actor e.kind (actor.Script i) made_by (held m (journal past) j.1).2 n s x in
-            let b : (made (length m.sources + 1) (λ s. history s (e ∷ past)) (actor.Script i) ≡ calls_due m (actor.Script i) (journal past)) × ((s : ℕ) → is_behind s (actor.Script i) (e ∷ past) ≡ false) = beside s (r role (other_frozen m.actors e.actor e.kind (freezings m.actors (journal past)) i s f)) in
+            let role : is_actor (actor.Script i) (maker (journal past)) ≡ false = other_maker m (journal past) e.time e.now e.actor e.kind (actor.Script i) made_by (lock_agrees m (journal past) j.1).2 n s x in
+            let b : (made (length m.sources + 1) (λ s. history s (e ∷ past)) (actor.Script i) ≡ calls_due m (actor.Script i) (journal past)) × ((s : ℕ) → last_is_of s (actor.Script i) (e ∷ past) ≡ false) = beside s (r role (other_frozen m.actors e.actor e.kind (freezings m.actors (journal past)) i s f)) in
             (b.0 ∙ sym (calls_other m e (journal past) (actor.Script i) s), b.1)
         by_actor true s OfJournal q k t =
             let own : e.actor ≡ actor.Script i = actor_same e.actor (actor.Script i) s in
@@ -347,22 +347,22 @@ frozen_rests m (e ∷ past) g i x f = by_part (part_of e.kind) refl (frozen_rest
             let even : Even m past (actor.Script i) = subst (λ (y : Actor). made (length m.sources + 1) (λ s. history s past) y ≡ calls_due m y (journal past)) own t.0 in
             let reports : report_calls m (attempts (journal past)) e.kind ≡ [] = subst (λ (y : Kind). report_calls m (attempts (journal past)) y ≡ []) (sym says) refl in
             let turns : ends_turn e.kind ≡ false = subst (λ (y : Kind). ends_turn y ≡ false) (sym says) refl in (
-              made_other (length m.sources + 1) e past (actor.Script i) (no_note_kept e (actor.Script i) (part_of e.kind) (ap is_kept q)) ∙ even ∙ sym (calls_quiet m e (journal past) (actor.Script i) s reports turns),
+              made_other (length m.sources + 1) e past (actor.Script i) (no_note_preserved e (actor.Script i) (class_of e.kind) (ap is_in_journal q)) ∙ even ∙ sym (calls_quiet m e (journal past) (actor.Script i) s reports turns),
               λ z. rw s (ap (is_of z) q),
             )
         by_actor true s OfTime q k t = absurd (subst IsTask (sym (actor_same e.actor (actor.Script i) s) ∙ (subst (JournalStep m (journal past) e) q j.0).0) tt)
         by_actor true s (Notes u v) q k t = never k
         by_actor true s (Moves u v) q k t = never k
 
-    noted : (b : Bool) → is_same e.actor (actor.Script i) ≡ b → Rests m past (actor.Script i) → IsOwnCall m (journal past) (λ t. history t past) e.actor e.kind → (made (length m.sources + 1) (λ s. history s (e ∷ past)) (actor.Script i) ≡ calls_due m (actor.Script i) (journal past)) × ((s : ℕ) → is_behind s (actor.Script i) (e ∷ past) ≡ false)
+    noted : (b : Bool) → is_same e.actor (actor.Script i) ≡ b → Rests m past (actor.Script i) → IsOwnCall m (journal past) (λ t. history t past) e.actor e.kind → (made (length m.sources + 1) (λ s. history s (e ∷ past)) (actor.Script i) ≡ calls_due m (actor.Script i) (journal past)) × ((s : ℕ) → last_is_of s (actor.Script i) (e ∷ past) ≡ false)
     noted false s r c = beside s r
     noted true s r c = absurd (past_end (calls_of m (actor.Script i) (journal past)) _ e.kind r.0 (subst (λ (y : Actor). IsOwnCall m (journal past) (λ t. history t past) y e.kind) (actor_same e.actor (actor.Script i) s) c))
 
-    stepped : (b : Bool) → is_same e.actor (actor.Script i) ≡ b → Rests m past (actor.Script i) → (u : ℕ) → is_behind u e.actor past ≡ true → (made (length m.sources + 1) (λ s. history s (e ∷ past)) (actor.Script i) ≡ calls_due m (actor.Script i) (journal past)) × ((s : ℕ) → is_behind s (actor.Script i) (e ∷ past) ≡ false)
+    stepped : (b : Bool) → is_same e.actor (actor.Script i) ≡ b → Rests m past (actor.Script i) → (u : ℕ) → last_is_of u e.actor past ≡ true → (made (length m.sources + 1) (λ s. history s (e ∷ past)) (actor.Script i) ≡ calls_due m (actor.Script i) (journal past)) × ((s : ℕ) → last_is_of s (actor.Script i) (e ∷ past) ≡ false)
     stepped false s r u c = beside s r
-    stepped true s r u c = never (sym (r.1 u) ∙ subst (λ (y : Actor). is_behind u y past ≡ true) (actor_same e.actor (actor.Script i) s) c)
+    stepped true s r u c = never (sym (r.1 u) ∙ subst (λ (y : Actor). last_is_of u y past ≡ true) (actor_same e.actor (actor.Script i) s) c)
 
-    by_part : (p : Part) → part_of e.kind ≡ p → (is_actor (actor.Script i) (maker (journal past)) ≡ false → (freezing m i (journal past)).frozen ≡ true → Rests m past (actor.Script i)) → JournalPart m (cond (is_kept p) (e ∷ journal past) (journal past)) → JointStep m past e p → is_actor (actor.Script i) (maker (cond (is_kept p) (e ∷ journal past) (journal past))) ≡ false → (freezing m i (cond (is_kept p) (e ∷ journal past) (journal past))).frozen ≡ true → (made (length m.sources + 1) (λ s. history s (e ∷ past)) (actor.Script i) ≡ calls_due m (actor.Script i) (cond (is_kept p) (e ∷ journal past) (journal past))) × ((s : ℕ) → is_behind s (actor.Script i) (e ∷ past) ≡ false)
+    by_part : (p : EntryClass) → class_of e.kind ≡ p → (is_actor (actor.Script i) (maker (journal past)) ≡ false → (freezing m i (journal past)).frozen ≡ true → Rests m past (actor.Script i)) → JournalPart m (cond (is_in_journal p) (e ∷ journal past) (journal past)) → JointStep m past e p → is_actor (actor.Script i) (maker (cond (is_in_journal p) (e ∷ journal past) (journal past))) ≡ false → (freezing m i (cond (is_in_journal p) (e ∷ journal past) (journal past))).frozen ≡ true → (made (length m.sources + 1) (λ s. history s (e ∷ past)) (actor.Script i) ≡ calls_due m (actor.Script i) (cond (is_in_journal p) (e ∷ journal past) (journal past))) × ((s : ℕ) → last_is_of s (actor.Script i) (e ∷ past) ≡ false)
     by_part OfJournal q r j t x f = kept OfJournal q refl ((all m (journal past) e.now e.actor e.kind).keeps j.1 (subst (JournalStep m (journal past) e) q j.0).0).most.attempts t j r x f
     by_part OfTime q r j t x f = kept OfTime q refl (time_attempts (journal past) e.kind q) t j r x f
     by_part (Notes u v) q r j t x f = noted (is_same e.actor (actor.Script i)) refl (r x f) t.0
@@ -377,7 +377,7 @@ note_reports m past g who k c true e = by_callback (callback (journal past)) ref
   where
     by_callback : (o : Option Callback) → callback (journal past) ≡ o → is_some o ≡ true
     by_callback (Some x) f = refl
-    by_callback None f = absurd (no_next m (journal past) (λ t. history t past) who k e (held m (journal past) g.in_journal).2 (maker_even m past g who e f) c)
+    by_callback None f = absurd (no_next m (journal past) (λ t. history t past) who k e (lock_agrees m (journal past) g.in_journal).2 (maker_even m past g who e f) c)
 
 -- a task outside attempts of its own is not frozen
 abbrev pub ThawedActor : Machine → List Entry → Actor → Bool → Type 0
@@ -398,7 +398,7 @@ note_thawed m past g (actor.Timer t) k c b e = tt
 note_thawed m past g actor.Time k c b e = tt
 
 -- nor a step of a call
-pub step_thawed_actor : (m : Machine) (past : List Entry) → Grown m past → (who : Actor) (s : ℕ) → is_behind s who past ≡ true → (b : Bool) → is_maker (journal past) who ≡ b → ThawedActor m (journal past) who b
+pub step_thawed_actor : (m : Machine) (past : List Entry) → Grown m past → (who : Actor) (s : ℕ) → last_is_of s who past ≡ true → (b : Bool) → is_maker (journal past) who ≡ b → ThawedActor m (journal past) who b
 step_thawed_actor m past g (actor.Script i) s c false e = by_freezing (freezing m i (journal past)).frozen refl
   where
     by_freezing : (b : Bool) → (freezing m i (journal past)).frozen ≡ b → b ≡ false

@@ -6,12 +6,12 @@ use Rattle.sleep_model.specs.declared.entry.Group.{Group}
 use Rattle.sleep_model.specs.declared.entry.Kind.{Kind}
 use Rattle.sleep_model.specs.declared.entry.Kind.TheVariants as kind
 use Rattle.sleep_model.specs.declared.machine.Machine.{Machine}
-use Rattle.sleep_model.specs.declared.place.Callback.{Callback}
-use Rattle.sleep_model.specs.declared.place.Due.{Due}
-use Rattle.sleep_model.specs.declared.place.Due.TheVariants.{Makes, Waits, Gone}
-use Rattle.sleep_model.specs.declared.place.Sleep.{Sleep}
-use Rattle.sleep_model.specs.declared.place.Stage.{Stage}
-use Rattle.sleep_model.specs.declared.place.Stage.TheVariants as stage
+use Rattle.sleep_model.specs.declared.progress.Callback.{Callback}
+use Rattle.sleep_model.specs.declared.progress.Due.{Due}
+use Rattle.sleep_model.specs.declared.progress.Due.TheVariants.{Makes, Waits, Exited}
+use Rattle.sleep_model.specs.declared.progress.Sleep.{Sleep}
+use Rattle.sleep_model.specs.declared.progress.Stage.{Stage}
+use Rattle.sleep_model.specs.declared.progress.Stage.TheVariants as stage
 use Rattle.sleep_model.specs.declared.word.EventNow.{EventNow}
 use Rattle.phase_table.specs.declared.phase.Phase.{Phase}
 use Rattle.phase_table.specs.Phases.{mirror}
@@ -22,7 +22,7 @@ use Rattle.sleep_model.specs.Guard.{pending}
 use Rattle.sleep_model.specs.Numbers.{time_of}
 use Rattle.sleep_model.specs.Word.{position}
 use Rattle.sleep_model.specs.Notifiers.{next_called, next_posted, next_cpu_off, next_cpu_on, next_stopped, next_started}
-use Rattle.sleep_model.specs.Table.{stage_of, behind, by_case}
+use Rattle.sleep_model.specs.Table.{stage_of, next_stage, by_case}
 use Rattle.sleep_laws.proofs.Made.{Comes, AtOnce, PastNotifiers, PastCpus, PastParts, PastPartsUp, PastCpusUp, PastPosts}
 use Rattle.sleep_laws.proofs.Making.{Proper, ProperIf, stage_proper}
 use Rattle.rule_definitions.specs.Questions.{has_more, row_at, row_now}
@@ -30,7 +30,7 @@ use Rattle.log_rules.proofs.Facts.{never, is_none}
 
 -- something is due, or waited for
 abbrev Some' : Due → Type 0
-Some' Gone = ⊥
+Some' Exited = ⊥
 Some' _ = Unit {0}
 
 goes_if : (b : Bool) (x y : Due) → Some' x → Some' y → Some' (cond b x y)
@@ -45,9 +45,9 @@ left_goes : (k : ℕ → Kind) (o : Option ℕ) → is_some o ≡ true → Some'
 left_goes k None h = never h
 left_goes k (Some x) h = tt
 
-left_gone : (k : ℕ → Kind) (o : Option ℕ) → is_some o ≡ false → if_left k o ≡ Gone
-left_gone k None h = refl
-left_gone k (Some x) h = never (sym h)
+left_exited : (k : ℕ → Kind) (o : Option ℕ) → is_some o ≡ false → if_left k o ≡ Exited
+left_exited k None h = refl
+left_exited k (Some x) h = never (sym h)
 
 froze_goes : (past : List Entry) (now : EventNow) (g : Group) (since : ℕ) (l : List ℕ) → Some' (froze_due past now g since l)
 froze_goes past now g since [] = tt
@@ -105,30 +105,30 @@ stage_goes m past now stage.Posts h = left_goes _ (next_posted m past) h
 stage_goes m past now _ h = tt
 
 -- and one that has none has nothing due
-stage_gone : (m : Machine) (past : List Entry) (now : EventNow) (here : Stage) → has_more m past here ≡ false → stage_due m past now here ≡ Gone
-stage_gone m past now stage.Notifies h = left_gone _ (next_called m past) h
-stage_gone m past now stage.StopsCpus h = left_gone _ (next_cpu_off m past) h
-stage_gone m past now stage.StopsSyscore h = left_gone _ (next_stopped m past) h
-stage_gone m past now stage.StartsSyscore h = left_gone _ (next_started m past) h
-stage_gone m past now stage.StartsCpus h = left_gone _ (next_cpu_on m past) h
-stage_gone m past now stage.Posts h = left_gone _ (next_posted m past) h
-stage_gone m past now _ h = never (sym h)
+stage_exited : (m : Machine) (past : List Entry) (now : EventNow) (here : Stage) → has_more m past here ≡ false → stage_due m past now here ≡ Exited
+stage_exited m past now stage.Notifies h = left_exited _ (next_called m past) h
+stage_exited m past now stage.StopsCpus h = left_exited _ (next_cpu_off m past) h
+stage_exited m past now stage.StopsSyscore h = left_exited _ (next_stopped m past) h
+stage_exited m past now stage.StartsSyscore h = left_exited _ (next_started m past) h
+stage_exited m past now stage.StartsCpus h = left_exited _ (next_cpu_on m past) h
+stage_exited m past now stage.Posts h = left_exited _ (next_posted m past) h
+stage_exited m past now _ h = never (sym h)
 
 or_next_goes : (x y : Due) → Some' x → or_next x y ≡ x
 or_next_goes (Makes k) y h = refl
 or_next_goes (Waits w) y h = refl
-or_next_goes Gone y h = absurd h
+or_next_goes Exited y h = absurd h
 
-row_due : (m : Machine) (past : List Entry) (now : EventNow) (here : Stage) → stage_or_next m past now here ≡ stage_due m past now (by_case (has_more m past here) here (behind here))
+row_due : (m : Machine) (past : List Entry) (now : EventNow) (here : Stage) → stage_or_next m past now here ≡ stage_due m past now (by_case (has_more m past here) here (next_stage here))
 row_due m past now here = by_more (has_more m past here) refl
   where
-    by_more : (b : Bool) → has_more m past here ≡ b → stage_or_next m past now here ≡ stage_due m past now (by_case b here (behind here))
-    by_more true e = or_next_goes (stage_due m past now here) (stage_due m past now (behind here)) (stage_goes m past now here e)
-    by_more false e = ap (λ x. or_next x (stage_due m past now (behind here))) (stage_gone m past now here e)
+    by_more : (b : Bool) → has_more m past here ≡ b → stage_or_next m past now here ≡ stage_due m past now (by_case b here (next_stage here))
+    by_more true e = or_next_goes (stage_due m past now here) (stage_due m past now (next_stage here)) (stage_goes m past now here e)
+    by_more false e = ap (λ x. or_next x (stage_due m past now (next_stage here))) (stage_exited m past now here e)
 
 -- what is due at a row, if one is under way
 abbrev pub due_in_row : Machine → List Entry → EventNow → Option Stage → Due
-due_in_row m past now None = Gone
+due_in_row m past now None = Exited
 due_in_row m past now (Some row) = stage_due m past now row
 
 -- what the maker makes is what is due at the row
@@ -140,10 +140,10 @@ maker_due m past now = by_stage (stage_of past)
     by_stage (Some here) = row_due m past now here
 
 -- the row is where the maker comes to
-pub comes : (m : Machine) (past : List Entry) (here : Stage) → Comes m past here (by_case (has_more m past here) here (behind here))
+pub comes : (m : Machine) (past : List Entry) (here : Stage) → Comes m past here (by_case (has_more m past here) here (next_stage here))
 comes m past here = by_more (has_more m past here) refl
   where
-    passes : (here : Stage) → has_more m past here ≡ false → Comes m past here (behind here)
+    passes : (here : Stage) → has_more m past here ≡ false → Comes m past here (next_stage here)
     passes stage.Notifies h = PastNotifiers (is_none (next_called m past) h)
     passes stage.StopsCpus h = PastCpus (is_none (next_cpu_off m past) h)
     passes stage.StopsSyscore h = PastParts (is_none (next_stopped m past) h)
@@ -152,7 +152,7 @@ comes m past here = by_more (has_more m past here) refl
     passes stage.Posts h = PastPosts (is_none (next_posted m past) h)
     passes _ h = never (sym h)
 
-    by_more : (b : Bool) → has_more m past here ≡ b → Comes m past here (by_case b here (behind here))
+    by_more : (b : Bool) → has_more m past here ≡ b → Comes m past here (by_case b here (next_stage here))
     by_more true e = AtOnce here
     by_more false e = passes here e
 
@@ -160,7 +160,7 @@ comes m past here = by_more (has_more m past here) refl
 pub row_proper : (m : Machine) (past : List Entry) → ProperIf (row_now m past)
 row_proper m past = by_stage (stage_of past) (stage_proper past)
   where
-    passes : (here : Stage) → has_more m past here ≡ false → Proper (behind here)
+    passes : (here : Stage) → has_more m past here ≡ false → Proper (next_stage here)
     passes stage.Notifies h = tt
     passes stage.StopsCpus h = tt
     passes stage.StopsSyscore h = tt
@@ -169,7 +169,7 @@ row_proper m past = by_stage (stage_of past) (stage_proper past)
     passes stage.Posts h = tt
     passes _ h = never (sym h)
 
-    by_more : (here : Stage) → Proper here → (b : Bool) → has_more m past here ≡ b → Proper (by_case b here (behind here))
+    by_more : (here : Stage) → Proper here → (b : Bool) → has_more m past here ≡ b → Proper (by_case b here (next_stage here))
     by_more here h true e = h
     by_more here h false e = passes here e
 

@@ -8,14 +8,14 @@ use Rattle.sleep_model.specs.declared.entry.Kind.{Kind}
 use Rattle.sleep_model.specs.declared.machine.Machine.{Machine}
 use Rattle.sleep_model.specs.declared.machine.Op.{Op}
 use Rattle.sleep_model.specs.declared.machine.Script.{Script}
-use Rattle.sleep_model.specs.declared.place.Freezing.{Freezing}
+use Rattle.sleep_model.specs.declared.progress.Freezing.{Freezing}
 use Rattle.sleep_model.specs.Calls.{calls_due, calls_of, is_calling, made}
 use Rattle.sleep_model.specs.Freezer.{freezing}
 use Rattle.sleep_model.specs.Legal.{IsOutside, IsOwnCall, IsOwnTurn}
-use Rattle.sleep_model.specs.Parts.{journal}
+use Rattle.sleep_model.specs.EntryClasses.{journal}
 use Rattle.sleep_model.specs.Sources.{history}
 use Rattle.rule_definitions.specs.Freezer.{FreezesActor, FreezesEntry, FreezesTask, GoesOn, GoesOnEntry, asked_at, is_at_turn}
-use Rattle.rule_definitions.specs.Questions.{op_of, seat_of}
+use Rattle.rule_definitions.specs.Questions.{op_of, position_of}
 use Rattle.rule_definitions.specs.Steps.{is_inside}
 use Rattle.log_rules.proofs.Facts.{never}
 use Rattle.log_rules.proofs.Inside.{Grown, outside_all, owes_there, and_left, same_number}
@@ -36,13 +36,13 @@ at_turn m past who e o = both _ _ (equal _ _ e) o
 -- there it is asked what the journal says
 pub freezes_then : (m : Machine) (past : List Entry) (who : Actor) (b : Bool) (k : Kind) → is_at_turn m past who ≡ true → FreezesActor m (journal past) who b k → FreezesEntry m past who b k
 freezes_then m past (actor.Script i) false k t z =
-    subst (λ (x : Bool). FreezesTask (asked_at x (freezing m i (journal past))) (seat_of m (journal past) i).waits (op_of m (journal past) i) (slice_get m.actors i) k) (sym t) z
+    subst (λ (x : Bool). FreezesTask (asked_at x (freezing m i (journal past))) (position_of m (journal past) i).waits (op_of m (journal past) i) (slice_get m.actors i) k) (sym t) z
 freezes_then m past (actor.Script i) true k t z = z
 freezes_then m past _ b k t z = z
 
 pub freezes_back : (m : Machine) (past : List Entry) (who : Actor) (b : Bool) (k : Kind) → is_at_turn m past who ≡ true → FreezesEntry m past who b k → FreezesActor m (journal past) who b k
 freezes_back m past (actor.Script i) false k t z =
-    subst (λ (x : Bool). FreezesTask (asked_at x (freezing m i (journal past))) (seat_of m (journal past) i).waits (op_of m (journal past) i) (slice_get m.actors i) k) t z
+    subst (λ (x : Bool). FreezesTask (asked_at x (freezing m i (journal past))) (position_of m (journal past) i).waits (op_of m (journal past) i) (slice_get m.actors i) k) t z
 freezes_back m past (actor.Script i) true k t z = z
 freezes_back m past _ b k t z = z
 

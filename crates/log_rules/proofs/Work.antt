@@ -7,9 +7,9 @@ use Rattle.sleep_model.specs.declared.entry.Kind.{Kind}
 use Rattle.sleep_model.specs.declared.entry.Kind.TheVariants as kind
 use Rattle.sleep_model.specs.declared.log.Why.TheVariants as why
 use Rattle.sleep_model.specs.declared.machine.Machine.{Machine}
-use Rattle.sleep_model.specs.declared.place.Due.TheVariants.{Makes, Waits}
-use Rattle.sleep_model.specs.declared.place.Work.{Work}
-use Rattle.sleep_model.specs.declared.place.Work.TheVariants.{Resting, Reading, Saving, Attempting, Looking, Napping, Closing}
+use Rattle.sleep_model.specs.declared.progress.Due.TheVariants.{Makes, Waits}
+use Rattle.sleep_model.specs.declared.progress.Work.{Work}
+use Rattle.sleep_model.specs.declared.progress.Work.TheVariants.{Resting, Reading, Saving, Attempting, Looking, Napping, Closing}
 use Rattle.sleep_model.specs.declared.word.EventNow.{EventNow}
 use Rattle.sleep_model.specs.Attempt.{attempt_due, sleeps_now}
 use Rattle.sleep_model.specs.Autosleep.{auto_due, auto_save, may_run, work, work_due}
@@ -19,7 +19,7 @@ use Rattle.sleep_model.specs.Lock.{holder, is_on}
 use Rattle.sleep_model.specs.Numbers.{time_of}
 use Rattle.sleep_model.specs.Path.{maker, is_actor}
 use Rattle.sleep_model.specs.Word.{visible}
-use Rattle.sleep_laws.proofs.Holding.{held, HolderOf, WorkHolds}
+use Rattle.sleep_laws.proofs.LockHolding.{lock_agrees, HolderOf, WorkHolds}
 use Rattle.sleep_laws.proofs.Making.{OnlyMade}
 use Rattle.rule_definitions.specs.All.{KeepsAll, KeepsMost}
 use Rattle.rule_definitions.specs.Attempts.{KeepsAttempts}
@@ -109,7 +109,7 @@ auto_made m past now g h e =
 auto_forth : (m : Machine) (past : List Entry) (now : EventNow) (k : Kind) → is_maker past actor.Auto ≡ false → JournalPart m past → IsDue m past now actor.Auto k → KeepsAll m past now actor.Auto k
 auto_forth m past now k e j d =
     let own : auto_due m past now (sleeps_now past) (is_over m past) ≡ Makes k = subst (λ (b : Bool). cond b (attempt_due m past now) (auto_due m past now (sleeps_now past) (is_over m past)) ≡ Makes k) e d in
-    let a : Awake m past now k = only_is (Awake m past now) _ k (auto_made m past now (held m past j).1 (held m past j).0 e) own in
+    let a : Awake m past now k = only_is (Awake m past now) _ k (auto_made m past now (lock_agrees m past j).1 (lock_agrees m past j).0 e) own in
     let s : Works m past now (work past) k = a.1 in
     record {
       most = record {

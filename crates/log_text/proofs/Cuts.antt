@@ -7,7 +7,7 @@ use Rattle.std.proofs.lemmas.Fmt.{decimal_by_steps}
 use Rattle.std.proofs.Math.Seq.{take-append_seam}
 use Rattle.std.proofs.lemmas.List.{length-append}
 use Rattle.log_text.specs.Named.{is_name_byte}
-use Rattle.log_text.specs.Cutting.{before, behind}
+use Rattle.log_text.specs.Cutting.{before, after_first}
 
 -- no byte is that one
 abbrev pub is_without : ℕ → List ℕ → Bool
@@ -28,12 +28,12 @@ before_at mark (b ∷ w) r h =
     let p = and_parts (not (b == mark)) (is_without mark w) h in
     rw (not_true (b == mark) p.0) (ap (λ (x : List ℕ). b ∷ x) (before_at mark w r p.1))
 
--- and what stands behind it
-pub behind_at : (mark : ℕ) (w r : List ℕ) → is_without mark w ≡ true → behind mark (w ++ mark ∷ r) ≡ r
-behind_at mark [] r h = rw (same_byte mark) refl
-behind_at mark (b ∷ w) r h =
+-- and what stands after it
+pub after_at : (mark : ℕ) (w r : List ℕ) → is_without mark w ≡ true → after_first mark (w ++ mark ∷ r) ≡ r
+after_at mark [] r h = rw (same_byte mark) refl
+after_at mark (b ∷ w) r h =
     let p = and_parts (not (b == mark)) (is_without mark w) h in
-    rw (not_true (b == mark) p.0) (behind_at mark w r p.1)
+    rw (not_true (b == mark) p.0) (after_at mark w r p.1)
 
 -- without such a byte all stands before it
 pub before_all : (mark : ℕ) (w : List ℕ) → is_without mark w ≡ true → before mark w ≡ w
@@ -42,14 +42,14 @@ before_all mark (b ∷ w) h =
     let p = and_parts (not (b == mark)) (is_without mark w) h in
     rw (not_true (b == mark) p.0) (ap (λ (x : List ℕ). b ∷ x) (before_all mark w p.1))
 
--- and nothing behind
-pub behind_none : (mark : ℕ) (w : List ℕ) → is_without mark w ≡ true → behind mark w ≡ []
-behind_none mark [] h = refl
-behind_none mark (b ∷ w) h =
+-- and nothing after
+pub after_none : (mark : ℕ) (w : List ℕ) → is_without mark w ≡ true → after_first mark w ≡ []
+after_none mark [] h = refl
+after_none mark (b ∷ w) h =
     let p = and_parts (not (b == mark)) (is_without mark w) h in
-    rw (not_true (b == mark) p.0) (behind_none mark w p.1)
+    rw (not_true (b == mark) p.0) (after_none mark w p.1)
 
--- two texts without such a byte, one behind the other
+-- two texts without such a byte, one after the other
 pub without_append : (mark : ℕ) (v w : List ℕ) → is_without mark v ≡ true → is_without mark w ≡ true → is_without mark (v ++ w) ≡ true
 without_append mark [] w h k = k
 without_append mark (b ∷ v) w h k =

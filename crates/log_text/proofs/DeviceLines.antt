@@ -7,9 +7,9 @@ use Rattle.sleep_model.specs.declared.machine.Machine.{Machine}
 use Rattle.sleep_model.specs.Text.{actor_text, body, device, entry_line, newline, space}
 use Rattle.log_text.specs.Front.{front_text, maker_text}
 
-joined : (front who gap said end verb phase name behind : List ℕ) → said ++ end ≡ verb ++ phase ++ name ++ behind →
-    front ++ (who ++ gap) ++ verb ++ phase ++ name ++ behind ≡ front ++ who ++ gap ++ said ++ end
-joined front who gap said end verb phase name behind is =
+joined_line : (front who gap entry_text end verb phase name behind : List ℕ) → entry_text ++ end ≡ verb ++ phase ++ name ++ behind →
+    front ++ (who ++ gap) ++ verb ++ phase ++ name ++ behind ≡ front ++ who ++ gap ++ entry_text ++ end
+joined_line front who gap entry_text end verb phase name behind is =
     let parts = simp append_assoc at is in
     simp append_assoc (ap (λ (t : List ℕ). front ++ (who ++ (gap ++ t))) (sym parts))
 
@@ -18,11 +18,11 @@ pub device_line : (m : Machine) (e : Entry) (d : ℕ) (front maker verb phase na
     front ≡ front_text e.time e.now → maker ≡ maker_text m e.actor → name ≡ device m d →
     body m e.kind ++ newline ≡ verb ++ phase ++ device m d ++ behind →
     front ++ maker ++ verb ++ phase ++ name ++ behind ≡ entry_line m e
-device_line m e d front maker verb phase name behind f k n said =
-    rw (f, k, n) (joined (front_text e.time e.now) (actor_text m e.actor) space (body m e.kind) newline verb phase (device m d) behind said)
+device_line m e d front maker verb phase name behind f k n entry_text =
+    rw (f, k, n) (joined_line (front_text e.time e.now) (actor_text m e.actor) space (body m e.kind) newline verb phase (device m d) behind entry_text)
 
-zero_behind : (name : List ℕ) → name ++ space ++ decimal 0 ++ newline ≡ name ++ (codes " 0" ++ newline)
-zero_behind name = rw (decimal_digit 0 (lit< tt)) (simp append_assoc)
+zero_after : (name : List ℕ) → name ++ space ++ decimal 0 ++ newline ≡ name ++ (codes " 0" ++ newline)
+zero_after name = rw (decimal_digit 0 (lit< tt)) (simp append_assoc)
 
 -- what is said of a device that answered 0 to its prepare
 pub prepared_line : (m : Machine) (d : ℕ) (r : ℤ) (verb phase behind : List ℕ) → r ≡ pos 0 →
@@ -30,4 +30,4 @@ pub prepared_line : (m : Machine) (d : ℕ) (r : ℤ) (verb phase behind : List 
     body m (kind.Prepare d r) ++ newline ≡ verb ++ phase ++ device m d ++ behind
 prepared_line m d r verb phase behind zero v p b =
     let P : ℤ → Type 0 = λ n. body m (kind.Prepare d n) ++ newline ≡ verb ++ phase ++ device m d ++ behind in
-    subst P (sym zero) (rw (v, p, b) (ap (λ (t : List ℕ). codes "prepare " ++ t) (zero_behind (device m d))))
+    subst P (sym zero) (rw (v, p, b) (ap (λ (t : List ℕ). codes "prepare " ++ t) (zero_after (device m d))))

@@ -15,8 +15,8 @@ use Rattle.sleep_model.specs.Fits.{fits_entry, fits_actor, fits_word, fits_kind,
 use Rattle.sleep_model.specs.Text.{body, space, newline, actor_text, script_text, script_word, task_name, word_text, entry_line}
 use Rattle.log_text.specs.Named.{AreNamed}
 use Rattle.log_text.specs.Cutting.{without_last}
-use Rattle.log_text.specs.Reading.{now_in, actor_in, said_in, entry_in, script_in}
-use Rattle.log_text.proofs.Cuts.{is_without, before_at, behind_at, without_append, decimal_no_space, decimal_no_slash, last_off}
+use Rattle.log_text.specs.Reading.{now_in, actor_in, entry_by_text, entry_in, script_in}
+use Rattle.log_text.proofs.Cuts.{is_without, before_at, after_at, without_append, decimal_no_space, decimal_no_slash, last_off}
 use Rattle.log_text.proofs.NumbersBack.{word32_back, word64_back, below32, below64}
 use Rattle.log_text.proofs.KindsBack.{less, three, first, second, device_back, device_bytes, source_back, source_bytes, task_back, task_bytes, kind_back}
 
@@ -45,7 +45,7 @@ now_back now f =
     let a = decimal_no_slash now.inpr (below32 now.inpr p.inpr) in
     let b = decimal_no_slash now.count (below32 now.count p.count) in
     ap now_in (slashes (decimal now.inpr) (decimal now.count) y)
-    ∙ rw (before_at 47 (decimal now.inpr) x a, behind_at 47 (decimal now.inpr) x a, before_at 47 (decimal now.count) y b, behind_at 47 (decimal now.count) y b, word32_back now.inpr p.inpr, word32_back now.count p.count, word32_back now.hard p.hard) refl
+    ∙ rw (before_at 47 (decimal now.inpr) x a, after_at 47 (decimal now.inpr) x a, before_at 47 (decimal now.count) y b, after_at 47 (decimal now.count) y b, word32_back now.inpr p.inpr, word32_back now.count p.count, word32_back now.hard p.hard) refl
 
 -- and has no space
 now_plain : (now : EventNow) → fits_word now ≡ true → is_without 32 (word_text now) ≡ true
@@ -64,7 +64,7 @@ within [] i h = absurd (omega arith)
 within (x ∷ xs) zero h = (x, refl)
 within (x ∷ xs) (suc i) h = within xs i (omega arith)
 
--- four parts with spaces between them, and a fifth behind
+-- four parts with spaces between them, and a fifth after
 four : (a b c d e : List ℕ) → a ++ space ++ b ++ space ++ c ++ space ++ d ++ e ≡ (a ++ 32 ∷ (b ++ 32 ∷ (c ++ 32 ∷ d))) ++ e
 four a b c d e = ap (λ (x : List ℕ). x ++ e) (three (a ++ space ++ b) c d ∙ append_assoc (a ++ space) b (32 ∷ (c ++ 32 ∷ d)) ∙ append_assoc a space (b ++ 32 ∷ (c ++ 32 ∷ d)))
 
@@ -100,8 +100,8 @@ module _ (m : Machine) (named : AreNamed m) where
   actor_plain actor.Time f = refl
 
   -- the text of a line without its newline
-  said_back : (time : ℕ) (now : EventNow) (a : Actor) (k : Kind) → fits_actor m a ≡ true → fits_kind m k ≡ true → said_in m time now (actor_text m a ++ 32 ∷ body m k) ≡ Some (record { time = time; now = now; actor = a; kind = k })
-  said_back time now a k f g =
+  entry_text_back : (time : ℕ) (now : EventNow) (a : Actor) (k : Kind) → fits_actor m a ≡ true → fits_kind m k ≡ true → entry_by_text m time now (actor_text m a ++ 32 ∷ body m k) ≡ Some (record { time = time; now = now; actor = a; kind = k })
+  entry_text_back time now a k f g =
       let x = body m k in
       let p = actor_plain a f in
       rw (first (actor_text m a) x p, second (actor_text m a) x p, actor_back a f, kind_back m named k g) refl
@@ -115,7 +115,7 @@ module _ (m : Machine) (named : AreNamed m) where
       let x = word_text e.now ++ 32 ∷ y in
       let a = decimal_no_space e.time (below64 e.time p.0) in
       let b = now_plain e.now p.1 in
-      rw (first (decimal e.time) x a, second (decimal e.time) x a, first (word_text e.now) y b, second (word_text e.now) y b, word64_back e.time p.0, now_back e.now p.1) (said_back e.time e.now e.actor e.kind q.1 r.1)
+      rw (first (decimal e.time) x a, second (decimal e.time) x a, first (word_text e.now) y b, second (word_text e.now) y b, word64_back e.time p.0, now_back e.now p.1) (entry_text_back e.time e.now e.actor e.kind q.1 r.1)
 
   whole : (e : Entry) → entry_line m e ≡ (decimal e.time ++ 32 ∷ (word_text e.now ++ 32 ∷ (actor_text m e.actor ++ 32 ∷ body m e.kind))) ++ newline
   whole e = four (decimal e.time) (word_text e.now) (actor_text m e.actor) (body m e.kind) newline

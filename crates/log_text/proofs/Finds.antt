@@ -7,7 +7,7 @@ use Rattle.std.specs.Cmp.Lexicographic.{bytes_decides}
 use Rattle.std.proofs.lemmas.Bool.{and_parts}
 use Rattle.sleep_model.specs.Text.{name_in}
 use Rattle.log_text.specs.Named.{is_name, is_name_byte, is_name_long, are_distinct, are_names}
-use Rattle.log_text.specs.Cutting.{place_in}
+use Rattle.log_text.specs.Cutting.{index_in}
 use Rattle.key_index.proofs.Placing.{position_cons}
 
 same_bytes : (n : List ℕ) → bytes_eq n n ≡ true
@@ -61,7 +61,7 @@ at_place (x ∷ names) zero h = refl
 at_place (x ∷ names) (suc i) h = at_place names i (omega arith)
 
 -- a name is found at its place
-pub place_back : (names : List (List ℕ)) → are_names names ≡ true → (i : ℕ) → i < length names → place_in names (name_in (slice_get names i)) ≡ Some i
+pub place_back : (names : List (List ℕ)) → are_names names ≡ true → (i : ℕ) → i < length names → index_in names (name_in (slice_get names i)) ≡ Some i
 place_back names h i l =
     let n = name_in (slice_get names i) in
     let p = and_parts (list_all is_name names) (are_distinct names) h in

@@ -31,7 +31,7 @@ whole_at (b ∷ c ∷ text) h n = on (b == 10) refl h (λ l. whole_at (c ∷ tex
     on true e l ih = absurd (omega arith)
     on false e l ih = ap (onto_first b) (ih (omega arith))
 
--- cut behind the first newline
+-- cut after the first newline
 pub line_cut : (text front : List ℕ) → front ≡ before 10 text → length front < length text → lines text ≡ take (length front + 1) text ∷ lines (drop (length front + 1) text)
 line_cut text front e h =
     let one : length front + 1 ≡ suc (length (before 10 text)) = let l = ap length e in omega (arith, l) in

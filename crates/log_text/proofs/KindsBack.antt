@@ -31,7 +31,7 @@ use Rattle.log_text.specs.Cutting.{word, rest, word32}
 use Rattle.log_text.specs.Reading.{kind_in, device_in, source_in, mark_in, notifier_in, syscore_in, script_in, read_kind, save_kind, runtime_kind, link_kind, link_state_kind, link_state_to, event_kind, prepare_kind, schedule_kind, begin_kind, end_kind, skip_kind, attempt_kind, over_kind, notify_kind, failed_in, failed_end, froze_in, froze_kind, kind_by, task_by, platform_kind, syscore_down}
 use Rattle.log_text.specs.Words.{answer_in, cause_in, phase_in, group_in}
 use Rattle.log_text.specs.declared.spelling.verb.Verb.TheVariants as verb
-use Rattle.log_text.proofs.Cuts.{is_without, before_at, behind_at, decimal_no_space, name_without}
+use Rattle.log_text.proofs.Cuts.{is_without, before_at, after_at, decimal_no_space, name_without}
 use Rattle.log_text.proofs.NumbersBack.{word32_back, word64_back, below32}
 use Rattle.log_text.proofs.Finds.{place_back, bytes_of}
 use Rattle.log_text.proofs.WordsBack.{answer_back, phase_back, cause_back, group_back, phase_plain, group_plain, save_err, state_err, prepare_back}
@@ -40,9 +40,9 @@ use Rattle.log_text.proofs.WordsBack.{answer_back, phase_back, cause_back, group
 pub first : (w x : List ℕ) → is_without 32 w ≡ true → word (w ++ 32 ∷ x) ≡ w
 first w x h = before_at 32 w x h
 
--- what stands behind it
+-- what stands after it
 pub second : (w x : List ℕ) → is_without 32 w ≡ true → rest (w ++ 32 ∷ x) ≡ x
-second w x h = behind_at 32 w x h
+second w x h = after_at 32 w x h
 
 -- two parts with a space between them
 pub two : (a b : List ℕ) → a ++ space ++ b ≡ a ++ 32 ∷ b
@@ -127,7 +127,7 @@ module _ (m : Machine) (named : AreNamed m) where
   pub syscore_bytes : (b : ℕ) → is_name_byte b ≡ false → (x : ℕ) → nat_lt x (length m.syscore) ≡ true → is_without b (syscore m x) ≡ true
   syscore_bytes b n x f = name_without b n (syscore m x) (bytes_of m.syscore named.syscore x (less x (length m.syscore) f))
 
-  -- ---- what stands behind a verb
+  -- ---- what stands after a verb
 
   count_plain : (c : ℕ) → is_word32 c ≡ true → is_without 32 (decimal c) ≡ true
   count_plain c f = decimal_no_space c (below32 c f)
@@ -219,8 +219,8 @@ module _ (m : Machine) (named : AreNamed m) where
       let x = answer_text r in
       rw (first (decimal n) x (count_plain n f), second (decimal n) x (count_plain n f), word32_back n f) (ap (λ (q : Option Errno). Some (kind.Over n q)) (answer_back r))
 
-  kept_back : (c : ℕ) (x : List ℕ) → is_word32 c ≡ true → option_map (save_kind (rest (decimal c ++ 32 ∷ x))) (word32 (word (decimal c ++ 32 ∷ x))) ≡ Some (save_kind x c)
-  kept_back c x f =
+  preserved_back : (c : ℕ) (x : List ℕ) → is_word32 c ≡ true → option_map (save_kind (rest (decimal c ++ 32 ∷ x))) (word32 (word (decimal c ++ 32 ∷ x))) ≡ Some (save_kind x c)
+  preserved_back c x f =
       ap (λ (w : List ℕ). option_map (save_kind (rest (decimal c ++ 32 ∷ x))) (word32 w)) (first (decimal c) x (count_plain c f))
       ∙ ap (λ (w : List ℕ). option_map (save_kind w) (word32 (decimal c))) (second (decimal c) x (count_plain c f))
       ∙ ap (option_map (save_kind x)) (word32_back c f)
@@ -274,9 +274,9 @@ module _ (m : Machine) (named : AreNamed m) where
   kind_back kind.ReadWait f = refl
   kind_back (kind.Read c) f = ap (λ (o : Option ℕ). Some (read_kind (decimal c) o)) (word32_back c f)
   kind_back kind.ReadIntr f = refl
-  kind_back (kind.SaveWait c) f = kept_back c (codes "wait") f
-  kind_back (kind.Saved c) f = kept_back c (codes "ok") f
-  kind_back (kind.SaveErr c r) f = ap (task_by m verb.Save) (two (decimal c) (name_of r)) ∙ kept_back c (name_of r) f ∙ ap Some (save_err r c)
+  kind_back (kind.SaveWait c) f = preserved_back c (codes "wait") f
+  kind_back (kind.Saved c) f = preserved_back c (codes "ok") f
+  kind_back (kind.SaveErr c r) f = ap (task_by m verb.Save) (two (decimal c) (name_of r)) ∙ preserved_back c (name_of r) f ∙ ap Some (save_err r c)
   kind_back kind.StateWait f = refl
   kind_back (kind.StateErr r) f = ap Some (state_err r)
   kind_back kind.StateUnsaved f = refl

@@ -5,7 +5,7 @@ pub mod Cuts
 pub mod NumbersBack
 pub mod Finds
 pub mod WordsBack
-pub mod WordsTold
+pub mod WordsInjective
 pub mod KindsBack
 pub mod EntriesBack
 pub mod StatsBack
@@ -19,7 +19,7 @@ pub mod NextEntry
 pub mod OneLog
 pub mod NoBadLine
 pub mod ReadBack
-pub mod Holding
+pub mod Buffering
 pub mod DeviceLines
 pub mod Lengths
 pub mod Passed

@@ -1,4 +1,4 @@
--- An entry at the beginning of a text, its line and what stands behind.
+-- An entry at the beginning of a text, its line and what stands after.
 use Rattle.std.proofs.Common.{◌≡◌, ◌∙◌, ℕ, ◌+◌, ◌<◌, true, List, ◌∷◌, ◌++◌, length, refl, ap, arith, append_assoc}
 use Rattle.std.proofs.lemmas.List.{length-append}
 use Rattle.sleep_model.specs.declared.entry.Entry.{Entry}
@@ -13,16 +13,16 @@ use Rattle.log_text.proofs.TextLines.{entry_is_line, line_first}
 
 module _ (m : Machine) where
   -- the front, who makes it and what it says are an entry's line
-  pub entry_told : (e : Entry) (front text said rest : List ℕ) → front ≡ front_text e.time e.now → text ≡ maker_text m e.actor ++ said → said ≡ body m e.kind ++ newline ++ rest → front ++ text ≡ entry_line m e ++ rest
-  entry_told e front text said rest f t s = rw (f, t, s) (simp append_assoc)
+  pub entry_injective : (e : Entry) (front text entry_text rest : List ℕ) → front ≡ front_text e.time e.now → text ≡ maker_text m e.actor ++ entry_text → entry_text ≡ body m e.kind ++ newline ++ rest → front ++ text ≡ entry_line m e ++ rest
+  entry_injective e front text entry_text rest f t s = rw (f, t, s) (simp append_assoc)
 
   -- its line is the text's first
   pub entry_next : (text rest : List ℕ) (e : Entry) → AreNamed m → fits_entry m e ≡ true → text ≡ entry_line m e ++ rest → lines text ≡ entry_line m e ∷ lines rest
   entry_next text rest e named fits is = ap lines is ∙ line_first (entry_line m e) rest (entry_is_line m named e fits)
 
-  -- what stands behind is shorter
-  pub shorter_behind : (text rest : List ℕ) (e : Entry) → text ≡ entry_line m e ++ rest → length rest < length text
-  shorter_behind text rest e is =
+  -- what stands after is shorter
+  pub shorter_after : (text rest : List ℕ) (e : Entry) → text ≡ entry_line m e ++ rest → length rest < length text
+  shorter_after text rest e is =
       let whole : length text ≡ length (entry_line m e) + length rest = ap length is ∙ length-append (entry_line m e) rest in
       let some : 0 < length (entry_line m e) = simp length-append (omega arith) in
       omega (arith, whole, some)

@@ -12,7 +12,7 @@ use Rattle.sleep_model.specs.declared.machine.Machine.{Machine}
 use Rattle.sleep_model.specs.Fits.{fits_entry, fits_stats, fits_end, fits_script, fits_cause, IsWritable}
 use Rattle.sleep_model.specs.Text.{entry_line, source_names, waiting_line, text}
 use Rattle.log_text.specs.Named.{AreNamed}
-use Rattle.log_text.specs.Grammar.{lines, IsBadBehind, IsBadStuck, IsBadEnd, IsBadSource, IsBadEntry, IsFirstBad}
+use Rattle.log_text.specs.Grammar.{lines, IsBadAfterEnd, IsBadStuck, IsBadEnd, IsBadSource, IsBadEntry, IsFirstBad}
 use Rattle.log_text.proofs.TextLines.{source_rows, end_rows, fits_waiting, lines_text}
 use Rattle.log_text.proofs.OneLog.{IsOther, untrue, not_finished, sources_other, counted}
 
@@ -60,9 +60,9 @@ module _ (m : Machine) where
   both : (a b n : ℕ) → a ≡ n → b ≡ n → a ≡ b
   both a b n h k = h ∙ sym k
 
-  one_behind : (ls : List (List ℕ)) (n a b : ℕ) → IsBadBehind ls n a → IsBadBehind ls n b → a ≡ b
-  one_behind [] n a b h k = absurd h
-  one_behind (l ∷ ls) n a b h k = both a b n h k
+  one_after : (ls : List (List ℕ)) (n a b : ℕ) → IsBadAfterEnd ls n a → IsBadAfterEnd ls n b → a ≡ b
+  one_after [] n a b h k = absurd h
+  one_after (l ∷ ls) n a b h k = both a b n h k
 
   one_stuck : (ls : List (List ℕ)) (n a b : ℕ) → IsBadStuck m ls n a → IsBadStuck m ls n b → a ≡ b
   one_stuck [] n a b h k = absurd h
@@ -73,7 +73,7 @@ module _ (m : Machine) where
 
   one_end : (ls : List (List ℕ)) (n a b : ℕ) → IsBadEnd m ls n a → IsBadEnd m ls n b → a ≡ b
   one_end [] n a b h k = both a b n h k
-  one_end (l ∷ ls) n a b (inl (x, h)) (inl (y, k)) = one_behind ls (n + 1) a b h k
+  one_end (l ∷ ls) n a b (inl (x, h)) (inl (y, k)) = one_after ls (n + 1) a b h k
   one_end (l ∷ ls) n a b (inl (x, h)) (inr (y, k)) = absurd (y x)
   one_end (l ∷ ls) n a b (inr (x, h)) (inl (y, k)) = absurd (x y)
   one_end (l ∷ ls) n a b (inr (x, h)) (inr (y, k)) = one_stuck (l ∷ ls) n a b h k

@@ -1,4 +1,4 @@
--- An entry that is none of a group's says what the groups behind it say.
+-- An entry that is none of a group's says what the groups after it say.
 use Rattle.std.proofs.Common.{◌≡◌, ◌≢◌, ℕ, Bool, Option, refl}
 use Rattle.sleep_base.specs.declared.errno.Errno.{Errno}
 use Rattle.sleep_model.specs.declared.machine.Machine.{Machine}

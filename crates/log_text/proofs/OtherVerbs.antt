@@ -1,4 +1,4 @@
--- A verb that is none of a group's is read as the verbs behind that group are.
+-- A verb that is none of a group's is read as the verbs after that group are.
 use Rattle.std.proofs.Common.{◌≡◌, ◌≢◌, ℕ, List, None, refl}
 use Rattle.sleep_model.specs.declared.machine.Machine.{Machine}
 use Rattle.log_text.specs.declared.spelling.verb.Verb.{Verb}

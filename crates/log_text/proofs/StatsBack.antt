@@ -16,7 +16,7 @@ use Rattle.sleep_model.specs.declared.machine.TaskKind.TheVariants as task
 use Rattle.sleep_model.specs.Fits.{fits_stats, fits_script, fits_cause, is_word32, is_word64}
 use Rattle.sleep_model.specs.Text.{space, newline, actor_text, script_text, script_word, task_name, times_text, source_line, waiting_text, waiting_line}
 use Rattle.log_text.specs.Named.{AreNamed}
-use Rattle.log_text.specs.Cutting.{behind, without_last}
+use Rattle.log_text.specs.Cutting.{after_first, without_last}
 use Rattle.log_text.specs.Reading.{times_in, stats_in, why_in, waiting_in, script_in}
 use Rattle.log_text.proofs.Cuts.{is_without, decimal_no_space, last_off}
 use Rattle.log_text.proofs.NumbersBack.{word32_back, word64_back, below32, below64}
@@ -24,11 +24,11 @@ use Rattle.log_text.proofs.KindsBack.{less, two, three, first, second, mark_back
 use Rattle.log_text.proofs.EntriesBack.{within, script_plain}
 
 -- the numbers of a source with spaces between them
-abbrev times_of : Stats → List ℕ
-times_of s = decimal s.active_time ++ 32 ∷ (decimal s.total_time ++ 32 ∷ (decimal s.max_time ++ 32 ∷ decimal s.last_time))
+abbrev spaced_times : Stats → List ℕ
+spaced_times s = decimal s.active_time ++ 32 ∷ (decimal s.total_time ++ 32 ∷ (decimal s.max_time ++ 32 ∷ decimal s.last_time))
 
 abbrev numbers_of : Stats → List ℕ
-numbers_of s = decimal s.active_count ++ 32 ∷ (decimal s.event_count ++ 32 ∷ (decimal s.expire_count ++ 32 ∷ times_of s))
+numbers_of s = decimal s.active_count ++ 32 ∷ (decimal s.event_count ++ 32 ∷ (decimal s.expire_count ++ 32 ∷ spaced_times s))
 
 -- what fits, one by one
 record AreFit (s : Stats) : Type 0 where
@@ -50,7 +50,7 @@ fit s f =
     let a = and_parts (is_word32 s.active_count) (is_word32 s.event_count) b.0 in
     record { active = a.0; event = a.1; expire = b.1; active_time = c.1; total_time = d.1; max_time = e.1; last_time = g.1 }
 
-times_back : (s : Stats) → AreFit s → times_in s.active_count s.event_count s.expire_count (times_of s) ≡ Some s
+times_back : (s : Stats) → AreFit s → times_in s.active_count s.event_count s.expire_count (spaced_times s) ≡ Some s
 times_back s f =
     let z = decimal s.last_time in
     let y = decimal s.max_time ++ 32 ∷ z in
@@ -62,7 +62,7 @@ times_back s f =
 
 stats_back : (s : Stats) → AreFit s → stats_in (numbers_of s) ≡ Some s
 stats_back s f =
-    let z = times_of s in
+    let z = spaced_times s in
     let y = decimal s.expire_count ++ 32 ∷ z in
     let x = decimal s.event_count ++ 32 ∷ y in
     let a = decimal_no_space s.active_count (below32 s.active_count f.active) in
@@ -74,7 +74,7 @@ stats_back s f =
 abbrev pub head_of : List ℕ → List ℕ
 head_of name = codes "source " ++ name ++ space
 
--- three and four parts, each behind a space
+-- three and four parts, each after a space
 spaced : (n a b c : List ℕ) → n ++ (space ++ a ++ space ++ b ++ space ++ c) ≡ n ++ 32 ∷ (a ++ 32 ∷ (b ++ 32 ∷ c))
 spaced n a b c = ap (λ (x : List ℕ). n ++ x) (three (space ++ a) b c)
 
@@ -89,7 +89,7 @@ source_is : (name : List ℕ) (s : Stats) → source_line name s ≡ head_of nam
 source_is name s =
     ap (λ (x : List ℕ). x ++ times_text s ++ newline) (spaced (codes "source " ++ name) (decimal s.active_count) (decimal s.event_count) (decimal s.expire_count))
     ∙ ap (λ (x : List ℕ). codes "source " ++ name ++ 32 ∷ (decimal s.active_count ++ 32 ∷ (decimal s.event_count ++ 32 ∷ decimal s.expire_count)) ++ x ++ newline) (spaced_more (decimal s.active_time) (decimal s.total_time) (decimal s.max_time) (decimal s.last_time))
-    ∙ onto (codes "source " ++ name) (decimal s.active_count) (decimal s.event_count) (decimal s.expire_count) (times_of s) newline
+    ∙ onto (codes "source " ++ name) (decimal s.active_count) (decimal s.event_count) (decimal s.expire_count) (spaced_times s) newline
 
 -- a source's line is read back
 pub source_back : (name : List ℕ) (s : Stats) → fits_stats s ≡ true → stats_in (without_last (drop (length (head_of name)) (source_line name s))) ≡ Some s
@@ -105,9 +105,9 @@ module _ (m : Machine) (named : AreNamed m) where
   why_back (why.Mark x) f = ap (option_map why.Mark) (mark_back m named x f)
   why_back _ f = absurd (cc)
 
-  behind_word : (k : TaskKind) (n : List ℕ) → behind 58 (script_word k ++ n) ≡ n
-  behind_word task.Irq n = refl
-  behind_word _ n = refl
+  after_word : (k : TaskKind) (n : List ℕ) → after_first 58 (script_word k ++ n) ≡ n
+  after_word task.Irq n = refl
+  after_word _ n = refl
 
   waited : (i : ℕ) (w : Why) → nat_lt i (length m.actors) ≡ true → fits_cause m w ≡ true → waiting_in m (actor_text m (actor.Script i) ++ 32 ∷ waiting_text m w) ≡ Some (record { actor = actor.Script i; why = w })
   waited i w f g =
@@ -117,7 +117,7 @@ module _ (m : Machine) (named : AreNamed m) where
       let plain = script_plain s.0.kind s.0.name (ap (λ (o : Option Script). is_without 32 (task_name o)) (sym s.1) ∙ task_bytes m named 32 refl i f) in
       let at : script_in m s.0.name ≡ Some i = ap (λ (o : Option Script). script_in m (task_name o)) (sym s.1) ∙ task_back m named i f in
       ap (λ (o : Option Script). waiting_in m (script_text o ++ 32 ∷ x)) s.1
-      ∙ rw (first t x plain, second t x plain, behind_word s.0.kind s.0.name, at, why_back w g) refl
+      ∙ rw (first t x plain, second t x plain, after_word s.0.kind s.0.name, at, why_back w g) refl
 
   stuck_is : (w : Waiting) → waiting_line m w ≡ codes "stuck " ++ ((actor_text m w.actor ++ 32 ∷ waiting_text m w.why) ++ newline)
   stuck_is w = ap (λ (x : List ℕ). codes "stuck " ++ x) (parted (actor_text m w.actor) (waiting_text m w.why) newline)

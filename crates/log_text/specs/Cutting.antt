@@ -10,18 +10,18 @@ abbrev pub before : ℕ → List ℕ → List ℕ
 before mark [] = []
 before mark (b ∷ bytes) = if b == mark then [] else b ∷ before mark bytes
 
--- the bytes behind the first of that value, nothing where there is none
-abbrev pub behind : ℕ → List ℕ → List ℕ
-behind mark [] = []
-behind mark (b ∷ bytes) = if b == mark then bytes else behind mark bytes
+-- the bytes after the first of that value, nothing if there is none
+abbrev pub after_first : ℕ → List ℕ → List ℕ
+after_first mark [] = []
+after_first mark (b ∷ bytes) = if b == mark then bytes else after_first mark bytes
 
 -- what stands before the first space
 abbrev pub word : List ℕ → List ℕ
 word text = before 32 text
 
--- what stands behind the first space
+-- what stands after the first space
 abbrev pub rest : List ℕ → List ℕ
-rest text = behind 32 text
+rest text = after_first 32 text
 
 -- all but the last byte
 abbrev pub without_last : List ℕ → List ℕ
@@ -31,7 +31,7 @@ without_last text = take (length text - 1) text
 abbrev pub digit_after : ℕ → ℕ → Option ℕ
 digit_after n b = if is_digit b && is_word64 (n * 10 + (b - 48)) then Some (n * 10 + (b - 48)) else None
 
--- the number that the digits spell behind those of n
+-- the number that the digits spell after those of n
 abbrev pub number_after : ℕ → List ℕ → Option ℕ
 number_after n [] = Some n
 number_after n (b ∷ bytes) = option_and_then (λ k. number_after k bytes) (digit_after n b)
@@ -50,5 +50,5 @@ abbrev pub word32 : List ℕ → Option ℕ
 word32 text = option_and_then short (word64 text)
 
 -- the first thing of that name
-abbrev pub place_in : List (List ℕ) → List ℕ → Option ℕ
-place_in names name = if is_name_long name then position (bytes_eq name) names else None
+abbrev pub index_in : List (List ℕ) → List ℕ → Option ℕ
+index_in names name = if is_name_long name then position (bytes_eq name) names else None

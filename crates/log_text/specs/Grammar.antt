@@ -29,10 +29,10 @@ IsStuckLine m line = (w : Waiting) × (fits_script m w.actor ≡ true) × (fits_
 abbrev pub finished_line : List ℕ
 finished_line = codes "finished" ++ newline
 
--- behind the end no line may stand: the first bad line is the one with number n
-abbrev pub IsBadBehind : List (List ℕ) → ℕ → ℕ → Type 0
-IsBadBehind [] n bad = ⊥
-IsBadBehind (line ∷ rest) n bad = bad ≡ n
+-- after the end no line may stand: the first bad line is the one with number n
+abbrev pub IsBadAfterEnd : List (List ℕ) → ℕ → ℕ → Type 0
+IsBadAfterEnd [] n bad = ⊥
+IsBadAfterEnd (line ∷ rest) n bad = bad ≡ n
 
 -- the first bad line from the one with number n on, where lines of stuck scripts may stand
 abbrev pub IsBadStuck : Machine → List (List ℕ) → ℕ → ℕ → Type 0
@@ -44,7 +44,7 @@ IsBadStuck m (line ∷ rest) n bad =
 abbrev pub IsBadEnd : Machine → List (List ℕ) → ℕ → ℕ → Type 0
 IsBadEnd m [] n bad = bad ≡ n
 IsBadEnd m (line ∷ rest) n bad =
-    ((line ≡ finished_line) × IsBadBehind rest (n + 1) bad)
+    ((line ≡ finished_line) × IsBadAfterEnd rest (n + 1) bad)
     ⊎ ((line ≢ finished_line) × IsBadStuck m (line ∷ rest) n bad)
 
 -- the first bad line from the one with number n on, where the lines of these sources have to stand, and then the end

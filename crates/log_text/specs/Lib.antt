@@ -1,4 +1,4 @@
-pub mod Book
+pub mod MachineNames
 pub mod Cutting
 pub mod Faults
 pub mod Front

@@ -4,10 +4,10 @@ use Rattle.sleep_base.specs.declared.outside.Failed.{Failed}
 use Rattle.sleep_base.specs.Whole.{WriteAll}
 
 -- of bytes, some were written from one moment of a sink to another: so what holds of the writing of those that are left holds of all
-abbrev pub Tells : Option (List ℕ) → Option (List ℕ) → ℕ → ℕ → List ℕ → List ℕ → Type 0
-Tells old mid before then all left =
+abbrev pub Takes : Option (List ℕ) → Option (List ℕ) → ℕ → ℕ → List ℕ → List ℕ → Type 0
+Takes old mid before then all left =
     (new : Option (List ℕ)) (now : ℕ) (result : Result Unit Failed) → WriteAll mid new then now left result → WriteAll old new before now all result
 
--- the same of bytes that are held, whatever comes behind them
+-- the same of bytes that are held, whatever comes after them
 abbrev pub Passes : Option (List ℕ) → Option (List ℕ) → ℕ → ℕ → List ℕ → List ℕ → Type 0
-Passes old mid before then held left = (rest : List ℕ) → Tells old mid before then (held ++ rest) (left ++ rest)
+Passes old mid before then buffer left = (rest : List ℕ) → Takes old mid before then (buffer ++ rest) (left ++ rest)

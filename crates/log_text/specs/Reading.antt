@@ -1,4 +1,4 @@
--- What a line has to say, if it is an entry's line at all: read leniently, since a line counts only where the entry spells it.
+-- What a line has to say, if it is an entry's line at all: read leniently, since a line counts only if the entry spells it.
 use Rattle.std.specs.Prelude.{ℕ, true, List, codes, Option, Some, None, option_map, option_and_then, if◌then◌else◌}
 use Rattle.std.specs.Str.{bytes_eq}
 use Rattle.sleep_base.specs.declared.errno.Errno.TheVariants.{EBUSY, EINVAL}
@@ -21,7 +21,7 @@ use Rattle.sleep_model.specs.Text.{hard_word, link_word, runtime_word, source_na
 use Rattle.log_text.specs.declared.spelling.verb.Verb.{Verb}
 use Rattle.log_text.specs.declared.spelling.verb.Verb.TheVariants as verb
 use Rattle.log_text.specs.Named.{device_names, notifier_names, script_names}
-use Rattle.log_text.specs.Cutting.{before, behind, word, rest, word32, word64, place_in}
+use Rattle.log_text.specs.Cutting.{before, after_first, word, rest, word32, word64, index_in}
 use Rattle.log_text.specs.Words.{errno_in, answer_in, prepare_in, phase_in, cause_in, group_in, thaw_in, state_in, down_in}
 use Rattle.log_text.specs.Verbs.{verb_of}
 
@@ -29,79 +29,79 @@ use Rattle.log_text.specs.Verbs.{verb_of}
 
 -- the device of that name
 abbrev pub device_in : Machine → List ℕ → Option ℕ
-device_in m t = place_in (device_names m) t
+device_in m t = index_in (device_names m) t
 
--- the source of that name, `autosleep` behind those of the machine
+-- the source of that name, `autosleep` after those of the machine
 abbrev pub source_in : Machine → List ℕ → Option ℕ
-source_in m t = place_in (source_names m) t
+source_in m t = index_in (source_names m) t
 
 -- the mark of that name
 abbrev pub mark_in : Machine → List ℕ → Option ℕ
-mark_in m t = place_in m.marks t
+mark_in m t = index_in m.marks t
 
 -- the notifier of that name
 abbrev pub notifier_in : Machine → List ℕ → Option ℕ
-notifier_in m t = place_in (notifier_names m) t
+notifier_in m t = index_in (notifier_names m) t
 
 -- the syscore step of that name
 abbrev pub syscore_in : Machine → List ℕ → Option ℕ
-syscore_in m t = place_in m.syscore t
+syscore_in m t = index_in m.syscore t
 
 -- the script of that name
 abbrev pub script_in : Machine → List ℕ → Option ℕ
-script_in m t = place_in (script_names m) t
+script_in m t = index_in (script_names m) t
 
 -- ---- entries of tasks and of the autosleep work
 
--- what stands behind `read`
+-- what stands after `read`
 abbrev pub read_kind : List ℕ → Option ℕ → Kind
 read_kind t (Some c) = kind.Read c
 read_kind t None = if bytes_eq t (codes "wait") then kind.ReadWait else kind.ReadIntr
 
--- what stands behind `save` and a count
+-- what stands after `save` and a count
 abbrev pub save_kind : List ℕ → ℕ → Kind
 save_kind t c =
     if bytes_eq t (codes "wait") then kind.SaveWait c
     else (if bytes_eq t (codes "ok") then kind.Saved c else kind.SaveErr c (errno_in t))
 
--- what stands behind `state`
+-- what stands after `state`
 abbrev pub state_kind : List ℕ → Kind
 state_kind t =
     if bytes_eq t (codes "wait") then kind.StateWait
     else (if bytes_eq t (codes "unsaved") then kind.StateUnsaved else kind.StateErr (errno_in t))
 
--- what stands behind `autosleep`
+-- what stands after `autosleep`
 abbrev pub autosleep_kind : List ℕ → Kind
 autosleep_kind t =
     if bytes_eq t (name_of EINVAL) then kind.AutoBad
     else (if bytes_eq t (codes "done") then kind.AutoDone else kind.AutoSet (state_in (rest t)))
 
--- what stands behind `runtime`
+-- what stands after `runtime`
 abbrev pub runtime_kind : Machine → List ℕ → Option Kind
 runtime_kind m t =
     option_map
     (λ d. kind.RuntimeAsk d (bytes_eq (word (rest t)) (runtime_word true)) (answer_in (rest (rest t))))
     (device_in m (word t))
 
--- what stands behind `link`
+-- what stands after `link`
 abbrev pub link_kind : Machine → List ℕ → Option Kind
 link_kind m t =
     option_and_then
     (λ s. option_map (λ c. kind.LinkAdd s c (answer_in (rest (rest t)))) (device_in m (word (rest t))))
     (device_in m (word t))
 
--- what stands behind the ends of `link_state`
+-- what stands after the ends of `link_state`
 abbrev pub link_state_to : List ℕ → ℕ → ℕ → Kind
 link_state_to t s c = kind.LinkState s c (bytes_eq (word t) (link_word true)) (answer_in (rest t))
 
--- what stands behind `link_state`
+-- what stands after `link_state`
 abbrev pub link_state_kind : Machine → List ℕ → Option Kind
 link_state_kind m t =
     option_and_then
     (λ s. option_map (link_state_to (rest (rest t)) s) (device_in m (word (rest t))))
     (device_in m (word t))
 
--- what stands behind `event`
+-- what stands after `event`
 abbrev pub event_kind : Machine → List ℕ → Option Kind
 event_kind m t =
     option_and_then
@@ -110,47 +110,47 @@ event_kind m t =
 
 -- ---- entries of device phases
 
--- what stands behind `prepare`
+-- what stands after `prepare`
 abbrev pub prepare_kind : Machine → List ℕ → Option Kind
 prepare_kind m t = option_map (λ d. kind.Prepare d (prepare_in (rest t))) (device_in m (word t))
 
--- what stands behind `schedule`
+-- what stands after `schedule`
 abbrev pub schedule_kind : Machine → List ℕ → Option Kind
 schedule_kind m t = option_map (λ d. kind.Schedule (phase_in (word t)) d) (device_in m (rest t))
 
--- what stands behind `begin`
+-- what stands after `begin`
 abbrev pub begin_kind : Machine → List ℕ → Option Kind
 begin_kind m t = option_map (λ d. kind.Begin (phase_in (word t)) d) (device_in m (rest t))
 
--- what stands behind `end`
+-- what stands after `end`
 abbrev pub end_kind : Machine → List ℕ → Option Kind
 end_kind m t =
     option_map (λ d. kind.End (phase_in (word t)) d (answer_in (rest (rest t)))) (device_in m (word (rest t)))
 
--- what stands behind `skip`
+-- what stands after `skip`
 abbrev pub skip_kind : Machine → List ℕ → Option Kind
 skip_kind m t =
     option_map (λ d. kind.Skip (phase_in (word t)) d (cause_in (rest (rest t)))) (device_in m (word (rest t)))
 
 -- ---- entries of attempts
 
--- what stands behind `attempt`
+-- what stands after `attempt`
 abbrev pub attempt_kind : List ℕ → Option Kind
 attempt_kind t = option_map (λ n. kind.Attempt n (word32 (rest (rest t)))) (word32 (word t))
 
--- what stands behind `over`
+-- what stands after `over`
 abbrev pub over_kind : List ℕ → Option Kind
 over_kind t = option_map (λ n. kind.Over n (answer_in (rest t))) (word32 (word t))
 
--- what stands behind `notify` and a notifier
+-- what stands after `notify` and a notifier
 abbrev pub notified_kind : List ℕ → ℕ → Kind
 notified_kind t x = if bytes_eq t (codes "post") then kind.NotifyPost x else kind.NotifyPrepare x (answer_in (rest t))
 
--- what stands behind `notify`
+-- what stands after `notify`
 abbrev pub notify_kind : Machine → List ℕ → Option Kind
 notify_kind m t = option_map (notified_kind (rest t)) (notifier_in m (word t))
 
--- what stands behind `EBUSY` where a freeze failed
+-- what stands after `EBUSY` if a freeze failed
 abbrev pub failed_end : List ℕ → ℕ → ℕ → FrozeEnd
 failed_end why left first = if bytes_eq why (codes "timeout") then froze.Timeout left first else froze.Wakeup left first
 
@@ -165,11 +165,11 @@ failed_in m t =
 abbrev pub froze_in : Machine → List ℕ → Option FrozeEnd
 froze_in m t = if bytes_eq t (codes "0") then Some froze.AllFrozen else failed_in m (rest t)
 
--- what stands behind `froze`
+-- what stands after `froze`
 abbrev pub froze_kind : Machine → List ℕ → Option Kind
 froze_kind m t = option_map (kind.Froze (group_in (word t))) (froze_in m (rest t))
 
--- what stands behind `platform`
+-- what stands after `platform`
 abbrev pub platform_kind : List ℕ → Kind
 platform_kind t =
     if bytes_eq t (up_word up.Recover) then kind.PlatformUndo up.Recover
@@ -184,15 +184,15 @@ processor_kind t k =
     if bytes_eq t (codes "off") then kind.CpuOff k
     else (if bytes_eq t (codes "on") then kind.CpuOn k else kind.CpuBusy k)
 
--- what stands behind `cpu`
+-- what stands after `cpu`
 abbrev pub cpu_kind : List ℕ → Option Kind
 cpu_kind t = option_map (processor_kind (word t)) (word32 (rest t))
 
--- what stands behind `syscore suspend`
+-- what stands after `syscore suspend`
 abbrev pub syscore_down : Machine → List ℕ → Option Kind
 syscore_down m t = option_map (λ x. kind.SyscoreSuspend x (answer_in (rest t))) (syscore_in m (word t))
 
--- what stands behind `syscore`
+-- what stands after `syscore`
 abbrev pub syscore_kind : Machine → List ℕ → Option Kind
 syscore_kind m t =
     if bytes_eq (word t) (codes "check") then Some (kind.SyscoreCheck (answer_in (rest t)))
@@ -201,7 +201,7 @@ syscore_kind m t =
 
 -- ---- by the first word
 
--- what stands behind a verb of an attempt
+-- what stands after a verb of an attempt
 abbrev pub attempt_by : Machine → Verb → List ℕ → Option Kind
 attempt_by m verb.Attempt t = attempt_kind t
 attempt_by m verb.Over t = over_kind t
@@ -218,7 +218,7 @@ attempt_by m verb.Wake t = Some (kind.Wake (bytes_eq t (codes "event")))
 attempt_by m verb.Clear t = Some kind.Clear
 attempt_by m _ t = None
 
--- what stands behind a verb of a source or of time, and of an attempt
+-- what stands after a verb of a source or of time, and of an attempt
 abbrev pub source_by : Machine → Verb → List ℕ → Option Kind
 source_by m verb.Awake t = option_map kind.Awake (source_in m t)
 source_by m verb.Relax t = option_map kind.Relax (source_in m t)
@@ -230,7 +230,7 @@ source_by m verb.Hard t = option_map kind.Hard (source_in m t)
 source_by m verb.Jump t = Some kind.Jump
 source_by m v t = attempt_by m v t
 
--- what stands behind a verb of the autosleep work, and of all but tasks and devices
+-- what stands after a verb of the autosleep work, and of all but tasks and devices
 abbrev pub auto_by : Machine → Verb → List ℕ → Option Kind
 auto_by m verb.Run t = Some kind.AutoRun
 auto_by m verb.Saved t = option_map kind.AutoSaved (word32 t)
@@ -240,7 +240,7 @@ auto_by m verb.Again t = Some kind.AutoAgain
 auto_by m verb.Off t = Some kind.AutoOff
 auto_by m v t = source_by m v t
 
--- what stands behind a verb of a task, and of all but devices
+-- what stands after a verb of a task, and of all but devices
 abbrev pub task_by : Machine → Verb → List ℕ → Option Kind
 task_by m verb.Frozen t = Some kind.Frozen
 task_by m verb.Read t = Some (read_kind t (word32 t))
@@ -259,7 +259,7 @@ task_by m verb.Link t = link_kind m t
 task_by m verb.LinkState t = link_state_kind m t
 task_by m v t = auto_by m v t
 
--- what stands behind a verb
+-- what stands after a verb
 abbrev pub kind_by : Machine → Verb → List ℕ → Option Kind
 kind_by m verb.Begin t = begin_kind m t
 kind_by m verb.End t = end_kind m t
@@ -281,8 +281,8 @@ abbrev pub now_in : List ℕ → Option EventNow
 now_in t =
     option_and_then
     (λ inpr. option_and_then
-    (λ count. option_map (λ hard. record { inpr = inpr; count = count; hard = hard }) (word32 (behind 47 (behind 47 t))))
-    (word32 (before 47 (behind 47 t))))
+    (λ count. option_map (λ hard. record { inpr = inpr; count = count; hard = hard }) (word32 (after_first 47 (after_first 47 t))))
+    (word32 (before 47 (after_first 47 t))))
     (word32 (before 47 t))
 
 -- who makes an entry
@@ -290,13 +290,13 @@ abbrev pub actor_in : Machine → List ℕ → Option Actor
 actor_in m t =
     if bytes_eq t (codes "auto") then Some actor.Auto
     else (if bytes_eq t (codes "time") then Some actor.Time
-    else (if bytes_eq (before 58 t) (codes "dev") then option_map actor.Dev (device_in m (behind 58 t))
-    else (if bytes_eq (before 58 t) (codes "timer") then option_map actor.Timer (source_in m (behind 58 t))
-    else option_map actor.Script (script_in m (behind 58 t)))))
+    else (if bytes_eq (before 58 t) (codes "dev") then option_map actor.Dev (device_in m (after_first 58 t))
+    else (if bytes_eq (before 58 t) (codes "timer") then option_map actor.Timer (source_in m (after_first 58 t))
+    else option_map actor.Script (script_in m (after_first 58 t)))))
 
 -- an entry by the actor's text, and then by what it says
-abbrev pub said_in : Machine → ℕ → EventNow → List ℕ → Option Entry
-said_in m time now t =
+abbrev pub entry_by_text : Machine → ℕ → EventNow → List ℕ → Option Entry
+entry_by_text m time now t =
     option_and_then
     (λ who. option_map (λ what. record { time = time; now = now; actor = who; kind = what }) (kind_in m (rest t)))
     (actor_in m (word t))
@@ -305,12 +305,12 @@ said_in m time now t =
 abbrev pub entry_in : Machine → List ℕ → Option Entry
 entry_in m t =
     option_and_then
-    (λ time. option_and_then (λ now. said_in m time now (rest (rest t))) (now_in (word (rest t))))
+    (λ time. option_and_then (λ now. entry_by_text m time now (rest (rest t))) (now_in (word (rest t))))
     (word64 (word t))
 
 -- ---- the lines of sources and of stuck scripts
 
--- the times of a source, behind its counts
+-- the times of a source, after its counts
 abbrev pub times_in : ℕ → ℕ → ℕ → List ℕ → Option Stats
 times_in active event expire t =
     option_and_then
@@ -331,7 +331,7 @@ times_in active event expire t =
     (word64 (word (rest t))))
     (word64 (word t))
 
--- the statistics of a source, behind its name
+-- the statistics of a source, after its name
 abbrev pub stats_in : List ℕ → Option Stats
 stats_in t =
     option_and_then
@@ -346,9 +346,9 @@ stats_in t =
 abbrev pub why_in : Machine → List ℕ → Option Why
 why_in m t = if bytes_eq t (codes "read") then Some why.InProgress else option_map why.Mark (mark_in m (rest t))
 
--- a script that never exits, behind `stuck`
+-- a script that never exits, after `stuck`
 abbrev pub waiting_in : Machine → List ℕ → Option Waiting
 waiting_in m t =
     option_and_then
     (λ i. option_map (λ cause. record { actor = actor.Script i; why = cause }) (why_in m (rest t)))
-    (script_in m (behind 58 (word t)))
+    (script_in m (after_first 58 (word t)))

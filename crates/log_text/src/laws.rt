@@ -10,7 +10,7 @@ ghost use Rattle.log_text.specs.Named.{AreNamed};
 
 /// Two logs that fit the machine and have the same text are the same log.
 #[tactic(auto, using(crate::proofs::OneLog::one_log))]
-pub fn text_tells_log()
+pub fn log_text_is_injective()
     ensures { (m : Machine) (a b : Log) → AreNamed m → IsWritable m a → IsWritable m b → text m a ≡ text m b → a ≡ b }
 {}
 

@@ -5,7 +5,7 @@
 //! Promises: The written bytes are the text of the log, or a front of it if a write failed. A log is read only from
 //! its text, and fits the machine. If the machine's names are spelled as names and told apart, the text of a
 //! fitting log is read as that log, and of other bytes the first bad line is named. By the clauses of `write_log`,
-//! `LogText::write_to`; `read_log`: `text`, `fits`, `back`, `taken`, `line`; `text_tells_log`,
+//! `LogText::write_to`; `read_log`: `text`, `fits`, `back`, `taken`, `line`; `log_text_is_injective`,
 //! `written_lines_are_good`, `first_bad_line_is_one`.
 //!
 //! Begin reading in `specs/Grammar.antt`.
@@ -18,7 +18,7 @@ mod spelling;
 mod writing;
 
 pub use fault::LogFault;
-pub use laws::{first_bad_line_is_one, text_tells_log, written_lines_are_good};
+pub use laws::{first_bad_line_is_one, log_text_is_injective, written_lines_are_good};
 pub use reading::read::read_log;
 pub use writing::log::write_log;
 pub use writing::referred::write_entries;

@@ -1,7 +1,6 @@
 //! From the lines of a log to the log.
 
 pub(crate) mod attempts;
-pub(crate) mod book;
 pub(crate) mod cut;
 pub(crate) mod devices;
 pub(crate) mod ends;
@@ -9,6 +8,7 @@ pub(crate) mod entries;
 pub(crate) mod index;
 pub(crate) mod kinds;
 pub(crate) mod lines;
+pub(crate) mod machine_names;
 pub(crate) mod meaning;
 pub(crate) mod names;
 pub(crate) mod number;

@@ -16,9 +16,9 @@ use Rattle.machine_file.specs.Names.{devices_named}
 use Rattle.machine_file.specs.Operations.{sourceless_operation, known_of, whole_script}
 use Rattle.machine_file.specs.Spelled.{link_of}
 use Rattle.machine_file.specs.Whole.{Rule, rules, first_of, first_broken, broken_at, whole_machine, whole_notifier}
-use Rattle.machine_file.proofs.AnswersKept.{answers_kept}
-use Rattle.machine_file.proofs.LinksKept.{links_kept}
-use Rattle.machine_file.proofs.ScriptsKept.{scripts_kept, steps_kept, links_few}
+use Rattle.machine_file.proofs.AnswersValid.{answers_valid}
+use Rattle.machine_file.proofs.LinksValid.{links_valid}
+use Rattle.machine_file.proofs.ScriptsValid.{scripts_valid, steps_valid, links_few}
 
 -- ---- no rule is broken
 
@@ -66,10 +66,10 @@ within_parts least most None dflt h = absurd (true≢false (sym h))
 within_parts least most (Some n) dflt h = let both = and_parts _ _ h in (leb-true _ _ both.0, leb-true _ _ both.1)
 
 -- a number that is left out or of its range
-number_kept : (least most dflt : ℕ) (o : Option Data) → is_none_or (is_within least most) o ≡ true → least ≤ dflt → dflt ≤ most
+number_valid : (least most dflt : ℕ) (o : Option Data) → is_none_or (is_within least most) o ≡ true → least ≤ dflt → dflt ≤ most
     → (least ≤ unwrap_or (option_and_then as_u64 (option_and_then as_number o)) dflt) × (unwrap_or (option_and_then as_u64 (option_and_then as_number o)) dflt ≤ most)
-number_kept least most dflt None h a b = (a, b)
-number_kept least most dflt (Some d) h a b = within_parts least most (option_and_then as_u64 (as_number d)) dflt h
+number_valid least most dflt None h a b = (a, b)
+number_valid least most dflt (Some d) h a b = within_parts least most (option_and_then as_u64 (as_number d)) dflt h
 
 length-mapped : {A : Type 0} (f : Data → A) (ds : List Data) → length (map f ds) ≡ length ds
 length-mapped f [] = refl
@@ -98,11 +98,11 @@ accepted d h =
     let answers = operations.1.1.1.1 in
     let members = all_pass (λ (f : Named (Data → Bool)). may_have f.name f.is d) member_forms unformed in
     let counts = all_pass (λ (n : Named ℕ). nat_le (length (list_in n.name d)) n.is) most_items many in
-    let alarm = number_kept 1 86400000 1000 (get (codes "alarm_ms") d) members.0 (omega arith) (omega arith) in
-    let cpus = number_kept 1 64 1 (get (codes "cpus") d) members.1.0 (omega arith) (omega arith) in
-    let cycles = number_kept 1 1000 16 (get (codes "auto_cycles") d) members.1.1.0 (omega arith) (omega arith) in
-    let linked = links_kept d many orphans loose twice cycle in
-    let steps = steps_kept d answers.1.1.1.1.0 in
+    let alarm = number_valid 1 86400000 1000 (get (codes "alarm_ms") d) members.0 (omega arith) (omega arith) in
+    let cpus = number_valid 1 64 1 (get (codes "cpus") d) members.1.0 (omega arith) (omega arith) in
+    let cycles = number_valid 1 1000 16 (get (codes "auto_cycles") d) members.1.1.0 (omega arith) (omega arith) in
+    let linked = links_valid d many orphans loose twice cycle in
+    let steps = steps_valid d answers.1.1.1.1.0 in
     record {
       alarm_least = omega (arith, alarm.0);
       alarm_most = alarm.1;
@@ -117,9 +117,9 @@ accepted d h =
       notifiers = few whole_notifier (list_in (codes "notifiers") d) 32 counts.1.1.1.0;
       sources = few text_of (list_in (codes "sources") d) 255 counts.1.1.1.1.0;
       actors = few (whole_script (known_of d)) (list_in (codes "actors") d) 256 counts.1.1.1.1.1.0;
-      scripts = scripts_kept d items operations.0 sources.0 operations.1.1.1.0;
+      scripts = scripts_valid d items operations.0 sources.0 operations.1.1.1.0;
       steps = steps.0;
-      answers = answers_kept d items answers.0 answers.1.0 answers.1.1.0 sources.1;
+      answers = answers_valid d items answers.0 answers.1.0 answers.1.1.0 sources.1;
       few_answers = few (whole_answer d) (list_in (codes "answers") d) 10000 counts.1.1.1.1.1.1.0;
       attempts = steps.1;
     }

@@ -6,7 +6,7 @@ map_or : {A B : Type 0} (f : A → B) (a b : Option A) → option_map f (option_
 map_or f None b = refl
 map_or f (Some x) b = refl
 
--- one more behind those before
+-- one more after those before
 or_more : {A B : Type 0} (f : A → B) (r s t : Option A) (x y : Option B) → r ≡ option_or s t → option_map f s ≡ x → option_map f t ≡ y → option_map f r ≡ option_or x y
 or_more f r s t x y e g h = ap (option_map f) e ∙ map_or f s t ∙ ap (λ o. option_or o (option_map f t)) g ∙ ap (option_or x) h
 
@@ -30,7 +30,7 @@ seven None None None None (Some x) f g = refl
 seven None None None None None (Some x) g = refl
 seven None None None None None None g = refl
 
--- none behind the last
+-- none after the last
 pub last : {A : Type 0} (a : Option A) → a ≡ option_or a None
 last None = refl
 last (Some x) = refl

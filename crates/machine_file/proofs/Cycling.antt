@@ -21,7 +21,7 @@ pub record Adding (ps : List (Option ℕ)) (ls : List Link) (i : ℕ) (added : L
   pub linked : AreLinks ps (reverse (take i ls))
   pub search : later_from (closes_nothing ps) ls 0 ≡ later_from (closes_nothing ps) ls i
 
--- a fault that is neither a cycle nor want of memory
+-- a fault that is neither a cycle nor out of memory
 abbrev pub IsOther : LinkFault → Type 0
 IsOther (link.Cycle path) = ⊥
 IsOther link.Mem = ⊥

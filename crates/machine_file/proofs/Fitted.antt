@@ -88,7 +88,7 @@ short_some (Some s) e =
     let least = leb-true 1 (length s) both.0 in
     record { least = omega arith; most = leb-true (length s) 32 both.1 }
 
--- a number of at least 1, where one is given
+-- a number of at least 1 if one is given
 pub least_or : (most : ℕ) (o : Option Data) → is_none_or (is_within 1 most) o ≡ true → 1 ≤ unwrap_or (option_and_then as_u64 (option_and_then as_number o)) 1
 least_or most None e = omega arith
 least_or most (Some d) e = by (option_and_then as_u64 (as_number d)) e
@@ -160,8 +160,8 @@ module _ (o : Data) (members : List (List ℕ)) (form : Bool) (e : (has_only (co
   markless n = absent_word is_name names (codes "mark") o only n
 
   -- a row without numbers and marks
-  bare_row : list_any (bytes_eq (codes "count")) names ≡ false → list_any (bytes_eq (codes "ms")) names ≡ false → list_any (bytes_eq (codes "mark")) names ≡ false → IsPlain o
-  bare_row c m k = record { made = made; fits = record { times = times; count = none_at (codes "count") c; ms = none_at (codes "ms") m }; mark = markless k }
+  plain_row : list_any (bytes_eq (codes "count")) names ≡ false → list_any (bytes_eq (codes "ms")) names ≡ false → list_any (bytes_eq (codes "mark")) names ≡ false → IsPlain o
+  plain_row c m k = record { made = made; fits = record { times = times; count = none_at (codes "count") c; ms = none_at (codes "ms") m }; mark = markless k }
 
   -- a row with a length
   long_row : list_any (bytes_eq (codes "count")) names ≡ false → list_any (bytes_eq (codes "mark")) names ≡ false → (form ≡ true → FitsAt (codes "ms") o) → IsPlain o
@@ -196,33 +196,33 @@ event_form o e =
 
 each_row : (o : Data) → EachRow o operations
 each_row o = (
-  λ e. bare_row o [] (plain o) e refl refl refl,
+  λ e. plain_row o [] (plain o) e refl refl refl,
   (
     λ e. saved_row o (codes "count" ∷ []) (has_count o) e refl refl (λ h. within_fits 0 4294967295 (codes "count") o (omega arith) h),
     (
-      λ e. bare_row o (codes "text" ∷ codes "if_saved" ∷ []) (is_state_form o) e refl refl refl,
+      λ e. plain_row o (codes "text" ∷ codes "if_saved" ∷ []) (is_state_form o) e refl refl refl,
       (
-        λ e. bare_row o (codes "text" ∷ []) (has_short_text o) e refl refl refl,
+        λ e. plain_row o (codes "text" ∷ []) (has_short_text o) e refl refl refl,
         (
           λ e. long_row o (codes "ms" ∷ []) (has_length o) e refl refl (long_form o),
           (
             λ e. long_row o (codes "ms" ∷ []) (has_length o) e refl refl (long_form o),
             (
-              λ e. bare_row o [] (plain o) e refl refl refl,
+              λ e. plain_row o [] (plain o) e refl refl refl,
               (
                 λ e. marked_row o (codes "mark" ∷ []) (has_mark o) e refl refl (named_mark o),
                 (
                   λ e. marked_row o (codes "mark" ∷ []) (has_mark o) e refl refl (named_mark o),
                   (
-                    λ e. bare_row o (codes "device" ∷ codes "to" ∷ []) (is_runtime_form o) e refl refl refl,
+                    λ e. plain_row o (codes "device" ∷ codes "to" ∷ []) (is_runtime_form o) e refl refl refl,
                     (
-                      λ e. bare_row o (codes "supplier" ∷ codes "consumer" ∷ []) (has_ends_named o) e refl refl refl,
+                      λ e. plain_row o (codes "supplier" ∷ codes "consumer" ∷ []) (has_ends_named o) e refl refl refl,
                       (
-                        λ e. bare_row o (codes "supplier" ∷ codes "consumer" ∷ codes "to" ∷ []) (is_link_state_form o) e refl refl refl,
+                        λ e. plain_row o (codes "supplier" ∷ codes "consumer" ∷ codes "to" ∷ []) (is_link_state_form o) e refl refl refl,
                         (
-                          λ e. bare_row o (codes "source" ∷ []) (has_source o) e refl refl refl,
+                          λ e. plain_row o (codes "source" ∷ []) (has_source o) e refl refl refl,
                           (
-                            λ e. bare_row o (codes "source" ∷ []) (has_source o) e refl refl refl,
+                            λ e. plain_row o (codes "source" ∷ []) (has_source o) e refl refl refl,
                             (λ e. long_row o (codes "source" ∷ codes "ms" ∷ codes "hard" ∷ []) (is_event_form o) e refl refl (event_form o), tt),
                           ),
                         ),

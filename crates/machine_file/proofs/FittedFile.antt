@@ -12,19 +12,19 @@ use Rattle.sleep_base.specs.Errno.{name_of as error_name}
 use Rattle.sleep_model.specs.Answers.{errors}
 use Rattle.machine_file.specs.Look.{has_only, is_some_and, is_none_or, is_list, is_number, text_of}
 use Rattle.machine_file.specs.Members.{actor_members, answer_members, report_members, notifier_members, must_have, may_have, has_text, list_in, word_at}
-use Rattle.machine_file.specs.Form.{Named, is_string, is_truth, is_within, is_near, is_one_of, is_time, is_notifier_form, is_actor_form, kinds, answerers, phases, is_ret_form, is_plain_report, is_event_report, is_report_form, are_reports, is_answer_form, item_forms, member_forms}
+use Rattle.machine_file.specs.Form.{Named, is_string, is_truth, is_within, is_bounded, is_one_of, is_time, is_notifier_form, is_actor_form, kinds, answerers, phases, is_ret_form, is_plain_report, is_event_report, is_report_form, are_reports, is_answer_form, item_forms, member_forms}
 use Rattle.machine_file.specs.Names.{spells_name, names_of_device, own_name, item_names, is_among_names}
 use Rattle.machine_file.specs.Rules.{is_second}
 use Rattle.sleep_model.specs.NameBytes.{is_name}
-use Rattle.machine_file.specs.Operations.{is_formed, marks_of, first_places, whole_marks}
+use Rattle.machine_file.specs.Operations.{is_formed, marks_of, first_occurrences, whole_marks}
 use Rattle.machine_file.specs.Limits.{times_of, repeat_of, times_if, script_steps}
 use Rattle.machine_file.specs.Whole.{rules, first_broken}
 use Rattle.machine_file.specs.Fitting.{IsShort, HasShortName, FitsAt, FitsNotifier, FitsStep, FitsScript, HasPlainRet, FitsAnswer, FitsFile}
 use Rattle.machine_file.specs.Groups.{form_rules}
-use Rattle.machine_file.specs.Kept.{broken_form}
+use Rattle.machine_file.specs.ValidFiles.{broken_form}
 use Rattle.machine_file.proofs.Accepted.{keeps_all, all_pass}
-use Rattle.machine_file.proofs.AnswersKept.{text_no_number, reports_formed}
-use Rattle.machine_file.proofs.ScriptsKept.{EachList, each_list, each_item, each_operation, steps_few}
+use Rattle.machine_file.proofs.AnswersValid.{text_no_number, reports_formed}
+use Rattle.machine_file.proofs.ScriptsValid.{EachList, each_list, each_item, each_operation, steps_few}
 use Rattle.machine_file.proofs.Fitted.{absent_fits, within_fits, least_or, short_text, short_name, short_spelled, plain_operation}
 
 -- ---- lists
@@ -103,7 +103,7 @@ with_more true test found name f n = f
 with_more false test found name f n =
     list_all-append test found (name ∷ []) ∙ and_from (list_all test found) (list_all test (name ∷ [])) f (and_from (test name) true n refl)
 
-first_pass : (test : List ℕ → Bool) (found names : List (List ℕ)) → list_all test found ≡ true → list_all test names ≡ true → list_all test (first_places found names) ≡ true
+first_pass : (test : List ℕ → Bool) (found names : List (List ℕ)) → list_all test found ≡ true → list_all test names ≡ true → list_all test (first_occurrences found names) ≡ true
 first_pass test found [] f n = f
 first_pass test found (name ∷ names) f n =
     let both = and_parts (test name) (list_all test names) n in
@@ -115,11 +115,11 @@ one_more : (b : Bool) (found : List (List ℕ)) (name : List ℕ) → length (if
 one_more true found name = omega arith
 one_more false found name = let h = length-append found (name ∷ []) in omega (arith, h)
 
-first_few : (found names : List (List ℕ)) → length (first_places found names) ≤ length found + length names
+first_few : (found names : List (List ℕ)) → length (first_occurrences found names) ≤ length found + length names
 first_few found [] = omega arith
 first_few found (name ∷ names) =
     let more = if is_among_names found name then found else found ++ name ∷ [] in
-    let rest : length (first_places more names) ≤ length more + length names = first_few more names in
+    let rest : length (first_occurrences more names) ≤ length more + length names = first_few more names in
     let one : length more ≤ suc (length found) = one_more (is_among_names found name) found name in
     omega (arith, rest, one)
 
@@ -162,8 +162,8 @@ all_few second (a ∷ actors) f s =
 
 -- ---- notifiers and answers
 
-near : (d : Data) → is_notifier_form d ≡ true → may_have (codes "priority") (is_near 1000) d ≡ true
-near d e = (and_parts (has_only notifier_members d && must_have (codes "name") is_string d) (may_have (codes "priority") (is_near 1000) d) e).1
+near : (d : Data) → is_notifier_form d ≡ true → may_have (codes "priority") (is_bounded 1000) d ≡ true
+near d e = (and_parts (has_only notifier_members d && must_have (codes "name") is_string d) (may_have (codes "priority") (is_bounded 1000) d) e).1
 
 fits_notifier : (d : Data) → is_notifier_form d ≡ true → own_name d ≡ true → FitsNotifier d
 fits_notifier d form name = record { name = short_name d name; priority = near d form }
@@ -244,7 +244,7 @@ fits_file d h =
     let much = operations.1.1.1.1.1.1.1.1.0 in
     let marks = flat_map (λ a. marks_of (list_in (codes "script") a)) actors in
     let all : length marks ≤ sum_by (script_steps (λ o. true)) actors = all_few (is_second d) actors actor_forms scripts in
-    let first : length (first_places [] marks) ≤ 0 + length marks = first_few [] marks in
+    let first : length (first_occurrences [] marks) ≤ 0 + length marks = first_few [] marks in
     let steps = steps_few d much in
     record {
       cpus = within_fits 1 64 (codes "cpus") d (omega arith) members.1.0;

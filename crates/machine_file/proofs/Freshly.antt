@@ -16,7 +16,7 @@ use Rattle.machine_file.specs.Joined.{AreJoined}
 use Rattle.machine_file.specs.Places.{first_not, first_not_after, item_place}
 use Rattle.machine_file.specs.Names.{is_among_names, devices_named}
 use Rattle.machine_file.specs.Rules.{name_of}
-use Rattle.machine_file.specs.Spelled.{parent_of, place_among, link_of}
+use Rattle.machine_file.specs.Spelled.{parent_of, index_among, link_of}
 use Rattle.machine_file.specs.Devices.{has_parent_before, has_ends, is_same_link, is_new_link, whole_device, whole_devices, whole_links, closes_no_cycle}
 use Rattle.machine_file.specs.Fresh.{IsFresh, AreFresh, no_link, closes_nothing}
 use Rattle.machine_file.proofs.Placing.{position_cons, any_before, any_reverse, any_along, any_map, some_position, later_from, one_later, later_map}
@@ -126,7 +126,7 @@ position_within p [] = tt
 position_within p (s ∷ names) = subst (λ o. IfSome o (λ i. i < suc (length names))) (sym (position_cons p s names)) (within_more (p s) (position p names) (length names) (position_within p names))
 
 -- a name's place among them is within
-pub place_within : (names : List (List ℕ)) (s : List ℕ) → is_among_names names s ≡ true → place_among names s < length names
+pub place_within : (names : List (List ℕ)) (s : List ℕ) → is_among_names names s ≡ true → index_among names s < length names
 place_within names s e = some_within (position (bytes_eq s) names) (length names) (some_position (bytes_eq s) names ∙ e) (position_within (bytes_eq s) names)
 
 zero_suc : (k : ℕ) → 0 ≡ suc k → ⊥
@@ -159,10 +159,10 @@ found_at : (o : Option ℕ) → is_some o ≡ true → o ≡ Some (unwrap_or o 0
 found_at None e = cc
 found_at (Some j) e = refl
 
-same_place : (names : List (List ℕ)) (a b : List ℕ) → is_among_names names a ≡ true → is_among_names names b ≡ true → (place_among names a == place_among names b) ≡ true → bytes_eq a b ≡ true
+same_place : (names : List (List ℕ)) (a b : List ℕ) → is_among_names names a ≡ true → is_among_names names b ≡ true → (index_among names a == index_among names b) ≡ true → bytes_eq a b ≡ true
 same_place names a b h k e =
-    let same : place_among names a ≡ place_among names b = grind (arith, nat_tests) in
-    (bytes_decides a b).1 (one_name a b names (place_among names b)
+    let same : index_among names a ≡ index_among names b = grind (arith, nat_tests) in
+    (bytes_decides a b).1 (one_name a b names (index_among names b)
     (found_at (position (bytes_eq a) names) (some_position (bytes_eq a) names ∙ h) ∙ ap Some same) (found_at (position (bytes_eq b) names) (some_position (bytes_eq b) names ∙ k)))
 
 apart_case : (p q r s : Bool) → (p ≡ true → r ≡ true) → (q ≡ true → s ≡ true) → (r && s) ≡ false → (p && q) ≡ false
@@ -193,8 +193,8 @@ module _ (names : List (List ℕ)) (l : Data) (ends : has_ends names l ≡ true)
   other : (k : Data) → has_ends names k ≡ true → is_same_link l k ≡ false → is_it (link_of names k) ≡ false
   other k h e =
       let parts = and_parts (is_among_names names (text_at (codes "supplier") k)) (is_among_names names (text_at (codes "consumer") k)) h in
-      apart_case (place_among names (text_at (codes "supplier") k) == place_among names (text_at (codes "supplier") l))
-      (place_among names (text_at (codes "consumer") k) == place_among names (text_at (codes "consumer") l))
+      apart_case (index_among names (text_at (codes "supplier") k) == index_among names (text_at (codes "supplier") l))
+      (index_among names (text_at (codes "consumer") k) == index_among names (text_at (codes "consumer") l))
       (bytes_eq (text_at (codes "supplier") l) (text_at (codes "supplier") k)) (bytes_eq (text_at (codes "consumer") l) (text_at (codes "consumer") k))
       (λ q. turn (text_at (codes "supplier") k) (text_at (codes "supplier") l) (same_place names _ _ parts.0 supplier_in q))
       (λ q. turn (text_at (codes "consumer") k) (text_at (codes "consumer") l) (same_place names _ _ parts.1 consumer_in q)) e

@@ -7,7 +7,7 @@ use Rattle.machine_file.specs.Groups.{form_rules, device_rules, end_rules, thing
 use Rattle.machine_file.specs.Members.{list_in, file_members}
 use Rattle.machine_file.specs.Devices.{cyclic_link, closes_no_cycle, orphan, loose_link, repeated_link}
 use Rattle.machine_file.specs.Joined.{AreJoined}
-use Rattle.machine_file.specs.Kept.{broken_form, broken_devices, broken_ends, broken_cycle, broken_rest, first_in_order}
+use Rattle.machine_file.specs.ValidFiles.{broken_form, broken_devices, broken_ends, broken_cycle, broken_rest, first_in_order}
 use Rattle.machine_file.specs.declared.names.known.Known.{Known}
 use Rattle.machine_file.specs.Knows.{Knows, AreFew, names, texts}
 use Rattle.machine_file.specs.Form.{Named, row, first_row, unformed_member, unformed_item}
@@ -23,7 +23,7 @@ or_group : {A : Type 0} (a b c : Option A) → option_or (option_or a b) c ≡ o
 or_group None b c = refl
 or_group (Some x) b c = refl
 
--- rules behind others
+-- rules after others
 split : (xs ys : List Rule) (d : Data) → first_of (xs ++ ys) d ≡ option_or (first_of xs d) (first_of ys d)
 split [] ys d = refl
 split (r ∷ xs) ys d =
@@ -49,12 +49,12 @@ pub none_left : {A B : Type 0} (f : A → B) (o : Option A) → option_map f o �
 none_left f None e = refl
 none_left f (Some x) e = cc
 
-kept_rule : (r : Rule) (rs : List Rule) (d : Data) → first_of (r ∷ rs) d ≡ None → (r.broken d ≡ None) × (first_of rs d ≡ None)
-kept_rule r rs d e = let both = or_none (option_map (broken_at r.number) (r.broken d)) (first_of rs d) e in (none_left (broken_at r.number) (r.broken d) both.0, both.1)
+valid_rule : (r : Rule) (rs : List Rule) (d : Data) → first_of (r ∷ rs) d ≡ None → (r.broken d ≡ None) × (first_of rs d ≡ None)
+valid_rule r rs d e = let both = or_none (option_map (broken_at r.number) (r.broken d)) (first_of rs d) e in (none_left (broken_at r.number) (r.broken d) both.0, both.1)
 
 -- the lists are few where the rule on their numbers is kept
-kept_row : {A : Type 0} (test : Named A → Bool) (r : Named A) (rs : List (Named A)) → first_row test (r ∷ rs) ≡ None → (test r ≡ true) × (first_row test rs ≡ None)
-kept_row test r rs e = by (test r) e
+valid_row : {A : Type 0} (test : Named A → Bool) (r : Named A) (rs : List (Named A)) → first_row test (r ∷ rs) ≡ None → (test r ≡ true) × (first_row test rs ≡ None)
+valid_row test r rs e = by (test r) e
   where
     by : (b : Bool) → option_map (λ x. x.name) (cond (not b) (Some r) (find (λ x. not (test x)) rs)) ≡ None → (b ≡ true) × (first_row test rs ≡ None)
     by true h = (refl, h)
@@ -82,29 +82,29 @@ pub record FewItems (d : Data) : Type 0 where
 few_items : (d : Data) → too_many d ≡ None → FewItems d
 few_items d e =
     let fits = λ (r : Named ℕ). nat_le (length (list_in r.name d)) r.is in
-    let one = kept_row fits (row (codes "devices") 1000) (drop 1 most_items) e in
-    let two = kept_row fits (row (codes "links") 4000) (drop 2 most_items) one.1 in
-    let three = kept_row fits (row (codes "syscore") 32) (drop 3 most_items) two.1 in
-    let four = kept_row fits (row (codes "notifiers") 32) (drop 4 most_items) three.1 in
-    let five = kept_row fits (row (codes "sources") 255) (drop 5 most_items) four.1 in
+    let one = valid_row fits (row (codes "devices") 1000) (drop 1 most_items) e in
+    let two = valid_row fits (row (codes "links") 4000) (drop 2 most_items) one.1 in
+    let three = valid_row fits (row (codes "syscore") 32) (drop 3 most_items) two.1 in
+    let four = valid_row fits (row (codes "notifiers") 32) (drop 4 most_items) three.1 in
+    let five = valid_row fits (row (codes "sources") 255) (drop 5 most_items) four.1 in
     record { devices = leb-true _ _ one.0; links = leb-true _ _ two.0; syscore = leb-true _ _ three.0; notifiers = leb-true _ _ four.0; sources = leb-true _ _ five.0 }
 
 pub few_in : (d : Data) → broken_form d ≡ None → FewItems d
 few_in d e =
-    let two = kept_rule (rule 2 (λ v. unless (has_only file_members v) (codes "top"))) (drop 1 form_rules) d (unfold_form d e) in
-    let three = kept_rule (rule 3 (λ v. unless (has_version v) (codes "version"))) (drop 2 form_rules) d two.1 in
-    let four = kept_rule (rule 4 unformed_member) (drop 3 form_rules) d three.1 in
-    let five = kept_rule (rule 5 unformed_item) (drop 4 form_rules) d four.1 in
-    let six = kept_rule (rule 6 too_many) (drop 5 form_rules) d five.1 in
+    let two = valid_rule (rule 2 (λ v. unless (has_only file_members v) (codes "top"))) (drop 1 form_rules) d (unfold_form d e) in
+    let three = valid_rule (rule 3 (λ v. unless (has_version v) (codes "version"))) (drop 2 form_rules) d two.1 in
+    let four = valid_rule (rule 4 unformed_member) (drop 3 form_rules) d three.1 in
+    let five = valid_rule (rule 5 unformed_item) (drop 4 form_rules) d four.1 in
+    let six = valid_rule (rule 6 too_many) (drop 5 form_rules) d five.1 in
     few_items d six.0
 
-pub joined : (d : Data) → broken_form d ≡ None → broken_devices d ≡ None → broken_ends d ≡ None → AreJoined d
-joined d e h i =
+pub joined_groups : (d : Data) → broken_form d ≡ None → broken_devices d ≡ None → broken_ends d ≡ None → AreJoined d
+joined_groups d e h i =
     let few = few_in d e in
-    let eight = kept_rule (rule 8 repeated_device) (drop 1 device_rules) d (unfold_devices d h) in
-    let nine = kept_rule (rule 9 orphan) [] d eight.1 in
-    let ten = kept_rule (rule 10 loose_link) (drop 1 end_rules) d (unfold_ends d i) in
-    let eleven = kept_rule (rule 11 repeated_link) [] d ten.1 in
+    let eight = valid_rule (rule 8 repeated_device) (drop 1 device_rules) d (unfold_devices d h) in
+    let nine = valid_rule (rule 9 orphan) [] d eight.1 in
+    let ten = valid_rule (rule 10 loose_link) (drop 1 end_rules) d (unfold_ends d i) in
+    let eleven = valid_rule (rule 11 repeated_link) [] d ten.1 in
     record { few_devices = few.devices; few_links = few.links; parents = nine.0; ends = ten.0; again = eleven.0 }
 
 -- the names that are known are few

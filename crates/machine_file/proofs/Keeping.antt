@@ -13,7 +13,7 @@ use Rattle.machine_file.specs.Look.{has_only, is_some_and, text_at}
 use Rattle.machine_file.specs.Members.{list_in, may_have}
 use Rattle.machine_file.specs.Names.{is_among_names, devices_named, sources_named}
 use Rattle.machine_file.specs.Operations.{Operation, changes_links, fits_row, row_of, is_formed, is_allowed, names_source, names_device, names_device_at}
-use Rattle.machine_file.specs.OperationRows.{op_row, is_kept, word_names_source, word_names_device}
+use Rattle.machine_file.specs.OperationRows.{operation_of_word, is_in_journal, word_names_source, word_names_device}
 use Rattle.machine_file.specs.Places.{first_not, first_operation, first_operation_of, operation_place}
 use Rattle.machine_file.specs.Rules.{is_second}
 use Rattle.machine_file.specs.Whole.{broken_at, first_of}
@@ -51,47 +51,47 @@ or_end None = refl
 or_end (Some x) = refl
 
 -- where each operation keeps each of them, the first rule on operations that is broken is that on the sources of reports
-pub operations_kept : (file : Data) → first_operation (is_kept (is_second file) (sources_named file) (devices_named file)) file ≡ None
+pub operations_valid : (file : Data) → first_operation (is_in_journal (is_second file) (sources_named file) (devices_named file)) file ≡ None
     → first_of operation_rules file ≡ option_map (broken_at 18) (sourceless_report file)
-operations_kept file e =
+operations_valid file e =
     ap (λ o. option_or (option_map (broken_at 16) o) (first_of (drop 1 operation_rules) file)) (all (is_formed (is_second file)) formed)
     ∙ ap (λ o. option_or (option_map (broken_at 17) o) (first_of (drop 2 operation_rules) file)) (all is_allowed allowed)
     ∙ ap (λ o. option_or (option_map (broken_at 18) (option_or o (sourceless_report file))) (first_of (drop 3 operation_rules) file)) (all (λ a. names_source (sources_named file)) source)
     ∙ ap (λ o. option_or (option_map (broken_at 18) (sourceless_report file)) (option_or (option_map (broken_at 19) o) None)) (all (λ a. names_device (devices_named file)) device)
     ∙ or_end (option_map (broken_at 18) (sourceless_report file))
   where
-    all : (other : Data → Data → Bool) → ((a o : Data) → is_kept (is_second file) (sources_named file) (devices_named file) a o ≡ true → other a o ≡ true) → first_operation other file ≡ None
-    all other h = each_pass (is_kept (is_second file) (sources_named file) (devices_named file)) other h 0 (list_in (codes "actors") file) e
+    all : (other : Data → Data → Bool) → ((a o : Data) → is_in_journal (is_second file) (sources_named file) (devices_named file) a o ≡ true → other a o ≡ true) → first_operation other file ≡ None
+    all other h = each_pass (is_in_journal (is_second file) (sources_named file) (devices_named file)) other h 0 (list_in (codes "actors") file) e
 
-    three : (a o : Data) → is_kept (is_second file) (sources_named file) (devices_named file) a o ≡ true
+    three : (a o : Data) → is_in_journal (is_second file) (sources_named file) (devices_named file) a o ≡ true
         → ((is_formed (is_second file) a o && is_allowed a o && names_source (sources_named file) o) ≡ true) × (names_device (devices_named file) o ≡ true)
     three a o k = and_parts (is_formed (is_second file) a o && is_allowed a o && names_source (sources_named file) o) (names_device (devices_named file) o) k
 
-    formed : (a o : Data) → is_kept (is_second file) (sources_named file) (devices_named file) a o ≡ true → is_formed (is_second file) a o ≡ true
+    formed : (a o : Data) → is_in_journal (is_second file) (sources_named file) (devices_named file) a o ≡ true → is_formed (is_second file) a o ≡ true
     formed a o k =
         (and_parts (is_formed (is_second file) a o) (is_allowed a o) (and_parts (is_formed (is_second file) a o && is_allowed a o) (names_source (sources_named file) o) (three a o k).0).0).0
 
-    allowed : (a o : Data) → is_kept (is_second file) (sources_named file) (devices_named file) a o ≡ true → is_allowed a o ≡ true
+    allowed : (a o : Data) → is_in_journal (is_second file) (sources_named file) (devices_named file) a o ≡ true → is_allowed a o ≡ true
     allowed a o k =
         (and_parts (is_formed (is_second file) a o) (is_allowed a o) (and_parts (is_formed (is_second file) a o && is_allowed a o) (names_source (sources_named file) o) (three a o k).0).0).1
 
-    source : (a o : Data) → is_kept (is_second file) (sources_named file) (devices_named file) a o ≡ true → names_source (sources_named file) o ≡ true
+    source : (a o : Data) → is_in_journal (is_second file) (sources_named file) (devices_named file) a o ≡ true → names_source (sources_named file) o ≡ true
     source a o k = (and_parts (is_formed (is_second file) a o && is_allowed a o) (names_source (sources_named file) o) (three a o k).0).1
 
-    device : (a o : Data) → is_kept (is_second file) (sources_named file) (devices_named file) a o ≡ true → names_device (devices_named file) o ≡ true
+    device : (a o : Data) → is_in_journal (is_second file) (sources_named file) (devices_named file) a o ≡ true → names_device (devices_named file) o ≡ true
     device a o k = (three a o k).1
 
 -- ---- what an operation names, by its word
 
 -- an operation in form has no members but those of its word
-module _ (w : Word) (o : Data) (fits : fits_row o (op_row w) ≡ true) where
+module _ (w : Word) (o : Data) (fits : fits_row o (operation_of_word w) ≡ true) where
   abbrev members : List (List ℕ)
-  members = codes "op" ∷ codes "times" ∷ (op_row w).members
+  members = codes "op" ∷ codes "times" ∷ (operation_of_word w).members
 
-  only : has_only (codes "op" ∷ codes "times" ∷ (op_row w).members) o ≡ true
+  only : has_only (codes "op" ∷ codes "times" ∷ (operation_of_word w).members) o ≡ true
   only =
       (and_parts (has_only members o) (may_have (codes "times") (is_within 1 20000) o)
-      (and_parts (has_only members o && may_have (codes "times") (is_within 1 20000) o) ((op_row w).form o) fits).0).0
+      (and_parts (has_only members o && may_have (codes "times") (is_within 1 20000) o) ((operation_of_word w).form o) fits).0).0
 
   nothing_at : (names : List (List ℕ)) (member : List ℕ) → list_any (bytes_eq member) members ≡ false → names_device_at member names o ≡ true
   nothing_at names member h = absent_word (is_among_names names) members member o only h
@@ -104,7 +104,7 @@ module _ (w : Word) (o : Data) (fits : fits_row o (op_row w) ≡ true) where
       (nothing_at names (codes "consumer") c)
 
 -- one whose word names no source passes the test of it
-pub sourceless : (w : Word) (o : Data) (names : List (List ℕ)) → fits_row o (op_row w) ≡ true → word_names_source w ≡ false → names_source names o ≡ true
+pub sourceless : (w : Word) (o : Data) (names : List (List ℕ)) → fits_row o (operation_of_word w) ≡ true → word_names_source w ≡ false → names_source names o ≡ true
 sourceless word.Read o names h e = nothing_at word.Read o h names (codes "source") refl
 sourceless word.Save o names h e = nothing_at word.Save o h names (codes "source") refl
 sourceless word.State o names h e = nothing_at word.State o h names (codes "source") refl
@@ -122,7 +122,7 @@ sourceless word.Relax o names h e = cc
 sourceless word.Event o names h e = cc
 
 -- so it is of devices
-pub deviceless : (w : Word) (o : Data) (names : List (List ℕ)) → fits_row o (op_row w) ≡ true → word_names_device w ≡ false → names_device names o ≡ true
+pub deviceless : (w : Word) (o : Data) (names : List (List ℕ)) → fits_row o (operation_of_word w) ≡ true → word_names_device w ≡ false → names_device names o ≡ true
 deviceless word.Read o names h e = nowhere word.Read o h names refl refl refl
 deviceless word.Save o names h e = nowhere word.Save o h names refl refl refl
 deviceless word.State o names h e = nowhere word.State o h names refl refl refl
@@ -140,12 +140,12 @@ deviceless word.Relax o names h e = nowhere word.Relax o h names refl refl refl
 deviceless word.Event o names h e = nowhere word.Event o h names refl refl refl
 
 -- what is kept is the row's form, a maker of the row, and names that are known
-pub kept_as : (second : Bool) (w : Word) (a o : Data) (sources devices : List (List ℕ)) → Some (op_row w) ≡ row_of o
-    → ((second || not (changes_links o)) && fits_row o (op_row w)) ≡ true
-    → (is_among_names (op_row w).makers (text_at (codes "kind") a) && (names_source sources o && names_device devices o)) ≡ is_kept second sources devices a o
-kept_as second w a o sources devices e h =
-    regrouped (is_among_names (op_row w).makers (text_at (codes "kind") a)) (names_source sources o) (names_device devices o)
-    ∙ ap (λ b. b && is_among_names (op_row w).makers (text_at (codes "kind") a) && names_source sources o && names_device devices o) (sym h)
+pub valid_as : (second : Bool) (w : Word) (a o : Data) (sources devices : List (List ℕ)) → Some (operation_of_word w) ≡ row_of o
+    → ((second || not (changes_links o)) && fits_row o (operation_of_word w)) ≡ true
+    → (is_among_names (operation_of_word w).makers (text_at (codes "kind") a) && (names_source sources o && names_device devices o)) ≡ is_in_journal second sources devices a o
+valid_as second w a o sources devices e h =
+    regrouped (is_among_names (operation_of_word w).makers (text_at (codes "kind") a)) (names_source sources o) (names_device devices o)
+    ∙ ap (λ b. b && is_among_names (operation_of_word w).makers (text_at (codes "kind") a) && names_source sources o && names_device devices o) (sym h)
     ∙ ap (λ (r : Option Operation). (second || not (changes_links o)) && is_some_and (fits_row o) r && is_some_and (λ x. is_among_names x.makers (text_at (codes "kind") a)) r && names_source sources o && names_device devices o) e
   where
     regrouped : (a b c : Bool) → (a && (b && c)) ≡ (true && a && b && c)
@@ -154,12 +154,12 @@ kept_as second w a o sources devices e h =
     regrouped false b c = refl
 
 -- one that is not in form is not kept
-pub unformed_as : (second : Bool) (w : Word) (a o : Data) (sources devices : List (List ℕ)) → Some (op_row w) ≡ row_of o
-    → ((second || not (changes_links o)) && fits_row o (op_row w)) ≡ false → false ≡ is_kept second sources devices a o
+pub unformed_as : (second : Bool) (w : Word) (a o : Data) (sources devices : List (List ℕ)) → Some (operation_of_word w) ≡ row_of o
+    → ((second || not (changes_links o)) && fits_row o (operation_of_word w)) ≡ false → false ≡ is_in_journal second sources devices a o
 unformed_as second w a o sources devices e h =
-    ap (λ b. b && is_among_names (op_row w).makers (text_at (codes "kind") a) && names_source sources o && names_device devices o) (sym h)
+    ap (λ b. b && is_among_names (operation_of_word w).makers (text_at (codes "kind") a) && names_source sources o && names_device devices o) (sym h)
     ∙ ap (λ (r : Option Operation). (second || not (changes_links o)) && is_some_and (fits_row o) r && is_some_and (λ x. is_among_names x.makers (text_at (codes "kind") a)) r && names_source sources o && names_device devices o) e
 
 -- one that is in form fits its row
-pub in_form : (second : Bool) (w : Word) (o : Data) → ((second || not (changes_links o)) && fits_row o (op_row w)) ≡ true → fits_row o (op_row w) ≡ true
-in_form second w o h = (and_parts (second || not (changes_links o)) (fits_row o (op_row w)) h).1
+pub in_form : (second : Bool) (w : Word) (o : Data) → ((second || not (changes_links o)) && fits_row o (operation_of_word w)) ≡ true → fits_row o (operation_of_word w) ≡ true
+in_form second w o h = (and_parts (second || not (changes_links o)) (fits_row o (operation_of_word w)) h).1

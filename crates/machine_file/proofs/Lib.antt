@@ -11,9 +11,9 @@ pub mod Freshly
 pub mod Grouping
 pub mod Alternatives
 pub mod Replying
-pub mod ScriptsKept
-pub mod LinksKept
-pub mod AnswersKept
+pub mod ScriptsValid
+pub mod LinksValid
+pub mod AnswersValid
 pub mod Accepted
 pub mod Each
 pub mod Fitted

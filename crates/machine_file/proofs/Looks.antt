@@ -6,7 +6,7 @@ use Rattle.serde_json.specs.Data.{Data}
 use Rattle.machine_file.specs.Members.{items_of}
 use Rattle.borrowed_json.specs.View.{Value, view, items_view}
 
--- a text among texts behind references
+-- a text among texts after references
 pub list_any_texts : (text : List ℕ) (names : List (Bor (List ℕ))) → list_any (λ s. bytes_eq text s.now) names ≡ list_any (bytes_eq text) (map (λ s. s.now) names)
 list_any_texts text [] = refl
 list_any_texts text (s ∷ names) = ap (λ b. bytes_eq text s.now || b) (list_any_texts text names)

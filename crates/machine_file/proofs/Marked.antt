@@ -9,27 +9,27 @@ use Rattle.std.proofs.lemmas.List.Elements.{filter_map-append}
 use Rattle.borrowed_json.specs.View.{Value, view}
 use Rattle.machine_file.specs.Members.{word_at}
 use Rattle.machine_file.specs.Names.{is_among_names}
-use Rattle.machine_file.specs.Operations.{marks_of, first_places}
+use Rattle.machine_file.specs.Operations.{marks_of, first_occurrences}
 use Rattle.machine_file.specs.Knows.{texts}
 use Rattle.machine_file.specs.Marks.{marks_of_script}
 use Rattle.machine_file.proofs.Placing.{any_map}
 
 -- ---- scripts
 
-nothing_behind : (ms : List (List ℕ)) → ms ++ [] ≡ ms
-nothing_behind [] = refl
-nothing_behind (m ∷ ms) = ap (λ rest. m ∷ rest) (nothing_behind ms)
+nothing_after : (ms : List (List ℕ)) → ms ++ [] ≡ ms
+nothing_after [] = refl
+nothing_after (m ∷ ms) = ap (λ rest. m ∷ rest) (nothing_after ms)
 
 module _ (vs : List Value) (i : ℕ) (v : Value) (within : i < length vs) (is : v ≡ get_or vs i v) where
   one_more : map view (take (i + 1) vs) ≡ map view (take i vs) ++ view v ∷ []
   one_more = map_more view vs i v within ∙ ap (λ x. map view (take i vs) ++ view x ∷ []) (sym is)
 
-  -- an operation's mark behind those before it
+  -- an operation's mark after those before it
   pub next_mark : marks_of (map view (take (i + 1) vs)) ≡ marks_of (map view (take i vs)) ++ cons_option (word_at (codes "mark") (view v)) []
   next_mark = ap marks_of one_more ∙ filter_map-append (word_at (codes "mark")) (map view (take i vs)) (view v ∷ [])
 
   module _ (first : List (List ℕ)) (ms : List (Bor (List ℕ))) (so_far : texts ms ≡ first ++ marks_of (map view (take i vs))) where
-    -- a mark that was found is put behind them
+    -- a mark that was found is put after them
     pub mark_added : (m : Bor (List ℕ)) (more : List (Bor (List ℕ))) → Some m.now ≡ word_at (codes "mark") (view v) → more ≡ ms ++ m ∷ [] → texts more ≡ first ++ marks_of (map view (take (i + 1) vs))
     mark_added m more is_mark pushed =
         ap texts pushed ∙ map-append (λ (b : Bor (List ℕ)). b.now) ms (m ∷ []) ∙ ap (λ ns. ns ++ m.now ∷ []) so_far
@@ -39,13 +39,13 @@ module _ (vs : List Value) (i : ℕ) (v : Value) (within : i < length vs) (is : 
     -- nothing is put where none was
     pub no_mark_added : None ≡ word_at (codes "mark") (view v) → texts ms ≡ first ++ marks_of (map view (take (i + 1) vs))
     no_mark_added none =
-        so_far ∙ ap (λ ns. first ++ ns) (sym (nothing_behind (marks_of (map view (take i vs)))) ∙ ap (λ (w : Option (List ℕ)). marks_of (map view (take i vs)) ++ cons_option w []) none ∙ sym next_mark)
+        so_far ∙ ap (λ ns. first ++ ns) (sym (nothing_after (marks_of (map view (take i vs)))) ∙ ap (λ (w : Option (List ℕ)). marks_of (map view (take i vs)) ++ cons_option w []) none ∙ sym next_mark)
 
-  -- a script's marks behind those before it
+  -- a script's marks after those before it
   pub next_script : flat_map marks_of_script (map view (take (i + 1) vs)) ≡ flat_map marks_of_script (map view (take i vs)) ++ marks_of_script (view v)
   next_script =
       ap (flat_map marks_of_script) one_more ∙ flat_map-append marks_of_script (map view (take i vs)) (view v ∷ [])
-      ∙ ap (λ ms. flat_map marks_of_script (map view (take i vs)) ++ ms) (nothing_behind (marks_of_script (view v)))
+      ∙ ap (λ ms. flat_map marks_of_script (map view (take i vs)) ++ ms) (nothing_after (marks_of_script (view v)))
 
 -- ---- first places
 
@@ -62,7 +62,7 @@ any_joined p (s ∷ found) name = ap (λ b. p s || b) (any_joined p found name) 
     by false b c = refl
 
 -- the same names stand at first places
-pub same_names : (s : List ℕ) (found names : List (List ℕ)) → is_among_names (first_places found names) s ≡ (is_among_names found s || is_among_names names s)
+pub same_names : (s : List ℕ) (found names : List (List ℕ)) → is_among_names (first_occurrences found names) s ≡ (is_among_names found s || is_among_names names s)
 same_names s found [] = by (is_among_names found s)
   where
     by : (b : Bool) → b ≡ (b || false)
@@ -88,7 +88,7 @@ same_names s found (name ∷ names) =
         ∙ regroup (is_among_names found s) c (is_among_names names s)
 
 -- one name more
-next_first : (found names : List (List ℕ)) (name : List ℕ) → first_places found (names ++ name ∷ []) ≡ (if is_among_names (first_places found names) name then first_places found names else first_places found names ++ name ∷ [])
+next_first : (found names : List (List ℕ)) (name : List ℕ) → first_occurrences found (names ++ name ∷ []) ≡ (if is_among_names (first_occurrences found names) name then first_occurrences found names else first_occurrences found names ++ name ∷ [])
 next_first found [] name = refl
 next_first found (n ∷ names) name = next_first (if is_among_names found n then found else found ++ n ∷ []) names name
 
@@ -97,22 +97,22 @@ module _ (keys names : List (Bor (List ℕ))) (same : keys ≡ names) (i : ℕ) 
   name = get_or keys i d
 
   first_next : (b : Bool) → list_any (λ (k : Bor (List ℕ)). bytes_eq name.now k.now) (take i names) ≡ b →
-      first_places [] (texts (take (i + 1) names)) ≡ (if b then first_places [] (texts (take i names)) else first_places [] (texts (take i names)) ++ name.now ∷ [])
+      first_occurrences [] (texts (take (i + 1) names)) ≡ (if b then first_occurrences [] (texts (take i names)) else first_occurrences [] (texts (take i names)) ++ name.now ∷ [])
   first_next b e =
-      ap (λ (ks : List (Bor (List ℕ))). first_places [] (texts (take (i + 1) ks))) (sym same)
-      ∙ ap (first_places []) (map_more (λ (k : Bor (List ℕ)). k.now) keys i d within)
-      ∙ ap (λ (ks : List (Bor (List ℕ))). first_places [] (texts (take i ks) ++ name.now ∷ [])) same
+      ap (λ (ks : List (Bor (List ℕ))). first_occurrences [] (texts (take (i + 1) ks))) (sym same)
+      ∙ ap (first_occurrences []) (map_more (λ (k : Bor (List ℕ)). k.now) keys i d within)
+      ∙ ap (λ (ks : List (Bor (List ℕ))). first_occurrences [] (texts (take i ks) ++ name.now ∷ [])) same
       ∙ next_first [] (texts (take i names)) name.now
-      ∙ ap (λ c. if c then first_places [] (texts (take i names)) else first_places [] (texts (take i names)) ++ name.now ∷ [])
+      ∙ ap (λ c. if c then first_occurrences [] (texts (take i names)) else first_occurrences [] (texts (take i names)) ++ name.now ∷ [])
       (same_names name.now [] (texts (take i names)) ∙ sym (any_map (bytes_eq name.now) (λ (k : Bor (List ℕ)). k.now) (take i names)) ∙ e)
 
-  module _ (first : List (Bor (List ℕ))) (so_far : texts first ≡ first_places [] (texts (take i names))) where
+  module _ (first : List (Bor (List ℕ))) (so_far : texts first ≡ first_occurrences [] (texts (take i names))) where
     -- a name that stands before is passed
-    pub first_again : list_any (λ (k : Bor (List ℕ)). bytes_eq name.now k.now) (take i names) ≡ true → texts first ≡ first_places [] (texts (take (i + 1) names))
+    pub first_again : list_any (λ (k : Bor (List ℕ)). bytes_eq name.now k.now) (take i names) ≡ true → texts first ≡ first_occurrences [] (texts (take (i + 1) names))
     first_again e = so_far ∙ sym (first_next true e)
 
-    -- a new one is put behind the others
+    -- a new one is put after the others
     pub first_new : (more : List (Bor (List ℕ))) → list_any (λ (k : Bor (List ℕ)). bytes_eq name.now k.now) (take i names) ≡ false → more ≡ first ++ name ∷ [] →
-        texts more ≡ first_places [] (texts (take (i + 1) names))
+        texts more ≡ first_occurrences [] (texts (take (i + 1) names))
     first_new more e pushed =
         ap texts pushed ∙ map-append (λ (k : Bor (List ℕ)). k.now) first (name ∷ []) ∙ ap (λ ns. ns ++ name.now ∷ []) so_far ∙ sym (first_next false e)

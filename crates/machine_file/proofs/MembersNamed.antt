@@ -10,7 +10,7 @@ use Rattle.borrowed_json.specs.View.{Member, view, data_members, members_view}
 use Rattle.machine_file.specs.Look.{are_named}
 use Rattle.machine_file.proofs.Looks.{list_any_texts}
 
--- what stands behind a member that is put in its place
+-- what stands after a member that is put in its place
 put_named : (names : List (List ℕ)) (k : List ℕ) (d : Data) (found : Members) → are_named names (put k d found) ≡ (list_any (bytes_eq k) names && are_named names found)
 put_named names k d no_members = refl
 put_named names k d (member l e ms) = by (slice_cmp nat_cmp k l) refl (put_named names k d ms)

@@ -18,7 +18,7 @@ use Rattle.machine_file.specs.Form.{is_one_of, kinds, phases}
 use Rattle.machine_file.specs.Answering.{answering_phases, common_errors, platform_steps}
 use Rattle.machine_file.specs.Operations.{kind_of}
 use Rattle.machine_file.specs.WordLists.{task_kinds}
-use Rattle.machine_file.proofs.ScriptsKept.{member_apart}
+use Rattle.machine_file.proofs.ScriptsValid.{member_apart}
 
 -- ---- of each list
 
@@ -98,9 +98,9 @@ pub some_phase : (d : Data) → is_some (find (λ p. is_text (phase_name p) d) a
 some_phase d = some_named phase_name answering_phases d
 
 -- the errors that everything may answer, one by one
-pub common_said : (d : Data)
+pub common_named : (d : Data)
     → (is_text (name_of error.EIO) d || (is_text (name_of error.EBUSY) d || (is_text (name_of error.ENODEV) d || is_text (name_of error.EINVAL) d))) ≡ is_one_of common_errors d
-common_said d = by (as_str d)
+common_named d = by (as_str d)
   where
     each : (a b c e : Bool) → (a || (b || (c || e))) ≡ (a || (b || (c || (e || false))))
     each true b c e = refl

@@ -76,7 +76,7 @@ module _ {K : Type 0} (eq : K → K → Bool) where
     pub repeated_later : list_any (eq k) (take i keys) ≡ false → repeated_from keys i ≡ repeated_from keys (i + 1)
     repeated_later h = rw step (rw h (ap (repeated_from keys) next))
 
--- behind the last key nothing is found
+-- after the last key nothing is found
 pub repeated_none : {K : Type 0} (eq : K → K → Bool) (keys : List K) (i : ℕ) → length keys ≤ i → repeated_from eq keys i ≡ None
 repeated_none eq keys i h = rw (drop_of_length-le keys h) refl
 
@@ -140,7 +140,7 @@ pub some_position : {X : Type 0} (p : X → Bool) (xs : List X) → is_some (pos
 some_position p [] = refl
 some_position p (x ∷ xs) = ap is_some (position_cons p x xs) ∙ some_case (p x) (list_any p xs) (position p xs) (some_position p xs)
 
--- the same behind a reserved name
+-- the same after a reserved name
 pub reserved_first : {X : Type 0} (eq : X → X → Bool) (a : X) (before : List X) (n : ℕ) (xs : List X) →
     first_not_after (λ b x. not (list_any (eq x) (a ∷ b))) before n xs ≡ option_map (λ k. k - 1) (first_not_after (λ b x. not (list_any (eq x) b)) (before ++ a ∷ []) (suc n) xs)
 reserved_first eq a before n [] = refl

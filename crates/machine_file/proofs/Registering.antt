@@ -9,7 +9,7 @@ use Rattle.std.proofs.lemmas.List.{get_or-map, length-map, length-take-le, map-a
 use Rattle.serde_json.specs.Data.{Data}
 use Rattle.borrowed_json.specs.View.{Value, view}
 use Rattle.sleep_model.specs.declared.machine.Device.{Device}
-use Rattle.device_tree.specs.Refusal.{refusal, is_lost, Refuses}
+use Rattle.device_tree.specs.Refusal.{refusal, is_lost, RefusesDevice}
 use Rattle.device_tree.specs.declared.fault.TreeFault.{TreeFault}
 use Rattle.device_tree.specs.declared.fault.TreeFault.TheVariants as fault
 use Rattle.machine_file.specs.Look.{is_none_or}
@@ -17,10 +17,10 @@ use Rattle.machine_file.specs.Members.{list_in, word_at}
 use Rattle.machine_file.specs.Rules.{name_of}
 use Rattle.machine_file.specs.Devices.{has_parent_before, whole_device}
 use Rattle.machine_file.specs.Knows.{names}
-use Rattle.machine_file.specs.Registered.{AreRegistered, AreShort, Stops, device_behind, parent_behind}
+use Rattle.machine_file.specs.Registered.{AreRegistered, AreShort, Stops, device_after, parent_after}
 use Rattle.machine_file.specs.Fitting.{IsShort}
 use Rattle.machine_file.specs.Groups.{device_rules}
-use Rattle.machine_file.specs.Kept.{broken_devices}
+use Rattle.machine_file.specs.ValidFiles.{broken_devices}
 use Rattle.machine_file.specs.Names.{repeated_device}
 use Rattle.machine_file.specs.Places.{item_place}
 use Rattle.machine_file.specs.Whole.{broken_at, first_of}
@@ -111,14 +111,14 @@ module _ (ds : List Data) (i : ℕ) (d : Data) (within : i < length ds) (at : d 
   taken = list_any (bytes_eq (name_of d)) (names devices)
 
   lost : Bool
-  lost = is_lost (length devices) (parent_behind (names devices) d)
+  lost = is_lost (length devices) (parent_after (names devices) d)
 
   taken_is : list_any (bytes_eq (name_of d)) (names devices) ≡ list_any (bytes_eq (name_of d)) (take i all)
   taken_is = ap (list_any (bytes_eq (name_of d))) so_far
 
-  lost_is : is_lost (length devices) (parent_behind (names devices) d) ≡ not (has_parent_before (reverse (take i ds)) d)
+  lost_is : is_lost (length devices) (parent_after (names devices) d) ≡ not (has_parent_before (reverse (take i ds)) d)
   lost_is =
-      ap (λ n. is_lost n (parent_behind (names devices) d)) count ∙ ap (λ ns. is_lost (length (take i all)) (parent_behind ns d)) so_far
+      ap (λ n. is_lost n (parent_after (names devices) d)) count ∙ ap (λ ns. is_lost (length (take i all)) (parent_after ns d)) so_far
       ∙ lost_where (take i all) (word_at (codes "parent") d) ∙ ap not (sym (parent_test ds d i))
 
   few_is : length ds ≤ 1000 → nat_le 1000 (length devices) ≡ false
@@ -133,13 +133,13 @@ module _ (ds : List Data) (i : ℕ) (d : Data) (within : i < length ds) (at : d 
   flipped false e = refl
 
   -- the device as the whole file spells it, where its parent stands before
-  same : has_parent_before (reverse (take i ds)) d ≡ true → device_behind (names devices) d ≡ whole_device all d
+  same : has_parent_before (reverse (take i ds)) d ≡ true → device_after (names devices) d ≡ whole_device all d
   same h =
-      ap (λ ns. device_behind ns d) so_far
+      ap (λ ns. device_after ns d) so_far
       ∙ ap (λ (p : Option ℕ). record (whole_device all d) { parent = p }) (parent_front i all (word_at (codes "parent") d) (sym (parent_test ds d i) ∙ h))
 
-  more : list_any (bytes_eq (name_of d)) (names devices) ≡ false → is_lost (length devices) (parent_behind (names devices) d) ≡ false
-      → Registering ds (i + 1) (devices ++ device_behind (names devices) d ∷ [])
+  more : list_any (bytes_eq (name_of d)) (names devices) ≡ false → is_lost (length devices) (parent_after (names devices) d) ≡ false
+      → Registering ds (i + 1) (devices ++ device_after (names devices) d ∷ [])
   more free known =
       let parent : has_parent_before (reverse (take i ds)) d ≡ true = kept _ (sym lost_is ∙ known) in
       record {
@@ -151,23 +151,23 @@ module _ (ds : List Data) (i : ℕ) (d : Data) (within : i < length ds) (at : d 
       }
 
   -- a device that was registered
-  pub registered : (n : ℕ) → Refuses (Ok n) (refusal devices (device_behind (names devices) d)) → Registering ds (i + 1) (devices ++ device_behind (names devices) d ∷ [])
-  registered n h = by (nat_le 1000 (length devices)) (list_any (bytes_eq (name_of d)) (names devices)) (is_lost (length devices) (parent_behind (names devices) d)) refl refl h
+  pub registered : (n : ℕ) → RefusesDevice (Ok n) (refusal devices (device_after (names devices) d)) → Registering ds (i + 1) (devices ++ device_after (names devices) d ∷ [])
+  registered n h = by (nat_le 1000 (length devices)) (list_any (bytes_eq (name_of d)) (names devices)) (is_lost (length devices) (parent_after (names devices) d)) refl refl h
     where
-      by : (a b c : Bool) → list_any (bytes_eq (name_of d)) (names devices) ≡ b → is_lost (length devices) (parent_behind (names devices) d) ≡ c
-          → Refuses (Ok n) (cond a (Some fault.TooMany) (cond b (Some fault.NameTaken) (cond c (Some fault.NoParent) None))) → Registering ds (i + 1) (devices ++ device_behind (names devices) d ∷ [])
+      by : (a b c : Bool) → list_any (bytes_eq (name_of d)) (names devices) ≡ b → is_lost (length devices) (parent_after (names devices) d) ≡ c
+          → RefusesDevice (Ok n) (cond a (Some fault.TooMany) (cond b (Some fault.NameTaken) (cond c (Some fault.NoParent) None))) → Registering ds (i + 1) (devices ++ device_after (names devices) d ∷ [])
       by true b c f g x = absurd x
       by false true c f g x = absurd x
       by false false true f g x = absurd x
       by false false false f g x = more f g
 
   -- one that was refused
-  pub refused : length ds ≤ 1000 → (e : TreeFault) → Refuses {T = ℕ} (Err e) (refusal devices (device_behind (names devices) d)) → Stops e i ds
-  refused few e h = by (list_any (bytes_eq (name_of d)) (names devices)) (is_lost (length devices) (parent_behind (names devices) d)) refl refl
-      (subst (λ a. Refuses {T = ℕ} (Err e) (cond a (Some fault.TooMany) (cond (list_any (bytes_eq (name_of d)) (names devices)) (Some fault.NameTaken) (cond (is_lost (length devices) (parent_behind (names devices) d)) (Some fault.NoParent) None)))) (few_is few) h)
+  pub refused : length ds ≤ 1000 → (e : TreeFault) → RefusesDevice {T = ℕ} (Err e) (refusal devices (device_after (names devices) d)) → Stops e i ds
+  refused few e h = by (list_any (bytes_eq (name_of d)) (names devices)) (is_lost (length devices) (parent_after (names devices) d)) refl refl
+      (subst (λ a. RefusesDevice {T = ℕ} (Err e) (cond a (Some fault.TooMany) (cond (list_any (bytes_eq (name_of d)) (names devices)) (Some fault.NameTaken) (cond (is_lost (length devices) (parent_after (names devices) d)) (Some fault.NoParent) None)))) (few_is few) h)
     where
-      by : (b c : Bool) → list_any (bytes_eq (name_of d)) (names devices) ≡ b → is_lost (length devices) (parent_behind (names devices) d) ≡ c
-          → Refuses {T = ℕ} (Err e) (cond b (Some fault.NameTaken) (cond c (Some fault.NoParent) None)) → Stops e i ds
+      by : (b c : Bool) → list_any (bytes_eq (name_of d)) (names devices) ≡ b → is_lost (length devices) (parent_after (names devices) d) ≡ c
+          → RefusesDevice {T = ℕ} (Err e) (cond b (Some fault.NameTaken) (cond c (Some fault.NoParent) None)) → Stops e i ds
       by true c f g x = subst (λ t. Stops t i ds) (sym x) (r.apart ∙ sym (repeated_here bytes_eq all i (name_of d) inside name_at (sym taken_is ∙ f)))
       by false true f g x = subst (λ t. Stops t i ds) (sym x) (r.parents ∙ sym (later_here has_parent_before ds i d within at (flipped _ (sym lost_is ∙ g))))
       by false false f g x = subst (λ t. Stops t i ds) (sym x) tt

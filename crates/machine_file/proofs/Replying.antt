@@ -9,7 +9,7 @@ use Rattle.machine_file.specs.Knows.{Knows, texts}
 use Rattle.machine_file.specs.Members.{has_text, list_in, number_at}
 use Rattle.machine_file.specs.Names.{devices_named, texts_in, names_in}
 use Rattle.machine_file.specs.Rules.{name_of}
-use Rattle.machine_file.specs.Spelled.{place_among}
+use Rattle.machine_file.specs.Spelled.{index_among}
 use Rattle.machine_file.specs.Answering.{is_of_device, platform_steps, phase_of, step_of, ret_of, whole_report, whole_answer}
 use Rattle.machine_file.specs.AnswerTests.{answer_made}
 
@@ -17,7 +17,7 @@ use Rattle.machine_file.specs.AnswerTests.{answer_made}
 abbrev made : List (List ℕ) → List (List ℕ) → List (List ℕ) → List (List ℕ) → Data → Answer
 made devices syscore notifiers sources a =
     let names = (if is_of_device a then devices else if has_text (codes "what") (codes "syscore") a then syscore else if has_text (codes "what") (codes "notifier") a then notifiers else map down_word platform_steps) in
-    let place = place_among names (name_of a) in
+    let place = index_among names (name_of a) in
     record {
       what = if is_of_device a then what.Device place (phase_of a) else if has_text (codes "what") (codes "syscore") a then what.Syscore place else if has_text (codes "what") (codes "notifier") a then what.Notifier place else what.Platform (step_of a);
       attempt = number_at (codes "attempt") a;

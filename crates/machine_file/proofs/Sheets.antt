@@ -49,7 +49,7 @@ put_first k d (r ∷ rows) a b =
 regroup : (t c q v m : List ℕ) → (t ++ (c ++ (q ++ 58 ∷ v))) ++ m ≡ t ++ (c ++ (q ++ 58 ∷ (v ++ m)))
 regroup t c q v m = simp append_assoc
 
--- the members of rows, and the bracket behind them
+-- the members of rows, and the bracket after them
 rows_written : (s : Sheet) (rows : List (Named (Option Data))) → are_rising rows ≡ true →
     (fold with_row s rows).text ++ 125 ∷ [] ≡ s.text ++ members_text s.later (as_members rows)
 rows_written s [] e = refl
@@ -79,7 +79,7 @@ object_written s rows e =
 regroup_items : (t c v m : List ℕ) → (t ++ (c ++ v)) ++ m ≡ t ++ (c ++ (v ++ m))
 regroup_items t c v m = simp append_assoc
 
--- the items of a list, and the bracket behind them
+-- the items of a list, and the bracket after them
 items_written : (s : Sheet) (ds : List Data) → (fold with_item s ds).text ++ 93 ∷ [] ≡ s.text ++ items_text s.later (as_items ds)
 items_written s [] = refl
 items_written s (d ∷ ds) = items_written (with_item s d) ds ∙ regroup_items s.text (comma_if s.later) (compact_text d) (items_text true (as_items ds))

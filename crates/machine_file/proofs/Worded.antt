@@ -9,8 +9,8 @@ use Rattle.machine_file.specs.declared.rules.operations.Word.TheVariants as word
 use Rattle.machine_file.specs.Look.{is_some_and, is_text}
 use Rattle.machine_file.specs.Members.{has_text, word_at}
 use Rattle.machine_file.specs.Operations.{Known, Operation, operations, row_of, changes_links, spelled_op, whole_op}
-use Rattle.machine_file.specs.OperationRows.{op_row, words, word_changes_links, row_named, op_spelled}
-use Rattle.machine_file.proofs.ScriptsKept.{member_apart}
+use Rattle.machine_file.specs.OperationRows.{operation_of_word, words, word_changes_links, row_named, op_spelled}
+use Rattle.machine_file.proofs.ScriptsValid.{member_apart}
 
 -- the row of an operation is that of the text at its word
 pub by_text : (o : Data) → option_and_then row_named (word_at (codes "op") o) ≡ row_of o
@@ -43,8 +43,8 @@ find_seen t f (x ∷ xs) = by (t (f x)) ∙ ap (cond (t (f x)) (Some (f x))) (fi
     by false = refl
 
 -- the word that a text is has the row of that text
-pub named_word : (text : List ℕ) → option_map op_row (find (λ (w : Word). bytes_eq text (op_row w).word) words) ≡ row_named text
-named_word text = find_seen (λ (r : Operation). bytes_eq text r.word) op_row words
+pub named_word : (text : List ℕ) → option_map operation_of_word (find (λ (w : Word). bytes_eq text (operation_of_word w).word) words) ≡ row_named text
+named_word text = find_seen (λ (r : Operation). bytes_eq text r.word) operation_of_word words
 
 -- a search by a test that is the same
 find_same : {X : Type 0} (p q : X → Bool) (xs : List X) → ((x : X) → p x ≡ q x) → find p xs ≡ find q xs
@@ -52,19 +52,19 @@ find_same p q [] e = refl
 find_same p q (x ∷ xs) e = ap (λ b. cond b (Some x) (find p xs)) (e x) ∙ ap (cond (q x) (Some x)) (find_same p q xs e)
 
 -- an operation of the table has its row's word
-word_there : (w : Word) (o : Data) → Some (op_row w) ≡ row_of o → has_text (codes "op") (op_row w).word o ≡ true
-word_there w o e = passes (λ r. has_text (codes "op") r.word o) (op_row w) operations (sym e)
+word_there : (w : Word) (o : Data) → Some (operation_of_word w) ≡ row_of o → has_text (codes "op") (operation_of_word w).word o ≡ true
+word_there w o e = passes (λ r. has_text (codes "op") r.word o) (operation_of_word w) operations (sym e)
 
 -- the word alone tells whether links are changed
-pub changes : (w : Word) (o : Data) → Some (op_row w) ≡ row_of o → word_changes_links w ≡ changes_links o
+pub changes : (w : Word) (o : Data) → Some (operation_of_word w) ≡ row_of o → word_changes_links w ≡ changes_links o
 changes w o e =
-    by w ∙ ap (λ b. b || bytes_eq (op_row w).word (codes "link_state")) (sym (member_apart (get (codes "op") o) (op_row w).word (codes "link") there))
-    ∙ ap (λ b. has_text (codes "op") (codes "link") o || b) (sym (member_apart (get (codes "op") o) (op_row w).word (codes "link_state") there))
+    by w ∙ ap (λ b. b || bytes_eq (operation_of_word w).word (codes "link_state")) (sym (member_apart (get (codes "op") o) (operation_of_word w).word (codes "link") there))
+    ∙ ap (λ b. has_text (codes "op") (codes "link") o || b) (sym (member_apart (get (codes "op") o) (operation_of_word w).word (codes "link_state") there))
   where
-    there : has_text (codes "op") (op_row w).word o ≡ true
+    there : has_text (codes "op") (operation_of_word w).word o ≡ true
     there = word_there w o e
 
-    by : (w : Word) → word_changes_links w ≡ (bytes_eq (op_row w).word (codes "link") || bytes_eq (op_row w).word (codes "link_state"))
+    by : (w : Word) → word_changes_links w ≡ (bytes_eq (operation_of_word w).word (codes "link") || bytes_eq (operation_of_word w).word (codes "link_state"))
     by word.Read = refl
     by word.Save = refl
     by word.State = refl
@@ -82,7 +82,7 @@ changes w o e =
     by word.Event = refl
 
 module _ (names : Known) (o : Data) where
-  found : (w : Word) → unwrap_or (option_map (λ q. q.1) (find (λ q. bytes_eq (op_row w).word q.0) (spelled_op names o))) Read ≡ op_spelled w names o
+  found : (w : Word) → unwrap_or (option_map (λ q. q.1) (find (λ q. bytes_eq (operation_of_word w).word q.0) (spelled_op names o))) Read ≡ op_spelled w names o
   found word.Read = refl
   found word.Save = refl
   found word.State = refl
@@ -100,11 +100,11 @@ module _ (names : Known) (o : Data) where
   found word.Event = refl
 
   -- an operation of the table is what its word spells
-  pub by_word : (w : Word) → Some (op_row w) ≡ row_of o → op_spelled w names o ≡ whole_op names o
+  pub by_word : (w : Word) → Some (operation_of_word w) ≡ row_of o → op_spelled w names o ≡ whole_op names o
   by_word w e =
       let there = word_there w o e in
       sym (ap (λ (q : Option (List ℕ × Op)). unwrap_or (option_map (λ x. x.1) q) Read)
-      (find_same (λ q. has_text (codes "op") q.0 o) (λ q. bytes_eq (op_row w).word q.0) (spelled_op names o) (λ q. member_apart (get (codes "op") o) (op_row w).word q.0 there))
+      (find_same (λ q. has_text (codes "op") q.0 o) (λ q. bytes_eq (operation_of_word w).word q.0) (spelled_op names o) (λ q. member_apart (get (codes "op") o) (operation_of_word w).word q.0 there))
       ∙ found w)
 
   no_op : (q : Option (List ℕ × Op)) → option_map (λ x. x.0) q ≡ None → Read ≡ unwrap_or (option_map (λ x. x.1) q) Read

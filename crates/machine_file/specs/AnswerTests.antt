@@ -13,7 +13,7 @@ use Rattle.machine_file.specs.Knows.{names, texts}
 use Rattle.machine_file.specs.Members.{may_have, has_text, list_in, number_at}
 use Rattle.machine_file.specs.Names.{is_among_names}
 use Rattle.machine_file.specs.Operations.{names_source}
-use Rattle.machine_file.specs.Spelled.{place_among}
+use Rattle.machine_file.specs.Spelled.{index_among}
 use Rattle.machine_file.specs.Rules.{name_of}
 use Rattle.machine_file.specs.Answering.{is_of_device, has_its_phase, is_ret_allowed, may_report, platform_steps, phase_of, step_of, ret_of, whole_report}
 
@@ -34,7 +34,7 @@ answer_test test.Sources k a = list_all (names_source (texts k.sources)) (list_i
 -- the thing that an answer is of, by the names that are known
 abbrev pub thing_seen : Known → Data → What
 thing_seen k a =
-    let place = place_among (kind_names k a) (name_of a) in
+    let place = index_among (kind_names k a) (name_of a) in
     if is_of_device a then what.Device place (phase_of a) else if has_text (codes "what") (codes "syscore") a then what.Syscore place
     else if has_text (codes "what") (codes "notifier") a then what.Notifier place
     else what.Platform (step_of a)

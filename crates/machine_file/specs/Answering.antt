@@ -23,7 +23,7 @@ use Rattle.machine_file.specs.Members.{may_have, has_text, list_in, number_at}
 use Rattle.machine_file.specs.Places.{first_item, first_later_item}
 use Rattle.machine_file.specs.Form.{is_one_of}
 use Rattle.machine_file.specs.Names.{is_among_names, texts_in, names_in, devices_named, sources_named}
-use Rattle.machine_file.specs.Spelled.{place_among}
+use Rattle.machine_file.specs.Spelled.{index_among}
 use Rattle.machine_file.specs.Operations.{names_source, ms_of, says}
 use Rattle.machine_file.specs.Rules.{name_of}
 
@@ -48,7 +48,7 @@ names_of_kind file a =
     else if has_text (codes "what") (codes "notifier") a then names_in (codes "notifiers") file
     else map down_word platform_steps
 
--- it names a phase exactly where it is of a device
+-- it names a phase exactly if it is of a device
 abbrev pub has_its_phase : Data → Bool
 has_its_phase a = if is_of_device a then is_some (get (codes "phase") a) else is_none (get (codes "phase") a)
 
@@ -116,12 +116,12 @@ step_of a = unwrap_or (find (λ s. has_text (codes "name") (down_word s) a) plat
 -- the thing that it is of
 abbrev pub thing_of : Data → Data → What
 thing_of file a =
-    let place = place_among (names_of_kind file a) (name_of a) in
+    let place = index_among (names_of_kind file a) (name_of a) in
     if is_of_device a then Device place (phase_of a) else if has_text (codes "what") (codes "syscore") a then Syscore place
     else if has_text (codes "what") (codes "notifier") a then Notifier place
     else Platform (step_of a)
 
--- the error's number below 0 where a text is given; the number that is given; and else 0
+-- the error's number below 0 if a text is given; the number that is given; and else 0
 abbrev pub ret_of : Data → ℤ
 ret_of a =
     unwrap_or (option_map (λ e. neg_ℤ (pos (number_of e))) (find (λ e. has_text (codes "ret") (error_name e) a) errors)) (pos (unwrap_or (number_at (codes "ret") a) 0))
@@ -132,7 +132,7 @@ call_of r = if has_text (codes "call") (codes "awake") r then call.Awake else if
 
 -- a report beside the sources of these names
 abbrev pub whole_report : List (List ℕ) → Data → Report
-whole_report sources r = record { source = place_among sources (text_at (codes "source") r); call = call_of r }
+whole_report sources r = record { source = index_among sources (text_at (codes "source") r); call = call_of r }
 
 -- an answer
 abbrev pub whole_answer : Data → Data → Answer

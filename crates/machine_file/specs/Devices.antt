@@ -11,7 +11,7 @@ use Rattle.machine_file.specs.Members.{has_text, list_in, truth_at, word_at}
 use Rattle.machine_file.specs.Places.{first_item, first_later_item}
 use Rattle.machine_file.specs.Names.{is_among_names, devices_named}
 use Rattle.machine_file.specs.Rules.{name_of}
-use Rattle.machine_file.specs.Spelled.{parent_of, place_among, link_of}
+use Rattle.machine_file.specs.Spelled.{parent_of, index_among, link_of}
 
 -- ---- the devices that are spelled
 
@@ -71,8 +71,8 @@ abbrev pub closes_no_cycle : Data → List Data → Data → Bool
 closes_no_cycle file before l =
     let names = devices_named file in
     let parents = parents_of (whole_devices file) in
-    let below = moved (length parents) (dependents parents (map (link_of names) before)) (place_among names (text_at (codes "consumer") l)) in
-    not (is_among below (place_among names (text_at (codes "supplier") l)))
+    let below = moved (length parents) (dependents parents (map (link_of names) before)) (index_among names (text_at (codes "consumer") l)) in
+    not (is_among below (index_among names (text_at (codes "supplier") l)))
 
 -- where a link closes a cycle
 abbrev pub cyclic_link : Data → Option (List ℕ)

@@ -2,7 +2,7 @@
 use Rattle.std.specs.Prelude.{◌≡◌, ◌<◌, ◌≤◌, ℕ, List, length, codes, true, All, IfSome}
 use Rattle.serde_json.specs.Data.{Data}
 use Rattle.machine_file.specs.Members.{may_have, list_in, number_at}
-use Rattle.machine_file.specs.Form.{is_near}
+use Rattle.machine_file.specs.Form.{is_bounded}
 use Rattle.machine_file.specs.Names.{texts_in, sources_named}
 use Rattle.machine_file.specs.Operations.{whole_marks}
 use Rattle.machine_file.specs.Rules.{name_of}
@@ -23,7 +23,7 @@ pub record FitsAt (name : List ℕ) (d : Data) : Type 0 where
 -- a notifier with a short name, and a priority of -1000 to 1000
 pub record FitsNotifier (d : Data) : Type 0 where
   pub name : IsShort (name_of d)
-  pub priority : may_have (codes "priority") (is_near 1000) d ≡ true
+  pub priority : may_have (codes "priority") (is_bounded 1000) d ≡ true
 
 -- an operation whose numbers have 32 bits
 pub record FitsStep (o : Data) : Type 0 where

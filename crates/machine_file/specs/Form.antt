@@ -26,8 +26,8 @@ abbrev pub is_within : ℕ → ℕ → Data → Bool
 is_within least most d = is_some_and (λ n. nat_le least n && nat_le n most) (option_and_then as_u64 (as_number d))
 
 -- a whole number at most so far from 0
-abbrev pub is_near : ℕ → Data → Bool
-is_near most d = is_some_and (λ z. nat_le (nat_abs z) most) (option_and_then as_integer (as_number d))
+abbrev pub is_bounded : ℕ → Data → Bool
+is_bounded most d = is_some_and (λ z. nat_le (nat_abs z) most) (option_and_then as_integer (as_number d))
 
 -- one of these words
 abbrev pub is_one_of : List (List ℕ) → Data → Bool
@@ -61,7 +61,7 @@ is_link_form second d =
 
 -- a notifier has a name; its priority, -1000 to 1000, may be given (struct notifier_block)
 abbrev pub is_notifier_form : Data → Bool
-is_notifier_form d = has_only notifier_members d && must_have (codes "name") is_string d && may_have (codes "priority") (is_near 1000) d
+is_notifier_form d = has_only notifier_members d && must_have (codes "name") is_string d && may_have (codes "priority") (is_bounded 1000) d
 
 -- the words of an actor's kind: the flags PF_KTHREAD and PF_NOFREEZE, and an interrupt line (own)
 abbrev pub kinds : List (List ℕ)

@@ -8,7 +8,7 @@ use Rattle.machine_file.specs.Operations.{Known as Names, whole_marks}
 use Rattle.machine_file.specs.Devices.{whole_devices}
 use Rattle.machine_file.specs.Names.{names_in, texts_in, devices_named, sources_named}
 
--- the texts behind references
+-- the texts after references
 abbrev pub texts : List (Bor (List ℕ)) → List (List ℕ)
 texts names = map (λ s. s.now) names
 

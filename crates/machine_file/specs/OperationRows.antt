@@ -15,22 +15,22 @@ use Rattle.machine_file.specs.Members.{has_text, number_at}
 use Rattle.machine_file.specs.Operations.{Known as Names, ms_of, says, thing_at, Operation, operation, operations, users, tasks, everyone, plain, has_count, is_state_form, has_short_text, has_length, has_mark, is_runtime_form, has_ends_named, is_link_state_form, has_source, is_event_form, is_formed, is_allowed, names_source, names_device}
 
 -- the row of a word
-abbrev pub op_row : Word → Operation
-op_row word.Read = operation (codes "read") [] plain users
-op_row word.Save = operation (codes "save") (codes "count" ∷ []) has_count users
-op_row word.State = operation (codes "state") (codes "text" ∷ codes "if_saved" ∷ []) is_state_form users
-op_row word.Autosleep = operation (codes "autosleep") (codes "text" ∷ []) has_short_text users
-op_row word.Sleep = operation (codes "sleep") (codes "ms" ∷ []) has_length everyone
-op_row word.SleepD = operation (codes "sleep_d") (codes "ms" ∷ []) has_length tasks
-op_row word.FreezePoint = operation (codes "freeze_point") [] plain tasks
-op_row word.Post = operation (codes "post") (codes "mark" ∷ []) has_mark everyone
-op_row word.Wait = operation (codes "wait") (codes "mark" ∷ []) has_mark everyone
-op_row word.Runtime = operation (codes "runtime") (codes "device" ∷ codes "to" ∷ []) is_runtime_form tasks
-op_row word.Link = operation (codes "link") (codes "supplier" ∷ codes "consumer" ∷ []) has_ends_named tasks
-op_row word.LinkState = operation (codes "link_state") (codes "supplier" ∷ codes "consumer" ∷ codes "to" ∷ []) is_link_state_form tasks
-op_row word.Awake = operation (codes "awake") (codes "source" ∷ []) has_source everyone
-op_row word.Relax = operation (codes "relax") (codes "source" ∷ []) has_source everyone
-op_row word.Event = operation (codes "event") (codes "source" ∷ codes "ms" ∷ codes "hard" ∷ []) is_event_form everyone
+abbrev pub operation_of_word : Word → Operation
+operation_of_word word.Read = operation (codes "read") [] plain users
+operation_of_word word.Save = operation (codes "save") (codes "count" ∷ []) has_count users
+operation_of_word word.State = operation (codes "state") (codes "text" ∷ codes "if_saved" ∷ []) is_state_form users
+operation_of_word word.Autosleep = operation (codes "autosleep") (codes "text" ∷ []) has_short_text users
+operation_of_word word.Sleep = operation (codes "sleep") (codes "ms" ∷ []) has_length everyone
+operation_of_word word.SleepD = operation (codes "sleep_d") (codes "ms" ∷ []) has_length tasks
+operation_of_word word.FreezePoint = operation (codes "freeze_point") [] plain tasks
+operation_of_word word.Post = operation (codes "post") (codes "mark" ∷ []) has_mark everyone
+operation_of_word word.Wait = operation (codes "wait") (codes "mark" ∷ []) has_mark everyone
+operation_of_word word.Runtime = operation (codes "runtime") (codes "device" ∷ codes "to" ∷ []) is_runtime_form tasks
+operation_of_word word.Link = operation (codes "link") (codes "supplier" ∷ codes "consumer" ∷ []) has_ends_named tasks
+operation_of_word word.LinkState = operation (codes "link_state") (codes "supplier" ∷ codes "consumer" ∷ codes "to" ∷ []) is_link_state_form tasks
+operation_of_word word.Awake = operation (codes "awake") (codes "source" ∷ []) has_source everyone
+operation_of_word word.Relax = operation (codes "relax") (codes "source" ∷ []) has_source everyone
+operation_of_word word.Event = operation (codes "event") (codes "source" ∷ codes "ms" ∷ codes "hard" ∷ []) is_event_form everyone
 
 -- the first version of the file that has operations of that word
 abbrev pub first_version : Word → ℕ
@@ -84,12 +84,12 @@ word_names_device word.LinkState = true
 word_names_device _ = false
 
 -- it keeps each rule on one operation, beside its actor and the names of sources and devices
-abbrev pub is_kept : Bool → List (List ℕ) → List (List ℕ) → Data → Data → Bool
-is_kept second sources devices actor o = is_formed second actor o && is_allowed actor o && names_source sources o && names_device devices o
+abbrev pub is_in_journal : Bool → List (List ℕ) → List (List ℕ) → Data → Data → Bool
+is_in_journal second sources devices actor o = is_formed second actor o && is_allowed actor o && names_source sources o && names_device devices o
 
 -- a test of an operation beside its actor
 abbrev pub operation_test : OperationTest → Known → Data → Data → Bool
-operation_test (test.Kept second) k actor = is_kept second (texts k.sources) (names k.devices) actor
+operation_test (test.Kept second) k actor = is_in_journal second (texts k.sources) (names k.devices) actor
 operation_test (test.Formed second) k actor = is_formed second actor
 operation_test test.Allowed k actor = is_allowed actor
 operation_test test.Source k actor = names_source (texts k.sources)

@@ -14,7 +14,7 @@ use Rattle.machine_file.specs.Members.{must_have, may_have, has_text, list_in, n
 use Rattle.machine_file.specs.Places.{first_operation}
 use Rattle.machine_file.specs.Form.{is_string, is_truth, is_within, is_one_of, is_time, statuses, link_states}
 use Rattle.machine_file.specs.Names.{spells_name, is_among_names, sources_named, devices_named}
-use Rattle.machine_file.specs.Spelled.{place_among}
+use Rattle.machine_file.specs.Spelled.{index_among}
 use Rattle.machine_file.specs.Rules.{name_of, is_second}
 
 -- ---- the table
@@ -165,13 +165,13 @@ abbrev pub marks_of : List Data → List (List ℕ)
 marks_of script = filter_map (word_at (codes "mark")) script
 
 -- each name at its first place alone, after these
-abbrev pub first_places : List (List ℕ) → List (List ℕ) → List (List ℕ)
-first_places found [] = found
-first_places found (name ∷ names) = first_places (if is_among_names found name then found else found ++ name ∷ []) names
+abbrev pub first_occurrences : List (List ℕ) → List (List ℕ) → List (List ℕ)
+first_occurrences found [] = found
+first_occurrences found (name ∷ names) = first_occurrences (if is_among_names found name then found else found ++ name ∷ []) names
 
 -- the marks of a file, in the order of their first use
 abbrev pub whole_marks : Data → List (List ℕ)
-whole_marks file = first_places [] (flat_map (λ a. marks_of (list_in (codes "script") a)) (list_in (codes "actors") file))
+whole_marks file = first_occurrences [] (flat_map (λ a. marks_of (list_in (codes "script") a)) (list_in (codes "actors") file))
 
 -- what operations name by numbers: the devices, the sources and the marks
 pub record Known : Type 0 where
@@ -185,7 +185,7 @@ known_of file = record { devices = devices_named file; sources = sources_named f
 
 -- the number of the thing that an operation names
 abbrev pub thing_at : List ℕ → List (List ℕ) → Data → ℕ
-thing_at member names o = place_among names (text_at member o)
+thing_at member names o = index_among names (text_at member o)
 
 -- the length that it gives, in ms; without one, 0
 abbrev pub ms_of : Data → ℕ

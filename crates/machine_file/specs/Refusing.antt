@@ -4,7 +4,7 @@ use Rattle.serde_json.specs.Data.{Data}
 use Rattle.machine_file.specs.declared.fault.MachineFault.{MachineFault}
 use Rattle.machine_file.specs.declared.fault.MachineFault.TheVariants as fault
 use Rattle.machine_file.specs.Whole.{Broken, broken_at, broken_in}
-use Rattle.machine_file.specs.Kept.{first_in_order}
+use Rattle.machine_file.specs.ValidFiles.{first_in_order}
 
 -- the fault names this rule and this place, or memory ran out
 abbrev pub Names : MachineFault → Broken → Type 0

@@ -16,12 +16,12 @@ abbrev pub AreShort : List Device → Type 0
 AreShort devices = All (λ d. IsShort d.name) devices
 
 -- the number of a device's parent among those of these names; where it is none of them, a number that none of them has
-abbrev pub parent_behind : List (List ℕ) → Data → Option ℕ
-parent_behind names d = option_map (λ p. unwrap_or (position (bytes_eq p) names) (length names)) (word_at (codes "parent") d)
+abbrev pub parent_after : List (List ℕ) → Data → Option ℕ
+parent_after names d = option_map (λ p. unwrap_or (position (bytes_eq p) names) (length names)) (word_at (codes "parent") d)
 
--- a device as it is registered behind the devices of these names (device_add)
-abbrev pub device_behind : List (List ℕ) → Data → Device
-device_behind names d = record { name = name_of d; parent = parent_behind names d; flags = flags_of d }
+-- a device as it is registered after the devices of these names (device_add)
+abbrev pub device_after : List (List ℕ) → Data → Device
+device_after names d = record { name = name_of d; parent = parent_after names d; flags = flags_of d }
 
 -- all these devices are registered: each name is new, and each parent stands before
 pub record AreRegistered (ds : List Data) (devices : List Device) : Type 0 where

@@ -3,8 +3,8 @@ use Rattle.std.specs.Prelude.{◌≡◌, ℕ, List, [], ◌∷◌, map, Bool, no
 use Rattle.serde_json.specs.Data.{Data}
 use Rattle.sleep_model.specs.Answers.{is_for}
 use Rattle.sleep_model.specs.declared.machine.Link.{Link}
-use Rattle.machine_file.specs.declared.rules.pairs.Ends.{Ends}
-use Rattle.machine_file.specs.declared.rules.pairs.EndPlaces.{EndPlaces}
+use Rattle.machine_file.specs.declared.rules.pairs.LinkEnds.{LinkEnds}
+use Rattle.machine_file.specs.declared.rules.pairs.EndNumbers.{EndNumbers}
 use Rattle.machine_file.specs.declared.rules.answers.Given.{Given}
 use Rattle.machine_file.specs.Look.{text_at}
 use Rattle.machine_file.specs.Members.{has_text, number_at, list_in}
@@ -16,7 +16,7 @@ pub record SeenEnds : Type 0 where
   pub consumer : List ℕ
 
 -- the ends as they are kept
-abbrev pub ends_seen : Ends → SeenEnds
+abbrev pub ends_seen : LinkEnds → SeenEnds
 ends_seen e = record { supplier = e.supplier.now; consumer = e.consumer.now }
 
 -- the ends as they are written
@@ -32,11 +32,11 @@ abbrev pub same_ends : SeenEnds → SeenEnds → Bool
 same_ends a b = bytes_eq a.supplier b.supplier && bytes_eq a.consumer b.consumer
 
 -- the places of both ends among these names
-abbrev pub end_places : List (List ℕ) → SeenEnds → EndPlaces
-end_places names e = record { supplier = position (bytes_eq e.supplier) names; consumer = position (bytes_eq e.consumer) names }
+abbrev pub end_numbers : List (List ℕ) → SeenEnds → EndNumbers
+end_numbers names e = record { supplier = position (bytes_eq e.supplier) names; consumer = position (bytes_eq e.consumer) names }
 
 -- a link between these places, active unless it says that it is dormant; an end that is no device counts as the first
-abbrev pub link_at : EndPlaces → Data → Link
+abbrev pub link_at : EndNumbers → Data → Link
 link_at p l = record {
   supplier = unwrap_or p.supplier 0;
   consumer = unwrap_or p.consumer 0;
@@ -44,22 +44,22 @@ link_at p l = record {
 }
 
 -- the links between these places
-abbrev pub links_between : List EndPlaces → List Data → List Link
+abbrev pub links_between : List EndNumbers → List Data → List Link
 links_between (p ∷ ps) (l ∷ ls) = link_at p l ∷ links_between ps ls
 links_between [] ls = []
 links_between (p ∷ ps) [] = []
 
 -- both ends are devices
-abbrev pub are_devices : EndPlaces → Bool
+abbrev pub are_devices : EndNumbers → Bool
 are_devices p = is_some p.supplier && is_some p.consumer
 
 -- they are the ends of the file's links
-abbrev pub AreEnds : List Ends → Data → Type 0
+abbrev pub AreEnds : List LinkEnds → Data → Type 0
 AreEnds ends file = map ends_seen ends ≡ map ends_written (list_in (codes "links") file)
 
 -- they are the places of the ends of the file's links
-abbrev pub ArePlaced : List EndPlaces → Data → Type 0
-ArePlaced places file = places ≡ map (end_places (devices_named file)) (map ends_written (list_in (codes "links") file))
+abbrev pub AreNumbersOf : List EndNumbers → Data → Type 0
+AreNumbersOf places file = places ≡ map (end_numbers (devices_named file)) (map ends_written (list_in (codes "links") file))
 
 -- what an answer is of, and for which attempt
 pub record SeenAnswer : Type 0 where

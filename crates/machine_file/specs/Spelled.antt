@@ -10,14 +10,14 @@ use Rattle.machine_file.specs.Members.{has_text}
 abbrev pub parent_of : List (List ℕ) → Data → Option ℕ
 parent_of earlier d = option_and_then (λ s. position (bytes_eq s) earlier) (option_and_then as_str (get (codes "parent") d))
 
--- the number of a name among these, and 0 where it is none of them
-abbrev pub place_among : List (List ℕ) → List ℕ → ℕ
-place_among names name = unwrap_or (position (bytes_eq name) names) 0
+-- the number of a name among these, and 0 if it is none of them
+abbrev pub index_among : List (List ℕ) → List ℕ → ℕ
+index_among names name = unwrap_or (position (bytes_eq name) names) 0
 
 -- a link between devices of these names, active unless it says that it is dormant (DL_STATE_DORMANT)
 abbrev pub link_of : List (List ℕ) → Data → Link
 link_of names l = record {
-  supplier = place_among names (text_at (codes "supplier") l);
-  consumer = place_among names (text_at (codes "consumer") l);
+  supplier = index_among names (text_at (codes "supplier") l);
+  consumer = index_among names (text_at (codes "consumer") l);
   active = not (has_text (codes "state") (codes "dormant") l);
 }

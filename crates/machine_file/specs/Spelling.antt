@@ -59,7 +59,7 @@ always name d = row name (Some d)
 abbrev pub count_unless : List ℕ → ℕ → ℕ → Named (Option Data)
 count_unless name default n = row name (if n == default then None else Some (count n))
 
--- the value true, where it holds
+-- the value true if it holds
 abbrev pub true_if : List ℕ → Bool → Named (Option Data)
 true_if name holds = row name (if holds then Some (boolean true) else None)
 
@@ -118,8 +118,8 @@ abbrev pub notifier_value : Notifier → Data
 notifier_value x = object_of (notifier_rows x)
 
 -- the word of an operation
-abbrev pub op_row : List ℕ → Named (Option Data)
-op_row word = text_row (codes "op") word
+abbrev pub op_member : List ℕ → Named (Option Data)
+op_member word = text_row (codes "op") word
 
 -- how often an operation is made
 abbrev pub times : ℕ → Named (Option Data)
@@ -127,21 +127,21 @@ times n = count_unless (codes "times") 1 n
 
 -- the members of an operation that is made so often
 abbrev pub op_rows : Machine → ℕ → Op → List (Named (Option Data))
-op_rows m n Read = op_row (codes "read") ∷ times n ∷ []
-op_rows m n (Save c) = row (codes "count") (option_map count c) ∷ op_row (codes "save") ∷ times n ∷ []
-op_rows m n (State text if_saved) = true_if (codes "if_saved") if_saved ∷ op_row (codes "state") ∷ text_row (codes "text") text ∷ times n ∷ []
-op_rows m n (Autosleep text) = op_row (codes "autosleep") ∷ text_row (codes "text") text ∷ times n ∷ []
-op_rows m n (Sleep ms) = always (codes "ms") (count ms) ∷ op_row (codes "sleep") ∷ times n ∷ []
-op_rows m n (SleepD ms) = always (codes "ms") (count ms) ∷ op_row (codes "sleep_d") ∷ times n ∷ []
-op_rows m n FreezePoint = op_row (codes "freeze_point") ∷ times n ∷ []
-op_rows m n (Post x) = text_row (codes "mark") (mark m x) ∷ op_row (codes "post") ∷ times n ∷ []
-op_rows m n (Wait x) = text_row (codes "mark") (mark m x) ∷ op_row (codes "wait") ∷ times n ∷ []
-op_rows m n (Runtime d suspended) = text_row (codes "device") (device m d) ∷ op_row (codes "runtime") ∷ times n ∷ text_row (codes "to") (runtime_word suspended) ∷ []
-op_rows m n (Link supplier consumer) = text_row (codes "consumer") (device m consumer) ∷ op_row (codes "link") ∷ text_row (codes "supplier") (device m supplier) ∷ times n ∷ []
-op_rows m n (LinkState supplier consumer active) = text_row (codes "consumer") (device m consumer) ∷ op_row (codes "link_state") ∷ text_row (codes "supplier") (device m supplier) ∷ times n ∷ text_row (codes "to") (link_word active) ∷ []
-op_rows m n (Awake s) = op_row (codes "awake") ∷ text_row (codes "source") (source m s) ∷ times n ∷ []
-op_rows m n (Relax s) = op_row (codes "relax") ∷ text_row (codes "source") (source m s) ∷ times n ∷ []
-op_rows m n (Event s ms hard) = true_if (codes "hard") hard ∷ count_unless (codes "ms") 0 ms ∷ op_row (codes "event") ∷ text_row (codes "source") (source m s) ∷ times n ∷ []
+op_rows m n Read = op_member (codes "read") ∷ times n ∷ []
+op_rows m n (Save c) = row (codes "count") (option_map count c) ∷ op_member (codes "save") ∷ times n ∷ []
+op_rows m n (State text if_saved) = true_if (codes "if_saved") if_saved ∷ op_member (codes "state") ∷ text_row (codes "text") text ∷ times n ∷ []
+op_rows m n (Autosleep text) = op_member (codes "autosleep") ∷ text_row (codes "text") text ∷ times n ∷ []
+op_rows m n (Sleep ms) = always (codes "ms") (count ms) ∷ op_member (codes "sleep") ∷ times n ∷ []
+op_rows m n (SleepD ms) = always (codes "ms") (count ms) ∷ op_member (codes "sleep_d") ∷ times n ∷ []
+op_rows m n FreezePoint = op_member (codes "freeze_point") ∷ times n ∷ []
+op_rows m n (Post x) = text_row (codes "mark") (mark m x) ∷ op_member (codes "post") ∷ times n ∷ []
+op_rows m n (Wait x) = text_row (codes "mark") (mark m x) ∷ op_member (codes "wait") ∷ times n ∷ []
+op_rows m n (Runtime d suspended) = text_row (codes "device") (device m d) ∷ op_member (codes "runtime") ∷ times n ∷ text_row (codes "to") (runtime_word suspended) ∷ []
+op_rows m n (Link supplier consumer) = text_row (codes "consumer") (device m consumer) ∷ op_member (codes "link") ∷ text_row (codes "supplier") (device m supplier) ∷ times n ∷ []
+op_rows m n (LinkState supplier consumer active) = text_row (codes "consumer") (device m consumer) ∷ op_member (codes "link_state") ∷ text_row (codes "supplier") (device m supplier) ∷ times n ∷ text_row (codes "to") (link_word active) ∷ []
+op_rows m n (Awake s) = op_member (codes "awake") ∷ text_row (codes "source") (source m s) ∷ times n ∷ []
+op_rows m n (Relax s) = op_member (codes "relax") ∷ text_row (codes "source") (source m s) ∷ times n ∷ []
+op_rows m n (Event s ms hard) = true_if (codes "hard") hard ∷ count_unless (codes "ms") 0 ms ∷ op_member (codes "event") ∷ text_row (codes "source") (source m s) ∷ times n ∷ []
 
 -- an operation, and how often it is made
 abbrev pub step_value : Machine → Step → Data

@@ -14,7 +14,7 @@ pub record Sheet : Type 0 where
 abbrev pub blank : Sheet
 blank = record { text = []; later = false }
 
--- these bytes behind it
+-- these bytes after it
 abbrev pub added : List ℕ → Bool → Sheet → Sheet
 added text later s = record { text = s.text ++ text; later = later }
 

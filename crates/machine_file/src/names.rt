@@ -2,7 +2,7 @@
 pub(crate) mod devices;
 pub(crate) mod known;
 pub(crate) mod marks;
-pub(crate) mod places;
+pub(crate) mod ranks;
 
 ghost use Rattle.std.specs.Prelude.{◌≡◌, ◌∷◌, [], not, map, bytes_eq, codes, IfOk};
 ghost use Rattle.borrowed_json.specs.View.{view};
@@ -67,5 +67,5 @@ fn texts_of<'v>(alloc: Global, list: &[Value<'v>]) -> Result<Vec<&'v str>, Mem>
 pub(crate) fn first_repeated(names: &KeyIndex<&str>) -> Option<usize>
     ensures { result ≡ first_not_after (λ before name. not (is_among_names before name)) [] 0 (map (λ s. s.now) names.now) }
 {
-    crate::names::places::first_repeated(names)
+    crate::names::ranks::first_repeated(names)
 }

@@ -9,7 +9,7 @@ ghost use Rattle.std.specs.Prelude.{◌≡◌, ◌++◌, codes, Some, None, IfOk
 ghost use Rattle.borrowed_json.specs.View.{view};
 ghost use Rattle.sleep_model.specs.Accepted.{IsAccepted};
 ghost use Rattle.machine_file.specs.Whole.{machine_in};
-ghost use Rattle.machine_file.specs.Kept.{broken_devices, broken_form};
+ghost use Rattle.machine_file.specs.ValidFiles.{broken_devices, broken_form};
 ghost use Rattle.machine_file.specs.Devices.{whole_devices};
 ghost use Rattle.machine_file.specs.Knows.{Knows};
 ghost use Rattle.machine_file.specs.Reading.{links_among, Reads};

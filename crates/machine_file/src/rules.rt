@@ -19,7 +19,7 @@ ghost use Rattle.machine_file.specs.Answering.{sourceless_report, thingless_answ
 ghost use Rattle.machine_file.specs.Places.{unless};
 ghost use Rattle.machine_file.specs.Groups.{form_rules, end_rules, thing_rules, operation_rules, answer_rules};
 ghost use Rattle.machine_file.specs.Knows.{Knows};
-ghost use Rattle.machine_file.specs.Seen.{AreEnds, ArePlaced};
+ghost use Rattle.machine_file.specs.Seen.{AreEnds, AreNumbersOf};
 ghost use Rattle.machine_file.specs.Broken.{place_of, broken_view};
 
 use crate::names::known::{Known, repeated, repeated_callback, repeated_source};
@@ -28,7 +28,7 @@ use crate::rules::form::unformed_member;
 use crate::rules::items::{is_second, misspelled_item, unformed_item};
 use crate::rules::limits::{too_many, too_much};
 use crate::rules::operations::{OperationTest, first_operation};
-use crate::rules::pairs::{EndPlaces, Ends, loose_link, repeated_link};
+use crate::rules::pairs::{EndNumbers, LinkEnds, loose_link, repeated_link};
 use crate::value::look::{has_number, has_only};
 use crate::value::place::{Member, Place};
 use borrowed_json::Value;
@@ -103,11 +103,11 @@ pub(crate) fn form_broken(tree: &Value<'_>) -> Option<Broken>
 pub(crate) fn end_broken(
     alloc: Global,
     tree: &Value<'_>,
-    ends: &[Ends<'_>],
-    places: &[EndPlaces],
+    ends: &[LinkEnds<'_>],
+    places: &[EndNumbers],
 ) -> Result<Option<Broken>, Mem>
     requires ends { AreEnds ends.now (view tree.now) }
-    requires placed { ArePlaced places.now (view tree.now) }
+    requires placed { AreNumbersOf places.now (view tree.now) }
     ensures { IfOk result (λ b. option_map broken_view b ≡ first_of end_rules (view tree.now)) }
 {
     let again = repeated_link(alloc, tree, ends)?;
@@ -174,7 +174,7 @@ fn sourceless(tree: &Value<'_>, known: &Known<'_>) -> Option<Place>
     }
 }
 
-/// The first rule of operations that is broken: it is searched for rule by rule only where one pass finds an operation that
+/// The first rule of operations that is broken: it is searched for rule by rule only if one pass finds an operation that
 /// breaks any of them.
 pub(crate) fn operation_broken(tree: &Value<'_>, known: &Known<'_>) -> Option<Broken>
     requires { Knows known.now (view tree.now) }

@@ -12,13 +12,13 @@ use Rattle.sleep_model.specs.Answers.{answer_for, is_thing, is_for, is_platform_
 use Rattle.machine_plans.specs.declared.key.Thing.TheVariants as thing
 use Rattle.machine_plans.specs.declared.key.Key.{Key}
 use Rattle.machine_plans.specs.contracts.key.KeyPartialEq.TheImpl.{eq-value}
-use Rattle.machine_plans.specs.Keys.{key_for, step_place}
+use Rattle.machine_plans.specs.Keys.{key_for, step_rank}
 
 -- the derived test of two attempts
 abbrev attempt_eq : Option ℕ → Option ℕ → Bool
 attempt_eq a b = eq-value.it (record { thing = thing.Syscore 0; attempt = a }) (record { thing = thing.Syscore 0; attempt = b })
 
-same_step : (x y : PlatDo) → (step_place x == step_place y) ≡ is_platform_step x y
+same_step : (x y : PlatDo) → (step_rank x == step_rank y) ≡ is_platform_step x y
 same_step down.Begin down.Begin = refl
 same_step down.Prepare down.Prepare = refl
 same_step down.PrepareLate down.PrepareLate = refl
@@ -35,7 +35,7 @@ pub key_eq : (w v : What) (a b : Option ℕ) → eq-value.it (key_for w a) (key_
 key_eq (what.Device d p) (what.Device e q) a b = same_attempt a b (d == e && is_phase p q)
 key_eq (what.Syscore x) (what.Syscore y) a b = same_attempt a b (x == y)
 key_eq (what.Notifier x) (what.Notifier y) a b = same_attempt a b (x == y)
-key_eq (what.Platform x) (what.Platform y) a b = same_attempt a b (step_place x == step_place y) ∙ ap (λ c. c && is_for a b) (same_step x y)
+key_eq (what.Platform x) (what.Platform y) a b = same_attempt a b (step_rank x == step_rank y) ∙ ap (λ c. c && is_for a b) (same_step x y)
 key_eq _ _ a b = refl
 
 -- each key is found among the answers from number i on

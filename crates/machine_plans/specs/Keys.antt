@@ -6,23 +6,23 @@ use Rattle.sleep_model.specs.declared.machine.PlatDo.TheVariants as down
 use Rattle.sleep_model.specs.declared.machine.What.{What}
 use Rattle.sleep_model.specs.declared.machine.What.TheVariants as what
 use Rattle.sleep_model.specs.Answers.{answer_for}
-use Rattle.phase_table.specs.Phases.{phase_place}
+use Rattle.phase_table.specs.Phases.{phase_rank}
 use Rattle.machine_plans.specs.declared.key.Key.{Key}
 use Rattle.machine_plans.specs.declared.key.Thing.{Thing}
 use Rattle.machine_plans.specs.declared.key.Thing.TheVariants as thing
 
 -- the place of a step of the platform in an undisturbed attempt (struct platform_suspend_ops)
-abbrev pub step_place : PlatDo → ℕ
-step_place down.Begin = 0
-step_place down.Prepare = 1
-step_place down.PrepareLate = 2
+abbrev pub step_rank : PlatDo → ℕ
+step_rank down.Begin = 0
+step_rank down.Prepare = 1
+step_rank down.PrepareLate = 2
 
 -- the thing that is looked up
 abbrev pub thing_of : What → Thing
-thing_of (what.Device d p) = thing.Device d (phase_place p)
+thing_of (what.Device d p) = thing.Device d (phase_rank p)
 thing_of (what.Syscore x) = thing.Syscore x
 thing_of (what.Notifier x) = thing.Notifier x
-thing_of (what.Platform step) = thing.Platform (step_place step)
+thing_of (what.Platform step) = thing.Platform (step_rank step)
 
 -- the key of a thing in an attempt, or in any
 abbrev pub key_for : What → Option ℕ → Key

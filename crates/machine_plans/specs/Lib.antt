@@ -1,3 +1,3 @@
-pub mod Book
+pub mod PlannedAnswers
 pub mod Keys
 pub mod PlanFields

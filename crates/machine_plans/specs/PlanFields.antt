@@ -14,5 +14,5 @@ pub record ArePlans (p : Inside) : Type 0 where
   pub scripts_are : p.scripts.items ≡ map (with_source (length p.machine.now.sources)) p.machine.now.actors
 
 -- the fields are the plans of the machine (own)
-abbrev pub keeps : Inside → Type 0
-keeps p = ArePlans p
+abbrev pub plans_invariant : Inside → Type 0
+plans_invariant p = ArePlans p

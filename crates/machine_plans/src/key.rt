@@ -1,8 +1,8 @@
 //! By what an answer is looked up.
 
 ghost use Rattle.std.specs.Prelude.{◌≡◌};
-ghost use Rattle.phase_table.specs.Phases.{phase_place};
-ghost use Rattle.machine_plans.specs.Keys.{step_place, thing_of};
+ghost use Rattle.phase_table.specs.Phases.{phase_rank};
+ghost use Rattle.machine_plans.specs.Keys.{step_rank, thing_of};
 
 use sleep_model::{Phase, PlatDo, What};
 
@@ -29,20 +29,20 @@ pub(crate) fn key_of(what: What, attempt: Option<u32>) -> Key
     let thing = match what {
         What::Device(device, phase) => Thing::Device {
             device,
-            phase: place_of(phase),
+            phase: phase_rank(phase),
         },
         What::Syscore(part) => Thing::Syscore(part),
         What::Notifier(notifier) => Thing::Notifier(notifier),
         What::Platform(step) => Thing::Platform {
-            step: place_of_step(step),
+            step: step_rank(step),
         },
     };
     Key { thing, attempt }
 }
 
 /// The place of a phase in an undisturbed attempt.
-fn place_of(phase: Phase) -> u8
-    ensures { result ≡ phase_place phase }
+fn phase_rank(phase: Phase) -> u8
+    ensures { result ≡ phase_rank phase }
 {
     match phase {
         Phase::Prepare => 0,
@@ -59,8 +59,8 @@ fn place_of(phase: Phase) -> u8
 }
 
 /// The place of a step of the platform in an undisturbed attempt.
-fn place_of_step(step: PlatDo) -> u8
-    ensures { result ≡ step_place step }
+fn step_rank(step: PlatDo) -> u8
+    ensures { result ≡ step_rank step }
 {
     match step {
         PlatDo::Begin => 0,

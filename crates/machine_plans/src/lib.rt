@@ -3,15 +3,15 @@
 //!
 //! Promises: A thing's own answer for the attempt, else the one for any attempt, else 0; the first of equal ones;
 //! its reports in that attempt. The answers and the plan of each script are the machine's. By the clauses of
-//! `AnswerBook::answer`, `error`, `number`, `reports`; `MachinePlans::new`, `answers`, `script`.
+//! `PlannedAnswers::answer`, `error`, `number`, `reports`; `MachinePlans::new`, `answers`, `script`.
 //!
-//! Begin reading in `src/plans.rt`, `src/book.rt`.
+//! Begin reading in `src/plans.rt`, `src/planned_answers.rt`.
 #![tactic(auto)]
 
-mod book;
+mod indices;
 mod key;
-mod places;
+mod planned_answers;
 mod plans;
 
-pub use book::AnswerBook;
+pub use planned_answers::PlannedAnswers;
 pub use plans::MachinePlans;

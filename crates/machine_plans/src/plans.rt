@@ -1,4 +1,4 @@
-use crate::book::AnswerBook;
+use crate::planned_answers::PlannedAnswers;
 use script_plan::{Plan, plans_of};
 use sleep_base::Mem;
 use sleep_model::Machine;
@@ -10,7 +10,7 @@ use std::marker::Model;
 #[derive(Drop)]
 pub struct MachinePlans<'m> {
     machine: &'m Machine,
-    answers: AnswerBook<'m>,
+    answers: PlannedAnswers<'m>,
     scripts: Vec<Plan<'m>>,
 }
 
@@ -19,18 +19,18 @@ impl<'m> Model for MachinePlans<'m> {
 
     ghost Value = { Machine };
 
-    ghost use Rattle.machine_plans.specs.PlanFields.{planned, keeps};
+    ghost use Rattle.machine_plans.specs.PlanFields.{planned, plans_invariant};
 
     ghost view = { planned };
 
-    ghost invariant = { keeps };
+    ghost invariant = { plans_invariant };
 }
 
 impl<'m> MachinePlans<'m> {
     ghost use Rattle.std.specs.Prelude.{◌≡◌, ◌<◌, ◌≤◌, ◌^◌, Some, length, slice_get, IfOk};
     ghost use Rattle.sleep_model.specs.Places.{all_operations};
 
-    /// The plans of a machine, whose scripts make at most 200,000 steps in all. `Mem` where there is no memory.
+    /// The plans of a machine, whose scripts make at most 200,000 steps in all. `Mem` if there is no memory.
     pub fn new(alloc: Global, machine: &'m Machine) -> Result<Self, Mem>
         requires steps { length (all_operations machine.now.actors) ≤ 200000 }
         requires sources { length machine.now.sources < 2 ^ 32 }
@@ -38,7 +38,7 @@ impl<'m> MachinePlans<'m> {
         ensures { IfOk result (λ p. p ≡ machine.now) }
     {
         let source = machine.sources.len() as u32;
-        let answers = AnswerBook::new(alloc, machine.answers.as_slice())?;
+        let answers = PlannedAnswers::new(alloc, machine.answers.as_slice())?;
         let scripts = plans_of(alloc, machine.actors.as_slice(), source)?;
         Ok(MachinePlans {
             machine,
@@ -55,13 +55,13 @@ impl<'m> MachinePlans<'m> {
     }
 
     /// What its callbacks answer.
-    pub fn answers(&self) -> &AnswerBook<'m>
+    pub fn answers(&self) -> &PlannedAnswers<'m>
         ensures { result.now ≡ self.now.answers }
     {
         &self.answers
     }
 
-    /// The plan of its script with that number. Autosleep has the source behind the machine's own.
+    /// The plan of its script with that number. Autosleep has the source after the machine's own.
     pub fn script(&self, number: u32) -> &Plan<'m>
         requires { number < length self.now.actors }
         ensures source { result.now.source ≡ length self.now.sources }

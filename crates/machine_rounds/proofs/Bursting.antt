@@ -7,7 +7,7 @@ use Rattle.sleep_model.specs.declared.entry.JournalEntry.{JournalEntry}
 use Rattle.sleep_model.specs.declared.machine.Machine.{Machine}
 use Rattle.sleep_model.specs.declared.word.Stamp.{Stamp}
 use Rattle.sleep_model.specs.Numbers.{time_of}
-use Rattle.sleep_state.specs.Places.{entries}
+use Rattle.sleep_state.specs.JournalRooms.{entries}
 use Rattle.sleep_core.specs.Cores.{IsActor}
 use Rattle.sleep_script.specs.Jobs.{IsJobOf, JobState, later}
 use Rattle.wakeup_source.specs.SourceStates.{SourceState}
@@ -20,16 +20,16 @@ use Rattle.run_world.specs.declared.task.Task.TheVariants as task
 use Rattle.run_world.specs.Acts.{actor_of, known_by}
 use Rattle.run_world.specs.Bursts.{IsBurst}
 use Rattle.burst_laws.specs.Courses.{GoesOnAt, IsTaskOf, has_task}
-use Rattle.burst_laws.specs.Keeping.{GoesOnWith}
-use Rattle.burst_laws.specs.Serial.{plain_sources, standing_of}
+use Rattle.burst_laws.specs.Preservation.{GoesOnWith}
+use Rattle.burst_laws.specs.Serial.{plain_sources, burst_state_of}
 use Rattle.burst_laws.proofs.GoingBursts.{bursts_go_on}
 use Rattle.burst_laws.proofs.SerialGrowth.{bursts_grow}
 use Rattle.machine_rounds.specs.JobsOf.{AreAllJobs, JobsState, job_at}
 use Rattle.machine_rounds.specs.TasksOf.{highest, tasks_of}
 use Rattle.machine_rounds.proofs.CameBack.{CameBack, again, all_same, came_back}
-use Rattle.machine_rounds.proofs.FirstTasks.{IsBelow, floors_first, get_behind, get_front, get_mapped, goes_on_first, known_else, known_some, named}
-use Rattle.machine_rounds.proofs.JobsKept.{any_default}
-use Rattle.machine_rounds.proofs.SeatsKept.{index_mapped}
+use Rattle.machine_rounds.proofs.FirstTasks.{IsBelow, floors_first, get_after, get_front, get_mapped, goes_on_first, known_else, known_some, named}
+use Rattle.machine_rounds.proofs.JobsPreserved.{any_default}
+use Rattle.machine_rounds.proofs.SeatsPreserved.{index_mapped}
 
 -- ---- the greatest stamp
 
@@ -72,8 +72,8 @@ module _ (m : Machine) (jobs : JobsState) (all : AreAllJobs m jobs) (named : (wh
     devices = long c.back.devices jobs.devices c.devices ∙ all.devices;
   }
 
-  abbrev rest : List Task
-  rest = task.Acts c.back.auto ∷ (map (λ (j : JobState). task.Acts j) c.back.devices ++ c.last)
+  abbrev after_idle_round : List Task
+  after_idle_round = task.Acts c.back.auto ∷ (map (λ (j : JobState). task.Acts j) c.back.devices ++ c.last)
 
   -- the task of an actor of the machine is its job's
   pub task_there : (who : Actor) → IsActor m who → (k : ℕ) × (slice_get news k ≡ Some (task.Acts (job_at c.back who))) × ((job_at c.back who).who ≡ who)
@@ -81,20 +81,20 @@ module _ (m : Machine) (jobs : JobsState) (all : AreAllJobs m jobs) (named : (wh
       let l : i < length c.back.scripts = omega (arith, a, all_back.scripts) in (
         i,
         ap (λ (ts : List Task). slice_get ts i) c.are
-            ∙ get_front (map (λ (j : JobState). task.Acts j) c.back.scripts) rest i (task.Acts (slice_index_or c.back.scripts i c.back.auto)) (get_mapped (λ (j : JobState). task.Acts j) c.back.scripts i c.back.auto l),
+            ∙ get_front (map (λ (j : JobState). task.Acts j) c.back.scripts) after_idle_round i (task.Acts (slice_index_or c.back.scripts i c.back.auto)) (get_mapped (λ (j : JobState). task.Acts j) c.back.scripts i c.back.auto l),
         who_of c.back.scripts jobs.scripts i c.back.auto jobs.auto c.scripts (omega (arith, a, all.scripts)) ∙ named (actor.Script i) a,
       )
   task_there actor.Auto a = (
     length (map (λ (j : JobState). task.Acts j) c.back.scripts) + 0,
     ap (λ (ts : List Task). slice_get ts (length (map (λ (j : JobState). task.Acts j) c.back.scripts) + 0)) c.are
-        ∙ get_behind (map (λ (j : JobState). task.Acts j) c.back.scripts) rest 0 (task.Acts c.back.auto) refl,
+        ∙ get_after (map (λ (j : JobState). task.Acts j) c.back.scripts) after_idle_round 0 (task.Acts c.back.auto) refl,
     c.auto ∙ named actor.Auto a,
   )
   task_there (actor.Dev d) a =
       let l : d < length c.back.devices = omega (arith, a, all_back.devices) in (
         length (map (λ (j : JobState). task.Acts j) c.back.scripts) + suc d,
         ap (λ (ts : List Task). slice_get ts (length (map (λ (j : JobState). task.Acts j) c.back.scripts) + suc d)) c.are
-            ∙ get_behind (map (λ (j : JobState). task.Acts j) c.back.scripts) rest (suc d) (task.Acts (slice_index_or c.back.devices d c.back.auto))
+            ∙ get_after (map (λ (j : JobState). task.Acts j) c.back.scripts) after_idle_round (suc d) (task.Acts (slice_index_or c.back.devices d c.back.auto))
             (get_front (map (λ (j : JobState). task.Acts j) c.back.devices) c.last d (task.Acts (slice_index_or c.back.devices d c.back.auto)) (get_mapped (λ (j : JobState). task.Acts j) c.back.devices d c.back.auto l)),
         who_of c.back.devices jobs.devices d c.back.auto jobs.auto c.devices (omega (arith, a, all.devices)) ∙ named (actor.Dev d) a,
       )
@@ -113,13 +113,13 @@ module _ (m : Machine) (jobs : JobsState) (floor : Stamp) (all : AreAllJobs m jo
   abbrev journal : List JournalEntry
   journal = machine_then.core.past
 
-  abbrev first : GoesOnAt m (standing_of machine sources these)
+  abbrev first : GoesOnAt m (burst_state_of machine sources these)
   first = goes_on_first m machine.core.past (plain_sources sources) jobs floor all r
 
-  after : GoesOnWith m (standing_of machine sources these) (standing_of machine_then sources_then tasks_then) first (plain_sources sources_then)
+  after : GoesOnWith m (burst_state_of machine sources these) (burst_state_of machine_then sources_then tasks_then) first (plain_sources sources_then)
   after = bursts_go_on m moment machine machine_then sources sources_then these tasks_then b at are first
 
-  abbrev on : GoesOnAt m (standing_of machine_then sources_then tasks_then)
+  abbrev on : GoesOnAt m (burst_state_of machine_then sources_then tasks_then)
   on = after.farther.on
 
   going : IsGoing m journal (plain_sources sources_then) on.jobs on.floors
@@ -206,7 +206,7 @@ module _ (m : Machine) (jobs : JobsState) (floor : Stamp) (all : AreAllJobs m jo
         sources_are = going.sources_are;
         jobs_are = jobs_are;
         floors_know = going.floors_know;
-        told = going.told;
+        shown = going.shown;
         low = record {
           newest = going.low.newest;
           of_each = going.low.of_each;

@@ -5,7 +5,7 @@ use Rattle.std.proofs.lemmas.List.{length-map}
 use Rattle.sleep_model.specs.Merge.{of_source}
 use Rattle.sleep_model.specs.Numbers.{time_of}
 use Rattle.sleep_model.specs.Sources.{most_entries}
-use Rattle.sleep_state.specs.Places.{entries}
+use Rattle.sleep_state.specs.JournalRooms.{entries}
 use Rattle.event_word.specs.Seats.{AreAll, IsSeatOf}
 use Rattle.wakeup_source.specs.declared.fault.SourceFault.{SourceFault}
 use Rattle.wakeup_source.specs.declared.fault.SourceFault.TheVariants as source
@@ -20,11 +20,11 @@ use Rattle.machine_rounds.specs.declared.run.RunFault.{RunFault}
 use Rattle.machine_rounds.specs.declared.run.RunFault.TheVariants as fault
 use Rattle.machine_rounds.specs.JobsOf.{job_at}
 use Rattle.machine_rounds.specs.Refused.{run_fault}
-use Rattle.machine_rounds.specs.RunFields.{KeepsRun, sources_of, state}
+use Rattle.machine_rounds.specs.RunFields.{RunFieldsInvariant, sources_of, state}
 use Rattle.machine_rounds.specs.Runs.{IsRefused}
-use Rattle.machine_rounds.proofs.SeatsKept.{put_back, seat_is, source_is, sources_set, more_set}
+use Rattle.machine_rounds.proofs.SeatsPreserved.{put_back, seat_is, source_is, sources_set, more_set}
 
-module _ (r : Inside) (k : KeepsRun r) (s : ℕ) (there : s ≤ length r.machine.now.sources) (one : SeatedSourceState) (is : one ≡ slice_index_or r.sources.items s one) where
+module _ (r : Inside) (k : RunFieldsInvariant r) (s : ℕ) (there : s ≤ length r.machine.now.sources) (one : SeatedSourceState) (is : one ≡ slice_index_or r.sources.items s one) where
   abbrev sources : List SourceState
   sources = sources_of r.sources.items
 
@@ -41,25 +41,25 @@ module _ (r : Inside) (k : KeepsRun r) (s : ℕ) (there : s ≤ length r.machine
   pub seated : IsSeatOf r.seated.seat.table_id s one.seat
   seated = seat_is r.seated.seat r.sources.items s one k.seats within is
 
-  pub at_table : one.seat.table_id ≡ r.table.desk.shared.table_id
+  pub at_table : one.seat.table_id ≡ r.table.cells.shared.table_id
   at_table = seated.0 ∙ k.table
 
   -- none of its entries is later than now
-  pub not_later : (at : ℕ) → at ≡ time_of (entries r.seated.core.past) → latest (states.bare one.source.past) ≤ at
+  pub not_later : (at : ℕ) → at ≡ time_of (entries r.seated.core.past) → latest (states.unstamped one.source.past) ≤ at
   not_later at now =
       omega (
         arith,
         now,
         timely r.machine.now r.seated.core.past sources (job_at r.jobs) k.running s one.source within_sources,
-        ap (λ (x : SourceState). latest (states.bare x.past)) old_is,
+        ap (λ (x : SourceState). latest (states.unstamped x.past)) old_is,
       )
 
   -- its entries are the run's of that source
   pub entries_are : of_sources sources s ≡ map of_source one.source.past
   entries_are = source_at sources s one.source within_sources ∙ ap (λ (x : SourceState). map of_source x.past) (sym old_is)
 
-  pub history_is : histories sources s ≡ states.bare one.source.past
-  history_is = history_at sources s one.source within_sources ∙ ap (λ (x : SourceState). states.bare x.past) (sym old_is)
+  pub history_is : histories sources s ≡ states.unstamped one.source.past
+  history_is = history_at sources s one.source within_sources ∙ ap (λ (x : SourceState). states.unstamped x.past) (sym old_is)
 
   counted : length (of_sources sources s) ≡ length one.source.past
   counted = ap length entries_are ∙ length-map one.source.past of_source
@@ -86,7 +86,7 @@ module _ (r : Inside) (k : KeepsRun r) (s : ℕ) (there : s ≤ length r.machine
       subst (λ (xs : List SeatedSourceState). IsRefused (record { machine = r.machine.now; journal = r.seated.core.past; sources = sources_of xs; seat = r.seated.seat; floor = r.floor }) given)
       (sym (ap (slice_set r.sources.items s) same ∙ put_back r.sources.items s one is)) h
 
-  -- want of memory is told of no source that is full
+  -- out of memory is told of no source that is full
   pub wanted : (why : SourceFault) (given : RunFault) → given ≡ run_fault why s → (most_entries < length one.source.past + 4 → why ≡ source.Full) → given ≡ fault.Mem → length (of_sources sources s) + 4 ≤ most_entries
   wanted source.Full given so full want = absurd (let no : fault.SourceFull s ≡ fault.Mem = sym so ∙ want in cc)
   wanted source.Mem given so full want = by (nat_lt most_entries (length one.source.past + 4)) refl

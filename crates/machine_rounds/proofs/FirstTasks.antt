@@ -24,28 +24,28 @@ use Rattle.machine_rounds.proofs.Numbered.{from_more}
 
 -- ---- lists
 
--- what stands at a place of two lists, one behind the other
-pub get_parts : {A : Type 0} (xs ys : List A) (k : ℕ) (t : A) → slice_get (xs ++ ys) k ≡ Some t
+-- what stands at a place of two lists, one after the other
+pub get_contents : {A : Type 0} (xs ys : List A) (k : ℕ) (t : A) → slice_get (xs ++ ys) k ≡ Some t
     → ((k < length xs) × (slice_get xs k ≡ Some t)) ⊎ ((j : ℕ) × (k ≡ length xs + j) × (slice_get ys j ≡ Some t))
-get_parts [] ys k t e = inr (k, omega arith, e)
-get_parts (x ∷ xs) ys zero t e = inl (omega arith, e)
-get_parts {A} (x ∷ xs) ys (suc k) t e = more (get_parts xs ys k t e)
+get_contents [] ys k t e = inr (k, omega arith, e)
+get_contents (x ∷ xs) ys zero t e = inl (omega arith, e)
+get_contents {A} (x ∷ xs) ys (suc k) t e = more (get_contents xs ys k t e)
   where
     more : ((k < length xs) × (slice_get xs k ≡ Some t)) ⊎ ((j : ℕ) × (k ≡ length xs + j) × (slice_get ys j ≡ Some t))
         → ((suc k < length (x ∷ xs)) × (slice_get (x ∷ xs) (suc k) ≡ Some t)) ⊎ ((j : ℕ) × (suc k ≡ length (x ∷ xs) + j) × (slice_get ys j ≡ Some t))
     more (inl h) = inl (omega (arith, h.0), h.1)
     more (inr h) = inr (h.0, omega (arith, h.1), h.2)
 
--- what stands in the front, and behind it
+-- what stands in the front, and after it
 pub get_front : {A : Type 0} (xs ys : List A) (k : ℕ) (t : A) → slice_get xs k ≡ Some t → slice_get (xs ++ ys) k ≡ Some t
 get_front [] ys k t e = absurd (let bad : None ≡ Some t = e in cc)
 get_front (x ∷ xs) ys zero t e = e
 get_front (x ∷ xs) ys (suc k) t e = get_front xs ys k t e
 
-pub get_behind : {A : Type 0} (xs ys : List A) (j : ℕ) (t : A) → slice_get ys j ≡ Some t → slice_get (xs ++ ys) (length xs + j) ≡ Some t
-get_behind [] ys j t e = subst (λ (n : ℕ). slice_get ys n ≡ Some t) (let is : j ≡ 0 + j = omega arith in is) e
-get_behind (x ∷ xs) ys j t e =
-    subst (λ (n : ℕ). slice_get (x ∷ xs ++ ys) n ≡ Some t) (let is : suc (length xs + j) ≡ length (x ∷ xs) + j = omega arith in is) (get_behind xs ys j t e)
+pub get_after : {A : Type 0} (xs ys : List A) (j : ℕ) (t : A) → slice_get ys j ≡ Some t → slice_get (xs ++ ys) (length xs + j) ≡ Some t
+get_after [] ys j t e = subst (λ (n : ℕ). slice_get ys n ≡ Some t) (let is : j ≡ 0 + j = omega arith in is) e
+get_after (x ∷ xs) ys j t e =
+    subst (λ (n : ℕ). slice_get (x ∷ xs ++ ys) n ≡ Some t) (let is : suc (length xs + j) ≡ length (x ∷ xs) + j = omega arith in is) (get_after xs ys j t e)
 
 -- what stands in a mapped list is the image of what stands in the list
 pub get_image : {A B : Type 0} (f : A → B) (xs : List A) (k : ℕ) (d : A) (t : B) → slice_get (map f xs) k ≡ Some t → (k < length xs) × (t ≡ f (slice_index_or xs k d))
@@ -66,7 +66,7 @@ timers_long floor (suc n) = length-append (timers floor n) (task.Fires (raised_t
 
 get_timer : (floor : Stamp) (n k : ℕ) (t : Task) → slice_get (timers floor n) k ≡ Some t → (k < n) × (t ≡ task.Fires (raised_timer floor (first_timer k)))
 get_timer floor zero k t e = absurd (let bad : None ≡ Some t = e in cc)
-get_timer floor (suc n) k t e = by (λ f. get_timer floor n k t f) (get_parts (timers floor n) (task.Fires (raised_timer floor (first_timer n)) ∷ []) k t e)
+get_timer floor (suc n) k t e = by (λ f. get_timer floor n k t f) (get_contents (timers floor n) (task.Fires (raised_timer floor (first_timer n)) ∷ []) k t e)
   where
     last : (j : ℕ) → k ≡ length (timers floor n) + j → slice_get (task.Fires (raised_timer floor (first_timer n)) ∷ []) j ≡ Some t → (k < suc n) × (t ≡ task.Fires (raised_timer floor (first_timer k)))
     last zero is f =
@@ -82,11 +82,11 @@ get_timer floor (suc n) k t e = by (λ f. get_timer floor n k t f) (get_parts (t
     by before (inr h) = last h.0 h.1 h.2
 
 -- a task at its place, by the jobs and the number of sources
-pub data IsAt (floor : Stamp) (n : ℕ) (jobs : JobsState) : ℕ → Task → Type 0 where
-  OfScript : (i : ℕ) → i < length jobs.scripts → IsAt floor n jobs i (acts floor (slice_index_or jobs.scripts i jobs.auto))
-  OfWork : IsAt floor n jobs (length jobs.scripts) (acts floor jobs.auto)
-  OfDevice : (d : ℕ) → d < length jobs.devices → IsAt floor n jobs (length jobs.scripts + suc d) (acts floor (slice_index_or jobs.devices d jobs.auto))
-  OfTimer : (s : ℕ) → s < n → IsAt floor n jobs (length jobs.scripts + suc (length jobs.devices + s)) (task.Fires (raised_timer floor (first_timer s)))
+pub data IsTaskAt (floor : Stamp) (n : ℕ) (jobs : JobsState) : ℕ → Task → Type 0 where
+  OfScript : (i : ℕ) → i < length jobs.scripts → IsTaskAt floor n jobs i (acts floor (slice_index_or jobs.scripts i jobs.auto))
+  OfWork : IsTaskAt floor n jobs (length jobs.scripts) (acts floor jobs.auto)
+  OfDevice : (d : ℕ) → d < length jobs.devices → IsTaskAt floor n jobs (length jobs.scripts + suc d) (acts floor (slice_index_or jobs.devices d jobs.auto))
+  OfTimer : (s : ℕ) → s < n → IsTaskAt floor n jobs (length jobs.scripts + suc (length jobs.devices + s)) (task.Fires (raised_timer floor (first_timer s)))
 
 module _ (floor : Stamp) (n : ℕ) (jobs : JobsState) where
   abbrev tasks : List Task
@@ -98,17 +98,17 @@ module _ (floor : Stamp) (n : ℕ) (jobs : JobsState) where
   abbrev behind : List Task
   behind = map (acts floor) jobs.devices ++ timers floor n
 
-  pub is_at : (k : ℕ) (t : Task) → slice_get tasks k ≡ Some t → IsAt floor n jobs k t
-  is_at k t e = by (get_parts scripts (acts floor jobs.auto ∷ behind) k t e)
+  pub is_at : (k : ℕ) (t : Task) → slice_get tasks k ≡ Some t → IsTaskAt floor n jobs k t
+  is_at k t e = by (get_contents scripts (acts floor jobs.auto ∷ behind) k t e)
     where
-      at : (j : ℕ) (u : Task) → k ≡ j → t ≡ u → IsAt floor n jobs j u → IsAt floor n jobs k t
-      at j u place is h = subst (λ (i : ℕ). IsAt floor n jobs i t) (sym place) (subst (IsAt floor n jobs j) (sym is) h)
+      at : (j : ℕ) (u : Task) → k ≡ j → t ≡ u → IsTaskAt floor n jobs j u → IsTaskAt floor n jobs k t
+      at j u place is h = subst (λ (i : ℕ). IsTaskAt floor n jobs i t) (sym place) (subst (IsTaskAt floor n jobs j) (sym is) h)
 
       many : length scripts ≡ length jobs.scripts
       many = length-map jobs.scripts (acts floor)
 
       last : (j : ℕ) → k ≡ length scripts + suc j → ((j < length (map (acts floor) jobs.devices)) × (slice_get (map (acts floor) jobs.devices) j ≡ Some t))
-          ⊎ ((i : ℕ) × (j ≡ length (map (acts floor) jobs.devices) + i) × (slice_get (timers floor n) i ≡ Some t)) → IsAt floor n jobs k t
+          ⊎ ((i : ℕ) × (j ≡ length (map (acts floor) jobs.devices) + i) × (slice_get (timers floor n) i ≡ Some t)) → IsTaskAt floor n jobs k t
       last j place (inl h) =
           let g = get_image (acts floor) jobs.devices j jobs.auto t h.1 in
           at (length jobs.scripts + suc j) (acts floor (slice_index_or jobs.devices j jobs.auto)) (omega (arith, place, many)) g.1 (OfDevice j g.0)
@@ -117,13 +117,13 @@ module _ (floor : Stamp) (n : ℕ) (jobs : JobsState) where
           at (length jobs.scripts + suc (length jobs.devices + h.0)) (task.Fires (raised_timer floor (first_timer h.0)))
           (omega (arith, place, many, h.1, length-map jobs.devices (acts floor))) g.1 (OfTimer h.0 g.0)
 
-      rest : (j : ℕ) → k ≡ length scripts + j → slice_get (acts floor jobs.auto ∷ behind) j ≡ Some t → IsAt floor n jobs k t
-      rest zero place f = at (length jobs.scripts) (acts floor jobs.auto) (omega (arith, place, many)) (let same : Some t ≡ Some (acts floor jobs.auto) = sym f in cc) OfWork
-      rest (suc j) place f = last j place (get_parts (map (acts floor) jobs.devices) (timers floor n) j t f)
+      after_idle_round : (j : ℕ) → k ≡ length scripts + j → slice_get (acts floor jobs.auto ∷ behind) j ≡ Some t → IsTaskAt floor n jobs k t
+      after_idle_round zero place f = at (length jobs.scripts) (acts floor jobs.auto) (omega (arith, place, many)) (let same : Some t ≡ Some (acts floor jobs.auto) = sym f in cc) OfWork
+      after_idle_round (suc j) place f = last j place (get_contents (map (acts floor) jobs.devices) (timers floor n) j t f)
 
-      by : ((k < length scripts) × (slice_get scripts k ≡ Some t)) ⊎ ((j : ℕ) × (k ≡ length scripts + j) × (slice_get (acts floor jobs.auto ∷ behind) j ≡ Some t)) → IsAt floor n jobs k t
+      by : ((k < length scripts) × (slice_get scripts k ≡ Some t)) ⊎ ((j : ℕ) × (k ≡ length scripts + j) × (slice_get (acts floor jobs.auto ∷ behind) j ≡ Some t)) → IsTaskAt floor n jobs k t
       by (inl h) = let g = get_image (acts floor) jobs.scripts k jobs.auto t h.1 in at k (acts floor (slice_index_or jobs.scripts k jobs.auto)) refl g.1 (OfScript k g.0)
-      by (inr h) = rest h.0 h.1 h.2
+      by (inr h) = after_idle_round h.0 h.1 h.2
 
 -- ---- they are a run's
 
@@ -147,8 +147,8 @@ known_else floor (t ∷ tasks) who h = by (is_same (actor_of t) who) refl h (λ 
   where
     by : (b : Bool) → is_same (actor_of t) who ≡ b → (is_same (actor_of t) who || has_task tasks who) ≡ false → (has_task tasks who ≡ false → known_among floor tasks who ≡ floor)
         → known_among floor (t ∷ tasks) who ≡ floor
-    by true is g rest = absurd (let bad : true ≡ false = ap (λ (b : Bool). b || has_task tasks who) (sym is) ∙ g in cc)
-    by false is g rest = ap (λ (b : Bool). cond b (known_by t) (known_among floor tasks who)) is ∙ rest (ap (λ (b : Bool). b || has_task tasks who) (sym is) ∙ g)
+    by true is g after_idle_round = absurd (let bad : true ≡ false = ap (λ (b : Bool). b || has_task tasks who) (sym is) ∙ g in cc)
+    by false is g after_idle_round = ap (λ (b : Bool). cond b (known_by t) (known_among floor tasks who)) is ∙ after_idle_round (ap (λ (b : Bool). b || has_task tasks who) (sym is) ∙ g)
 
 -- where it is some task's, it knows what that task knows
 pub known_some : (floor : Stamp) (tasks : List Task) (who : Actor) → has_task tasks who ≡ true
@@ -161,8 +161,8 @@ known_some floor (t ∷ tasks) who h = by (is_same (actor_of t) who) refl h (λ 
         → (k : ℕ) × (u : Task) × (slice_get (t ∷ tasks) k ≡ Some u) × (is_same (actor_of u) who ≡ true) × (known_among floor (t ∷ tasks) who ≡ known_by u)
     by true is g more = (0, t, refl, is, ap (λ (b : Bool). cond b (known_by t) (known_among floor tasks who)) is)
     by false is g more =
-        let rest = more (ap (λ (b : Bool). b || has_task tasks who) (sym is) ∙ g) in
-        (suc rest.0, rest.1, rest.2, rest.3, ap (λ (b : Bool). cond b (known_by t) (known_among floor tasks who)) is ∙ rest.4)
+        let after_idle_round = more (ap (λ (b : Bool). b || has_task tasks who) (sym is) ∙ g) in
+        (suc after_idle_round.0, after_idle_round.1, after_idle_round.2, after_idle_round.3, ap (λ (b : Bool). cond b (known_by t) (known_among floor tasks who)) is ∙ after_idle_round.4)
 
 same_self : (who : Actor) → is_same who who ≡ true
 same_self who = same_actor who
@@ -195,7 +195,7 @@ module _ (m : Machine) (floor : Stamp) (jobs : JobsState) (all : AreAllJobs m jo
   place_of (actor.Timer s) = length jobs.scripts + suc (length jobs.devices + s)
   place_of actor.Time = 0
 
-  its_place : (k : ℕ) (t : Task) → IsAt floor many jobs k t → place_of (actor_of t) ≡ k
+  its_place : (k : ℕ) (t : Task) → IsTaskAt floor many jobs k t → place_of (actor_of t) ≡ k
   unfolding place_of
   its_place k t (OfScript i l) = ap place_of (named (actor.Script i) (omega (arith, l, all.scripts)))
   its_place k t OfWork = ap place_of (named actor.Auto tt)
@@ -221,7 +221,7 @@ module _ (m : Machine) (floor : Stamp) (jobs : JobsState) (all : AreAllJobs m jo
       let same : Some some.1 ≡ Some t = sym some.2 ∙ (ap (slice_get these) place ∙ e) in
       some.4 ∙ ap known_by (let is : some.1 ≡ t = cc in is)
 
-  each_task : (k : ℕ) (t : Task) → IsAt floor many jobs k t → ready_floors (actor_of t) ≡ known_by t → IsTaskOf m ready_jobs ready_floors t
+  each_task : (k : ℕ) (t : Task) → IsTaskAt floor many jobs k t → ready_floors (actor_of t) ≡ known_by t → IsTaskOf m ready_jobs ready_floors t
   each_task k t (OfScript i l) known =
       let is = named (actor.Script i) (omega (arith, l, all.scripts)) in
       (subst (IsActor m) (sym is) (omega (arith, l, all.scripts)), ap ready_jobs is, known)
@@ -238,7 +238,7 @@ module _ (m : Machine) (floor : Stamp) (jobs : JobsState) (all : AreAllJobs m jo
   }
 
   -- each task knows at least that stamp
-  knows_at_least : (k : ℕ) (t : Task) → IsAt floor many jobs k t → IsBelow floor (known_by t)
+  knows_at_least : (k : ℕ) (t : Task) → IsTaskAt floor many jobs k t → IsBelow floor (known_by t)
   knows_at_least k t (OfScript i l) = below_later floor (slice_index_or jobs.scripts i jobs.auto).floor
   knows_at_least k t OfWork = below_later floor jobs.auto.floor
   knows_at_least k t (OfDevice d l) = below_later floor (slice_index_or jobs.devices d jobs.auto).floor
@@ -258,7 +258,7 @@ module _ (m : Machine) (floor : Stamp) (jobs : JobsState) (all : AreAllJobs m jo
     pub ready_low : (who : Actor) → IsActor m who → (ready_jobs who).floor.tick ≤ n
     ready_low who a = omega (arith, low, jobs_low who a)
 
-    task_low : (k : ℕ) (t : Task) → IsAt floor many jobs k t → (known_by t).tick ≤ n
+    task_low : (k : ℕ) (t : Task) → IsTaskAt floor many jobs k t → (known_by t).tick ≤ n
     task_low k t (OfScript i l) = ready_low (actor.Script i) (omega (arith, l, all.scripts))
     task_low k t OfWork = ready_low actor.Auto tt
     task_low k t (OfDevice d l) = ready_low (actor.Dev d) (omega (arith, l, all.devices))
@@ -298,7 +298,7 @@ module _ (m : Machine) (journal : List JournalEntry) (sources : List SourceState
     sources_are = r.sources_are;
     jobs_are = jobs_are;
     floors_know = r.floors_know;
-    told = r.told;
+    shown = r.shown;
     low = record { newest = r.low.newest; of_each = r.low.of_each; of_jobs = ready_low m floor jobs all named count low r.low.of_jobs; of_actors = r.low.of_actors };
     near = r.near;
   }
@@ -343,7 +343,7 @@ pub actors_are : (m : Machine) (floor : Stamp) (jobs : JobsState) → AreAllJobs
 actors_are m floor jobs all who_is =
     map-append actor_of (map (acts floor) jobs.scripts) (acts floor jobs.auto ∷ (map (acts floor) jobs.devices ++ timers floor (length m.sources + 1)))
     ∙ (ap (λ (l : List Actor). l ++ map actor_of (acts floor jobs.auto ∷ (map (acts floor) jobs.devices ++ timers floor (length m.sources + 1)))) scripts
-    ∙ ap (λ (l : List Actor). numbered actor.Script (length m.actors) ++ l) behind_them)
+    ∙ ap (λ (l : List Actor). numbered actor.Script (length m.actors) ++ l) after_them)
   where
     scripts : map actor_of (map (acts floor) jobs.scripts) ≡ numbered actor.Script (length m.actors)
     scripts = named_from actor.Script floor 0 jobs.scripts jobs.auto (λ k l. who_is (actor.Script k) (omega (arith, l, all.scripts)) ∙ ap actor.Script (let is : k ≡ 0 + k = omega arith in is)) ∙ ap (numbered actor.Script) all.scripts
@@ -351,9 +351,9 @@ actors_are m floor jobs all who_is =
     devices : map actor_of (map (acts floor) jobs.devices) ≡ numbered actor.Dev (length m.devices)
     devices = named_from actor.Dev floor 0 jobs.devices jobs.auto (λ k l. who_is (actor.Dev k) (omega (arith, l, all.devices)) ∙ ap actor.Dev (let is : k ≡ 0 + k = omega arith in is)) ∙ ap (numbered actor.Dev) all.devices
 
-    behind_them : map actor_of (acts floor jobs.auto ∷ (map (acts floor) jobs.devices ++ timers floor (length m.sources + 1)))
+    after_them : map actor_of (acts floor jobs.auto ∷ (map (acts floor) jobs.devices ++ timers floor (length m.sources + 1)))
         ≡ actor.Auto ∷ (numbered actor.Dev (length m.devices) ++ numbered actor.Timer (length m.sources + 1))
-    behind_them =
+    after_them =
         ap (λ (who : Actor). who ∷ map actor_of (map (acts floor) jobs.devices ++ timers floor (length m.sources + 1))) (who_is actor.Auto tt)
         ∙ ap (λ (l : List Actor). actor.Auto ∷ l) (map-append actor_of (map (acts floor) jobs.devices) (timers floor (length m.sources + 1))
         ∙ (ap (λ (l : List Actor). l ++ map actor_of (timers floor (length m.sources + 1))) devices ∙ ap (λ (l : List Actor). numbered actor.Dev (length m.devices) ++ l) (timer_actors floor (length m.sources + 1))))

@@ -1,14 +1,14 @@
-mod Calm
+mod Quiescent
 mod Owing
-pub mod Away
-pub mod BurstParts
+pub mod DuringBurst
+pub mod BurstContents
 pub mod Bursting
 pub mod Calling
 pub mod CameBack
 pub mod Fields
 pub mod FirstTasks
-pub mod JobsKept
+pub mod JobsPreserved
 pub mod Numbered
-pub mod Resting
-pub mod SeatsKept
+pub mod Idling
+pub mod SeatsPreserved
 pub mod Turning

@@ -12,7 +12,7 @@ pub from_more : (kind : ℕ → Actor) (i n : ℕ) → numbered_from kind i (suc
 from_more kind i zero = ap (λ (k : ℕ). kind k ∷ []) (omega arith)
 from_more kind i (suc n) = ap (λ (l : List Actor). kind i ∷ l) (from_more kind (suc i) n ∙ ap (λ (k : ℕ). numbered_from kind (suc i) n ++ kind k ∷ []) (omega arith))
 
--- one actor more of a kind behind others
+-- one actor more of a kind after others
 pub one_more : (kind : ℕ → Actor) (base old new : List Actor) (n : ℕ) → old ≡ base ++ numbered kind n → new ≡ old ++ kind n ∷ [] → new ≡ base ++ numbered kind (n + 1)
 one_more kind base old new n h g =
     g ∙ (ap (λ (l : List Actor). l ++ kind n ∷ []) h ∙ (append_assoc base (numbered kind n) (kind n ∷ [])

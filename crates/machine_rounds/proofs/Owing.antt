@@ -130,16 +130,16 @@ counted was who job now n k is e = record {
 }
 
 -- after a turn of one that had no call to make
-pub turn_counted : (was : Inside) (who : Actor) (job : JobState) (now : JobsState) (told : Bool) (n : ℕ) → HasJob was.actors who → (job_at was.actors who).pending ≡ [] → AreCounted was
-    → now ≡ with_job was.actors who job → told ≡ owes job → n ≡ was.owing + one_if told → AreCounted (record { actors = now; owing = n })
-turn_counted was who job now told n h none k is owes_is more =
-    counted was who job now n k is (after_turn_counts was.actors who job was.owing n told h none k.owing_is owes_is more)
+pub turn_counted : (was : Inside) (who : Actor) (job : JobState) (now : JobsState) (shown : Bool) (n : ℕ) → HasJob was.actors who → (job_at was.actors who).pending ≡ [] → AreCounted was
+    → now ≡ with_job was.actors who job → shown ≡ owes job → n ≡ was.owing + one_if shown → AreCounted (record { actors = now; owing = n })
+turn_counted was who job now shown n h none k is owes_is more =
+    counted was who job now n k is (after_turn_counts was.actors who job was.owing n shown h none k.owing_is owes_is more)
 
 -- after a call of one that had it to make
-pub call_counted : (was : Inside) (who : Actor) (job : JobState) (now : JobsState) (told : Bool) (n : ℕ) → HasJob was.actors who → 0 < length (job_at was.actors who).pending → AreCounted was
-    → now ≡ with_job was.actors who job → told ≡ owes job → n + 1 ≡ was.owing + one_if told → AreCounted (record { actors = now; owing = n })
-call_counted was who job now told n h some k is owes_is left =
-    counted was who job now n k is (after_call_counts was.actors who job was.owing n told h some k.owing_is owes_is left)
+pub call_counted : (was : Inside) (who : Actor) (job : JobState) (now : JobsState) (shown : Bool) (n : ℕ) → HasJob was.actors who → 0 < length (job_at was.actors who).pending → AreCounted was
+    → now ≡ with_job was.actors who job → shown ≡ owes job → n + 1 ≡ was.owing + one_if shown → AreCounted (record { actors = now; owing = n })
+call_counted was who job now shown n h some k is owes_is left =
+    counted was who job now n k is (after_call_counts was.actors who job was.owing n shown h some k.owing_is owes_is left)
 
 owing_least : (xs : List JobState) (i : ℕ) (none : JobState) → i < length xs → one_if (owes (slice_index_or xs i none)) ≤ owing_of xs
 owing_least [] i none l = absurd (omega (arith, l))

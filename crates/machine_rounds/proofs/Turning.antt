@@ -6,8 +6,8 @@ use Rattle.sleep_model.specs.declared.entry.Actor.{Actor}
 use Rattle.sleep_model.specs.declared.entry.JournalEntry.{JournalEntry}
 use Rattle.sleep_model.specs.declared.machine.Machine.{Machine}
 use Rattle.sleep_model.specs.Legal.{JournalPart}
-use Rattle.sleep_model.specs.Merge.{position_behind}
-use Rattle.sleep_state.specs.Places.{entries}
+use Rattle.sleep_model.specs.Merge.{next_position}
+use Rattle.sleep_state.specs.JournalRooms.{entries}
 use Rattle.event_word.specs.Seats.{AreAll, sources_of}
 use Rattle.sleep_core.specs.Cores.{CoreState, IsActor, with_entry}
 use Rattle.sleep_core.specs.Histories.{last_stamp}
@@ -17,14 +17,14 @@ use Rattle.sleep_laws.proofs.Ending.{and_right}
 use Rattle.merge_laws.proofs.Lists.{all_head}
 use Rattle.run_laws.specs.Called.{knows}
 use Rattle.running_laws.specs.Running.{IsRunning}
-use Rattle.running_laws.proofs.Kept.{all_known}
+use Rattle.running_laws.proofs.Invariant.{all_known}
 use Rattle.machine_rounds.specs.declared.run.Run.TheInside.{Inside}
 use Rattle.machine_rounds.specs.JobsOf.{job_at}
-use Rattle.machine_rounds.specs.RunFields.{KeepsRun}
+use Rattle.machine_rounds.specs.RunFields.{RunFieldsInvariant}
 use Rattle.machine_rounds.specs.RunFields as fields
-use Rattle.machine_rounds.proofs.SeatsKept.{seats_same}
+use Rattle.machine_rounds.proofs.SeatsPreserved.{seats_same}
 
-module _ (r : Inside) (k : KeepsRun r) where
+module _ (r : Inside) (k : RunFieldsInvariant r) where
   -- a look keeps the run where the core is the same
   pub looked_machine : (new : SeatedCoreState) → new.core ≡ r.seated.core → new.core.machine ≡ r.machine.now
   looked_machine new e = ap (λ (x : CoreState). x.machine) e ∙ k.machine_is
@@ -33,7 +33,7 @@ module _ (r : Inside) (k : KeepsRun r) where
   looked_running new e = subst (λ (x : CoreState). IsRunning r.machine.now x.past (fields.sources_of r.sources.items) (job_at r.jobs) r.floor) (sym e) k.running
 
   -- all seats stay at the table
-  pub looked_table : (new : SeatedCoreState) → new.seat.table_id ≡ r.seated.seat.table_id → new.seat.table_id ≡ r.table.desk.shared.table_id
+  pub looked_table : (new : SeatedCoreState) → new.seat.table_id ≡ r.seated.seat.table_id → new.seat.table_id ≡ r.table.cells.shared.table_id
   looked_table new e = e ∙ k.table
 
   pub looked_seats : (new : SeatedCoreState) → new.seat.table_id ≡ r.seated.seat.table_id → sources_of new.seat ≡ sources_of r.seated.seat → AreAll new.seat (seats_of r.sources.items)
@@ -53,14 +53,14 @@ module _ (r : Inside) (k : KeepsRun r) where
   pub few_turns : (who : Actor) → IsActor r.machine.now who → (job_at r.jobs who).turns ≤ length r.seated.core.past
   few_turns who a = omega (arith, (k.running.jobs_are who a).turns_are, turns_few who (entries r.seated.core.past), counted r.seated.core.past)
 
-  -- no position of the journal is behind the last stamp's
+  -- no position of the journal is after the last stamp's
   pub last_low : (last_stamp r.seated.core.past).pos ≤ r.floor.pos
   last_low = by r.seated.core.past (all_known r.machine.now r.seated.core.past (fields.sources_of r.sources.items) (job_at r.jobs) k.running).0
     where
       by : (l : List JournalEntry) → list_all (λ e. knows r.floor (e ∷ [])) l ≡ true → (last_stamp l).pos ≤ r.floor.pos
       by [] h = omega arith
       by (e ∷ l) h =
-          let here : nat_le e.stamp.tick r.floor.tick && nat_le (position_behind e) r.floor.pos ≡ true = all_head (λ (x : JournalEntry). knows r.floor (x ∷ [])) e l h in
-          let pos : nat_le (position_behind e) r.floor.pos ≡ true = and_right (nat_le e.stamp.tick r.floor.tick) (nat_le (position_behind e) r.floor.pos) here in
-          let low : position_behind e ≤ r.floor.pos = grind (arith, nat_tests) in
+          let here : nat_le e.stamp.tick r.floor.tick && nat_le (next_position e) r.floor.pos ≡ true = all_head (λ (x : JournalEntry). knows r.floor (x ∷ [])) e l h in
+          let pos : nat_le (next_position e) r.floor.pos ≡ true = and_right (nat_le e.stamp.tick r.floor.tick) (nat_le (next_position e) r.floor.pos) here in
+          let low : next_position e ≤ r.floor.pos = grind (arith, nat_tests) in
           omega (arith, low)

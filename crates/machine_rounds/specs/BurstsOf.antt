@@ -16,7 +16,7 @@ abbrev pub entries_of : SeatedCoreState → List SeatedSourceState → ℕ
 entries_of core sources = entry_count core.core.past (sources_of sources)
 
 -- the core, the sources and the tasks are those of a run of the machine, whose actors all know that stamp
-pub record IsAway
+pub record IsDuringBurst
     (m : Machine) (table : TableId) (floor : Stamp) (core : SeatedCoreState) (sources : List SeatedSourceState) (tasks : List Task)
     : Type 0 where
   pub jobs : JobsState
@@ -28,7 +28,7 @@ pub record IsAway
   pub table_is : core.seat.table_id ≡ table
   pub seats : AreAll core.seat (seats_of sources)
 
--- they are so again behind a burst: the jobs are those among the tasks, and all actors may know the greatest of their stamps
+-- they are so again after a burst: the jobs are those among the tasks, and all actors may know the greatest of their stamps
 pub record IsBack
     (m : Machine) (table : TableId) (floor : Stamp) (core : SeatedCoreState) (sources : List SeatedSourceState) (tasks : List Task)
     : Type 0 where

@@ -14,5 +14,5 @@ pub record AreCounted (j : Inside) : Type 0 where
   pub owing_is : j.owing ≡ owing j.actors
 
 -- what holds of the jobs between calls
-abbrev pub keeps : Inside → Type 0
-keeps j = AreCounted j
+abbrev pub jobs_invariant : Inside → Type 0
+jobs_invariant j = AreCounted j

@@ -23,9 +23,9 @@ state r = record {
 }
 
 -- what holds of a run between turns: it goes on, each actor has its job, and all seats are at the table
-pub record KeepsRun (r : Inside) : Type 0 where
+pub record RunFieldsInvariant (r : Inside) : Type 0 where
   pub machine_is : r.seated.core.machine ≡ r.machine.now
   pub running : IsRunning r.machine.now r.seated.core.past (sources_of r.sources.items) (job_at r.jobs) r.floor
   pub all_jobs : AreAllJobs r.machine.now r.jobs
-  pub table : r.seated.seat.table_id ≡ r.table.desk.shared.table_id
+  pub table : r.seated.seat.table_id ≡ r.table.cells.shared.table_id
   pub seats : AreAll r.seated.seat (seats_of r.sources.items)

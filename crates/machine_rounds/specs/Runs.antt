@@ -11,27 +11,27 @@ use Rattle.sleep_model.specs.declared.machine.Machine.{Machine}
 use Rattle.sleep_model.specs.declared.word.EventNow.{EventNow}
 use Rattle.sleep_model.specs.declared.word.Stamp.{Stamp}
 use Rattle.sleep_model.specs.Calls.{calls_due}
-use Rattle.sleep_model.specs.Due.{all_gone}
+use Rattle.sleep_model.specs.Due.{have_all_exited}
 use Rattle.sleep_model.specs.Fits.{IsWritable}
 use Rattle.sleep_model.specs.Laws.{Laws, GuardedSleep}
 use Rattle.sleep_model.specs.Legal.{IsLegalLog, IsFinishedLog, IsStuckLog, is_enabled, is_finished, is_idle, next_time, none_enabled, waiting}
 use Rattle.sleep_model.specs.Merge.{is_word}
-use Rattle.sleep_model.specs.Parts.{journal}
+use Rattle.sleep_model.specs.EntryClasses.{journal}
 use Rattle.sleep_model.specs.Path.{maker}
 use Rattle.sleep_model.specs.Places.{places}
 use Rattle.sleep_model.specs.Sources.{most_entries}
 use Rattle.sleep_model.specs.Word.{position}
 use Rattle.event_word.specs.Seats.{Token, floor_of, looked_of}
-use Rattle.sleep_state.specs.Places.{entries}
+use Rattle.sleep_state.specs.JournalRooms.{entries}
 use Rattle.sleep_core.specs.Cores.{IsActor}
 use Rattle.wakeup_source.specs.SourceStates.{SourceState}
 use Rattle.sleep_script.specs.Jobs.{JobState}
-use Rattle.running_laws.specs.Running.{IsRunning, calls_made, entry_count, histories, kept_histories, of_sources}
+use Rattle.running_laws.specs.Running.{IsRunning, calls_made, entry_count, histories, journal_histories, of_sources}
 use Rattle.end_laws.specs.Attempts.{attempts_end}
 use Rattle.end_laws.specs.Waking.{events_wake_first, time_goes_forward}
-use Rattle.run_objects.specs.Closed.{IsLaidTable}
-use Rattle.machine_rounds.specs.declared.rest.Rest.{Rest}
-use Rattle.machine_rounds.specs.declared.rest.Rest.TheVariants.{GoesOn, Finished, Stuck}
+use Rattle.run_objects.specs.Closed.{IsClosedTable}
+use Rattle.machine_rounds.specs.declared.after_idle_round.AfterIdleRound.{AfterIdleRound}
+use Rattle.machine_rounds.specs.declared.after_idle_round.AfterIdleRound.TheVariants.{GoesOn, Finished, Stuck}
 use Rattle.machine_rounds.specs.declared.run.RunFault.{RunFault}
 use Rattle.machine_rounds.specs.declared.run.RunFault.TheVariants as fault
 
@@ -59,7 +59,7 @@ pub record IsSame (old new : RunState) : Type 0 where
   pub sources : new.sources ≡ old.sources
   pub floor : new.floor ≡ old.floor
 
--- the word was looked at last, at or behind all that was made
+-- the word was looked at last, at or after all that was made
 pub record IsSeen (run : RunState) (word : EventNow) : Type 0 where
   pub seen : list_any (is_word word) (looked_of run.seat) ≡ true
   pub newest : position word ≡ floor_of run.seat
@@ -77,7 +77,7 @@ Fails m fault.Mem = Unit {0}
 -- the table of the event word was closed, and lays all steps of the run
 pub record IsClosed (run : RunState) : Type 0 where
   pub on : IsGoingOn run
-  pub laid : IsLaidTable (looked_of run.seat) (reverse run.journal) (kept_histories run.sources)
+  pub closed_over : IsClosedTable (looked_of run.seat) (reverse run.journal) (journal_histories run.sources)
 
 -- a call on that source was refused: its history has fewer than four places left, or memory ran out
 abbrev pub IsRefused : RunState → RunFault → Type 0
@@ -92,12 +92,12 @@ AfterTry old new (Ok false) = IsSame old new
 AfterTry old new (Err fault) = IsRefused new fault
 
 -- nobody can make anything that sees that word
-abbrev pub is_resting : RunState → EventNow → Bool
-is_resting run word = is_idle run.machine (entries run.journal) (histories run.sources) word
+abbrev pub nobody_enabled : RunState → EventNow → Bool
+nobody_enabled run word = is_idle run.machine (entries run.journal) (histories run.sources) word
 
 -- no script can make anything that sees that word, nor the autosleep work, nor a device
-abbrev pub actors_rest : RunState → EventNow → Bool
-actors_rest run word =
+abbrev pub actors_idle : RunState → EventNow → Bool
+actors_idle run word =
     none_enabled run.machine (entries run.journal) (histories run.sources) word actor.Script (length run.machine.actors)
     && not (is_enabled run.machine (entries run.journal) (histories run.sources) word actor.Auto)
     && none_enabled run.machine (entries run.journal) (histories run.sources) word actor.Dev (length run.machine.devices)
@@ -113,22 +113,22 @@ is_over run word = is_finished run.machine (entries run.journal) (histories run.
 
 -- nobody goes on, by that word: a script has not exited, no actor can make anything, and no moment is pending
 pub record IsHalted (run : RunState) (word : EventNow) : Type 0 where
-  pub left : all_gone run.machine (entries run.journal) ≡ false
-  pub idle : is_resting run word ≡ true
+  pub left : have_all_exited run.machine (entries run.journal) ≡ false
+  pub idle : nobody_enabled run word ≡ true
   pub timeless : next_time run.machine (entries run.journal) (histories run.sources) ≡ None
 
 -- all is calm: no attempt is open, and each actor has made the calls on sources that are due
-pub record IsCalm (run : RunState) : Type 0 where
+pub record IsQuiescent (run : RunState) : Type 0 where
   pub closed : maker (entries run.journal) ≡ None
   pub made : (who : Actor) → IsActor run.machine who
       → calls_made run.machine run.sources who ≡ calls_due run.machine who (entries run.journal)
 
 -- after a round that did nothing, somebody who can go on does, or time jumps; else the run is over
-abbrev pub AfterRest : RunState → RunState → Result Rest RunFault → Type 0
-AfterRest old new (Ok GoesOn) = entries_made old < entries_made new
-AfterRest old new (Ok (Finished word)) = IsSame old new × IsSeen new word × (is_over new word ≡ true)
-AfterRest old new (Ok (Stuck word)) = IsSame old new × IsSeen new word × IsHalted new word
-AfterRest old new (Err fault) = IsRefused new fault
+abbrev pub IsAfterIdleRound : RunState → RunState → Result AfterIdleRound RunFault → Type 0
+IsAfterIdleRound old new (Ok GoesOn) = entries_made old < entries_made new
+IsAfterIdleRound old new (Ok (Finished word)) = IsSame old new × IsSeen new word × (is_over new word ≡ true)
+IsAfterIdleRound old new (Ok (Stuck word)) = IsSame old new × IsSeen new word × IsHalted new word
+IsAfterIdleRound old new (Err fault) = IsRefused new fault
 
 -- after rounds for as long as each makes entries: the last one did, or there are no fewer entries
 abbrev pub AfterRounds : RunState → RunState → Result Bool RunFault → Type 0
@@ -137,14 +137,14 @@ AfterRounds old new (Ok false) = entries_made old ≤ entries_made new
 AfterRounds old new (Err fault) = IsRefused new fault
 
 -- after all rounds the run is over
-abbrev pub AfterAll : RunState → Result Rest RunFault → Type 0
+abbrev pub AfterAll : RunState → Result AfterIdleRound RunFault → Type 0
 AfterAll run (Ok GoesOn) = ⊥
 AfterAll run (Ok (Finished word)) = IsSeen run word × (is_over run word ≡ true)
 AfterAll run (Ok (Stuck word)) = IsSeen run word × IsHalted run word
 AfterAll run (Err fault) = IsRefused run fault
 
 -- after n stretches at least n entries more were made, or the run is over
-abbrev pub AfterStretches : ℕ → RunState → RunState → Result (Option Rest) RunFault → Type 0
+abbrev pub AfterStretches : ℕ → RunState → RunState → Result (Option AfterIdleRound) RunFault → Type 0
 AfterStretches n old new (Ok None) = entries_made old + n ≤ entries_made new
 AfterStretches n old new (Ok (Some rest)) = AfterAll new (Ok rest)
 AfterStretches n old new (Err fault) = IsRefused new fault

@@ -3,10 +3,10 @@ use Rattle.std.specs.Prelude.{ℕ, List, [], ◌∷◌, map}
 use Rattle.sleep_model.specs.declared.entry.Actor.TheVariants.{Script}
 use Rattle.sleep_model.specs.declared.log.Stats.{Stats}
 use Rattle.sleep_model.specs.declared.log.Waiting.{Waiting}
-use Rattle.sleep_model.specs.declared.place.Due.{Due}
-use Rattle.sleep_model.specs.declared.place.Due.TheVariants.{Waits}
+use Rattle.sleep_model.specs.declared.progress.Due.{Due}
+use Rattle.sleep_model.specs.declared.progress.Due.TheVariants.{Waits}
 use Rattle.sleep_model.specs.Sources.{stats_at}
-use Rattle.wakeup_source.specs.SourceStates.{SourceState, bare}
+use Rattle.wakeup_source.specs.SourceStates.{SourceState, unstamped}
 
 -- that the script waits, where that is what is due of it
 abbrev pub waits_of : ℕ → Due → List Waiting
@@ -15,4 +15,4 @@ waits_of i _ = []
 
 -- the statistics of these sources at that moment
 abbrev pub all_stats : List SourceState → ℕ → List Stats
-all_stats sources at = map (λ s. stats_at (bare s.past) at) sources
+all_stats sources at = map (λ s. stats_at (unstamped s.past) at) sources

@@ -105,14 +105,14 @@ impl Asks {
     {
         let left = self.word(from / 64) & (u64::MAX << (from % 64));
         if left == 0 {
-            return self.next_behind(from / 64 + 1, many);
+            return self.next_from(from / 64 + 1, many);
         }
         first_of(from / 64, left, many)
     }
 
     /// The first in the words from that one on, below `many`.
     #[inline(always)]
-    fn next_behind(&self, from: u32, many: u32) -> Option<u32>
+    fn next_from(&self, from: u32, many: u32) -> Option<u32>
         ensures { IfSome result (λ n. n < many) }
     {
         let full = self.full & (u64::MAX << from.min(63));

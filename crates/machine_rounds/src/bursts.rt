@@ -3,9 +3,9 @@
 ghost use Rattle.std.specs.Prelude.{◌≡◌, ◌≤◌, IfOk};
 ghost use Rattle.machine_rounds.specs.declared.run.RunFault.TheVariants as fault;
 
+use crate::after_idle_round::AfterIdleRound;
 use crate::jobs::Jobs;
 use crate::pace::Pace;
-use crate::rest::Rest;
 use crate::run::{Run, RunFault};
 use crate::tasks::{actors_of, highest_of};
 use crate::waiters::Waiters;
@@ -19,14 +19,14 @@ use std::alloc::Global;
 use std::sync::Wait;
 use std::thread::Threads;
 use wakeup_source::MOST_ENTRIES;
-use world_workers::{Burst, BurstParts, BurstPlan, Stop, make_burst};
+use world_workers::{Burst, BurstContents, BurstPlan, Stop, make_burst};
 
 /// The most entries of a journal at which a burst is begun, far above what memory holds.
 const MOST_JOURNAL: usize = 1 << 62;
 
 /// What stays of a run while its core, its sources and its jobs are in a burst.
 #[derive(Drop)]
-struct Away<'m> {
+struct DuringBurst<'m> {
     machine: &'m Machine,
     table: EventTable,
     floor: Stamp,
@@ -40,7 +40,7 @@ const MOST_LOG: u64 = 37_585_025;
 #[derive(Drop)]
 struct Advance<'m> {
     run: Run<'m>,
-    came: Result<Option<Rest>, RunFault>,
+    came: Result<Option<AfterIdleRound>, RunFault>,
 }
 
 /// A run after a burst.
@@ -55,9 +55,9 @@ struct AfterBurst<'m> {
     stop: Option<Stop>,
 }
 
-impl<'m> Away<'m> {
+impl<'m> DuringBurst<'m> {
     ghost use Rattle.std.specs.Prelude.{◌≡◌, ◌≤◌, IfOk};
-    ghost use Rattle.machine_rounds.specs.BurstsOf.{IsAway, IsBack, IsJoined, entries_of};
+    ghost use Rattle.machine_rounds.specs.BurstsOf.{IsDuringBurst, IsBack, IsJoined, entries_of};
     ghost use Rattle.machine_rounds.specs.Runs.{entries_made};
 
     /// The burst of these parts.
@@ -65,16 +65,16 @@ impl<'m> Away<'m> {
         &self,
         rt: &R,
         alloc: Global,
-        parts: BurstParts<'m>,
+        contents: BurstContents<'m>,
         workers: u8,
         gate: &G,
     ) -> Result<Burst<'m>, Mem>
-        requires away { IsAway self.now.machine.now self.now.table.desk.shared.table_id self.now.floor
-            parts.core parts.sources.items parts.tasks.items }
+        requires during { IsDuringBurst self.now.machine.now self.now.table.cells.shared.table_id self.now.floor
+            contents.core contents.sources.items contents.tasks.items }
         requires workers { 1 ≤ workers }
-        ensures back { IfOk result (λ made. IsBack self.now.machine.now self.now.table.desk.shared.table_id self.now.floor
-            made.parts.core made.parts.sources.items made.parts.tasks.items) }
-        ensures grown { IfOk result (λ made. entries_of parts.entry.core parts.entry.sources.items ≤ entries_of made.parts.core made.parts.sources.items) }
+        ensures back { IfOk result (λ made. IsBack self.now.machine.now self.now.table.cells.shared.table_id self.now.floor
+            made.contents.core made.contents.sources.items made.contents.tasks.items) }
+        ensures grown { IfOk result (λ made. entries_of contents.entry.core contents.entry.sources.items ≤ entries_of made.contents.core made.contents.sources.items) }
     {
         let Ok(actors) = actors_of(
             alloc,
@@ -82,7 +82,7 @@ impl<'m> Away<'m> {
             self.machine.devices.len() as u32,
             self.machine.sources.len() as u32 + 1,
         ) else {
-            return Err(lost(parts));
+            return Err(lost(contents));
         };
         let plan = BurstPlan {
             gate,
@@ -91,7 +91,7 @@ impl<'m> Away<'m> {
             actors: &actors,
             workers,
         };
-        make_burst(rt, alloc, &plan, parts)
+        make_burst(rt, alloc, &plan, contents)
     }
 
     /// The run again, of what came back from a burst, where all actors may know that stamp. Everybody is to be asked.
@@ -102,11 +102,11 @@ impl<'m> Away<'m> {
         jobs: Jobs<'m>,
         floor: Stamp,
     ) -> Run<'m>
-        requires { IsJoined self.machine.now self.table.desk.shared.table_id floor core sources.items jobs }
+        requires { IsJoined self.machine.now self.table.cells.shared.table_id floor core sources.items jobs }
         ensures machine { result.machine ≡ self.entry.machine.now }
         ensures entries { entries_made result ≡ entries_of core.entry sources.items }
     {
-        let Away {
+        let DuringBurst {
             machine,
             table,
             mut waiters,
@@ -125,17 +125,17 @@ impl<'m> Away<'m> {
     }
 
     /// The run again, with what came back from a burst.
-    fn come_back(self, alloc: Global, parts: BurstParts<'m>) -> Result<Run<'m>, Mem>
-        requires { IsBack self.machine.now self.table.desk.shared.table_id self.floor
-            parts.core parts.sources.items parts.tasks.items }
+    fn come_back(self, alloc: Global, contents: BurstContents<'m>) -> Result<Run<'m>, Mem>
+        requires { IsBack self.machine.now self.table.cells.shared.table_id self.floor
+            contents.core contents.sources.items contents.tasks.items }
         ensures machine { IfOk result (λ run. run.machine ≡ self.entry.machine.now) }
-        ensures entries { IfOk result (λ run. entries_made run ≡ entries_of parts.entry.core parts.entry.sources.items) }
+        ensures entries { IfOk result (λ run. entries_made run ≡ entries_of contents.entry.core contents.entry.sources.items) }
     {
-        let BurstParts {
+        let BurstContents {
             core,
             sources,
             tasks,
-        } = parts;
+        } = contents;
         let floor = highest_of(&tasks, self.floor);
         let Ok(jobs) = Jobs::of_tasks(alloc, tasks, self.machine.actors.len()) else {
             return Err(lost((self, core, sources)));
@@ -143,32 +143,32 @@ impl<'m> Away<'m> {
         Ok(self.joined(core, sources, jobs, floor))
     }
 
-    /// The burst of these parts, and the run behind it.
+    /// The burst of these parts, and the run after it.
     fn run_on<R: Threads + Wait + Sync, G: Gate + Sync>(
         self,
         rt: &R,
         alloc: Global,
-        parts: BurstParts<'m>,
+        contents: BurstContents<'m>,
         workers: u8,
         gate: &G,
     ) -> Result<AfterBurst<'m>, Mem>
-        requires away { IsAway self.machine.now self.table.desk.shared.table_id self.floor
-            parts.core parts.sources.items parts.tasks.items }
+        requires during { IsDuringBurst self.machine.now self.table.cells.shared.table_id self.floor
+            contents.core contents.sources.items contents.tasks.items }
         requires workers { 1 ≤ workers }
         ensures machine { IfOk result (λ after. after.run.machine ≡ self.entry.machine.now) }
-        ensures grown { IfOk result (λ after. entries_of parts.entry.core parts.entry.sources.items ≤ entries_made after.run) }
+        ensures grown { IfOk result (λ after. entries_of contents.entry.core contents.entry.sources.items ≤ entries_made after.run) }
     {
-        let tasks = parts.tasks.len();
-        let Ok(burst) = self.make(rt, alloc, parts, workers, gate) else {
+        let tasks = contents.tasks.len();
+        let Ok(burst) = self.make(rt, alloc, contents, workers, gate) else {
             return Err(lost(self));
         };
         let Burst {
-            parts,
+            contents,
             beside,
             stop,
             ..
         } = burst;
-        let run = self.come_back(alloc, parts)?;
+        let run = self.come_back(alloc, contents)?;
         Ok(AfterBurst {
             run,
             beside,
@@ -181,7 +181,7 @@ impl<'m> Away<'m> {
 impl<'m> Run<'m> {
     ghost use Rattle.std.specs.Prelude.{◌≡◌, ◌≤◌, ◌<◌, ◌+◌, ◌^◌, length, IfOk, IfErr, IfSome};
     ghost use Rattle.std.specs.Bool.{OnTrue};
-    ghost use Rattle.machine_rounds.specs.BurstsOf.{IsAway, entries_of};
+    ghost use Rattle.machine_rounds.specs.BurstsOf.{IsDuringBurst, entries_of};
     ghost use Rattle.machine_rounds.specs.Runs.{AfterStretches, Fails, IsRefused, IsRun, entries_made};
 
     /// Whether the journal is so short that no job comes to the end of its numbers in a burst.
@@ -191,13 +191,13 @@ impl<'m> Run<'m> {
         self.core().len() <= MOST_JOURNAL
     }
 
-    /// The parts that go into a burst, and what stays. `Mem` where there is no memory.
-    fn leave(self, alloc: Global) -> Result<(Away<'m>, BurstParts<'m>), Mem>
+    /// The parts that go into a burst, and what stays. `Mem` if there is no memory.
+    fn leave(self, alloc: Global) -> Result<(DuringBurst<'m>, BurstContents<'m>), Mem>
         requires { length self.journal + 1000 < 2 ^ 63 }
-        ensures machine { IfOk result (λ parts. parts.0.machine.now ≡ self.entry.machine) }
-        ensures away { IfOk result (λ parts. IsAway parts.0.machine.now parts.0.table.desk.shared.table_id parts.0.floor
-            parts.1.core parts.1.sources.items parts.1.tasks.items) }
-        ensures entries { IfOk result (λ parts. entries_of parts.1.core parts.1.sources.items ≡ entries_made self.entry) }
+        ensures machine { IfOk result (λ contents. contents.0.machine.now ≡ self.entry.machine) }
+        ensures during { IfOk result (λ contents. IsDuringBurst contents.0.machine.now contents.0.table.cells.shared.table_id contents.0.floor
+            contents.1.core contents.1.sources.items contents.1.tasks.items) }
+        ensures entries { IfOk result (λ contents. entries_of contents.1.core contents.1.sources.items ≡ entries_made self.entry) }
     {
         let Run {
             machine,
@@ -211,22 +211,22 @@ impl<'m> Run<'m> {
         let Ok(tasks) = jobs.into_tasks(alloc, sources.len() as u32, floor) else {
             return Err(lost((table, core, sources, waiters)));
         };
-        let away = Away {
+        let during = DuringBurst {
             machine,
             table,
             floor,
             waiters,
         };
-        let parts = BurstParts {
+        let contents = BurstContents {
             core,
             sources,
             tasks,
         };
-        Ok((away, parts))
+        Ok((during, contents))
     }
 
     /// A burst by this number of workers: each actor of the machine, and each source's timer, makes turns as long as it can.
-    /// `Mem` where there is no memory, for the burst or for one of them.
+    /// `Mem` if there is no memory, for the burst or for one of them.
     fn burst<R: Threads + Wait + Sync, G: Gate + Sync>(
         self,
         rt: &R,
@@ -241,8 +241,8 @@ impl<'m> Run<'m> {
         if !self.is_short() {
             return Err(lost(self));
         }
-        let (away, parts) = self.leave(alloc)?;
-        away.run_on(rt, alloc, parts, workers, gate)
+        let (during, contents) = self.leave(alloc)?;
+        during.run_on(rt, alloc, contents, workers, gate)
     }
 
     /// Whether that source has fewer than the four places that a call may need.
@@ -255,7 +255,7 @@ impl<'m> Run<'m> {
         }
     }
 
-    /// Why the run gives nothing, where a worker stopped: for want of memory, or at a source that is full.
+    /// Why the run gives nothing if a worker stopped: if it is out of memory, or at a source that is full.
     fn refused(&self, stop: Option<Stop>) -> Option<RunFault>
         ensures { IfSome result (IsRefused self.now) }
     {
@@ -267,7 +267,7 @@ impl<'m> Run<'m> {
     }
 
     /// Makes `stretches` stretches of the caller's own rounds. Answers how the run is over, if it is.
-    fn alone<R: Wait>(&mut self, rt: &R, stretches: u32) -> Result<Option<Rest>, RunFault>
+    fn alone<R: Wait>(&mut self, rt: &R, stretches: u32) -> Result<Option<AfterIdleRound>, RunFault>
         ensures machine { self.new.machine ≡ self.old.machine }
         ensures after { AfterStretches stretches self.old self.new result }
     {

@@ -14,10 +14,10 @@ impl<'m> Run<'m> {
     ghost use Rattle.sleep_model.specs.Legal.{is_enabled, is_made, none_enabled, none_expires};
     ghost use Rattle.sleep_model.specs.Numbers.{time_of};
     ghost use Rattle.sleep_model.specs.Sources.{expiry, has_expired};
-    ghost use Rattle.sleep_state.specs.Places.{entries};
+    ghost use Rattle.sleep_state.specs.JournalRooms.{entries};
     ghost use Rattle.sleep_core.specs.Cores.{IsActor};
     ghost use Rattle.running_laws.specs.Running.{calls_made, histories};
-    ghost use Rattle.machine_rounds.specs.Runs.{CanGoOn, IsRefused, IsSeen, actors_rest, entries_made, is_resting};
+    ghost use Rattle.machine_rounds.specs.Runs.{CanGoOn, IsRefused, IsSeen, actors_idle, entries_made, nobody_enabled};
 
     /// The first script that can make something that sees this word.
     fn enabled_script(&self, word: EventNow) -> Option<Actor>
@@ -48,7 +48,7 @@ impl<'m> Run<'m> {
     /// The first of the scripts, the autosleep work and the devices that can.
     fn enabled_actor(&self, word: EventNow) -> Option<Actor>
         ensures one { IfSome result (CanGoOn self.now word) }
-        ensures none { IfNone result (actors_rest self.now word ≡ true) }
+        ensures none { IfNone result (actors_idle self.now word ≡ true) }
     {
         match self.enabled_script(word) {
             Some(who) => Some(who),
@@ -72,7 +72,7 @@ impl<'m> Run<'m> {
     }
 
     /// A turn of an actor that has made its calls and of which something is due, by the word that was looked at last.
-    /// What it made stands behind all entries.
+    /// What it made stands after all entries.
     fn turn_by<R: Wait>(&mut self, rt: &R, who: Actor, word: EventNow) -> Result<(), RunFault>
         requires actor { IsActor self.old.machine who }
         requires calls { calls_made self.old.machine self.old.sources who ≡ calls_due self.old.machine who (entries self.old.journal) }
@@ -97,7 +97,7 @@ impl<'m> Run<'m> {
                 moments_are_ranged(time);
                 kinds_are_ranged(kind);
                 self.floor = stamp;
-                self.jobs.told_turn(who, stamp, kind, attempt);
+                self.jobs.told_core(who, stamp, kind, attempt);
                 self.wake_after(who, kind);
                 Ok(())
             }
@@ -120,10 +120,10 @@ impl<'m> Run<'m> {
     }
 
     /// The next entry of somebody who can go on, by the word that was looked at last, where not all rest. All actors are
-    /// asked again behind it.
+    /// asked again after it.
     pub(crate) fn go_by<R: Wait>(&mut self, rt: &R, word: EventNow) -> Result<(), RunFault>
         requires seen { IsSeen self.old word }
-        requires some { is_resting self.old word ≡ false }
+        requires some { nobody_enabled self.old word ≡ false }
         ensures machine { self.new.machine ≡ self.old.machine }
         ensures made { OnOk result (entries_made self.old < entries_made self.new) }
         ensures fault { IfErr result (IsRefused self.new) }

@@ -10,7 +10,7 @@ ghost use Rattle.machine_rounds.specs.JobsOf.{owes, owing_of, job_at, HasJob, Ma
 use machine_plans::MachinePlans;
 use sleep_base::Mem;
 use sleep_model::{Actor, Kind, Stamp, Want};
-use sleep_script::Job;
+use sleep_script::ActorJob;
 use std::alloc::Global;
 use std::marker::Model;
 
@@ -30,9 +30,9 @@ pub(crate) enum Heard {
 /// The jobs of the scripts, the autosleep work and the devices, by number.
 #[derive(Drop)]
 pub(crate) struct ActorJobs<'m> {
-    pub(crate) scripts: Vec<Job<'m>>,
-    pub(crate) auto: Job<'m>,
-    pub(crate) devices: Vec<Job<'m>>,
+    pub(crate) scripts: Vec<ActorJob<'m>>,
+    pub(crate) auto: ActorJob<'m>,
+    pub(crate) devices: Vec<ActorJob<'m>>,
 }
 
 impl<'m> Model for ActorJobs<'m> {
@@ -55,41 +55,41 @@ impl<'m> Model for Jobs<'m> {
 
     ghost Value = { JobsState };
 
-    ghost use Rattle.machine_rounds.specs.JobsFields.{jobs, keeps};
+    ghost use Rattle.machine_rounds.specs.JobsFields.{jobs, jobs_invariant};
 
     ghost view = { jobs };
 
-    ghost invariant = { keeps };
+    ghost invariant = { jobs_invariant };
 }
 
 /// The jobs of a machine's scripts.
-fn script_jobs<'m>(alloc: Global, plans: &'m MachinePlans<'_>) -> Result<Vec<Job<'m>>, Mem>
+fn script_jobs<'m>(alloc: Global, plans: &'m MachinePlans<'_>) -> Result<Vec<ActorJob<'m>>, Mem>
     requires { IsAccepted plans.now }
     ensures { IfOk result (λ v. v.items ≡ first_jobs_of plans.now Script (length plans.now.actors)) }
 {
     let scripts = plans.machine().actors.len();
     let mut jobs = Vec::with_capacity(alloc, scripts)?;
     for script in 0..scripts as u32 {
-        jobs.push(Job::of_script(plans, script))?;
+        jobs.push(ActorJob::of_script(plans, script))?;
     }
     Ok(jobs)
 }
 
 /// The jobs of a machine's devices.
-fn device_jobs<'m>(alloc: Global, plans: &'m MachinePlans<'_>) -> Result<Vec<Job<'m>>, Mem>
+fn device_jobs<'m>(alloc: Global, plans: &'m MachinePlans<'_>) -> Result<Vec<ActorJob<'m>>, Mem>
     requires { IsAccepted plans.now }
     ensures { IfOk result (λ v. v.items ≡ first_jobs_of plans.now Dev (length plans.now.devices)) }
 {
     let devices = plans.machine().devices.len();
     let mut jobs = Vec::with_capacity(alloc, devices)?;
     for device in 0..devices as u32 {
-        jobs.push(Job::of_device(plans, device))?;
+        jobs.push(ActorJob::of_device(plans, device))?;
     }
     Ok(jobs)
 }
 
 /// How many of these have a call on a source to make.
-fn owing_among(jobs: &[Job<'_>]) -> u32
+fn owing_among(jobs: &[ActorJob<'_>]) -> u32
     requires { length jobs.now < 2 ^ 30 }
     ensures is { result ≡ owing_of jobs.now }
 {
@@ -120,7 +120,7 @@ fn left_owing(owes: bool, owing: u32) -> u32
 
 /// A job hears what its actor made. Whether it has a call on a source to make then.
 #[inline(always)]
-fn hear(job: &mut Job<'_>, heard: Heard) -> bool
+fn hear(job: &mut ActorJob<'_>, heard: Heard) -> bool
     requires { MayHear job.old heard }
     ensures job { job.new ≡ after_hearing heard job.old }
     ensures owes { result ≡ owes job.new }
@@ -130,7 +130,7 @@ fn hear(job: &mut Job<'_>, heard: Heard) -> bool
             stamp,
             kind,
             attempt,
-        } => job.told_turn(stamp, kind, attempt),
+        } => job.told_core(stamp, kind, attempt),
         Heard::Call(stamp) => job.told_source(stamp),
     }
     job.owes()
@@ -139,7 +139,7 @@ fn hear(job: &mut Job<'_>, heard: Heard) -> bool
 impl<'m> ActorJobs<'m> {
     /// The job of an actor.
     #[inline(always)]
-    fn job(&self, who: Actor) -> &Job<'m>
+    fn job(&self, who: Actor) -> &ActorJob<'m>
         requires { HasJob self.now who }
         ensures { result.now ≡ job_at self.now who }
     {
@@ -171,7 +171,11 @@ impl<'m> Jobs<'m> {
     ghost use Rattle.machine_rounds.specs.JobsOf.{OweNone};
 
     /// The jobs of these parts, before anything was done: a script alone may have a call to make then.
-    fn of_parts(scripts: Vec<Job<'m>>, auto: Job<'m>, devices: Vec<Job<'m>>) -> Self
+    fn of_components(
+        scripts: Vec<ActorJob<'m>>,
+        auto: ActorJob<'m>,
+        devices: Vec<ActorJob<'m>>,
+    ) -> Self
         requires scripts { length scripts.items < 2 ^ 30 }
         requires devices { length devices.items < 2 ^ 30 }
         requires auto { one_if (owes auto) ≡ 0 }
@@ -190,7 +194,11 @@ impl<'m> Jobs<'m> {
     }
 
     /// These jobs, and how many of them have a call to make.
-    pub(crate) fn counted(scripts: Vec<Job<'m>>, auto: Job<'m>, devices: Vec<Job<'m>>) -> Self
+    pub(crate) fn counted(
+        scripts: Vec<ActorJob<'m>>,
+        auto: ActorJob<'m>,
+        devices: Vec<ActorJob<'m>>,
+    ) -> Self
         requires scripts { length scripts.items < 2 ^ 30 }
         requires devices { length devices.items < 2 ^ 30 }
         ensures { result ≡ record { scripts = scripts.entry.items; auto = auto.entry; devices = devices.entry.items } }
@@ -208,15 +216,15 @@ impl<'m> Jobs<'m> {
         }
     }
 
-    /// The jobs of a machine, before anything was done. `Mem` where there is no memory.
+    /// The jobs of a machine, before anything was done. `Mem` if there is no memory.
     pub(crate) fn new(alloc: Global, plans: &'m MachinePlans<'_>) -> Result<Self, Mem>
         requires { IsAccepted plans.now }
         ensures { IfOk result (λ jobs. jobs ≡ first_jobs plans.now) }
     {
         let scripts = script_jobs(alloc, plans)?;
-        let auto = Job::of_auto(plans);
+        let auto = ActorJob::of_auto(plans);
         let devices = device_jobs(alloc, plans)?;
-        Ok(Jobs::of_parts(scripts, auto, devices))
+        Ok(Jobs::of_components(scripts, auto, devices))
     }
 
     /// What an actor does next: the call on a source that is next, else a turn of the core.
@@ -238,7 +246,7 @@ impl<'m> Jobs<'m> {
     }
 
     /// An actor made an entry of the journal, with that stamp, where `attempt` attempts were begun.
-    pub(crate) fn told_turn(&mut self, who: Actor, stamp: Stamp, kind: Kind, attempt: u32)
+    pub(crate) fn told_core(&mut self, who: Actor, stamp: Stamp, kind: Kind, attempt: u32)
         requires job { HasJob self.old who }
         requires made { (job_at self.old who).pending ≡ [] }
         requires few { (job_at self.old who).turns < 2 ^ 63 }
@@ -254,7 +262,7 @@ impl<'m> Jobs<'m> {
     }
 
     /// An actor made the call that was next, and knows that stamp.
-    pub(crate) fn told_call(&mut self, who: Actor, stamp: Stamp)
+    pub(crate) fn told_source(&mut self, who: Actor, stamp: Stamp)
         requires job { HasJob self.old who }
         requires left { 0 < length (job_at self.old who).pending }
         requires few { (job_at self.old who).calls + 1 < 2 ^ 32 }

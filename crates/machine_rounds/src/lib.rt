@@ -7,16 +7,16 @@
 //! full only if the machine's calls may fill it, and a call on a full one is never answered as out of memory. By
 //! the clauses of `Run::new`, `to_end`.
 //!
-//! Begin reading in `src/rounds.rt`, `src/bursts.rt`, `src/rest.rt`, `src/going.rt`, `specs/Runs.antt`.
+//! Begin reading in `src/rounds.rt`, `src/bursts.rt`, `src/after_idle_round.rt`, `src/going.rt`, `specs/Runs.antt`.
 #![tactic(auto)]
 
+mod after_idle_round;
 mod asks;
 mod bursts;
 mod going;
 mod jobs;
 mod looks;
 mod pace;
-mod rest;
 mod rounds;
 mod run;
 mod tasks;

@@ -6,16 +6,16 @@ use sleep_state::sooner;
 
 impl<'m> Run<'m> {
     ghost use Rattle.std.specs.Prelude.{◌≡◌, ◌≤◌, ◌<◌, ◌+◌, ◌^◌, ◌&&◌, true, false, None, is_none, length, IfSome};
-    ghost use Rattle.sleep_model.specs.Due.{all_gone};
+    ghost use Rattle.sleep_model.specs.Due.{have_all_exited};
     ghost use Rattle.sleep_model.specs.declared.word.EventNow.{EventNow};
     ghost use Rattle.sleep_model.specs.Legal.{is_enabled, next_time, next_expiry};
     ghost use Rattle.sleep_model.specs.Numbers.{time_of};
     ghost use Rattle.sleep_model.specs.Path.{maker};
     ghost use Rattle.sleep_model.specs.Sources.{expiry, has_expired};
-    ghost use Rattle.sleep_state.specs.Places.{entries};
+    ghost use Rattle.sleep_state.specs.JournalRooms.{entries};
     ghost use Rattle.sleep_core.specs.Cores.{IsActor};
     ghost use Rattle.running_laws.specs.Running.{histories};
-    ghost use Rattle.machine_rounds.specs.Runs.{is_over, is_resting};
+    ghost use Rattle.machine_rounds.specs.Runs.{is_over, nobody_enabled};
 
     /// The time of the last jump in ms, else 0.
     pub(crate) fn time(&self) -> u64
@@ -36,7 +36,7 @@ impl<'m> Run<'m> {
 
     /// Whether every script has exited and no attempt is open.
     pub(crate) fn is_whole(&self) -> bool
-        ensures { result ≡ (all_gone self.now.machine (entries self.now.journal) && is_none (maker (entries self.now.journal))) }
+        ensures { result ≡ (have_all_exited self.now.machine (entries self.now.journal) && is_none (maker (entries self.now.journal))) }
     {
         self.core().whole()
     }
@@ -84,10 +84,10 @@ impl<'m> Run<'m> {
     /// The next pending moment in ms, where there is one.
     pub(crate) fn next_time(&self) -> Option<u64>
         ensures is { result ≡ next_time self.now.machine (entries self.now.journal) (histories self.now.sources) }
-        // Where nobody can make anything and no moment is pending no attempt is open.
-        ensures closed { (word : EventNow) → result ≡ None → is_resting self.now word ≡ true → maker (entries self.now.journal) ≡ None }
-        // Where nobody can make anything and the run is not over it is later than now.
-        ensures ahead { (word : EventNow) → is_resting self.now word ≡ true → is_over self.now word ≡ false → IfSome result (λ at. time_of (entries self.now.journal) < at) }
+        // If nobody can make anything and no moment is pending no attempt is open.
+        ensures closed { (word : EventNow) → result ≡ None → nobody_enabled self.now word ≡ true → maker (entries self.now.journal) ≡ None }
+        // If nobody can make anything and the run is not over it is later than now.
+        ensures ahead { (word : EventNow) → nobody_enabled self.now word ≡ true → is_over self.now word ≡ false → IfSome result (λ at. time_of (entries self.now.journal) < at) }
     {
         sooner(self.core().next_time(), self.next_expiry())
     }

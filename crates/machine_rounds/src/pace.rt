@@ -16,9 +16,9 @@ const MOST_ALONE: u32 = 65_536;
 
 /// A burst costs some tens of microseconds for each thread, which is most of a run that makes a few entries at each
 /// moment. It asks each task again and again, where the caller knows who may have something to do. Turns of the machine
-/// stand one behind another under its lock, and what one task does alone no thread makes faster. So where bursts come to
+/// stand one after another under its lock, and what one task does alone no thread makes faster. So where bursts come to
 /// few calls on sources for the threads that they take, the caller goes on alone for a while, and then tries again: twice
-/// as long each time. A burst behind one that came to few calls is made by few workers. All is counted, and nothing
+/// as long each time. A burst after one that came to few calls is made by few workers. All is counted, and nothing
 /// measured by a clock. No clause speaks of this.
 #[derive(Drop)]
 pub(crate) struct Pace {

@@ -1,7 +1,7 @@
 //! Rounds over the actors, and what comes after them.
 
-use crate::rest::Rest;
-use crate::run::{Run, RunFault, Tried};
+use crate::after_idle_round::AfterIdleRound;
+use crate::run::{Run, RunFault, TurnOutcome};
 use sleep_model::{Actor, Want, Why};
 use std::sync::Wait;
 
@@ -13,7 +13,7 @@ impl<'m> Run<'m> {
 
     /// An actor's try in a round: its next call on a source, else its turn. What the core answers to a turn.
     #[inline(always)]
-    fn ask<R: Wait>(&mut self, rt: &R, who: Actor) -> Result<Tried, RunFault>
+    fn ask<R: Wait>(&mut self, rt: &R, who: Actor) -> Result<TurnOutcome, RunFault>
         requires { IsActor self.old.machine who }
         ensures machine { self.new.machine ≡ self.old.machine }
         ensures after { AfterAsking self.old self.new result }
@@ -22,19 +22,19 @@ impl<'m> Run<'m> {
             Want::Source(source, call) => {
                 self.call(rt, who, source, call)?;
                 self.wake_readers(rt);
-                Ok(Tried::Made)
+                Ok(TurnOutcome::Made)
             }
             Want::Core => self.turn(rt, who),
-            Want::Nothing => Ok(Tried::Gone),
+            Want::Nothing => Ok(TurnOutcome::Exited),
         }
     }
 
     /// An actor that was woken for the autosleep lock has had its try.
-    fn pass_lock(&mut self, who: Actor, tried: &Tried)
+    fn pass_lock(&mut self, who: Actor, tried: &TurnOutcome)
         ensures { self.new ≡ self.old }
     {
         let scripts = self.machine.actors.len() as u32;
-        let is_held = matches!(tried, Tried::Waits(Why::LockHeld));
+        let is_held = matches!(tried, TurnOutcome::Waits(Why::LockHeld));
         self.waiters.had_lock_turn(who, is_held, scripts);
     }
 
@@ -74,13 +74,13 @@ impl<'m> Run<'m> {
             self.pass_mark(who, mark);
         }
         match tried {
-            Tried::Made => Ok(true),
-            Tried::Waits(why) => {
+            TurnOutcome::Made => Ok(true),
+            TurnOutcome::Waits(why) => {
                 self.waiters.waits(who, why);
                 Ok(false)
             }
-            Tried::Gone => {
-                self.waiters.is_gone(who);
+            TurnOutcome::Exited => {
+                self.waiters.is_exited(who);
                 Ok(false)
             }
         }
@@ -111,7 +111,7 @@ impl<'m> Run<'m> {
         }
     }
 
-    /// The next behind an actor that may have something to do.
+    /// The next after an actor that may have something to do.
     #[inline(always)]
     fn next_after(&self, who: Actor) -> Option<Actor>
         requires { IsActor self.now.machine who }
@@ -218,15 +218,19 @@ impl<'m> Run<'m> {
 
     /// A stretch: rounds, and where the last one made no entry what comes then, an entry or the end of the run. How the run
     /// is over, if it is.
-    pub(crate) fn stretch<R: Wait>(&mut self, rt: &R, most: u64) -> Result<Option<Rest>, RunFault>
+    pub(crate) fn stretch<R: Wait>(
+        &mut self,
+        rt: &R,
+        most: u64,
+    ) -> Result<Option<AfterIdleRound>, RunFault>
         ensures machine { self.new.machine ≡ self.old.machine }
         ensures after { AfterStretches 1 self.old self.new result }
     {
         if self.rounds(rt, most)? {
             return Ok(None);
         }
-        match self.rest(rt)? {
-            Rest::GoesOn => Ok(None),
+        match self.after_idle_round(rt)? {
+            AfterIdleRound::GoesOn => Ok(None),
             end => Ok(Some(end)),
         }
     }

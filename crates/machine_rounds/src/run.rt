@@ -58,13 +58,13 @@ impl From<CoreFault> for RunFault {
 
 /// What came of an actor's try.
 #[derive(Clone, Copy)]
-pub(crate) enum Tried {
+pub(crate) enum TurnOutcome {
     /// It made entries.
     Made,
     /// It waits, for that.
     Waits(Why),
     /// It has nothing to do any more.
-    Gone,
+    Exited,
 }
 
 /// A run of a machine, as far as it has come.
@@ -88,11 +88,11 @@ impl<'m> Model for Run<'m> {
 
     ghost Value = { RunState };
 
-    ghost use Rattle.machine_rounds.specs.RunFields.{state, KeepsRun};
+    ghost use Rattle.machine_rounds.specs.RunFields.{state, RunFieldsInvariant};
 
     ghost view = { state };
 
-    ghost invariant = { KeepsRun };
+    ghost invariant = { RunFieldsInvariant };
 }
 
 /// Everybody is to be asked.
@@ -145,7 +145,7 @@ impl<'m> Run<'m> {
     ghost use Rattle.sleep_model.specs.Order.{parents_of};
     ghost use Rattle.sleep_model.specs.Sources.{expiry, has_expired, most_entries};
     ghost use Rattle.event_word.specs.Seats.{AreNew, IsUntouched};
-    ghost use Rattle.sleep_state.specs.Places.{entries};
+    ghost use Rattle.sleep_state.specs.JournalRooms.{entries};
     ghost use Rattle.sleep_core.specs.Cores.{IsActor};
     ghost use Rattle.running_laws.specs.Running.{CallsNext, calls_made, histories, of_sources};
     ghost use Rattle.run_objects.specs.Objects.{AreUncalled, seats_of};
@@ -155,7 +155,7 @@ impl<'m> Run<'m> {
     ghost use Rattle.machine_rounds.specs.JobsOf.{first_jobs};
 
     /// A run of these parts, in which nothing is done yet.
-    fn of_parts(
+    fn of_components(
         machine: &'m Machine,
         table: EventTable,
         seated: SeatedCore<'m>,
@@ -165,7 +165,7 @@ impl<'m> Run<'m> {
     ) -> Self
         requires accepted { IsAccepted machine.now }
         requires core { seated.core ≡ record { machine = machine.now; past = [] } }
-        requires table { seated.seat.table_id ≡ table.desk.shared.table_id }
+        requires table { seated.seat.table_id ≡ table.cells.shared.table_id }
         requires count { vec_len sources ≡ length machine.now.sources + 1 }
         requires sources { AreUncalled sources.items }
         requires seats { AreNew seated.seat (seats_of sources.items) }
@@ -204,7 +204,7 @@ impl<'m> Run<'m> {
             return Err(lost((table, sources, look, jobs, waiters)));
         };
         let seated = SeatedCore::new(core, look);
-        Ok(Run::of_parts(machine, table, seated, sources, jobs, waiters))
+        Ok(Run::of_components(machine, table, seated, sources, jobs, waiters))
     }
 
     /// The machine's core.
@@ -216,7 +216,7 @@ impl<'m> Run<'m> {
         self.seated.core()
     }
 
-    /// Looks at the event word, at or behind all that was made.
+    /// Looks at the event word, at or after all that was made.
     pub(crate) fn look<R: Wait>(&mut self, rt: &R) -> EventNow
         ensures same { IsSame self.old self.new }
         ensures seen { IsSeen self.new result }
@@ -251,7 +251,7 @@ impl<'m> Run<'m> {
         match one.call(rt, &self.table, by, call) {
             Ok(stamp) => {
                 self.floor = stamp;
-                self.jobs.told_call(who, stamp);
+                self.jobs.told_source(who, stamp);
                 self.waiters.wake_for_word();
                 Ok(())
             }
@@ -335,9 +335,9 @@ impl<'m> Run<'m> {
         }
     }
 
-    /// A turn of an actor that has made its calls. What it made stands behind all entries.
+    /// A turn of an actor that has made its calls. What it made stands after all entries.
     #[inline(always)]
-    pub(crate) fn turn<R: Wait>(&mut self, rt: &R, who: Actor) -> Result<Tried, RunFault>
+    pub(crate) fn turn<R: Wait>(&mut self, rt: &R, who: Actor) -> Result<TurnOutcome, RunFault>
         requires actor { IsActor self.old.machine who }
         requires calls { calls_made self.old.machine self.old.sources who ≡ calls_due self.old.machine who (entries self.old.journal) }
         ensures machine { self.new.machine ≡ self.old.machine }
@@ -360,12 +360,12 @@ impl<'m> Run<'m> {
                 moments_are_ranged(time);
                 kinds_are_ranged(kind);
                 self.floor = stamp;
-                self.jobs.told_turn(who, stamp, kind, attempt);
+                self.jobs.told_core(who, stamp, kind, attempt);
                 self.wake_after(who, kind);
-                Ok(Tried::Made)
+                Ok(TurnOutcome::Made)
             }
-            CoreTurn::NotYet(why) => Ok(Tried::Waits(why)),
-            CoreTurn::Done => Ok(Tried::Gone),
+            CoreTurn::NotYet(why) => Ok(TurnOutcome::Waits(why)),
+            CoreTurn::Done => Ok(TurnOutcome::Exited),
         }
     }
 }

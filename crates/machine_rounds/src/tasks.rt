@@ -9,11 +9,15 @@ use crate::jobs::{ActorJobs, Jobs};
 use run_world::Task;
 use sleep_base::Mem;
 use sleep_model::{Actor, Stamp};
-use sleep_script::{Job, TimerJob};
+use sleep_script::{ActorJob, TimerJob};
 use std::alloc::{AllocError, Global};
 
-/// Puts the task of a job, which knows at least that stamp, behind others.
-fn push_job<'m>(tasks: &mut Vec<Task<'m>>, mut job: Job<'m>, floor: Stamp) -> Result<(), AllocError>
+/// Puts the task of a job, which knows at least that stamp, after others.
+fn push_job<'m>(
+    tasks: &mut Vec<Task<'m>>,
+    mut job: ActorJob<'m>,
+    floor: Stamp,
+) -> Result<(), AllocError>
     ensures { OnOk result (tasks.new.items ≡ tasks.old.items ++ acts floor job.entry ∷ []) }
 {
     job.raise(floor);
@@ -21,10 +25,10 @@ fn push_job<'m>(tasks: &mut Vec<Task<'m>>, mut job: Job<'m>, floor: Stamp) -> Re
     Ok(())
 }
 
-/// Puts the tasks of these jobs behind others.
+/// Puts the tasks of these jobs after others.
 fn push_jobs<'m>(
     tasks: &mut Vec<Task<'m>>,
-    jobs: Vec<Job<'m>>,
+    jobs: Vec<ActorJob<'m>>,
     floor: Stamp,
 ) -> Result<(), AllocError>
     ensures { OnOk result (tasks.new.items ≡ tasks.old.items ++ map (acts floor) jobs.entry.items) }
@@ -35,7 +39,7 @@ fn push_jobs<'m>(
     Ok(())
 }
 
-/// Puts the timers of the first sources, as tasks, behind other tasks.
+/// Puts the timers of the first sources, as tasks, after other tasks.
 fn push_timers(tasks: &mut Vec<Task<'_>>, sources: u32, floor: Stamp) -> Result<(), AllocError>
     ensures { OnOk result (tasks.new.items ≡ tasks.old.items ++ timers floor sources) }
 {
@@ -47,7 +51,7 @@ fn push_timers(tasks: &mut Vec<Task<'_>>, sources: u32, floor: Stamp) -> Result<
     Ok(())
 }
 
-/// Puts the first scripts behind other actors.
+/// Puts the first scripts after other actors.
 fn push_scripts(actors: &mut Vec<Actor>, many: u32) -> Result<(), AllocError>
     ensures { OnOk result (actors.new.items ≡ actors.old.items ++ numbered actor.Script many) }
 {
@@ -57,7 +61,7 @@ fn push_scripts(actors: &mut Vec<Actor>, many: u32) -> Result<(), AllocError>
     Ok(())
 }
 
-/// Puts the first devices behind other actors.
+/// Puts the first devices after other actors.
 fn push_devices(actors: &mut Vec<Actor>, many: u32) -> Result<(), AllocError>
     ensures { OnOk result (actors.new.items ≡ actors.old.items ++ numbered actor.Dev many) }
 {
@@ -67,7 +71,7 @@ fn push_devices(actors: &mut Vec<Actor>, many: u32) -> Result<(), AllocError>
     Ok(())
 }
 
-/// Puts the timers of the first sources behind other actors.
+/// Puts the timers of the first sources after other actors.
 fn push_sources(actors: &mut Vec<Actor>, many: u32) -> Result<(), AllocError>
     ensures { OnOk result (actors.new.items ≡ actors.old.items ++ numbered actor.Timer many) }
 {
@@ -95,7 +99,7 @@ pub(crate) fn actors_of(
 }
 
 /// The jobs among these tasks.
-fn jobs_among<'m>(alloc: Global, tasks: Vec<Task<'m>>) -> Result<Vec<Job<'m>>, AllocError>
+fn jobs_among<'m>(alloc: Global, tasks: Vec<Task<'m>>) -> Result<Vec<ActorJob<'m>>, AllocError>
     ensures { IfOk result (λ jobs. jobs.items ≡ jobs_in tasks.entry.items) }
 {
     let mut jobs = Vec::with_capacity(alloc, tasks.len())?;

@@ -151,7 +151,7 @@ impl Waiters {
 
     /// An actor has nothing to do any more: a script has exited.
     #[inline(never)]
-    pub(crate) fn is_gone(&mut self, who: Actor) {
+    pub(crate) fn is_exited(&mut self, who: Actor) {
         match who {
             Actor::Script(script) => self.scripts.remove(script),
             Actor::Dev(device) => self.device_waits(device),
@@ -270,7 +270,7 @@ impl Waiters {
     }
 
     /// That mark was raised by an actor, or left as it is by one that was called for it: calls the next of the scripts, of
-    /// which there are `many`, that wait for it, the first one behind the last. So as many are called as the mark is high,
+    /// which there are `many`, that wait for it, the first one after the last. So as many are called as the mark is high,
     /// in the order in which rounds come to them.
     #[inline(never)]
     pub(crate) fn call_for_mark(&mut self, who: Actor, mark: u32, many: u32) {
@@ -333,7 +333,7 @@ impl Waiters {
         }
     }
 
-    /// Wakes the next behind a script that waits for the lock, the first one behind the last.
+    /// Wakes the next after a script that waits for the lock, the first one after the last.
     fn pass_lock(&mut self, script: u32, many: u32) {
         self.wake_next_for_lock(script.saturating_add(1), many);
         if self.next_for_lock.is_none() {

@@ -6,7 +6,7 @@ use Rattle.std.specs.List.{list_all}
 use Rattle.sleep_model.specs.declared.word.EventNow.{EventNow}
 use Rattle.sleep_model.specs.declared.word.WordKind.{WordKind}
 use Rattle.sleep_model.specs.declared.entry.JournalEntry.{JournalEntry}
-use Rattle.sleep_model.specs.Merge.{before_or, is_actor_before, is_chained, is_word, is_word_step, stands_before, step_number}
+use Rattle.sleep_model.specs.Merge.{before_or, is_actor_before, is_chained, is_word, is_word_step, precedes, step_number}
 use Rattle.sleep_model.specs.Numbers.{after_step, word_step}
 use Rattle.sleep_model.specs.Word.{position}
 use Rattle.log_merge.proofs.Sorts.{Low, Up}
@@ -25,20 +25,20 @@ not_before : (p s p' s' : ℕ) (r : Bool) → before_or p p' (before_or s s' r) 
 not_before p s p' s' r h = grind (arith, nat_tests)
 
 -- a look that does not stand before a step is at a later word
-behind_step : (p p' : ℕ) (r : Bool) → before_or p p' (before_or 0 1 r) ≡ false → p' < p
-behind_step p p' r h = grind (arith, nat_tests)
+step_follows : (p p' : ℕ) (r : Bool) → before_or p p' (before_or 0 1 r) ≡ false → p' < p
+step_follows p p' r h = grind (arith, nat_tests)
 
-look_behind : (e x : JournalEntry) → is_word_step e ≡ true → is_word_step x ≡ false → stands_before x e ≡ false → e.stamp.pos < x.stamp.pos
-look_behind e x step look h =
-    behind_step x.stamp.pos e.stamp.pos (before_or x.stamp.tick e.stamp.tick (is_actor_before x.entry.actor e.entry.actor))
+look_after : (e x : JournalEntry) → is_word_step e ≡ true → is_word_step x ≡ false → precedes x e ≡ false → e.stamp.pos < x.stamp.pos
+look_after e x step look h =
+    step_follows x.stamp.pos e.stamp.pos (before_or x.stamp.tick e.stamp.tick (is_actor_before x.entry.actor e.entry.actor))
     ((λ i. before_or x.stamp.pos e.stamp.pos (before_or (cond (sym look i) 1 0) (cond (sym step i) 1 0) (before_or x.stamp.tick e.stamp.tick (is_actor_before x.entry.actor e.entry.actor)))) ∙ h)
 
-looks_behind : (e : JournalEntry) (rest : List JournalEntry) (n : ℕ) → is_word_step e ≡ true → e.stamp.pos ≡ n → Low stands_before e rest → LooksFrom (suc n) rest
-looks_behind e [] n step at l = tt
-looks_behind e (x ∷ rest) n step at l = (λ look. let later : e.stamp.pos < x.stamp.pos = look_behind e x step look l.0 in omega (arith, later, at), looks_behind e rest n step at l.1)
+looks_after : (e : JournalEntry) (rest : List JournalEntry) (n : ℕ) → is_word_step e ≡ true → e.stamp.pos ≡ n → Low precedes e rest → LooksFrom (suc n) rest
+looks_after e [] n step at l = tt
+looks_after e (x ∷ rest) n step at l = (λ look. let later : e.stamp.pos < x.stamp.pos = look_after e x step look l.0 in omega (arith, later, at), looks_after e rest n step at l.1)
 
 -- a look among entries in order is no later than the next step
-no_later : (e : JournalEntry) (steps : List JournalEntry) (n : ℕ) → Low stands_before e steps → are_counted n steps ≡ true → e.stamp.pos ≤ n + length steps → e.stamp.pos ≤ n
+no_later : (e : JournalEntry) (steps : List JournalEntry) (n : ℕ) → Low precedes e steps → are_counted n steps ≡ true → e.stamp.pos ≤ n + length steps → e.stamp.pos ≤ n
 no_later e [] n l c h = omega (arith, h)
 no_later e (r ∷ rest) n l c h =
     let at : r.stamp.pos ≡ n = number_is r.stamp.pos n (both_left (r.stamp.pos == n) (are_counted (suc n) rest) c) in
@@ -53,7 +53,7 @@ record At (steps rest : List JournalEntry) (n : ℕ) (word : EventNow) : Type 0 
   left : length steps ≡ n + length (filter is_word_step rest)
   looks : list_all (is_look steps) rest ≡ true
   later : LooksFrom n rest
-  up : Up stands_before rest
+  up : Up precedes rest
 
 same_word : (e : JournalEntry) (steps : List JournalEntry) → is_look steps e ≡ true → is_word_step e ≡ false
     → nat_le e.stamp.pos (length steps) && is_word e.entry.now (word_from no_steps e.stamp.pos steps) && (e.stamp.pos == position e.entry.now) ≡ true
@@ -63,7 +63,7 @@ stays : (o : Option WordKind) (word : EventNow) → is_some o ≡ false → afte
 stays None word h = refl
 stays (Some x) word h = absurd (cc)
 
--- behind a step
+-- after a step
 after_a_step : (steps : List JournalEntry) (e : JournalEntry) (rest : List JournalEntry) (n : ℕ) (word : EventNow) → At steps (e ∷ rest) n word → is_word_step e ≡ true
     → At steps rest (suc n) (after_step (word_step e.entry.kind) word)
 after_a_step steps e rest n word a step =
@@ -78,11 +78,11 @@ after_a_step steps e rest n word a step =
           ap (λ (j : ℕ). word_from no_steps j steps) more ∙ a.words (suc k) ∙ ap (word_from word (suc k)) own;
       left = omega (arith, left);
       looks = all_tail (is_look steps) e rest a.looks;
-      later = looks_behind e rest n step (number_is e.stamp.pos n (both_left (e.stamp.pos == n) (are_counted (suc n) (filter is_word_step rest)) counted)) a.up.0;
+      later = looks_after e rest n step (number_is e.stamp.pos n (both_left (e.stamp.pos == n) (are_counted (suc n) (filter is_word_step rest)) counted)) a.up.0;
       up = a.up.1;
     }
 
--- and behind a look
+-- and after a look
 after_a_look : (steps : List JournalEntry) (e : JournalEntry) (rest : List JournalEntry) (n : ℕ) (word : EventNow) → At steps (e ∷ rest) n word → is_word_step e ≡ false
     → At steps rest n (after_step (word_step e.entry.kind) word)
 after_a_look steps e rest n word a look =
@@ -150,7 +150,7 @@ looks_start [] = tt
 looks_start (e ∷ rest) = (λ look. omega arith, looks_start rest)
 
 -- entries in order are chained, where their steps are and each look is at a word that these leave
-pub chained_all : (entries steps : List JournalEntry) → Up stands_before entries → filter is_word_step entries ≡ steps → are_counted 0 steps ≡ true → is_chained no_steps steps ≡ true
+pub chained_all : (entries steps : List JournalEntry) → Up precedes entries → filter is_word_step entries ≡ steps → are_counted 0 steps ≡ true → is_chained no_steps steps ≡ true
     → list_all (is_look steps) entries ≡ true → is_chained no_steps entries ≡ true
 chained_all entries steps up own counted chained looks = chained_at steps entries 0 no_steps (record {
   counted = subst (λ (l : List JournalEntry). are_counted 0 l ≡ true) (sym own) counted;

@@ -5,12 +5,12 @@ use Rattle.sleep_model.specs.declared.entry.Actor.{Actor}
 use Rattle.sleep_model.specs.declared.entry.JournalEntry.{JournalEntry}
 use Rattle.sleep_model.specs.declared.entry.SourceEntry.{SourceEntry}
 use Rattle.sleep_model.specs.declared.machine.Machine.{Machine}
-use Rattle.sleep_model.specs.Merge.{IsFit, actors_of, all_entries, entries_of, in_order, is_jump, is_word_step, put_in_order, rises, stamped, stands_before}
-use Rattle.sleep_model.specs.Parts.{Part, OfJournal, Notes, Moves, OfTime, part_of, is_kept}
+use Rattle.sleep_model.specs.Merge.{IsFit, actors_of, all_entries, entries_of, in_order, is_jump, is_word_step, put_in_order, rises, stamped, precedes}
+use Rattle.sleep_model.specs.EntryClasses.{EntryClass, OfJournal, Notes, Moves, OfTime, class_of, is_in_journal}
 use Rattle.sleep_model.specs.Path.{is_same}
 use Rattle.log_merge.proofs.Sorts.{Up, up_in_order}
 use Rattle.merge_laws.specs.Apart.{IsActor, calls_after, is_inside, is_journals, own_entries, past_of, source_past, steps_of}
-use Rattle.merge_laws.specs.Fitting.{FitApart, FitsTogether, KeptListsMerge, are_raised, has_time, is_look, jumps, stands_right}
+use Rattle.merge_laws.specs.Fitting.{FitApart, FitsTogether, ListsMerge, are_raised, has_time, is_look, jumps, is_ordered}
 use Rattle.merge_laws.specs.Merging.{AreLegalApart, AreLists}
 use Rattle.merge_laws.proofs.Chained.{chained_all}
 use Rattle.merge_laws.proofs.Lists.{all_order, filter_order, order_rising}
@@ -24,7 +24,7 @@ use Rattle.merge_laws.proofs.Whole.{merges_to_finished, merges_to_legal, merges_
 
 any_put : (q : JournalEntry → Bool) (x : JournalEntry) (ys : List JournalEntry) → list_any q (put_in_order x ys) ≡ (q x || list_any q ys)
 any_put q x [] = refl
-any_put q x (y ∷ ys) = by (stands_before y x) (any_put q x ys)
+any_put q x (y ∷ ys) = by (precedes y x) (any_put q x ys)
   where
     change : (a b c : Bool) → (a || (b || c)) ≡ (b || (a || c))
     change true true c = refl
@@ -42,39 +42,39 @@ any_order q (x ∷ xs) = any_put q x (in_order xs) ∙ ap (λ (b : Bool). q x ||
 
 -- ---- jumps are the journal's
 
-part_kept : (p : Part) → is_jump p ≡ true → is_kept p ≡ true
-part_kept OfJournal h = absurd (cc)
-part_kept (Notes s c) h = absurd (cc)
-part_kept (Moves s x) h = absurd (cc)
-part_kept OfTime h = refl
+class_kept : (p : EntryClass) → is_jump p ≡ true → is_in_journal p ≡ true
+class_kept OfJournal h = absurd (cc)
+class_kept (Notes s c) h = absurd (cc)
+class_kept (Moves s x) h = absurd (cc)
+class_kept OfTime h = refl
 
-jumps_kept : (xs : List JournalEntry) → filter jumps xs ≡ filter jumps (filter is_journals xs)
-jumps_kept [] = refl
-jumps_kept (x ∷ xs) = by (is_journals x) refl (jumps x) refl (jumps_kept xs)
+jumps_preserved : (xs : List JournalEntry) → filter jumps xs ≡ filter jumps (filter is_journals xs)
+jumps_preserved [] = refl
+jumps_preserved (x ∷ xs) = by (is_journals x) refl (jumps x) refl (jumps_preserved xs)
   where
     by : (a : Bool) → is_journals x ≡ a → (b : Bool) → jumps x ≡ b → filter jumps xs ≡ filter jumps (filter is_journals xs)
         → cond b (x ∷ filter jumps xs) (filter jumps xs) ≡ filter jumps (cond a (x ∷ filter is_journals xs) (filter is_journals xs))
     by true kept b is rest = ap (λ (l : List JournalEntry). cond b (x ∷ l) l) rest ∙ ap (λ (c : Bool). cond c (x ∷ filter jumps (filter is_journals xs)) (filter jumps (filter is_journals xs))) (sym is)
-    by false kept true is rest = absurd (let yes' : is_journals x ≡ true = part_kept (part_of x.entry.kind) is in let bad : true ≡ false = sym yes' ∙ kept in cc)
+    by false kept true is rest = absurd (let yes' : is_journals x ≡ true = class_kept (class_of x.entry.kind) is in let bad : true ≡ false = sym yes' ∙ kept in cc)
     by false kept false is rest = rest
 
 -- ---- the whole
 
 module _ (m : Machine) (journal : List JournalEntry) (hs : List (List SourceEntry)) (own : Actor → List JournalEntry) (a : FitApart m journal hs own) where
-  up : Up stands_before (in_order (all_entries journal hs))
+  up : Up precedes (in_order (all_entries journal hs))
   up = up_in_order (all_entries journal hs)
 
   jumps_are : filter jumps (stamped journal hs) ≡ filter jumps journal
   jumps_are =
-      jumps_kept (in_order (all_entries journal hs))
+      jumps_preserved (in_order (all_entries journal hs))
       ∙ ap (λ (l : List JournalEntry). filter jumps l) (filter_order is_journals (all_entries journal hs)
       ∙ ap in_order (journals_of_all journal hs a.kept a.sourced) ∙ order_rising journal a.journal_rises)
 
-  has_sides : list_all (λ e. list_all (stands_right e) (in_order (all_entries journal hs))) (in_order (all_entries journal hs)) ≡ true
+  has_sides : list_all (λ e. list_all (is_ordered e) (in_order (all_entries journal hs))) (in_order (all_entries journal hs)) ≡ true
   has_sides =
-      all_weaker (λ (e : JournalEntry). list_all (stands_right e) (all_entries journal hs)) (λ e. list_all (stands_right e) (in_order (all_entries journal hs))) (in_order (all_entries journal hs))
-      (λ e h. all_order (stands_right e) (all_entries journal hs) h)
-      (all_order (λ e. list_all (stands_right e) (all_entries journal hs)) (all_entries journal hs) a.sides)
+      all_weaker (λ (e : JournalEntry). list_all (is_ordered e) (all_entries journal hs)) (λ e. list_all (is_ordered e) (in_order (all_entries journal hs))) (in_order (all_entries journal hs))
+      (λ e h. all_order (is_ordered e) (all_entries journal hs) h)
+      (all_order (λ e. list_all (is_ordered e) (all_entries journal hs)) (all_entries journal hs) a.sides)
 
   has_times : list_all (has_time (in_order (all_entries journal hs))) (in_order (all_entries journal hs)) ≡ true
   has_times =
@@ -102,18 +102,18 @@ fits_together m journal hs own a = lists m journal hs own a
 
 -- ---- and merge
 
-kept_legal : (m : Machine) (journal : List JournalEntry) (hs : List (List SourceEntry)) (own : Actor → List JournalEntry) → FitApart m journal hs own
+preserved_legal : (m : Machine) (journal : List JournalEntry) (hs : List (List SourceEntry)) (own : Actor → List JournalEntry) → FitApart m journal hs own
     → AreLegalApart m journal hs own → AreLegalApart m journal hs (λ who. own_entries who journal hs)
-kept_legal m journal hs own a legal = record {
+preserved_legal m journal hs own a legal = record {
   of_journal = legal.of_journal;
   of_sources = legal.of_sources;
   of_actors = λ who. subst (λ (l : List JournalEntry). IsActor who (λ k. calls_after m who k (past_of journal)) (is_inside (length m.sources + 1) (source_past hs) who) (past_of l)) (sym (own_lists m who (own who) journal hs a.count (a.actors who))) (legal.of_actors who);
   of_jumps = legal.of_jumps;
 }
 
-pub kept_merge : KeptListsMerge
-kept_merge m journal hs own log a legal is = (
-  merges_to_legal m journal hs log (fits_together m journal hs own a) (kept_legal m journal hs own a legal) is,
+pub lists_merge : ListsMerge
+lists_merge m journal hs own log a legal is = (
+  merges_to_legal m journal hs log (fits_together m journal hs own a) (preserved_legal m journal hs own a legal) is,
   λ over. merges_to_finished m journal hs log (fits_together m journal hs own a) is over,
   λ over. merges_to_stuck m journal hs log (fits_together m journal hs own a) is over,
 )

@@ -11,12 +11,12 @@ use Rattle.sleep_model.specs.declared.machine.Machine.{Machine}
 use Rattle.sleep_model.specs.Calls.{calls_of, made, notes_of}
 use Rattle.sleep_model.specs.Legal.{IsOutside, IsOwnCall, JointPart, JointStep, JumpStep, is_there}
 use Rattle.sleep_model.specs.Numbers.{time_of}
-use Rattle.sleep_model.specs.Parts.{Part, OfJournal, Notes, Moves, OfTime, part_of, is_kept, journal}
+use Rattle.sleep_model.specs.EntryClasses.{EntryClass, OfJournal, Notes, Moves, OfTime, class_of, is_in_journal, journal}
 use Rattle.sleep_model.specs.Path.{is_same}
 use Rattle.sleep_model.specs.Sources.{history, is_of}
-use Rattle.merge_laws.specs.Apart.{ActorStep, AreJumps, IsActor, IsCall, IsSource, JumpHeld, before, calls_after, is_inside, own_of}
+use Rattle.merge_laws.specs.Apart.{ActorStep, AreJumps, IsActor, IsCall, IsSource, JumpIsLegal, before, calls_after, is_inside, own_of}
 use Rattle.merge_laws.proofs.Lists.{all_more, all_tail, filter_all}
-use Rattle.merge_laws.proofs.Calling.{CallsKept, InsideKept, behind_own, calls_kept, calls_own, filter_twice, inside_kept, inside_own, made_own, same_actor}
+use Rattle.merge_laws.proofs.Calling.{CallsPreserved, InsidePreserved, after_own, calls_preserved, calls_own, filter_twice, inside_preserved, inside_own, made_own, same_actor}
 use Rattle.merge_laws.proofs.Placing.{Clocked, IsClock, Numbered, clock_rises, clock_time}
 
 -- ---- the time of a place
@@ -36,17 +36,17 @@ all_before (e ∷ past) time c l =
     all_more (λ e. nat_lt e.time time) e past (less e.time time (omega arith)) (all_before past time c.1 (omega arith))
 
 -- what is earlier than a moment is so among all entries as among those before a place of that moment
-abbrev TimesKept : List Entry → List Entry → Type 0
-TimesKept whole past = (time : ℕ) → time ≤ time_of past → before time whole ≡ before time past
+abbrev TimesPreserved : List Entry → List Entry → Type 0
+TimesPreserved whole past = (time : ℕ) → time ≤ time_of past → before time whole ≡ before time past
 
-times_kept : (whole : List Entry) (e : Entry) (past : List Entry) → Clocked (e ∷ past) → TimesKept whole (e ∷ past) → TimesKept whole past
-times_kept whole e past c h time l =
+times_preserved : (whole : List Entry) (e : Entry) (past : List Entry) → Clocked (e ∷ past) → TimesPreserved whole (e ∷ past) → TimesPreserved whole past
+times_preserved whole e past c h time l =
     let now : time_of (e ∷ past) ≡ e.time = clock_time e past c.0 in
     let rise : time_of past ≤ e.time = clock_rises e past c.0 in
     h time (omega arith) ∙ ap (λ (b : Bool). cond b (e ∷ before time past) (before time past)) (no_less e.time time (omega arith))
 
 -- before a jump stand the entries of earlier times
-before_jump : (whole : List Entry) (e : Entry) (past : List Entry) → Clocked (e ∷ past) → TimesKept whole (e ∷ past) → time_of past < e.time → before e.time whole ≡ past
+before_jump : (whole : List Entry) (e : Entry) (past : List Entry) → Clocked (e ∷ past) → TimesPreserved whole (e ∷ past) → time_of past < e.time → before e.time whole ≡ past
 before_jump whole e past c h l =
     let now : time_of (e ∷ past) ≡ e.time = clock_time e past c.0 in
     h e.time (omega arith)
@@ -58,26 +58,26 @@ before_jump whole e past c h l =
 -- what is known at a place, of all entries and of those before it
 record Walk (m : Machine) (whole past : List Entry) : Type 0 where
   actors : (who : Actor) → IsActor who (λ k. calls_after m who k (journal whole)) (is_inside (length m.sources + 1) (λ s. history s whole) who) (own_of who past)
-  calls : CallsKept m (journal whole) past
-  inside : InsideKept whole past
+  calls : CallsPreserved m (journal whole) past
+  inside : InsidePreserved whole past
   sources : (s : ℕ) → IsSource (history s past)
   jumps : AreJumps m (journal past) (λ s. history s whole)
-  times : TimesKept whole past
+  times : TimesPreserved whole past
   clock : Clocked past
   words : Numbered past
-  there : list_all (λ e. is_there m (part_of e.kind)) past ≡ true
+  there : list_all (λ e. is_there m (class_of e.kind)) past ≡ true
 
 walk_on : (m : Machine) (whole : List Entry) (e : Entry) (past : List Entry) → Walk m whole (e ∷ past) → Walk m whole past
 walk_on m whole e past w = record {
   actors = λ who. rest who (is_same e.actor who) (w.actors who);
-  calls = calls_kept m (journal whole) e past w.calls;
-  inside = inside_kept whole e past w.sources w.inside;
-  sources = λ s. source_on s (is_of s (part_of e.kind)) (w.sources s);
-  jumps = jumps_on (is_kept (part_of e.kind)) w.jumps;
-  times = times_kept whole e past w.clock w.times;
+  calls = calls_preserved m (journal whole) e past w.calls;
+  inside = inside_preserved whole e past w.sources w.inside;
+  sources = λ s. source_on s (is_of s (class_of e.kind)) (w.sources s);
+  jumps = jumps_on (is_in_journal (class_of e.kind)) w.jumps;
+  times = times_preserved whole e past w.clock w.times;
   clock = w.clock.1;
   words = w.words.1;
-  there = all_tail (λ e. is_there m (part_of e.kind)) e past w.there;
+  there = all_tail (λ e. is_there m (class_of e.kind)) e past w.there;
 }
   where
     rest : (who : Actor) (b : Bool) → IsActor who (λ k. calls_after m who k (journal whole)) (is_inside (length m.sources + 1) (λ s. history s whole) who) (cond b (e ∷ own_of who past) (own_of who past))
@@ -101,28 +101,28 @@ own_call m past of (actor.Dev d) k h = h
 own_call m past of (actor.Timer s) k h = h
 own_call m past of actor.Time k h = h
 
-joint_step : (m : Machine) (whole : List Entry) (e : Entry) (past : List Entry) → Walk m whole (e ∷ past) → JointStep m past e (part_of e.kind)
-joint_step m whole e past w = by (part_of e.kind) refl here
+joint_step : (m : Machine) (whole : List Entry) (e : Entry) (past : List Entry) → Walk m whole (e ∷ past) → JointStep m past e (class_of e.kind)
+joint_step m whole e past w = by (class_of e.kind) refl here
   where
     calls : ℕ → List Kind
     calls = λ k. calls_after m e.actor k (journal whole)
 
-    here : ActorStep e.actor (λ k. calls_after m e.actor k (journal whole)) (is_inside (length m.sources + 1) (λ s. history s whole) e.actor) (own_of e.actor past) e (part_of e.kind)
+    here : ActorStep e.actor (λ k. calls_after m e.actor k (journal whole)) (is_inside (length m.sources + 1) (λ s. history s whole) e.actor) (own_of e.actor past) e (class_of e.kind)
     here = (subst (λ (b : Bool). IsActor e.actor (λ k. calls_after m e.actor k (journal whole)) (is_inside (length m.sources + 1) (λ s. history s whole) e.actor) (cond b (e ∷ own_of e.actor past) (own_of e.actor past))) (same_actor e.actor) (w.actors e.actor)).0
 
     due : calls_after m e.actor (length (journal (own_of e.actor past))) (journal whole) ≡ calls_of m e.actor (journal past)
-    due = calls_own m (journal whole) past e.actor (calls_kept m (journal whole) e past w.calls)
+    due = calls_own m (journal whole) past e.actor (calls_preserved m (journal whole) e past w.calls)
 
-    there : list_all (λ e. is_there m (part_of e.kind)) past ≡ true
-    there = all_tail (λ e. is_there m (part_of e.kind)) e past w.there
+    there : list_all (λ e. is_there m (class_of e.kind)) past ≡ true
+    there = all_tail (λ e. is_there m (class_of e.kind)) e past w.there
 
     did : made (length m.sources + 1) (λ s. history s past) e.actor ≡ notes_of e.actor (own_of e.actor past)
     did = made_own m e.actor past there
 
     outside : is_inside (length m.sources + 1) (λ s. history s whole) e.actor (own_of e.actor past) ≡ false → IsOutside m (λ s. history s past) e.actor
-    outside h = sym (inside_own (length m.sources + 1) whole past e.actor (inside_kept whole e past w.sources w.inside)) ∙ h
+    outside h = sym (inside_own (length m.sources + 1) whole past e.actor (inside_preserved whole e past w.sources w.inside)) ∙ h
 
-    by : (p : Part) → part_of e.kind ≡ p → ActorStep e.actor (λ k. calls_after m e.actor k (journal whole)) (is_inside (length m.sources + 1) (λ s. history s whole) e.actor) (own_of e.actor past) e p → JointStep m past e p
+    by : (p : EntryClass) → class_of e.kind ≡ p → ActorStep e.actor (λ k. calls_after m e.actor k (journal whole)) (is_inside (length m.sources + 1) (λ s. history s whole) e.actor) (own_of e.actor past) e p → JointStep m past e p
     by OfJournal is h = (did ∙ h.0 ∙ ap length due, outside h.1)
     by (Notes s c) is h = (
       own_call m (journal past) (λ t. history t past) e.actor e.kind
@@ -130,14 +130,14 @@ joint_step m whole e past w = by (part_of e.kind) refl here
           (subst (λ (l : List Kind). IsCall e.actor l (notes_of e.actor (own_of e.actor past)) e.kind) due h.0)),
       outside h.1,
     )
-    by (Moves s x) is h = behind_own s e.actor past ∙ h
+    by (Moves s x) is h = after_own s e.actor past ∙ h
     by OfTime is h =
-        let more : journal (e ∷ past) ≡ e ∷ journal past = ap (λ (b : Bool). cond b (e ∷ journal past) (journal past)) (ap is_kept is) in
+        let more : journal (e ∷ past) ≡ e ∷ journal past = ap (λ (b : Bool). cond b (e ∷ journal past) (journal past)) (ap is_in_journal is) in
         let both : AreJumps m (e ∷ journal past) (λ s. history s whole) = subst (λ (j : List Entry). AreJumps m j (λ s. history s whole)) more w.jumps in
-        let held : JumpStep m (journal past) (λ s. before e.time (history s whole)) e.now e.time = subst (JumpHeld m (journal past) (λ s. history s whole) e) is both.0 in
+        let held : JumpStep m (journal past) (λ s. before e.time (history s whole)) e.now e.time = subst (JumpIsLegal m (journal past) (λ s. history s whole) e) is both.0 in
         let later : time_of past < e.time = subst (IsClock past e.time) is w.clock.0 in
         let own : (s : ℕ) → before e.time (history s whole) ≡ history s past = λ s.
-        filter_twice (λ (x : Entry). nat_lt x.time e.time) (λ x. is_of s (part_of x.kind)) whole ∙ ap (history s) (before_jump whole e past w.clock w.times later) in
+        filter_twice (λ (x : Entry). nat_lt x.time e.time) (λ x. is_of s (class_of x.kind)) whole ∙ ap (history s) (before_jump whole e past w.clock w.times later) in
         subst (λ (n : EventNow). JumpStep m (journal past) (λ s. history s past) n e.time) w.words.0
         (subst (λ (of : ℕ → List Entry). JumpStep m (journal past) of e.now e.time) (λ i s. own s i) held)
 
@@ -149,7 +149,7 @@ joint_on m whole (e ∷ past) w = (joint_step m whole e past w, joint_on m whole
 
 pub joint : (m : Machine) (whole : List Entry)
     → ((who : Actor) → IsActor who (λ k. calls_after m who k (journal whole)) (is_inside (length m.sources + 1) (λ s. history s whole) who) (own_of who whole)) → ((s : ℕ) → IsSource (history s whole)) → AreJumps m (journal whole) (λ s. history s whole)
-    → Clocked whole → Numbered whole → list_all (λ e. is_there m (part_of e.kind)) whole ≡ true → JointPart m whole
+    → Clocked whole → Numbered whole → list_all (λ e. is_there m (class_of e.kind)) whole ≡ true → JointPart m whole
 joint m whole actors sources jumps clock words there = joint_on m whole whole (record {
   actors = actors;
   calls = λ who k l. refl;

@@ -3,34 +3,34 @@ use Rattle.std.proofs.Common.{◌≡◌, ◌∙◌, Bool, true, false, List, [],
 use mathlib.Core.List.{reverse_aux}
 use Rattle.std.specs.List.{list_all}
 use Rattle.sleep_model.specs.declared.entry.JournalEntry.{JournalEntry}
-use Rattle.sleep_model.specs.Merge.{in_order, put_in_order, rises, stands_before}
+use Rattle.sleep_model.specs.Merge.{in_order, put_in_order, rises, precedes}
 use Rattle.log_merge.proofs.Orders.{log_order}
 use Rattle.log_merge.proofs.Sorts.{Low, Up, low_below, up_in_order}
 use Rattle.log_merge.proofs.Reading.{both, both_left, both_right, in_order_from, order_same, put_front, rising_in_order}
 
 -- ---- the order
 
-pub low_filter : (p : JournalEntry → Bool) (x : JournalEntry) (ys : List JournalEntry) → Low stands_before x ys → Low stands_before x (filter p ys)
+pub low_filter : (p : JournalEntry → Bool) (x : JournalEntry) (ys : List JournalEntry) → Low precedes x ys → Low precedes x (filter p ys)
 low_filter p x [] h = tt
 low_filter p x (y ∷ ys) h = by (p y) (low_filter p x ys h.1)
   where
-    by : (b : Bool) → Low stands_before x (filter p ys) → Low stands_before x (cond b (y ∷ filter p ys) (filter p ys))
+    by : (b : Bool) → Low precedes x (filter p ys) → Low precedes x (cond b (y ∷ filter p ys) (filter p ys))
     by true l = (h.0, l)
     by false l = l
 
--- where an entry is put among others in order, before a filter or behind it
-filter_put : (p : JournalEntry → Bool) (x : JournalEntry) (ys : List JournalEntry) → Up stands_before ys
+-- where an entry is put among others in order, before a filter or after it
+filter_put : (p : JournalEntry → Bool) (x : JournalEntry) (ys : List JournalEntry) → Up precedes ys
     → filter p (put_in_order x ys) ≡ cond (p x) (put_in_order x (filter p ys)) (filter p ys)
 filter_put p x [] u = by (p x)
   where
     by : (b : Bool) → cond b (x ∷ []) [] ≡ cond b (x ∷ []) []
     by b = refl
-filter_put p x (y ∷ ys) u = by (stands_before y x) refl (filter_put p x ys u.1)
+filter_put p x (y ∷ ys) u = by (precedes y x) refl (filter_put p x ys u.1)
   where
-    low : stands_before y x ≡ false → Low stands_before x (filter p (y ∷ ys))
-    low e = low_filter p x (y ∷ ys) (e, low_below stands_before log_order x y ys e u.0)
+    low : precedes y x ≡ false → Low precedes x (filter p (y ∷ ys))
+    low e = low_filter p x (y ∷ ys) (e, low_below precedes log_order x y ys e u.0)
 
-    ahead : (a b : Bool) → stands_before y x ≡ true
+    ahead : (a b : Bool) → precedes y x ≡ true
         → cond b (y ∷ cond a (put_in_order x (filter p ys)) (filter p ys)) (cond a (put_in_order x (filter p ys)) (filter p ys))
         ≡ cond a (put_in_order x (cond b (y ∷ filter p ys) (filter p ys))) (cond b (y ∷ filter p ys) (filter p ys))
     ahead true true e = rw e refl
@@ -38,12 +38,12 @@ filter_put p x (y ∷ ys) u = by (stands_before y x) refl (filter_put p x ys u.1
     ahead false true e = refl
     ahead false false e = refl
 
-    behind : (a : Bool) → stands_before y x ≡ false
+    behind : (a : Bool) → precedes y x ≡ false
         → cond a (x ∷ filter p (y ∷ ys)) (filter p (y ∷ ys)) ≡ cond a (put_in_order x (filter p (y ∷ ys))) (filter p (y ∷ ys))
     behind true e = sym (put_front x (filter p (y ∷ ys)) (low e))
     behind false e = refl
 
-    by : (b : Bool) → stands_before y x ≡ b → filter p (put_in_order x ys) ≡ cond (p x) (put_in_order x (filter p ys)) (filter p ys)
+    by : (b : Bool) → precedes y x ≡ b → filter p (put_in_order x ys) ≡ cond (p x) (put_in_order x (filter p ys)) (filter p ys)
         → filter p (if b then y ∷ put_in_order x ys else x ∷ y ∷ ys) ≡ cond (p x) (put_in_order x (filter p (y ∷ ys))) (filter p (y ∷ ys))
     by true e rest = ap (λ (l : List JournalEntry). cond (p y) (y ∷ l) l) rest ∙ ahead (p x) (p y) e
     by false e rest = behind (p x) e
@@ -112,7 +112,7 @@ all_map f q (x ∷ xs) h = all_more q (f x) (map f xs) (all_head (λ x. q (f x))
 
 all_put : (q : JournalEntry → Bool) (x : JournalEntry) (ys : List JournalEntry) → q x ≡ true → list_all q ys ≡ true → list_all q (put_in_order x ys) ≡ true
 all_put q x [] h g = all_more q x [] h refl
-all_put q x (y ∷ ys) h g = by (stands_before y x) (all_put q x ys h (all_tail q y ys g))
+all_put q x (y ∷ ys) h g = by (precedes y x) (all_put q x ys h (all_tail q y ys g))
   where
     by : (b : Bool) → list_all q (put_in_order x ys) ≡ true → list_all q (if b then y ∷ put_in_order x ys else x ∷ y ∷ ys) ≡ true
     by true rest = all_more q y (put_in_order x ys) (all_head q y ys g) rest

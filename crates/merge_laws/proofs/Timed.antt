@@ -6,12 +6,12 @@ use Rattle.std.specs.List.{list_all, list_any}
 use Rattle.sleep_model.specs.declared.entry.JournalEntry.{JournalEntry}
 use Rattle.sleep_model.specs.declared.entry.Kind.{Kind}
 use Rattle.sleep_model.specs.declared.entry.Kind.TheVariants as kind
-use Rattle.sleep_model.specs.Merge.{before_or, is_actor_before, is_jump, is_timed, position_behind, stands_before, step_number}
+use Rattle.sleep_model.specs.Merge.{before_or, is_actor_before, is_jump, is_timed, next_position, precedes, step_number}
 use Rattle.sleep_model.specs.Numbers.{word_step}
-use Rattle.sleep_model.specs.Parts.{part_of}
+use Rattle.sleep_model.specs.EntryClasses.{class_of}
 use Rattle.log_merge.proofs.Sorts.{Low, Up}
 use Rattle.log_merge.proofs.Reading.{both, both_left, both_right}
-use Rattle.merge_laws.specs.Fitting.{are_raised, has_time, is_earlier, is_later, jumps, stands_right}
+use Rattle.merge_laws.specs.Fitting.{are_raised, has_time, is_earlier, is_later, jumps, is_ordered}
 use Rattle.merge_laws.proofs.Lists.{all_head, all_tail}
 use Rattle.merge_laws.proofs.Joint.{less}
 use Rattle.merge_laws.proofs.Placing.{number_is}
@@ -51,11 +51,11 @@ Beside x y =
     (jumps x ≡ false → jumps y ≡ true → (x.stamp.tick < y.stamp.tick) × (x.entry.time < y.entry.time))
     × (jumps x ≡ true → jumps y ≡ false → (x.stamp.tick < y.stamp.tick) × (x.entry.time ≤ y.entry.time))
 
-abbrev pub Aside : List JournalEntry → Type 0
-Aside [] = Unit {0}
-Aside (x ∷ xs) = Each (Beside x) xs × Aside xs
+abbrev pub Outside : List JournalEntry → Type 0
+Outside [] = Unit {0}
+Outside (x ∷ xs) = Each (Beside x) xs × Outside xs
 
-no_step : (k : Kind) → is_jump (part_of k) ≡ true → is_some (word_step k) ≡ false
+no_step : (k : Kind) → is_jump (class_of k) ≡ true → is_some (word_step k) ≡ false
 no_step kind.Jump h = refl
 no_step k h = absurd (cc)
 
@@ -65,8 +65,8 @@ later_ahead p p' s t t' r h = grind (arith, nat_tests)
 earlier_ahead : (p s p' t t' : ℕ) (r : Bool) → nat_le (p + s) p' && nat_lt t t' ≡ true → before_or p p' (before_or s 0 (before_or t t' r)) ≡ true
 earlier_ahead p s p' t t' r h = grind (arith, nat_tests)
 
--- a jump that an entry is behind is ahead of it
-jump_ahead : (e jump : JournalEntry) → jumps jump ≡ true → is_later e jump ≡ true → stands_before jump e ≡ true
+-- a jump that an entry is after is ahead of it
+jump_ahead : (e jump : JournalEntry) → jumps jump ≡ true → is_later e jump ≡ true → precedes jump e ≡ true
 jump_ahead e jump is h =
     let none : step_number jump ≡ 0 = ap (λ (b : Bool). cond b 1 0) (no_step jump.entry.kind is) in
     (λ i. before_or jump.stamp.pos e.stamp.pos (before_or (none i) (step_number e) (before_or jump.stamp.tick e.stamp.tick (is_actor_before jump.entry.actor e.entry.actor))))
@@ -74,30 +74,30 @@ jump_ahead e jump is h =
     (both_left (nat_le jump.stamp.pos e.stamp.pos && nat_lt jump.stamp.tick e.stamp.tick) (nat_le jump.entry.time e.entry.time) h)
 
 -- and an entry that is before a jump is ahead of it
-entry_ahead : (e jump : JournalEntry) → jumps jump ≡ true → is_earlier e jump ≡ true → stands_before e jump ≡ true
+entry_ahead : (e jump : JournalEntry) → jumps jump ≡ true → is_earlier e jump ≡ true → precedes e jump ≡ true
 entry_ahead e jump is h =
     let none : step_number jump ≡ 0 = ap (λ (b : Bool). cond b 1 0) (no_step jump.entry.kind is) in
     (λ i. before_or e.stamp.pos jump.stamp.pos (before_or (step_number e) (none i) (before_or e.stamp.tick jump.stamp.tick (is_actor_before e.entry.actor jump.entry.actor))))
     ∙ earlier_ahead e.stamp.pos (step_number e) jump.stamp.pos e.stamp.tick jump.stamp.tick (is_actor_before e.entry.actor jump.entry.actor)
-    (both_left (nat_le (position_behind e) jump.stamp.pos && nat_lt e.stamp.tick jump.stamp.tick) (nat_lt e.entry.time jump.entry.time) h)
+    (both_left (nat_le (next_position e) jump.stamp.pos && nat_lt e.stamp.tick jump.stamp.tick) (nat_lt e.entry.time jump.entry.time) h)
 
-two_sides : (e jump : JournalEntry) → jumps e ≡ false → jumps jump ≡ true → stands_right e jump ≡ true → is_earlier e jump || is_later e jump ≡ true
+two_sides : (e jump : JournalEntry) → jumps e ≡ false → jumps jump ≡ true → is_ordered e jump ≡ true → is_earlier e jump || is_later e jump ≡ true
 two_sides e jump plain leaps h = (λ i. (sym plain i) || not (sym leaps i) || is_earlier e jump || is_later e jump) ∙ h
 
 -- ahead of a jump that does not stand before it
-ahead_of : (e jump : JournalEntry) → jumps e ≡ false → jumps jump ≡ true → stands_right e jump ≡ true → stands_before jump e ≡ false → is_earlier e jump ≡ true
+ahead_of : (e jump : JournalEntry) → jumps e ≡ false → jumps jump ≡ true → is_ordered e jump ≡ true → precedes jump e ≡ false → is_earlier e jump ≡ true
 ahead_of e jump plain leaps right low = by (is_earlier e jump) (is_later e jump) refl (two_sides e jump plain leaps right)
   where
     by : (a b : Bool) → is_later e jump ≡ b → a || b ≡ true → a ≡ true
     by true b is h = refl
-    by false true is h = let ahead : stands_before jump e ≡ true = jump_ahead e jump leaps is in absurd (cc)
+    by false true is h = let ahead : precedes jump e ≡ true = jump_ahead e jump leaps is in absurd (cc)
     by false false is h = h
 
-behind_of : (e jump : JournalEntry) → jumps e ≡ false → jumps jump ≡ true → stands_right e jump ≡ true → stands_before e jump ≡ false → is_later e jump ≡ true
-behind_of e jump plain leaps right low = by (is_earlier e jump) (is_later e jump) refl (two_sides e jump plain leaps right)
+after_of : (e jump : JournalEntry) → jumps e ≡ false → jumps jump ≡ true → is_ordered e jump ≡ true → precedes e jump ≡ false → is_later e jump ≡ true
+after_of e jump plain leaps right low = by (is_earlier e jump) (is_later e jump) refl (two_sides e jump plain leaps right)
   where
     by : (a b : Bool) → is_earlier e jump ≡ a → a || b ≡ true → b ≡ true
-    by true b is h = let ahead : stands_before e jump ≡ true = entry_ahead e jump leaps is in absurd (cc)
+    by true b is h = let ahead : precedes e jump ≡ true = entry_ahead e jump leaps is in absurd (cc)
     by false b is h = h
 
 earlier_facts : (p p' t t' u u' : ℕ) → nat_le p p' && nat_lt t t' && nat_lt u u' ≡ true → (t < t') × (u < u')
@@ -106,25 +106,25 @@ earlier_facts p p' t t' u u' h = (grind (arith, nat_tests), grind (arith, nat_te
 later_facts : (p p' t t' u u' : ℕ) → nat_le p p' && nat_lt t t' && nat_le u u' ≡ true → (t < t') × (u ≤ u')
 later_facts p p' t t' u u' h = (grind (arith, nat_tests), grind (arith, nat_tests))
 
-beside : (x y : JournalEntry) → stands_right x y ≡ true → stands_right y x ≡ true → stands_before y x ≡ false → Beside x y
+beside : (x y : JournalEntry) → is_ordered x y ≡ true → is_ordered y x ≡ true → precedes y x ≡ false → Beside x y
 beside x y one other low = (
-  λ plain leaps. earlier_facts (position_behind x) y.stamp.pos x.stamp.tick y.stamp.tick x.entry.time y.entry.time (ahead_of x y plain leaps one low),
-  λ leaps plain. later_facts x.stamp.pos y.stamp.pos x.stamp.tick y.stamp.tick x.entry.time y.entry.time (behind_of y x plain leaps other low),
+  λ plain leaps. earlier_facts (next_position x) y.stamp.pos x.stamp.tick y.stamp.tick x.entry.time y.entry.time (ahead_of x y plain leaps one low),
+  λ leaps plain. later_facts x.stamp.pos y.stamp.pos x.stamp.tick y.stamp.tick x.entry.time y.entry.time (after_of y x plain leaps other low),
 )
 
-all_beside : (x : JournalEntry) (xs ys : List JournalEntry) → list_all (stands_right x) ys ≡ true → list_all (λ e. list_all (stands_right e) (x ∷ xs)) ys ≡ true → Low stands_before x ys → Each (Beside x) ys
+all_beside : (x : JournalEntry) (xs ys : List JournalEntry) → list_all (is_ordered x) ys ≡ true → list_all (λ e. list_all (is_ordered e) (x ∷ xs)) ys ≡ true → Low precedes x ys → Each (Beside x) ys
 all_beside x xs [] one others low = tt
 all_beside x xs (y ∷ ys) one others low = (
-  beside x y (all_head (stands_right x) y ys one) (all_head (stands_right y) x xs (all_head (λ e. list_all (stands_right e) (x ∷ xs)) y ys others)) low.0,
-  all_beside x xs ys (all_tail (stands_right x) y ys one) (all_tail (λ e. list_all (stands_right e) (x ∷ xs)) y ys others) low.1,
+  beside x y (all_head (is_ordered x) y ys one) (all_head (is_ordered y) x xs (all_head (λ e. list_all (is_ordered e) (x ∷ xs)) y ys others)) low.0,
+  all_beside x xs ys (all_tail (is_ordered x) y ys one) (all_tail (λ e. list_all (is_ordered e) (x ∷ xs)) y ys others) low.1,
 )
 
-pub all_aside : (xs : List JournalEntry) → list_all (λ e. list_all (stands_right e) xs) xs ≡ true → Up stands_before xs → Aside xs
-all_aside [] h up = tt
-all_aside (x ∷ xs) h up =
-    let others : list_all (λ e. list_all (stands_right e) (x ∷ xs)) xs ≡ true = all_tail (λ e. list_all (stands_right e) (x ∷ xs)) x xs h in (
-      all_beside x xs xs (all_tail (stands_right x) x xs (all_head (λ e. list_all (stands_right e) (x ∷ xs)) x xs h)) others up.0,
-      all_aside xs (all_weaker (λ (e : JournalEntry). list_all (stands_right e) (x ∷ xs)) (λ e. list_all (stands_right e) xs) xs (λ e g. all_tail (stands_right e) x xs g) others) up.1,
+pub all_outside : (xs : List JournalEntry) → list_all (λ e. list_all (is_ordered e) xs) xs ≡ true → Up precedes xs → Outside xs
+all_outside [] h up = tt
+all_outside (x ∷ xs) h up =
+    let others : list_all (λ e. list_all (is_ordered e) (x ∷ xs)) xs ≡ true = all_tail (λ e. list_all (is_ordered e) (x ∷ xs)) x xs h in (
+      all_beside x xs xs (all_tail (is_ordered x) x xs (all_head (λ e. list_all (is_ordered e) (x ∷ xs)) x xs h)) others up.0,
+      all_outside xs (all_weaker (λ (e : JournalEntry). list_all (is_ordered e) (x ∷ xs)) (λ e. list_all (is_ordered e) xs) xs (λ e g. all_tail (is_ordered e) x xs g) others) up.1,
     )
 
 -- ---- along the entries
@@ -139,7 +139,7 @@ record At (rest : List JournalEntry) (time jumped last : ℕ) : Type 0 where
   past_jump : Each (λ x. jumps x ≡ false → (jumped < x.stamp.tick) × (time ≤ x.entry.time)) rest
   to_jump : Each (λ x. jumps x ≡ true → last < x.stamp.tick) rest
   raised : are_raised time jumped (filter jumps rest) ≡ true
-  sides : Aside rest
+  sides : Outside rest
   times : Each (λ x. jumps x ≡ false → (x.entry.time ≡ time) ⊎ AnyJump x.entry.time rest) rest
 
 less_is : (a b : ℕ) → nat_lt a b ≡ true → a < b
@@ -155,7 +155,7 @@ raised_ticks (j ∷ js) time tick low l h =
     let above : tick < j.stamp.tick = less_is tick j.stamp.tick (both_right (nat_lt time j.entry.time) (nat_lt tick j.stamp.tick) first) in
     (omega (arith, above), raised_ticks js j.entry.time j.stamp.tick low (omega (arith, above)) (both_right (nat_lt time j.entry.time && nat_lt tick j.stamp.tick) (are_raised j.entry.time j.stamp.tick js) h))
 
--- no jump behind an entry has its time
+-- no jump after an entry has its time
 none_same : (e : JournalEntry) (rest : List JournalEntry) → jumps e ≡ false → Each (Beside e) rest → AnyJump e.entry.time rest → ⊥
 none_same e [] plain s a = a
 none_same e (x ∷ rest) plain s (inl h) = let later : e.entry.time < x.entry.time = (s.0.0 plain h.0).1 in absurd (omega (arith, later, h.1))
@@ -176,7 +176,7 @@ past_entry : (e : JournalEntry) (t : ℕ) (rest : List JournalEntry) → jumps e
 past_entry e t rest plain (inl h) = absurd (let leaps : jumps e ≡ true = h.0 in let bad : true ≡ false = sym leaps ∙ plain in cc)
 past_entry e t rest plain (inr h) = h
 
--- behind an entry that is no jump
+-- after an entry that is no jump
 after_entry : (e : JournalEntry) (rest : List JournalEntry) (time jumped last : ℕ) → At (e ∷ rest) time jumped last → jumps e ≡ false → At rest time jumped (max last e.stamp.tick)
 after_entry e rest time jumped last a plain = record {
   past_jump = a.past_jump.1;
@@ -201,7 +201,7 @@ jump_time e rest time jumped last a leaps =
     both_left (nat_lt time e.entry.time) (nat_lt jumped e.stamp.tick)
     (both_left (nat_lt time e.entry.time && nat_lt jumped e.stamp.tick) (are_raised e.entry.time e.stamp.tick (filter jumps rest)) (raised_here e rest time jumped last a leaps))
 
--- and behind a jump
+-- and after a jump
 after_jump : (e : JournalEntry) (rest : List JournalEntry) (time jumped last : ℕ) → At (e ∷ rest) time jumped last → jumps e ≡ true → At rest e.entry.time e.stamp.tick (max last e.stamp.tick)
 after_jump e rest time jumped last a leaps =
     let on : are_raised e.entry.time e.stamp.tick (filter jumps rest) ≡ true =
@@ -264,12 +264,12 @@ time_at xs x h plain = by (x.entry.time == 0) refl ((λ i. (sym plain i) || (x.e
     by false is g = inr (any_jump x.entry.time xs g)
 
 -- entries in order are timed, where each has its tick and its time to each jump
-pub timed_all : (xs : List JournalEntry) → Up stands_before xs → list_all (λ e. nat_lt 0 e.stamp.tick) xs ≡ true → are_raised 0 0 (filter jumps xs) ≡ true
-    → list_all (λ e. list_all (stands_right e) xs) xs ≡ true → list_all (has_time xs) xs ≡ true → is_timed 0 0 0 xs ≡ true
+pub timed_all : (xs : List JournalEntry) → Up precedes xs → list_all (λ e. nat_lt 0 e.stamp.tick) xs ≡ true → are_raised 0 0 (filter jumps xs) ≡ true
+    → list_all (λ e. list_all (is_ordered e) xs) xs ≡ true → list_all (has_time xs) xs ≡ true → is_timed 0 0 0 xs ≡ true
 timed_all xs up ticks raised sides times = timed_at xs 0 0 0 (record {
   past_jump = each_tested (λ e. nat_lt 0 e.stamp.tick) (λ x. jumps x ≡ false → (0 < x.stamp.tick) × (0 ≤ x.entry.time)) xs (λ x h plain. (less_is 0 x.stamp.tick h, omega arith)) ticks;
   to_jump = each_tested (λ e. nat_lt 0 e.stamp.tick) (λ x. jumps x ≡ true → 0 < x.stamp.tick) xs (λ x h leaps. less_is 0 x.stamp.tick h) ticks;
   raised = raised;
-  sides = all_aside xs sides up;
+  sides = all_outside xs sides up;
   times = each_tested (has_time xs) (λ x. jumps x ≡ false → (x.entry.time ≡ 0) ⊎ AnyJump x.entry.time xs) xs (λ x h plain. time_at xs x h plain) times;
 })

@@ -10,11 +10,11 @@ use Rattle.sleep_model.specs.declared.entry.SourceEntry.{SourceEntry}
 use Rattle.sleep_model.specs.declared.log.Log.{Log}
 use Rattle.sleep_model.specs.declared.log.LogEnd.TheVariants.{Stuck}
 use Rattle.sleep_model.specs.declared.machine.Machine.{Machine}
-use Rattle.sleep_model.specs.Due.{all_gone}
+use Rattle.sleep_model.specs.Due.{have_all_exited}
 use Rattle.sleep_model.specs.Legal.{IsFinishedLog, IsLegal, IsLegalLog, IsStuckAfter, IsStuckLog, JournalPart, is_finished, is_finished_after, is_idle, next_time, waiting}
 use Rattle.sleep_model.specs.Merge.{all_entries, is_jump, stamped}
 use Rattle.sleep_model.specs.Numbers.{after_step, numbers, time_after, time_of, word_step}
-use Rattle.sleep_model.specs.Parts.{Part, OfJournal, Notes, Moves, OfTime, part_of, is_kept, journal}
+use Rattle.sleep_model.specs.EntryClasses.{EntryClass, OfJournal, Notes, Moves, OfTime, class_of, is_in_journal, journal}
 use Rattle.sleep_model.specs.Path.{is_same}
 use Rattle.sleep_model.specs.Sources.{history, stats_at}
 use Rattle.merge_laws.specs.Apart.{AreJumps, IsActor, IsSource, calls_after, is_inside, last_word, own_entries, own_of, past_of, source_past}
@@ -26,7 +26,7 @@ use Rattle.merge_laws.proofs.Sourced.{all_there, histories_fit, sources_from}
 
 -- ---- what is read of the parts alone
 
-unkept : (p : Part) → is_kept p ≡ false → is_jump p ≡ false
+unkept : (p : EntryClass) → is_in_journal p ≡ false → is_jump p ≡ false
 unkept OfJournal h = absurd (cc)
 unkept (Notes s c) h = refl
 unkept (Moves s x) h = refl
@@ -35,12 +35,12 @@ unkept OfTime h = absurd (cc)
 -- the time is the journal's
 time_journal : (past : List Entry) → time_of past ≡ time_of (journal past)
 time_journal [] = refl
-time_journal (e ∷ past) = by (is_kept (part_of e.kind)) refl (time_journal past)
+time_journal (e ∷ past) = by (is_in_journal (class_of e.kind)) refl (time_journal past)
   where
-    by : (b : Bool) → is_kept (part_of e.kind) ≡ b → time_of past ≡ time_of (journal past)
+    by : (b : Bool) → is_in_journal (class_of e.kind) ≡ b → time_of past ≡ time_of (journal past)
         → time_after e.kind e.time (time_of past) ≡ time_of (cond b (e ∷ journal past) (journal past))
     by true is rest = ap (time_after e.kind e.time) rest
-    by false is rest = other_keeps e.kind e.time (time_of past) (unkept (part_of e.kind) is) ∙ rest
+    by false is rest = other_keeps e.kind e.time (time_of past) (unkept (class_of e.kind) is) ∙ rest
 
 -- the word is that of the steps
 word_steps : (past : List Entry) → numbers past ≡ numbers (filter (λ e. is_some (word_step e.kind)) past)
@@ -97,7 +97,7 @@ module _ (m : Machine) (entries : List JournalEntry) (hs : List (List SourceEntr
 
   stuck : (log : Log) → IsStuckApart m entries hs log → IsStuckAfter m (past_of (stamped entries hs))
   stuck log apart = record {
-    left = ap (all_gone m) journal_is ∙ apart.left;
+    left = ap (have_all_exited m) journal_is ∙ apart.left;
     idle = (λ i. is_idle m (journal_is i) (histories_are i) (word_is i)) ∙ apart.idle;
     timeless = (λ i. next_time m (journal_is i) (histories_are i)) ∙ apart.timeless;
   }

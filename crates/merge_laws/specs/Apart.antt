@@ -11,10 +11,10 @@ use Rattle.sleep_model.specs.declared.entry.Kind.TheVariants.{Expire}
 use Rattle.sleep_model.specs.declared.entry.SourceEntry.{SourceEntry}
 use Rattle.sleep_model.specs.declared.machine.Machine.{Machine}
 use Rattle.sleep_model.specs.Calls.{calls_of, is_calling, notes_of}
-use Rattle.sleep_model.specs.Legal.{JumpStep, is_behind}
+use Rattle.sleep_model.specs.Legal.{JumpStep, last_is_of}
 use Rattle.sleep_model.specs.Merge.{all_entries, entries_of, in_order, is_word_step, of_source}
 use Rattle.sleep_model.specs.Numbers.{numbers}
-use Rattle.sleep_model.specs.Parts.{Part, OfJournal, Notes, Moves, OfTime, part_of, is_kept, journal}
+use Rattle.sleep_model.specs.EntryClasses.{EntryClass, OfJournal, Notes, Moves, OfTime, class_of, is_in_journal, journal}
 use Rattle.sleep_model.specs.Path.{is_same}
 use Rattle.sleep_model.specs.Sources.{SourceStep, history, is_of}
 
@@ -30,12 +30,12 @@ source_past histories s = past_of (map of_source (slice_index_or histories s [])
 
 -- the entry is the journal's: its own, or a jump of time
 abbrev pub is_journals : JournalEntry → Bool
-is_journals e = is_kept (part_of e.entry.kind)
+is_journals e = is_in_journal (class_of e.entry.kind)
 
 -- each history has entries of its own source alone, the first those of that number
 abbrev pub are_of : ℕ → List (List SourceEntry) → Bool
 are_of s [] = true
-are_of s (history ∷ rest) = list_all (λ e. is_of s (part_of e.entry.kind)) history && are_of (suc s) rest
+are_of s (history ∷ rest) = list_all (λ e. is_of s (class_of e.entry.kind)) history && are_of (suc s) rest
 
 -- an actor's entries in all lists, in the order of their stamps
 abbrev pub own_entries : Actor → List JournalEntry → List (List SourceEntry) → List JournalEntry
@@ -54,7 +54,7 @@ last_word journal histories = numbers (past_of (steps_of journal histories))
 -- each entry of a source's history, the newest first, is legal where it stands
 abbrev pub IsSource : List Entry → Type 0
 IsSource [] = Unit {0}
-IsSource (e ∷ own) = SourceStep own e.time e.actor (part_of e.kind) × IsSource own
+IsSource (e ∷ own) = SourceStep own e.time e.actor (class_of e.kind) × IsSource own
 
 -- ---- each actor by itself
 
@@ -62,19 +62,19 @@ IsSource (e ∷ own) = SourceStep own e.time e.actor (part_of e.kind) × IsSourc
 abbrev pub own_of : Actor → List Entry → List Entry
 own_of who past = filter (λ e. is_same e.actor who) past
 
--- the calls that an actor has to have made behind its first k entries of the journal: those of others change none of them
+-- the calls that an actor has to have made after its first k entries of the journal: those of others change none of them
 abbrev pub calls_after : Machine → Actor → ℕ → List Entry → List Kind
 calls_after m who k [] = calls_of m who []
 calls_after m who k (e ∷ past) =
     if nat_le (length (own_of who (e ∷ past))) k then calls_of m who (e ∷ past) else calls_after m who k past
 
--- a source's history behind the first k entries of that actor: those of others may follow them
+-- a source's history after the first k entries of that actor: those of others may follow them
 abbrev pub history_after : Actor → ℕ → List Entry → List Entry
 history_after who k [] = []
 history_after who k (e ∷ past) =
     if nat_le (length (own_of who (e ∷ past))) k then e ∷ past else history_after who k past
 
--- behind these entries of its own an actor is inside a call, by the first n sources, which have these histories in all
+-- after these entries of its own an actor is inside a call, by the first n sources, which have these histories in all
 abbrev pub is_inside : ℕ → (ℕ → List Entry) → Actor → List Entry → Bool
 is_inside n of who own = is_calling n (λ s. history_after who (length (history s own)) (of s)) who
 
@@ -83,20 +83,20 @@ abbrev pub IsCall : Actor → List Kind → ℕ → Kind → Type 0
 IsCall (actor.Timer s) calls n k = k ≡ Expire s
 IsCall who calls n k = slice_get calls n ≡ Some k
 
--- an entry is the next of an actor with these entries so far, by the calls behind each of its entries of the journal, and by whether it is inside a call
-abbrev pub ActorStep : Actor → (ℕ → List Kind) → (List Entry → Bool) → List Entry → Entry → Part → Type 0
+-- an entry is the next of an actor with these entries so far, by the calls after each of its entries of the journal, and by whether it is inside a call
+abbrev pub ActorStep : Actor → (ℕ → List Kind) → (List Entry → Bool) → List Entry → Entry → EntryClass → Type 0
 ActorStep who calls inside own e OfJournal =
     (notes_of who own ≡ length (calls (length (journal own)))) × (inside own ≡ false)
 ActorStep who calls inside own e (Notes s call) =
     IsCall who (calls (length (journal own))) (notes_of who own) e.kind × (inside own ≡ false)
-ActorStep who calls inside own e (Moves s step) = is_behind s who own ≡ true
+ActorStep who calls inside own e (Moves s step) = last_is_of s who own ≡ true
 ActorStep who calls inside own e OfTime = Unit {0}
 
 -- each entry of an actor, the newest first, is its next where it stands
 abbrev pub IsActor : Actor → (ℕ → List Kind) → (List Entry → Bool) → List Entry → Type 0
 IsActor who calls inside [] = Unit {0}
 IsActor who calls inside (e ∷ own) =
-    ActorStep who calls inside own e (part_of e.kind) × IsActor who calls inside own
+    ActorStep who calls inside own e (class_of e.kind) × IsActor who calls inside own
 
 -- ---- each jump by itself
 
@@ -105,11 +105,11 @@ abbrev pub before : ℕ → List Entry → List Entry
 before time own = filter (λ e. nat_lt e.time time) own
 
 -- a jump stands where it may, by the journal before it, what the histories had, and the word that it carries
-abbrev pub JumpHeld : Machine → List Entry → (ℕ → List Entry) → Entry → Part → Type 0
-JumpHeld m past of e OfTime = JumpStep m past (λ s. before e.time (of s)) e.now e.time
-JumpHeld m past of e _ = Unit {0}
+abbrev pub JumpIsLegal : Machine → List Entry → (ℕ → List Entry) → Entry → EntryClass → Type 0
+JumpIsLegal m past of e OfTime = JumpStep m past (λ s. before e.time (of s)) e.now e.time
+JumpIsLegal m past of e _ = Unit {0}
 
 -- so does each jump of a journal, the newest first, whose sources have these histories in all
 abbrev pub AreJumps : Machine → List Entry → (ℕ → List Entry) → Type 0
 AreJumps m [] of = Unit {0}
-AreJumps m (e ∷ past) of = JumpHeld m past of e (part_of e.kind) × AreJumps m past of
+AreJumps m (e ∷ past) of = JumpIsLegal m past of e (class_of e.kind) × AreJumps m past of

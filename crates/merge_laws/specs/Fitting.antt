@@ -8,9 +8,9 @@ use Rattle.sleep_model.specs.declared.entry.SourceEntry.{SourceEntry}
 use Rattle.sleep_model.specs.declared.log.Log.{Log}
 use Rattle.sleep_model.specs.declared.machine.Machine.{Machine}
 use Rattle.sleep_model.specs.Legal.{IsFinishedLog, IsLegalLog, IsStuckLog}
-use Rattle.sleep_model.specs.Merge.{all_entries, is_chained, is_jump, is_word, is_word_step, of_source, position_behind, rises}
+use Rattle.sleep_model.specs.Merge.{all_entries, is_chained, is_jump, is_word, is_word_step, of_source, next_position, rises}
 use Rattle.sleep_model.specs.Numbers.{after_step, word_step}
-use Rattle.sleep_model.specs.Parts.{part_of}
+use Rattle.sleep_model.specs.EntryClasses.{class_of}
 use Rattle.sleep_model.specs.Sources.{most_entries}
 use Rattle.sleep_model.specs.Word.{position}
 use Rattle.merge_laws.specs.Apart.{are_of, is_journals, steps_of}
@@ -45,9 +45,9 @@ is_look steps e =
 
 -- an entry that is a jump of time
 abbrev pub jumps : JournalEntry → Bool
-jumps e = is_jump (part_of e.entry.kind)
+jumps e = is_jump (class_of e.entry.kind)
 
--- jumps that raise the time and have rising ticks, behind these
+-- jumps that raise the time and have rising ticks, after these
 abbrev pub are_raised : ℕ → ℕ → List JournalEntry → Bool
 are_raised time tick [] = true
 are_raised time tick (e ∷ rest) =
@@ -56,18 +56,18 @@ are_raised time tick (e ∷ rest) =
 -- an entry is before a jump by position, tick and time alike
 abbrev pub is_earlier : JournalEntry → JournalEntry → Bool
 is_earlier e jump =
-    nat_le (position_behind e) jump.stamp.pos && nat_lt e.stamp.tick jump.stamp.tick
+    nat_le (next_position e) jump.stamp.pos && nat_lt e.stamp.tick jump.stamp.tick
     && nat_lt e.entry.time jump.entry.time
 
--- an entry is behind a jump by position, tick and time alike
+-- an entry is after a jump by position, tick and time alike
 abbrev pub is_later : JournalEntry → JournalEntry → Bool
 is_later e jump =
     nat_le jump.stamp.pos e.stamp.pos && nat_lt jump.stamp.tick e.stamp.tick
     && nat_le jump.entry.time e.entry.time
 
 -- an entry that is no jump stands on one side of the other, if that is a jump
-abbrev pub stands_right : JournalEntry → JournalEntry → Bool
-stands_right e other = jumps e || not (jumps other) || is_earlier e other || is_later e other
+abbrev pub is_ordered : JournalEntry → JournalEntry → Bool
+is_ordered e other = jumps e || not (jumps other) || is_earlier e other || is_later e other
 
 -- an entry that is no jump has the time of one of these jumps, or none has been
 abbrev pub has_time : List JournalEntry → JournalEntry → Bool
@@ -92,7 +92,7 @@ pub record FitApart
   pub looks : list_all (is_look (steps_of journal histories)) (all_entries journal histories) ≡ true
   pub ticks : list_all (λ e. nat_lt 0 e.stamp.tick) (all_entries journal histories) ≡ true
   pub raised : are_raised 0 0 (filter jumps journal) ≡ true
-  pub sides : list_all (λ e. list_all (stands_right e) (all_entries journal histories)) (all_entries journal histories)
+  pub sides : list_all (λ e. list_all (is_ordered e) (all_entries journal histories)) (all_entries journal histories)
       ≡ true
   pub times : list_all (has_time (all_entries journal histories)) (all_entries journal histories) ≡ true
 
@@ -103,8 +103,8 @@ FitsTogether =
     → FitApart m journal histories own → AreLists m journal histories
 
 -- the lists that each has kept, which fit and are legal by themselves, merge to a legal log; and to a finished or stuck one where the end holds by themselves
-abbrev pub KeptListsMerge : Type 0
-KeptListsMerge =
+abbrev pub ListsMerge : Type 0
+ListsMerge =
     (m : Machine) (journal : List JournalEntry) (histories : List (List SourceEntry)) (own : Actor → List JournalEntry)
     (log : Log) → FitApart m journal histories own → AreLegalApart m journal histories own
     → IsMergeOf m journal histories log

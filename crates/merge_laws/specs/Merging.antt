@@ -8,7 +8,7 @@ use Rattle.sleep_model.specs.declared.log.Log.{Log}
 use Rattle.sleep_model.specs.declared.log.LogEnd.TheVariants.{Finished, Stuck}
 use Rattle.sleep_model.specs.declared.log.Stats.{Stats}
 use Rattle.sleep_model.specs.declared.machine.Machine.{Machine}
-use Rattle.sleep_model.specs.Due.{all_gone}
+use Rattle.sleep_model.specs.Due.{have_all_exited}
 use Rattle.sleep_model.specs.Legal.{JournalPart, IsLegalLog, IsFinishedLog, IsStuckLog, is_finished, is_idle, next_time, waiting}
 use Rattle.sleep_model.specs.Merge.{IsFit, merge}
 use Rattle.sleep_model.specs.Numbers.{time_of}
@@ -55,7 +55,7 @@ pub record IsFinishedApart (m : Machine) (journal : List JournalEntry) (historie
 pub record IsStuckApart (m : Machine) (journal : List JournalEntry) (histories : List (List SourceEntry)) (log : Log)
     : Type 0 where
   pub says : log.end ≡ Stuck (waiting m (past_of journal) (last_word journal histories))
-  pub left : all_gone m (past_of journal) ≡ false
+  pub left : have_all_exited m (past_of journal) ≡ false
   pub idle : is_idle m (past_of journal) (source_past histories) (last_word journal histories) ≡ true
   pub timeless : next_time m (past_of journal) (source_past histories) ≡ None
 

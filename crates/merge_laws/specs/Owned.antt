@@ -7,7 +7,7 @@ use Rattle.sleep_model.specs.declared.entry.SourceEntry.{SourceEntry}
 use Rattle.sleep_model.specs.declared.machine.Machine.{Machine}
 use Rattle.sleep_model.specs.Legal.{is_there}
 use Rattle.sleep_model.specs.Merge.{entries_of, of_source, rises}
-use Rattle.sleep_model.specs.Parts.{part_of}
+use Rattle.sleep_model.specs.EntryClasses.{class_of}
 use Rattle.sleep_model.specs.Sources.{is_of}
 use Rattle.merge_laws.specs.Apart.{is_journals, own_entries}
 
@@ -15,9 +15,9 @@ use Rattle.merge_laws.specs.Apart.{is_journals, own_entries}
 pub record IsOwnList (m : Machine) (who : Actor) (own journal : List JournalEntry) (histories : List (List SourceEntry))
     : Type 0 where
   pub rising : rises own ≡ true
-  pub there : list_all (λ e. is_there m (part_of e.entry.kind)) own ≡ true
+  pub there : list_all (λ e. is_there m (class_of e.entry.kind)) own ≡ true
   pub in_journal : filter is_journals own ≡ entries_of who journal
-  pub in_histories : (s : ℕ) → filter (λ e. is_of s (part_of e.entry.kind)) own
+  pub in_histories : (s : ℕ) → filter (λ e. is_of s (class_of e.entry.kind)) own
       ≡ entries_of who (map of_source (slice_index_or histories s []))
 
 -- such a list is what the journal and the histories have of the actor, in the order of their stamps

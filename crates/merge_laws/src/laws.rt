@@ -1,7 +1,7 @@
 //! What the lists that several hands keep apart say of their one log. Each premise is of one list, of
 //! one actor or of one jump, as its keeper knows it.
 
-ghost use Rattle.merge_laws.specs.Fitting.{FitsTogether, KeptListsMerge};
+ghost use Rattle.merge_laws.specs.Fitting.{FitsTogether, ListsMerge};
 ghost use Rattle.merge_laws.specs.Merging.{MergesToFinished, MergesToLegal, MergesToStuck};
 ghost use Rattle.merge_laws.specs.Owned.{OwnListsAreOwnEntries};
 
@@ -9,8 +9,8 @@ ghost use Rattle.merge_laws.specs.Owned.{OwnListsAreOwnEntries};
 /// themselves, each actor's entries are its steps, and at each jump nobody was enabled on the journal,
 /// the histories and the word that its maker held, the merge is a legal log. Where the run is over by
 /// the journal, the histories and the last word, it is a finished or a stuck one.
-pub fn kept_lists_merge_to_a_legal_log()
-    ensures { KeptListsMerge }
+pub fn lists_merge_to_a_legal_log()
+    ensures { ListsMerge }
 {}
 
 /// Lists fit together where each shows it by itself: each has its own entries alone and rises, and so
@@ -36,7 +36,7 @@ pub fn merges_to_a_finished_log()
     ensures { MergesToFinished }
 {}
 
-/// Where nobody goes on by them, the merge is a stuck log, which says for whom and why.
+/// If nobody goes on by them, the merge is a stuck log, which says for whom and why.
 pub fn merges_to_a_stuck_log()
     ensures { MergesToStuck }
 {}

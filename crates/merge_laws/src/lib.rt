@@ -3,7 +3,7 @@
 //!
 //! Promises: If the journal, the histories, each actor's own entries, the steps of the word, each look and each
 //! jump are right by themselves, the merge is a legal log, and finished or stuck if they say so. By the clauses of
-//! `kept_lists_merge_to_a_legal_log` and the laws beside it.
+//! `lists_merge_to_a_legal_log` and the laws beside it.
 //!
 //! Begin reading in `src/laws.rt`, `specs/Fitting.antt`.
 #![tactic(auto)]
@@ -11,6 +11,6 @@
 mod laws;
 
 pub use laws::{
-    kept_lists_merge_to_a_legal_log, lists_fit_together, merges_to_a_finished_log,
+    lists_fit_together, lists_merge_to_a_legal_log, merges_to_a_finished_log,
     merges_to_a_legal_log, merges_to_a_stuck_log, own_lists_are_own_entries,
 };

@@ -1,9 +1,9 @@
 //! What callbacks answer: `answers`, with `given ATTEMPT RET WHAT` for each answer of a machine, whose attempt is `-` for any.
 
-use crate::asked::{Word, Words, cut, found};
-use crate::parts::{Tried, answer_lines};
-use crate::said::{NO_CALL, Out, Said, error, one};
-use machine_plans::AnswerBook;
+use crate::asked::{ReplyWord, Words, cut, found};
+use crate::parts::{CaseRunner, answer_lines};
+use crate::reply::{CaseReply, NO_CALL, Out, error, one};
+use machine_plans::PlannedAnswers;
 use sleep_base::Mem;
 use sleep_model::{Answer, ListOf, Phase, PlatDo, What};
 use std::alloc::Global;
@@ -43,24 +43,31 @@ struct AnswerCase {
 
 /// A question to a book.
 #[derive(Clone, Copy)]
-enum Asks {
+enum AnswerQuestion {
     Number,
     Error,
     Found,
 }
 
-const ASKS: [(&str, Asks); 3] = [
-    ("number", Asks::Number),
-    ("error", Asks::Error),
-    ("found", Asks::Found),
+const ASKS: [(&str, AnswerQuestion); 3] = [
+    ("number", AnswerQuestion::Number),
+    ("error", AnswerQuestion::Error),
+    ("found", AnswerQuestion::Found),
 ];
 
 /// What a book says of an attempt.
-fn said_of(book: &AnswerBook, asks: Asks, what: What, attempt: u32) -> Word {
+fn reply_of(
+    planned_answers: &PlannedAnswers,
+    asks: AnswerQuestion,
+    what: What,
+    attempt: u32,
+) -> ReplyWord {
     match asks {
-        Asks::Number => Word::Number(i128::from(book.number(what, attempt))),
-        Asks::Error => error(book.error(what, attempt)),
-        Asks::Found => Word::Flag(book.answer(what, attempt).is_some()),
+        AnswerQuestion::Number => ReplyWord::Number(i128::from(planned_answers.number(
+            what, attempt,
+        ))),
+        AnswerQuestion::Error => error(planned_answers.error(what, attempt)),
+        AnswerQuestion::Found => ReplyWord::Flag(planned_answers.answer(what, attempt).is_some()),
     }
 }
 
@@ -68,15 +75,15 @@ fn said_of(book: &AnswerBook, asks: Asks, what: What, attempt: u32) -> Word {
 fn asked(
     alloc: Global,
     answers: &[Answer],
-    asks: Asks,
+    asks: AnswerQuestion,
     what: What,
     attempt: u32,
-) -> Result<Word, Mem> {
+) -> Result<ReplyWord, Mem> {
     if answers.len() > 99 {
         return Err(Mem);
     }
-    let book = AnswerBook::new(alloc, answers)?;
-    Ok(said_of(&book, asks, what, attempt))
+    let planned_answers = PlannedAnswers::new(alloc, answers)?;
+    Ok(reply_of(&planned_answers, asks, what, attempt))
 }
 
 impl AnswerCase {
@@ -94,7 +101,7 @@ impl AnswerCase {
     }
 
     /// What is answered to a question about an attempt.
-    fn said(&self, word: &str, text: &str) -> Result<Said, Mem> {
+    fn reply(&self, word: &str, text: &str) -> Result<CaseReply, Mem> {
         let (attempt, what) = cut(text, ' ');
         let attempt = Words::of(attempt).number(0);
         match (found(&ASKS, word), what_of(what)) {
@@ -110,7 +117,7 @@ impl AnswerCase {
     }
 }
 
-impl Tried for AnswerCase {
+impl CaseRunner for AnswerCase {
     fn answer(&mut self, line: &str, out: &mut Out) {
         let (word, rest) = cut(line, ' ');
         if word == "given" {
@@ -119,8 +126,8 @@ impl Tried for AnswerCase {
             }
             return;
         }
-        match self.said(word, rest) {
-            Ok(said) => out.say(said),
+        match self.reply(word, rest) {
+            Ok(reply) => out.say(reply),
             Err(_) => out.lack(),
         }
     }

@@ -1,17 +1,17 @@
-//! What a line asks: its verb, and the words behind it as values that borrow nothing.
+//! What a line asks: its verb, and the words after it as values that borrow nothing.
 
 use phase_table::Phase;
 use sleep_base::Errno;
 use sleep_model::{Actor, EventNow};
 
-/// The text before the first such mark and the text behind it; all and none where there is no such mark.
+/// The text before the first such mark and the text after it; all and none if there is no such mark.
 pub fn cut(text: &str, mark: char) -> (&str, &str) {
     text.split_once(mark).unwrap_or((text, ""))
 }
 
 /// A word of a line, or of an answer.
 #[derive(Clone, Copy)]
-pub enum Word {
+pub enum ReplyWord {
     /// No word: an answer ends before it.
     End,
     /// `-`: none.
@@ -65,23 +65,23 @@ pub fn found<T: Copy>(table: &[(&str, T)], word: &str) -> Option<T> {
 }
 
 /// The word that a text is; `Nothing` for any other text.
-fn word_of(text: &str) -> Word {
+fn word_of(text: &str) -> ReplyWord {
     if let Ok(number) = text.parse::<i128>() {
-        return Word::Number(number);
+        return ReplyWord::Number(number);
     }
     if let Some(flag) = found(&FLAGS, text) {
-        return Word::Flag(flag);
+        return ReplyWord::Flag(flag);
     }
     named(text)
 }
 
 /// The word that a text is that is no number.
-fn named(text: &str) -> Word {
+fn named(text: &str) -> ReplyWord {
     if let Some(phase) = Phase::of_name(text) {
-        return Word::Phase(phase);
+        return ReplyWord::Phase(phase);
     }
     match Errno::of_name(text) {
-        Some(error) => Word::Error(error),
+        Some(error) => ReplyWord::Error(error),
         None => now_of(text),
     }
 }
@@ -92,28 +92,28 @@ fn number_of(text: &str) -> u32 {
 }
 
 /// The event word that a text is; `Nothing` for any other text.
-fn now_of(text: &str) -> Word {
+fn now_of(text: &str) -> ReplyWord {
     let Some((inpr, rest)) = text.split_once('/') else {
-        return Word::Nothing;
+        return ReplyWord::Nothing;
     };
     let (count, hard) = cut(rest, '/');
-    Word::Now(EventNow {
+    ReplyWord::Now(EventNow {
         inpr: number_of(inpr),
         count: number_of(count),
         hard: number_of(hard),
     })
 }
 
-/// The words behind a verb.
+/// The words after a verb.
 #[derive(Clone, Copy)]
 pub struct Words {
-    words: [Word; 8],
+    words: [ReplyWord; 8],
 }
 
 impl Words {
     /// The first eight words of a text.
     pub fn of(text: &str) -> Words {
-        let mut words = [Word::Nothing; 8];
+        let mut words = [ReplyWord::Nothing; 8];
         for (place, word) in text.split(' ').enumerate() {
             if let Some(slot) = words.get_mut(place) {
                 *slot = word_of(word);
@@ -122,19 +122,19 @@ impl Words {
         Words { words }
     }
 
-    fn word(&self, place: usize) -> Word {
-        self.words.get(place).copied().unwrap_or(Word::Nothing)
+    fn word(&self, place: usize) -> ReplyWord {
+        self.words.get(place).copied().unwrap_or(ReplyWord::Nothing)
     }
 
     /// The number at a place.
     fn wide(&self, place: usize) -> Option<i128> {
         match self.word(place) {
-            Word::Number(number) => Some(number),
+            ReplyWord::Number(number) => Some(number),
             _ => None,
         }
     }
 
-    /// The number at a place; none where there is no number.
+    /// The number at a place; none if there is no number.
     pub fn maybe(&self, place: usize) -> Option<u32> {
         u32::try_from(self.wide(place)?).ok()
     }
@@ -144,7 +144,7 @@ impl Words {
         self.maybe(place).unwrap_or(0)
     }
 
-    /// The long number at a place; none where there is no number.
+    /// The long number at a place; none if there is no number.
     pub fn maybe_long(&self, place: usize) -> Option<u64> {
         u64::try_from(self.wide(place)?).ok()
     }
@@ -161,13 +161,13 @@ impl Words {
 
     /// Whether the word at a place says yes.
     pub fn flag(&self, place: usize) -> bool {
-        matches!(self.word(place), Word::Flag(true))
+        matches!(self.word(place), ReplyWord::Flag(true))
     }
 
     /// The phase at a place, else prepare.
     pub fn phase(&self, place: usize) -> Phase {
         match self.word(place) {
-            Word::Phase(phase) => phase,
+            ReplyWord::Phase(phase) => phase,
             _ => Phase::Prepare,
         }
     }
@@ -175,7 +175,7 @@ impl Words {
     /// The event word at a place, else that of the beginning.
     pub fn now(&self, place: usize) -> EventNow {
         match self.word(place) {
-            Word::Now(now) => now,
+            ReplyWord::Now(now) => now,
             _ => EventNow {
                 inpr: 0,
                 count: 0,
@@ -184,10 +184,10 @@ impl Words {
         }
     }
 
-    /// The error at a place; none where there is none.
+    /// The error at a place; none if there is none.
     pub fn error(&self, place: usize) -> Option<Errno> {
         match self.word(place) {
-            Word::Error(error) => Some(error),
+            ReplyWord::Error(error) => Some(error),
             _ => None,
         }
     }

@@ -1,9 +1,9 @@
 //! Links that are made at once: `at_once PARENT ..` with the parent of each device, or `-`.
 
 use crate::asked::{Words, cut};
-use crate::links::told_parents;
-use crate::parts::{Tried, answer_lines};
-use crate::said::{NO_CALL, Out};
+use crate::links::parents_in;
+use crate::parts::{CaseRunner, answer_lines};
+use crate::reply::{NO_CALL, Out};
 use device_links::Links;
 use sleep_base::Mem;
 use sleep_model::Link;
@@ -30,7 +30,7 @@ impl AtOnce<'_> {
 
     /// Says the order that the links leave, or only that they are made; none are made where one is refused.
     fn say_made(&self, in_order: bool, out: &mut Out) -> Result<(), Mem> {
-        let parents = told_parents(self.alloc, self.parents)?;
+        let parents = parents_in(self.alloc, self.parents)?;
         match Links::with_links(self.alloc, &parents, &self.list)? {
             Some(links) => {
                 say_links(&links, in_order, out);
@@ -51,7 +51,7 @@ fn say_links(links: &Links, in_order: bool, out: &mut Out) {
     }
 }
 
-impl Tried for AtOnce<'_> {
+impl CaseRunner for AtOnce<'_> {
     fn answer(&mut self, line: &str, out: &mut Out) {
         let (word, rest) = cut(line, ' ');
         let done = match word {

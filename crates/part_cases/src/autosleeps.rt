@@ -1,11 +1,11 @@
 //! Autosleep and its work: `autosleep`. The work's attempt is the first, under the count 5.
 
-use crate::asked::{Word, Words, cut, found};
+use crate::asked::{ReplyWord, Words, cut, found};
+use crate::entry_replies::due_reply;
 use crate::kinds::entry_of;
-use crate::parts::{Tried, answer_lines};
-use crate::paths::said_maker;
-use crate::said::{NO_CALL, Out, SAID, Said, maybe_long, number, one, two};
-use crate::told::said_due;
+use crate::parts::{CaseRunner, answer_lines};
+use crate::paths::maker_reply;
+use crate::reply::{CaseReply, NO_CALL, NO_REPLY, Out, maybe_long, number, one, two};
 use autosleep_loop::Autosleep;
 use sleep_model::{Actor, EventNow, Kind, Work};
 
@@ -23,7 +23,7 @@ const ATTEMPT: Kind = Kind::Attempt {
 
 /// A question about autosleep.
 #[derive(Clone, Copy)]
-enum Verb {
+enum AutosleepQuestion {
     Due,
     Runs,
     IsOn,
@@ -32,66 +32,66 @@ enum Verb {
     Work,
 }
 
-const VERBS: [(&str, Verb); 6] = [
-    ("due", Verb::Due),
-    ("runs", Verb::Runs),
-    ("is_on", Verb::IsOn),
-    ("holder", Verb::Holder),
-    ("naps_until", Verb::NapsUntil),
-    ("work", Verb::Work),
+const VERBS: [(&str, AutosleepQuestion); 6] = [
+    ("due", AutosleepQuestion::Due),
+    ("runs", AutosleepQuestion::Runs),
+    ("is_on", AutosleepQuestion::IsOn),
+    ("holder", AutosleepQuestion::Holder),
+    ("naps_until", AutosleepQuestion::NapsUntil),
+    ("work", AutosleepQuestion::Work),
 ];
 
 /// Where the work stands.
-fn said_work(work: Work) -> Said {
+fn work_reply(work: Work) -> CaseReply {
     match work {
-        Work::Resting => one(Word::Text("resting")),
-        Work::Reading => one(Word::Text("reading")),
-        Work::Saving(count) => two(Word::Text("saving"), number(count)),
-        Work::Attempting(count) => two(Word::Text("attempting"), number(count)),
-        Work::Looking(count) => two(Word::Text("looking"), number(count)),
-        Work::Napping(until) => two(Word::Text("napping"), maybe_long(until)),
-        Work::Closing => one(Word::Text("closing")),
+        Work::Resting => one(ReplyWord::Text("resting")),
+        Work::Reading => one(ReplyWord::Text("reading")),
+        Work::Saving(count) => two(ReplyWord::Text("saving"), number(count)),
+        Work::Attempting(count) => two(ReplyWord::Text("attempting"), number(count)),
+        Work::Looking(count) => two(ReplyWord::Text("looking"), number(count)),
+        Work::Napping(until) => two(ReplyWord::Text("napping"), maybe_long(until)),
+        Work::Closing => one(ReplyWord::Text("closing")),
     }
 }
 
 /// What autosleep answers to a question; of `due` for a work that may run so often.
-fn said_of(auto: &Autosleep, verb: Verb, words: Words) -> Said {
+fn reply_of(auto: &Autosleep, verb: AutosleepQuestion, words: Words) -> CaseReply {
     match verb {
-        Verb::Due => said_due(auto.due(words.number(0), NOW, 0, ATTEMPT)),
-        Verb::Runs => one(number(auto.runs())),
-        Verb::IsOn => one(Word::Flag(auto.is_on())),
-        Verb::Holder => said_maker(auto.holder()),
-        Verb::NapsUntil => one(maybe_long(auto.naps_until())),
-        Verb::Work => said_work(auto.work()),
+        AutosleepQuestion::Due => due_reply(auto.due(words.number(0), NOW, 0, ATTEMPT)),
+        AutosleepQuestion::Runs => one(number(auto.runs())),
+        AutosleepQuestion::IsOn => one(ReplyWord::Flag(auto.is_on())),
+        AutosleepQuestion::Holder => maker_reply(auto.holder()),
+        AutosleepQuestion::NapsUntil => one(maybe_long(auto.naps_until())),
+        AutosleepQuestion::Work => work_reply(auto.work()),
     }
 }
 
 /// Notes an entry, where the work ran a few times alone.
 #[tactic(auto, using(crate::proofs::Running::runs_few))]
-fn noted(auto: &mut Autosleep, who: Actor, kind: Kind) -> Said {
+fn noted(auto: &mut Autosleep, who: Actor, kind: Kind) -> CaseReply {
     if auto.runs() > 9 {
         return NO_CALL;
     }
     auto.note(kind, who);
-    SAID
+    NO_REPLY
 }
 
 /// The same by a text.
-fn note(auto: &mut Autosleep, text: &str) -> Said {
+fn note(auto: &mut Autosleep, text: &str) -> CaseReply {
     match entry_of(text) {
         Some((who, kind)) => noted(auto, who, kind),
         None => NO_CALL,
     }
 }
 
-impl Tried for Autosleep {
+impl CaseRunner for Autosleep {
     fn answer(&mut self, line: &str, out: &mut Out) {
         let (word, rest) = cut(line, ' ');
-        let said = match found(&VERBS, word) {
-            Some(verb) => said_of(self, verb, Words::of(rest)),
+        let reply = match found(&VERBS, word) {
+            Some(verb) => reply_of(self, verb, Words::of(rest)),
             None => note(self, rest),
         };
-        out.say(said);
+        out.say(reply);
     }
 }
 

@@ -1,12 +1,12 @@
 //! Where devices stand, and what the phases make of it: `board PARENT .., ASYNC .., SUPPLIER CONSUMER ..` with the parent of
 //! each device, whether it is asynchronous, and active links.
 
-use crate::asked::{Word, Words, cut, found};
-use crate::boards_due::said_asked;
+use crate::asked::{ReplyWord, Words, cut, found};
+use crate::boards_due::asked_reply;
 use crate::kinds::kind_of;
-use crate::links::told_parents;
-use crate::parts::{Tried, answer_lines};
-use crate::said::{NO_CALL, Out, SAID, Said, maybe, one, two};
+use crate::links::parents_in;
+use crate::parts::{CaseRunner, answer_lines};
+use crate::reply::{CaseReply, NO_CALL, NO_REPLY, Out, maybe, one, two};
 use async_board::{
     Board, board_tells, is_direct_complete, is_down_in, is_not_down, is_not_up, is_prepared,
     is_ready, is_taken,
@@ -17,7 +17,7 @@ use phase_prepare::prepare_follows;
 use phase_resume::up_follows;
 use phase_suspend::down_follows;
 use sleep_base::Mem;
-use sleep_model::{Link, Stand};
+use sleep_model::{Link, PhaseState};
 use std::alloc::Global;
 
 /// A board, with flags of its devices that are all set, and with flags of which none is.
@@ -72,69 +72,71 @@ fn next_of(board: &Board, next: Next, words: Words) -> Option<u32> {
 
 /// A question about a device.
 #[derive(Clone, Copy)]
-enum Asks {
+enum BoardQuestion {
     Free,
-    Stand,
+    PhaseState,
     Asynchronous,
     AllDirect,
     Laws,
 }
 
-const ASKS: [(&str, Asks); 5] = [
-    ("free", Asks::Free),
-    ("stand", Asks::Stand),
-    ("asynchronous", Asks::Asynchronous),
-    ("all_direct", Asks::AllDirect),
-    ("laws", Asks::Laws),
+const ASKS: [(&str, BoardQuestion); 5] = [
+    ("free", BoardQuestion::Free),
+    ("stand", BoardQuestion::PhaseState),
+    ("asynchronous", BoardQuestion::Asynchronous),
+    ("all_direct", BoardQuestion::AllDirect),
+    ("laws", BoardQuestion::Laws),
 ];
 
 /// What a board says of a device: of `free` whether it waits for none below it and for none above.
-fn said_of(board: &Board, asks: Asks, words: Words) -> Said {
+fn reply_of(board: &Board, asks: BoardQuestion, words: Words) -> CaseReply {
     let (phase, device) = (words.phase(0), words.number(1));
     match asks {
-        Asks::Free => two(
-            Word::Flag(board.is_free_below(phase, device)),
-            Word::Flag(board.is_free_above(phase, device)),
+        BoardQuestion::Free => two(
+            ReplyWord::Flag(board.is_free_below(phase, device)),
+            ReplyWord::Flag(board.is_free_above(phase, device)),
         ),
-        Asks::Stand => one(Word::Text(stand_name(board.stand(phase, device)))),
-        Asks::Asynchronous => one(Word::Flag(board.is_asynchronous(words.number(0)))),
-        Asks::AllDirect => one(Word::Flag(board.all_direct_complete(words.number(0)))),
-        Asks::Laws => {
+        BoardQuestion::PhaseState => one(ReplyWord::Text(state_name(board.state(phase, device)))),
+        BoardQuestion::Asynchronous => one(ReplyWord::Flag(board.is_asynchronous(words.number(0)))),
+        BoardQuestion::AllDirect => one(ReplyWord::Flag(board.all_direct_complete(words.number(
+            0,
+        )))),
+        BoardQuestion::Laws => {
             board_tells();
             prepare_follows();
             down_follows();
             up_follows();
-            SAID
+            NO_REPLY
         }
     }
 }
 
 /// Each stand and its name.
-const STANDS: [(&str, Stand); 10] = [
-    ("unprepared", Stand::Unprepared),
-    ("prepared", Stand::Prepared),
-    ("scheduled", Stand::Scheduled),
-    ("suspending", Stand::Suspending),
-    ("failed", Stand::Failed),
-    ("direct", Stand::Direct),
-    ("suspended", Stand::Suspended),
-    ("rescheduled", Stand::Rescheduled),
-    ("resuming", Stand::Resuming),
-    ("resumed", Stand::Resumed),
+const STATES: [(&str, PhaseState); 10] = [
+    ("unprepared", PhaseState::Unprepared),
+    ("prepared", PhaseState::Prepared),
+    ("scheduled", PhaseState::Scheduled),
+    ("suspending", PhaseState::Suspending),
+    ("failed", PhaseState::Failed),
+    ("direct", PhaseState::Direct),
+    ("suspended", PhaseState::Suspended),
+    ("rescheduled", PhaseState::Rescheduled),
+    ("resuming", PhaseState::Resuming),
+    ("resumed", PhaseState::Resumed),
 ];
 
-fn stand_name(stand: Stand) -> &'static str {
-    match stand {
-        Stand::Unprepared => "unprepared",
-        Stand::Prepared => "prepared",
-        Stand::Scheduled => "scheduled",
-        Stand::Suspending => "suspending",
-        Stand::Failed => "failed",
-        Stand::Direct => "direct",
-        Stand::Suspended => "suspended",
-        Stand::Rescheduled => "rescheduled",
-        Stand::Resuming => "resuming",
-        Stand::Resumed => "resumed",
+fn state_name(state: PhaseState) -> &'static str {
+    match state {
+        PhaseState::Unprepared => "unprepared",
+        PhaseState::Prepared => "prepared",
+        PhaseState::Scheduled => "scheduled",
+        PhaseState::Suspending => "suspending",
+        PhaseState::Failed => "failed",
+        PhaseState::Direct => "direct",
+        PhaseState::Suspended => "suspended",
+        PhaseState::Rescheduled => "rescheduled",
+        PhaseState::Resuming => "resuming",
+        PhaseState::Resumed => "resumed",
     }
 }
 
@@ -148,57 +150,57 @@ enum Change {
 const CHANGES: [(&str, Change); 2] = [("link", Change::Link), ("set_link", Change::SetLink)];
 
 /// Whether a link is added, or set so.
-fn changed(board: &mut Board, change: Change, words: Words) -> Said {
+fn changed(board: &mut Board, change: Change, words: Words) -> CaseReply {
     let (supplier, consumer) = (words.number(0), words.number(1));
     let done = match change {
         Change::Link => board.add_link(supplier, consumer),
         Change::SetLink => board.set_link(supplier, consumer, words.flag(2)),
     };
-    one(Word::Flag(done.is_ok()))
+    one(ReplyWord::Flag(done.is_ok()))
 }
 
 /// Notes an entry.
-fn note(board: &mut Board, text: &str) -> Said {
+fn note(board: &mut Board, text: &str) -> CaseReply {
     match kind_of(text) {
         Some(kind) => {
             board.note(kind);
-            SAID
+            NO_REPLY
         }
         None => NO_CALL,
     }
 }
 
 /// What is answered to a line that is no question.
-fn said_change(case: &mut BoardCase, word: &str, rest: &str) -> Said {
+fn change_reply(case: &mut BoardCase, word: &str, rest: &str) -> CaseReply {
     match found(&CHANGES, word) {
         Some(change) => changed(&mut case.board, change, Words::of(rest)),
         None if word == "note" => note(&mut case.board, rest),
-        None => said_asked(case, word, Words::of(rest)),
+        None => asked_reply(case, word, Words::of(rest)),
     }
 }
 
 /// What a board answers to a question; none if it is none of these.
-fn said_question(board: &Board, word: &str, words: Words) -> Option<Said> {
+fn question_reply(board: &Board, word: &str, words: Words) -> Option<CaseReply> {
     if let Some(next) = found(&NEXT, word) {
         return Some(one(maybe(next_of(board, next, words))));
     }
     let asks = found(&ASKS, word)?;
-    Some(said_of(board, asks, words))
+    Some(reply_of(board, asks, words))
 }
 
-impl Tried for BoardCase {
+impl CaseRunner for BoardCase {
     fn answer(&mut self, line: &str, out: &mut Out) {
         let (word, rest) = cut(line, ' ');
-        let said = match said_question(&self.board, word, Words::of(rest)) {
-            Some(said) => said,
-            None => said_change(self, word, rest),
+        let reply = match question_reply(&self.board, word, Words::of(rest)) {
+            Some(reply) => reply,
+            None => change_reply(self, word, rest),
         };
-        out.say(said);
+        out.say(reply);
     }
 }
 
 /// The active links that words tell.
-fn told_links(alloc: Global, text: &str) -> Result<Vec<Link>, Mem> {
+fn links_in(alloc: Global, text: &str) -> Result<Vec<Link>, Mem> {
     let mut links = Vec::new(alloc);
     for link in text.split(';') {
         if let Some((supplier, consumer)) = link.split_once(' ') {
@@ -214,13 +216,13 @@ fn told_links(alloc: Global, text: &str) -> Result<Vec<Link>, Mem> {
 
 /// Devices with these parents and links.
 fn linked(alloc: Global, parents: &str, links: &str) -> Result<Links, Mem> {
-    let parents = told_parents(alloc, parents)?;
-    let list = told_links(alloc, links)?;
+    let parents = parents_in(alloc, parents)?;
+    let list = links_in(alloc, links)?;
     Links::with_links(alloc, &parents, &list)?.ok_or(Mem)
 }
 
 /// Flags that words tell.
-fn told_flags(alloc: Global, text: &str) -> Result<Vec<bool>, Mem> {
+fn flags_in(alloc: Global, text: &str) -> Result<Vec<bool>, Mem> {
     let mut flags = Vec::new(alloc);
     for word in text.split(' ') {
         flags.push(word == "yes")?;
@@ -233,7 +235,7 @@ fn wired(alloc: Global, text: &str) -> Result<Board, Mem> {
     let (parents, rest) = cut(text, ',');
     let (asynchronous, list) = cut(rest, ',');
     let links = linked(alloc, parents, list)?;
-    Board::wired(alloc, links, told_flags(alloc, asynchronous)?)
+    Board::wired(alloc, links, flags_in(alloc, asynchronous)?)
 }
 
 /// A board with its flags.
@@ -256,23 +258,23 @@ pub fn boards(alloc: Global, text: &str, lines: &str, out: &mut Out) {
 }
 
 /// What is told of a stand: that it is prepared, ready, not down, down, direct-complete, not up, taken.
-fn said_stand(stand: Stand) -> [bool; 7] {
+fn state_reply(state: PhaseState) -> [bool; 7] {
     [
-        is_prepared(stand),
-        is_ready(stand),
-        is_not_down(stand),
-        is_down_in(stand),
-        is_direct_complete(stand),
-        is_not_up(stand),
-        is_taken(stand),
+        is_prepared(state),
+        is_ready(state),
+        is_not_down(state),
+        is_down_in(state),
+        is_direct_complete(state),
+        is_not_up(state),
+        is_taken(state),
     ]
 }
 
 /// Says what is told of each stand.
-pub fn stands(lines: &str, out: &mut Out) {
+pub fn states(lines: &str, out: &mut Out) {
     for line in lines.split('\n') {
-        if let Some(stand) = found(&STANDS, line) {
-            out.flags(&said_stand(stand));
+        if let Some(state) = found(&STATES, line) {
+            out.flags(&state_reply(state));
         }
     }
 }

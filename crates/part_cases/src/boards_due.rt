@@ -1,9 +1,9 @@
 //! What the phases make on a board: prepare and complete, the walks down and up, a device on its way, a request.
 
-use crate::asked::{Word, Words, found};
+use crate::asked::{ReplyWord, Words, found};
 use crate::boards::BoardCase;
-use crate::said::{NO_CALL, Said, error, one};
-use crate::told::said_due;
+use crate::entry_replies::due_reply;
+use crate::reply::{CaseReply, NO_CALL, error, one};
 use device_rows::Flags;
 use phase_prepare::{complete_due, prepare_due};
 use phase_resume::{device_due, walk_due};
@@ -87,7 +87,7 @@ fn due_of(case: &BoardCase, asked: Asked, words: Words) -> Due {
 }
 
 /// The answer to a device's request to be suspended or resumed, where runtime PM is disabled by direct-complete and by late.
-fn request_of(case: &BoardCase, words: Words) -> Word {
+fn request_of(case: &BoardCase, words: Words) -> ReplyWord {
     let (by_direct, by_late) = (words.flag(1), words.flag(2));
     error(runtime_due(
         &case.board,
@@ -99,9 +99,9 @@ fn request_of(case: &BoardCase, words: Words) -> Word {
 }
 
 /// What is due, or answered to a request.
-pub fn said_asked(case: &BoardCase, word: &str, words: Words) -> Said {
+pub fn asked_reply(case: &BoardCase, word: &str, words: Words) -> CaseReply {
     match found(&ASKED, word) {
-        Some(asked) => said_due(due_of(case, asked, words)),
+        Some(asked) => due_reply(due_of(case, asked, words)),
         None if word == "request" => one(request_of(case, words)),
         None => NO_CALL,
     }

@@ -1,16 +1,16 @@
 //! The parts of the core, by the first word of a head.
 
+use crate::accounts::{devices, tasks};
 use crate::asked::{Words, cut, found};
 use crate::at_once::at_once;
-use crate::boards::{boards, stands};
+use crate::boards::{boards, states};
 use crate::freezers::freezers;
 use crate::guards::guards;
-use crate::kept::{devices, tasks};
 use crate::links::links;
 use crate::paths::paths;
 use crate::phase_rows::{phase_rows, phase_twice};
 use crate::platforms::platforms;
-use crate::said::Out;
+use crate::reply::Out;
 use crate::syscores::syscores;
 use crate::tables::{flags, rows, stacks};
 use crate::trees::{requests, trees};
@@ -18,7 +18,7 @@ use std::alloc::Global;
 
 /// A part of the core, whose head has numbers alone or nothing.
 #[derive(Clone, Copy)]
-enum Part {
+enum Subject {
     Phases,
     PhaseTwice,
     Rows,
@@ -33,36 +33,36 @@ enum Part {
     Requests,
 }
 
-const PARTS: [(&str, Part); 12] = [
-    ("phases", Part::Phases),
-    ("phase_twice", Part::PhaseTwice),
-    ("rows", Part::Rows),
-    ("stack", Part::Stack),
-    ("flags", Part::Flags),
-    ("guard", Part::Guard),
-    ("stands", Part::Stands),
-    ("syscore", Part::Syscore),
-    ("path", Part::Path),
-    ("tasks", Part::Tasks),
-    ("tree", Part::Tree),
-    ("requests", Part::Requests),
+const SUBJECTS: [(&str, Subject); 12] = [
+    ("phases", Subject::Phases),
+    ("phase_twice", Subject::PhaseTwice),
+    ("rows", Subject::Rows),
+    ("stack", Subject::Stack),
+    ("flags", Subject::Flags),
+    ("guard", Subject::Guard),
+    ("stands", Subject::Stands),
+    ("syscore", Subject::Syscore),
+    ("path", Subject::Path),
+    ("tasks", Subject::Tasks),
+    ("tree", Subject::Tree),
+    ("requests", Subject::Requests),
 ];
 
 /// Answers the lines of a part.
-fn answer_part(alloc: Global, part: Part, words: Words, lines: &str, out: &mut Out) {
+fn answer_subject(alloc: Global, part: Subject, words: Words, lines: &str, out: &mut Out) {
     match part {
-        Part::Phases => phase_rows(lines, out),
-        Part::PhaseTwice => phase_twice(words, lines, out),
-        Part::Rows => rows(alloc, words, lines, out),
-        Part::Stack => stacks(alloc, lines, out),
-        Part::Flags => flags(alloc, words, lines, out),
-        Part::Guard => guards(words, lines, out),
-        Part::Stands => stands(lines, out),
-        Part::Syscore => syscores(alloc, words, lines, out),
-        Part::Path => paths(lines, out),
-        Part::Tasks => tasks(alloc, words, lines, out),
-        Part::Tree => trees(alloc, lines, out),
-        Part::Requests => requests(lines, out),
+        Subject::Phases => phase_rows(lines, out),
+        Subject::PhaseTwice => phase_twice(words, lines, out),
+        Subject::Rows => rows(alloc, words, lines, out),
+        Subject::Stack => stacks(alloc, lines, out),
+        Subject::Flags => flags(alloc, words, lines, out),
+        Subject::Guard => guards(words, lines, out),
+        Subject::Stands => states(lines, out),
+        Subject::Syscore => syscores(alloc, words, lines, out),
+        Subject::Path => paths(lines, out),
+        Subject::Tasks => tasks(alloc, words, lines, out),
+        Subject::Tree => trees(alloc, lines, out),
+        Subject::Requests => requests(lines, out),
     }
 }
 
@@ -101,8 +101,8 @@ fn answer_listed(alloc: Global, part: Listed, text: &str, lines: &str, out: &mut
 /// Answers the lines of a part of the core. Whether the head tells one.
 pub fn answer_core_part(alloc: Global, head: &str, lines: &str, out: &mut Out) -> bool {
     let (name, rest) = cut(head, ' ');
-    if let Some(part) = found(&PARTS, name) {
-        answer_part(alloc, part, Words::of(rest), lines, out);
+    if let Some(part) = found(&SUBJECTS, name) {
+        answer_subject(alloc, part, Words::of(rest), lines, out);
         return true;
     }
     match found(&LISTED, name) {

@@ -1,9 +1,9 @@
 //! What a freeze asks, and how its rounds go: `freezer KIND ..` with the kind of each task.
 
-use crate::asked::{Word, Words, cut, found};
+use crate::asked::{ReplyWord, Words, cut, found};
 use crate::kinds::entry_of;
-use crate::parts::{Tried, answer_lines};
-use crate::said::{NO_CALL, Out, SAID, Said, long, maybe, number, three, two};
+use crate::parts::{CaseRunner, answer_lines};
+use crate::reply::{CaseReply, NO_CALL, NO_REPLY, Out, long, maybe, number, three, two};
 use sleep_base::Mem;
 use sleep_model::{Group, ListOf, Name, Script, TaskKind};
 use std::alloc::Global;
@@ -11,7 +11,7 @@ use task_freezer::{Freezer, Left, Round};
 
 /// A question about a freeze.
 #[derive(Clone, Copy)]
-enum Verb {
+enum FreezeQuestion {
     Freezing,
     LeftUser,
     LeftKernel,
@@ -19,68 +19,71 @@ enum Verb {
     RoundKernel,
 }
 
-const VERBS: [(&str, Verb); 5] = [
-    ("freezing", Verb::Freezing),
-    ("left_user", Verb::LeftUser),
-    ("left_kernel", Verb::LeftKernel),
-    ("round_user", Verb::RoundUser),
-    ("round_kernel", Verb::RoundKernel),
+const VERBS: [(&str, FreezeQuestion); 5] = [
+    ("freezing", FreezeQuestion::Freezing),
+    ("left_user", FreezeQuestion::LeftUser),
+    ("left_kernel", FreezeQuestion::LeftKernel),
+    ("round_user", FreezeQuestion::RoundUser),
+    ("round_kernel", FreezeQuestion::RoundKernel),
 ];
 
-fn said_left(left: Left) -> Said {
+fn left_reply(left: Left) -> CaseReply {
     two(number(left.count), maybe(left.first))
 }
 
-fn said_round(round: Round) -> Said {
+fn round_reply(round: Round) -> CaseReply {
     match round {
-        Round::Again { left, until } => three(Word::Text("again"), number(left), long(until)),
-        Round::Late { left, first } => three(Word::Text("late"), number(left), number(first)),
-        Round::AllFrozen => two(Word::Text("all"), Word::Text("frozen")),
+        Round::Again { left, until } => three(ReplyWord::Text("again"), number(left), long(until)),
+        Round::Late { left, first } => three(ReplyWord::Text("late"), number(left), number(first)),
+        Round::AllFrozen => two(ReplyWord::Text("all"), ReplyWord::Text("frozen")),
     }
 }
 
 /// How a freeze of a group goes on, which began at a time.
-fn round_of(freezer: &Freezer<'_>, group: Group, words: Words) -> Said {
+fn round_of(freezer: &Freezer<'_>, group: Group, words: Words) -> CaseReply {
     let since = words.number(0);
-    said_round(freezer.round(group, u64::from(since), words.long(1)))
+    round_reply(freezer.round(group, u64::from(since), words.long(1)))
 }
 
 /// Whether a task is asked, and frozen.
-fn freezing_of(freezer: &Freezer<'_>, task: u32) -> Said {
+fn freezing_of(freezer: &Freezer<'_>, task: u32) -> CaseReply {
     let freezing = freezer.freezing(task);
-    two(Word::Flag(freezing.asked), Word::Flag(freezing.frozen))
+    two(
+        ReplyWord::Flag(freezing.asked),
+        ReplyWord::Flag(freezing.frozen),
+    )
 }
 
 /// What a freezer answers to a question.
-fn said_of(freezer: &Freezer<'_>, verb: Verb, words: Words) -> Said {
+fn reply_of(freezer: &Freezer<'_>, verb: FreezeQuestion, words: Words) -> CaseReply {
     match verb {
-        Verb::Freezing => freezing_of(freezer, words.number(0)),
-        Verb::LeftUser => said_left(freezer.left(Group::User)),
-        Verb::LeftKernel => said_left(freezer.left(Group::Kernel)),
-        Verb::RoundUser => round_of(freezer, Group::User, words),
-        Verb::RoundKernel => round_of(freezer, Group::Kernel, words),
+        FreezeQuestion::Freezing => freezing_of(freezer, words.number(0)),
+        FreezeQuestion::LeftUser => left_reply(freezer.left(Group::User)),
+        FreezeQuestion::LeftKernel => left_reply(freezer.left(Group::Kernel)),
+        FreezeQuestion::RoundUser => round_of(freezer, Group::User, words),
+        FreezeQuestion::RoundKernel => round_of(freezer, Group::Kernel, words),
     }
 }
 
 /// Notes an entry.
-fn note(freezer: &mut Freezer<'_>, text: &str) -> Said {
+fn note(freezer: &mut Freezer<'_>, text: &str) -> CaseReply {
     match entry_of(text) {
         Some((who, kind)) => {
             freezer.note(who, kind);
-            SAID
+            NO_REPLY
         }
         None => NO_CALL,
     }
 }
 
-impl Tried for Freezer<'_> {
+impl CaseRunner for Freezer<'_> {
     fn answer(&mut self, line: &str, out: &mut Out) {
         let (word, rest) = cut(line, ' ');
-        let said = match found(&VERBS, word) {
-            Some(verb) => said_of(self, verb, Words::of(rest)),
+        let reply = match found(&VERBS, word) {
+            Some(verb) => reply_of(self, verb, Words::of(rest)),
             None => note(self, rest),
         };
-        out.say(said);
+        out.say(reply);
     }
 }
 

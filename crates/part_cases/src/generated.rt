@@ -1,7 +1,7 @@
 //! Machines that are made of a seed: `generated SEED DEVICES`.
 
-use crate::asked::{Word, Words};
-use crate::said::{NO_CALL, Out, four, maybe, number, one, size, three, two};
+use crate::asked::{ReplyWord, Words};
+use crate::reply::{NO_CALL, Out, four, maybe, number, one, size, three, two};
 use sleep_base::Mem;
 use sleep_model::{DeviceFlags, Link, Machine, Op, Script, Step, TaskKind};
 use sleep_script::generate;
@@ -11,7 +11,7 @@ use std::alloc::Global;
 fn say_devices(machine: &Machine, out: &mut Out) {
     for device in machine.devices.as_slice() {
         let is_async = device.flags == DeviceFlags::ASYNC;
-        out.say(two(maybe(device.parent), Word::Flag(is_async)));
+        out.say(two(maybe(device.parent), ReplyWord::Flag(is_async)));
     }
 }
 
@@ -19,21 +19,21 @@ fn say_devices(machine: &Machine, out: &mut Out) {
 fn say_links(links: &[Link], out: &mut Out) {
     for link in links {
         let (supplier, consumer) = (number(link.supplier), number(link.consumer));
-        out.say(three(supplier, consumer, Word::Flag(link.active)));
+        out.say(three(supplier, consumer, ReplyWord::Flag(link.active)));
     }
 }
 
 /// Says a step that is a pause, in ms, or an event: its source, its length in ms, and whether it is hard.
 fn say_step(step: &Step, out: &mut Out) {
     match &step.op {
-        Op::Sleep { ms } => out.say(two(Word::Text("sleep"), number(*ms))),
+        Op::Sleep { ms } => out.say(two(ReplyWord::Text("sleep"), number(*ms))),
         Op::Event { source, ms, hard } => out.say(four(
-            Word::Text("event"),
+            ReplyWord::Text("event"),
             number(*source),
             number(*ms),
-            Word::Flag(*hard),
+            ReplyWord::Flag(*hard),
         )),
-        _ => out.say(one(Word::Text("another"))),
+        _ => out.say(one(ReplyWord::Text("another"))),
     }
 }
 
@@ -51,7 +51,7 @@ fn say_task(script: &Script, out: &mut Out) {
     let steps = script.steps.as_slice();
     out.line(script.name.bytes());
     out.say(three(
-        Word::Text(kind_name(&script.kind)),
+        ReplyWord::Text(kind_name(&script.kind)),
         number(script.repeat),
         size(steps.len()),
     ));

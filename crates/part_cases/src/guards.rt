@@ -1,14 +1,14 @@
 //! Guards of a saved count: `guard BITS`, with 4, 5 or 24 bits.
 
-use crate::asked::{Word, Words, cut, found};
+use crate::asked::{ReplyWord, Words, cut, found};
 use crate::kinds::kind_of;
-use crate::parts::{Tried, answer_lines};
-use crate::said::{NO_CALL, Out, SAID, Said, maybe, number, one};
+use crate::parts::{CaseRunner, answer_lines};
+use crate::reply::{CaseReply, NO_CALL, NO_REPLY, Out, maybe, number, one};
 use wakeup_guard::Guard;
 
 /// A call of a guard.
 #[derive(Clone, Copy)]
-enum Verb {
+enum GuardCall {
     Save,
     IsPending,
     Pending,
@@ -18,56 +18,56 @@ enum Verb {
     Finish,
 }
 
-const VERBS: [(&str, Verb); 7] = [
-    ("save", Verb::Save),
-    ("is_pending", Verb::IsPending),
-    ("pending", Verb::Pending),
-    ("in_force", Verb::InForce),
-    ("clear_hard", Verb::ClearHard),
-    ("visible", Verb::Visible),
-    ("finish", Verb::Finish),
+const VERBS: [(&str, GuardCall); 7] = [
+    ("save", GuardCall::Save),
+    ("is_pending", GuardCall::IsPending),
+    ("pending", GuardCall::Pending),
+    ("in_force", GuardCall::InForce),
+    ("clear_hard", GuardCall::ClearHard),
+    ("visible", GuardCall::Visible),
+    ("finish", GuardCall::Finish),
 ];
 
 /// What a guard answers to a call.
-fn answer<const BITS: u32>(guard: &mut Guard<BITS>, verb: Verb, words: Words) -> Said {
+fn answer<const BITS: u32>(guard: &mut Guard<BITS>, verb: GuardCall, words: Words) -> CaseReply {
     let now = words.now(0);
     match verb {
-        Verb::Save => one(Word::Flag(guard.save(now, words.number(1)))),
-        Verb::IsPending => one(Word::Flag(guard.is_pending(now))),
-        Verb::Pending => one(Word::Flag(guard.pending(now))),
-        Verb::InForce => one(maybe(guard.in_force())),
-        Verb::Visible => one(number(guard.visible(now))),
-        Verb::ClearHard => {
+        GuardCall::Save => one(ReplyWord::Flag(guard.save(now, words.number(1)))),
+        GuardCall::IsPending => one(ReplyWord::Flag(guard.is_pending(now))),
+        GuardCall::Pending => one(ReplyWord::Flag(guard.pending(now))),
+        GuardCall::InForce => one(maybe(guard.in_force())),
+        GuardCall::Visible => one(number(guard.visible(now))),
+        GuardCall::ClearHard => {
             guard.clear_hard(now);
-            SAID
+            NO_REPLY
         }
-        Verb::Finish => {
+        GuardCall::Finish => {
             guard.finish();
-            SAID
+            NO_REPLY
         }
     }
 }
 
 /// Notes an entry that saw a word.
-fn note<const BITS: u32>(guard: &mut Guard<BITS>, text: &str) -> Said {
+fn note<const BITS: u32>(guard: &mut Guard<BITS>, text: &str) -> CaseReply {
     let (now, kind) = cut(text, ' ');
     match kind_of(kind) {
         Some(kind) => {
             guard.note(kind, Words::of(now).now(0));
-            SAID
+            NO_REPLY
         }
         None => NO_CALL,
     }
 }
 
-impl<const BITS: u32> Tried for Guard<BITS> {
+impl<const BITS: u32> CaseRunner for Guard<BITS> {
     fn answer(&mut self, line: &str, out: &mut Out) {
         let (word, rest) = cut(line, ' ');
-        let said = match found(&VERBS, word) {
+        let reply = match found(&VERBS, word) {
             Some(verb) => answer(self, verb, Words::of(rest)),
             None => note(self, rest),
         };
-        out.say(said);
+        out.say(reply);
     }
 }
 

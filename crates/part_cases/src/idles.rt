@@ -3,8 +3,8 @@
 ghost use Rattle.std.specs.Bool.{OnTrue};
 ghost use Rattle.idle_loop.specs.Sizes.{AreSizes};
 
-use crate::asked::{Word, Words, cut};
-use crate::said::{NO_CALL, Out, number, one, three};
+use crate::asked::{ReplyWord, Words, cut};
+use crate::reply::{NO_CALL, Out, number, one, three};
 use idle_loop::{IdleEntry, IdleKind, IdleLog, IdleSizes, run_idle};
 use sleep_base::Mem;
 use std::alloc::Global;
@@ -25,13 +25,13 @@ fn kind_name(kind: IdleKind) -> &'static str {
 /// Says each entry: the hard events that it saw, who made it, and what it was.
 fn say_entries(entries: &[IdleEntry], out: &mut Out) {
     for entry in entries {
-        let kind = Word::Text(kind_name(entry.what));
+        let kind = ReplyWord::Text(kind_name(entry.what));
         out.say(three(number(entry.hard), number(entry.who), kind));
     }
 }
 
 /// How many entries of a kind there are.
-fn count_of(entries: &[IdleEntry], kind: IdleKind) -> Word {
+fn count_of(entries: &[IdleEntry], kind: IdleKind) -> ReplyWord {
     let mut count = 0u32;
     for entry in entries {
         count = count.saturating_add(u32::from(entry.what == kind));
@@ -40,7 +40,7 @@ fn count_of(entries: &[IdleEntry], kind: IdleKind) -> Word {
 }
 
 /// One number of all entries, in their order.
-fn sum_of(entries: &[IdleEntry]) -> Word {
+fn sum_of(entries: &[IdleEntry]) -> ReplyWord {
     let mut sum = 0u32;
     for entry in entries {
         sum = sum
@@ -53,9 +53,9 @@ fn sum_of(entries: &[IdleEntry]) -> Word {
 }
 
 /// Whether there are as many entries as the two numbers say, or between them.
-fn len_within(entries: &[IdleEntry], words: Words) -> Word {
+fn len_within(entries: &[IdleEntry], words: Words) -> ReplyWord {
     let (least, most) = (words.number(0) as usize, words.number(1) as usize);
-    Word::Flag(least <= entries.len() && entries.len() <= most)
+    ReplyWord::Flag(least <= entries.len() && entries.len() <= most)
 }
 
 /// Answers a line about a log: its entries, its count of hard events or of wakes, or whether the idler sleeps at the end.
@@ -67,7 +67,7 @@ fn say_of(log: &IdleLog, line: &str, out: &mut Out) {
         "wakes" => out.say(one(count_of(&log.entries, IdleKind::Wake))),
         "len_within" => out.say(one(len_within(&log.entries, Words::of(rest)))),
         "sum" => out.say(one(sum_of(&log.entries))),
-        "is_idle" => out.say(one(Word::Flag(log.idle))),
+        "is_idle" => out.say(one(ReplyWord::Flag(log.idle))),
         _ => out.say(NO_CALL),
     }
 }

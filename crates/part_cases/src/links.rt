@@ -3,16 +3,16 @@
 ghost use Rattle.std.specs.Prelude.{◌<◌, IfOk, IfSome};
 ghost use Rattle.sleep_model.specs.Order.{EachAfterParent};
 
-use crate::asked::{Word, Words, cut, found};
-use crate::parts::{Tried, answer_lines};
-use crate::said::{NO_CALL, Out, Said, one};
+use crate::asked::{ReplyWord, Words, cut, found};
+use crate::parts::{CaseRunner, answer_lines};
+use crate::reply::{CaseReply, NO_CALL, Out, one};
 use device_links::{LinkFault, Links};
 use sleep_base::Mem;
 use std::alloc::Global;
 
 /// A call on links, or a question.
 #[derive(Clone, Copy)]
-enum Verb {
+enum LinkCall {
     Add,
     Try,
     Tell,
@@ -23,15 +23,15 @@ enum Verb {
     Above,
 }
 
-const VERBS: [(&str, Verb); 8] = [
-    ("add", Verb::Add),
-    ("try", Verb::Try),
-    ("tell", Verb::Tell),
-    ("set", Verb::Set),
-    ("depends", Verb::Depends),
-    ("order", Verb::Order),
-    ("below", Verb::Below),
-    ("above", Verb::Above),
+const VERBS: [(&str, LinkCall); 8] = [
+    ("add", LinkCall::Add),
+    ("try", LinkCall::Try),
+    ("tell", LinkCall::Tell),
+    ("set", LinkCall::Set),
+    ("depends", LinkCall::Depends),
+    ("order", LinkCall::Order),
+    ("below", LinkCall::Below),
+    ("above", LinkCall::Above),
 ];
 
 /// A parent that is one of the devices so far, else none.
@@ -45,7 +45,7 @@ fn known(parent: Option<u32>, count: usize) -> Option<u32>
 }
 
 /// The parents of devices, which words tell.
-pub fn told_parents(alloc: Global, text: &str) -> Result<Vec<Option<u32>>, Mem>
+pub fn parents_in(alloc: Global, text: &str) -> Result<Vec<Option<u32>>, Mem>
     ensures { IfOk result (λ v. EachAfterParent 0 v.items) }
 {
     let mut parents = Vec::new(alloc);
@@ -80,48 +80,48 @@ fn say_done(done: Result<(), LinkFault>, out: &mut Out) {
 }
 
 /// Adds a link. Whether it is added, or would close a cycle whose path is not told.
-fn tried(links: &mut Links, words: Words) -> Said {
+fn tried(links: &mut Links, words: Words) -> CaseReply {
     match links.add(words.number(0), words.number(1)) {
-        Ok(()) => one(Word::Number(0)),
-        Err(LinkFault::Cycle(_)) => one(Word::Text("cycle")),
-        Err(LinkFault::Twice) => one(Word::Text("twice")),
+        Ok(()) => one(ReplyWord::Number(0)),
+        Err(LinkFault::Cycle(_)) => one(ReplyWord::Text("cycle")),
+        Err(LinkFault::Twice) => one(ReplyWord::Text("twice")),
         Err(_) => NO_CALL,
     }
 }
 
 /// Whether a link that is added may have moved its consumer; `-` if it is refused.
-fn told(links: &mut Links, words: Words) -> Said {
-    let found = links.add_telling(words.number(0), words.number(1), words.flag(2));
+fn replied(links: &mut Links, words: Words) -> CaseReply {
+    let found = links.add_noting_order(words.number(0), words.number(1), words.flag(2));
     one(match found {
-        Ok(moves) => Word::Flag(moves),
-        Err(_) => Word::Nothing,
+        Ok(moves) => ReplyWord::Flag(moves),
+        Err(_) => ReplyWord::Nothing,
     })
 }
 
 /// Whether a device depends on another.
-fn depends(links: &Links, words: Words) -> Said {
+fn depends(links: &Links, words: Words) -> CaseReply {
     if links.order().len() > 1024 {
         return NO_CALL;
     }
-    one(Word::Flag(links.is_dependent(words.number(0), words.number(1))))
+    one(ReplyWord::Flag(links.is_dependent(words.number(0), words.number(1))))
 }
 
 /// Makes a call, and says what it answers.
-fn say_call(links: &mut Links, verb: Verb, words: Words, out: &mut Out) {
+fn say_call(links: &mut Links, verb: LinkCall, words: Words, out: &mut Out) {
     let (first, second, flag) = (words.number(0), words.number(1), words.flag(2));
     match verb {
-        Verb::Add => say_done(links.add_as(first, second, flag), out),
-        Verb::Set => say_done(links.set_active(first, second, flag), out),
-        Verb::Try => out.say(tried(links, words)),
-        Verb::Tell => out.say(told(links, words)),
-        Verb::Depends => out.say(depends(links, words)),
-        Verb::Order => out.list(links.order()),
-        Verb::Below => out.list(links.below(first)),
-        Verb::Above => out.list(links.above(first)),
+        LinkCall::Add => say_done(links.add_as(first, second, flag), out),
+        LinkCall::Set => say_done(links.set_active(first, second, flag), out),
+        LinkCall::Try => out.say(tried(links, words)),
+        LinkCall::Tell => out.say(replied(links, words)),
+        LinkCall::Depends => out.say(depends(links, words)),
+        LinkCall::Order => out.list(links.order()),
+        LinkCall::Below => out.list(links.below(first)),
+        LinkCall::Above => out.list(links.above(first)),
     }
 }
 
-impl Tried for Links {
+impl CaseRunner for Links {
     fn answer(&mut self, line: &str, out: &mut Out) {
         let (word, rest) = cut(line, ' ');
         match found(&VERBS, word) {
@@ -133,7 +133,7 @@ impl Tried for Links {
 
 /// Links of devices with these parents, of which none is made yet.
 fn unlinked(alloc: Global, text: &str) -> Result<Links, Mem> {
-    let parents = told_parents(alloc, text)?;
+    let parents = parents_in(alloc, text)?;
     Links::new(alloc, &parents)
 }
 

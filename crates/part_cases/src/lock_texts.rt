@@ -1,8 +1,8 @@
 //! Lines that lock and unlock names: `lock_lines`. In texts a bar stands for each newline.
 
 use crate::asked::{Words, cut};
-use crate::said::{Out, number};
-use crate::sysfs::told_text;
+use crate::reply::{Out, number};
+use crate::sysfs::text_in;
 use lock_commands::{LinesFault, MOST_BYTES, answer_lines};
 use sleep_base::Mem;
 use std::alloc::Global;
@@ -42,8 +42,8 @@ fn answered<R: Wait>(rt: &R, alloc: Global, lines: &[u8]) -> Result<Vec<u8>, Lin
 
 /// `lines TEXT`: what these lines are answered.
 fn say_lines<R: Wait>(rt: &R, alloc: Global, text: &str, out: &mut Out) -> Result<(), Mem> {
-    match answered(rt, alloc, &told_text(alloc, text)?) {
-        Ok(said) => say_text(&said, out),
+    match answered(rt, alloc, &text_in(alloc, text)?) {
+        Ok(reply) => say_text(&reply, out),
         Err(fault) => say_fault(&fault, out),
     }
     Ok(())
@@ -61,7 +61,7 @@ fn copies(alloc: Global, times: u32, text: &[u8]) -> Result<Vec<u8>, Mem> {
 /// `copies TIMES TEXT`: whether so many copies of these lines are answered.
 fn say_copies<R: Wait>(rt: &R, alloc: Global, text: &str, out: &mut Out) -> Result<(), Mem> {
     let (times, text) = cut(text, ' ');
-    let lines = copies(alloc, Words::of(times).number(0), &told_text(alloc, text)?)?;
+    let lines = copies(alloc, Words::of(times).number(0), &text_in(alloc, text)?)?;
     match answered(rt, alloc, &lines).err() {
         None => out.line(b"answered"),
         Some(fault) => say_fault(&fault, out),

@@ -1,9 +1,9 @@
 //! The entries of a log, which has a journal and others, and what a log counts: `entries` and `counts`.
 
-use crate::asked::{Word, Words, cut};
+use crate::asked::{ReplyWord, Words, cut};
 use crate::kinds::kind_of;
-use crate::parts::{Tried, answer_lines};
-use crate::said::{NO_CALL, Out, Said, error, four, number, one, size, two};
+use crate::parts::{CaseRunner, answer_lines};
+use crate::reply::{CaseReply, NO_CALL, Out, error, four, number, one, size, two};
 use sleep_base::Mem;
 use sleep_model::{
     Actor, Entry, EntryList, EventNow, Journal, JournalEntry, Kind, ListOf, Log, LogEnd,
@@ -12,7 +12,7 @@ use sleep_model::{
 use sleep_stats::{Counts, LastDev, count};
 use std::alloc::Global;
 
-/// An entry at that moment, behind this number of hard events.
+/// An entry at that moment, after this number of hard events.
 pub fn entry_at(time: u64, hard: u32, actor: Actor, kind: Kind) -> Entry {
     let now = EventNow {
         inpr: 0,
@@ -64,7 +64,7 @@ pub fn say_times(list: &EntryList, out: &mut Out) {
     for _ in 0..list.len() {
         if let Some(entry) = reader.next() {
             out.put(b" ");
-            out.put_word(Word::Number(i128::from(entry.time)));
+            out.put_word(ReplyWord::Number(i128::from(entry.time)));
         }
     }
     out.end();
@@ -80,14 +80,14 @@ impl EntryCase {
     }
 
     /// `journal`: how many entries it has, and for how many there is room then.
-    fn said_journal(&self) -> Result<Said, Mem> {
+    fn journal_reply(&self) -> Result<CaseReply, Mem> {
         let journal = self.journal()?;
         Ok(two(size(journal.len()), size(journal.room())))
     }
 
-    /// `times LAST`: the moments of all in order, with one more entry at that moment behind them.
+    /// `times LAST`: the moments of all in order, with one more entry at that moment after them.
     fn say_all(&self, last: u64, out: &mut Out) -> Result<(), Mem> {
-        let mut list = EntryList::of_parts(
+        let mut list = EntryList::of_journal(
             self.journal()?,
             self.others.as_slice().to_vec(self.alloc)?,
         );
@@ -106,7 +106,7 @@ impl EntryCase {
                 before: words.number(0) as usize,
                 entry: entry_at(words.long(1), 0, Actor::Auto, Kind::Pass),
             })?,
-            "journal" => out.say(self.said_journal()?),
+            "journal" => out.say(self.journal_reply()?),
             "times" => self.say_all(words.long(0), out)?,
             _ => out.say(NO_CALL),
         }
@@ -114,7 +114,7 @@ impl EntryCase {
     }
 }
 
-impl Tried for EntryCase {
+impl CaseRunner for EntryCase {
     fn answer(&mut self, line: &str, out: &mut Out) {
         let (word, rest) = cut(line, ' ');
         if self.call(word, Words::of(rest), out).is_err() {
@@ -153,15 +153,15 @@ fn counted(log: &Log) -> Option<Counts> {
 }
 
 /// A device whose callback failed.
-fn said_last(last: Option<LastDev>) -> Said {
+fn last_reply(last: Option<LastDev>) -> CaseReply {
     match last {
         Some(last) => four(
-            Word::Text("device"),
+            ReplyWord::Text("device"),
             number(last.device),
-            Word::Phase(last.phase),
-            Word::Error(last.error),
+            ReplyWord::Phase(last.phase),
+            ReplyWord::Error(last.error),
         ),
-        None => one(Word::Nothing),
+        None => one(ReplyWord::Nothing),
     }
 }
 
@@ -180,8 +180,8 @@ fn say_counts(counts: &Counts, out: &mut Out) {
     ]);
     let errnos = &counts.last_errnos;
     out.say(two(error(errnos.newest), error(errnos.older)));
-    out.say(said_last(counts.last_devs.newest));
-    out.say(said_last(counts.last_devs.older));
+    out.say(last_reply(counts.last_devs.newest));
+    out.say(last_reply(counts.last_devs.older));
 }
 
 /// Says what a log of an entry a line counts.

@@ -4,7 +4,7 @@ use sleep_model::{ListOf, Machine};
 use std::alloc::Global;
 
 /// A machine with one processor and nothing else.
-pub fn bare_machine(alloc: Global) -> Machine {
+pub fn empty_machine(alloc: Global) -> Machine {
     Machine {
         alarm_ms: 1000,
         cpus: 1,

@@ -4,6 +4,7 @@
 //! Begin reading in `tools/worked/parts/`; `src/core_parts.rt`, `src/other_parts.rt`.
 #![tactic(auto)]
 
+mod accounts;
 mod answers;
 mod asked;
 mod at_once;
@@ -11,11 +12,11 @@ mod autosleeps;
 mod boards;
 mod boards_due;
 mod core_parts;
+mod entry_replies;
 mod freezers;
 mod generated;
 mod guards;
 mod idles;
-mod kept;
 mod kinds;
 mod links;
 mod lock_texts;
@@ -29,19 +30,18 @@ mod phase_rows;
 mod plain;
 mod plans;
 mod platforms;
-mod said;
+mod reply;
 mod streams;
 mod syscores;
 mod sysfs;
 mod tables;
-mod told;
 mod trees;
 mod values;
 
 use asked::cut;
 use core_parts::answer_core_part;
 use other_parts::answer_other_part;
-use said::Out;
+use reply::Out;
 use sleep_base::{StdSink, StdSource, read_all, write_all};
 use std::alloc::Global;
 use std::process::ExitCode;
@@ -79,7 +79,7 @@ fn answer_input<R: Threads + Wait + Sync>(
 }
 
 /// Whether a line can be written to standard error.
-fn is_told(err: &mut StdSink) -> bool {
+fn can_write(err: &mut StdSink) -> bool {
     write_all(err, b"to standard error\n").is_ok() && err.faults() == 0
 }
 
@@ -91,7 +91,7 @@ fn main(rt: HostRuntime) -> ExitCode {
         Ok(input) => answer_input(&rt, alloc, &input, &mut sink),
         Err(_) => false,
     };
-    if is_answered && source.faults() == 0 && is_told(&mut StdSink::error(&rt)) {
+    if is_answered && source.faults() == 0 && can_write(&mut StdSink::error(&rt)) {
         ExitCode::SUCCESS
     } else {
         ExitCode::FAILURE

@@ -1,11 +1,11 @@
 //! The one log of a journal and the sources' histories: `merge`, with `at LIST TIME POS TICK ENTRY` for each entry, of the
 //! journal where the list is 0, else of that history of seven.
 
-use crate::asked::{Word, Words, cut};
+use crate::asked::{ReplyWord, Words, cut};
 use crate::kinds::entry_of;
 use crate::logs::{entry_at, say_times};
-use crate::parts::{Tried, answer_lines};
-use crate::said::{NO_CALL, Out, one};
+use crate::parts::{CaseRunner, answer_lines};
+use crate::reply::{NO_CALL, Out, one};
 use log_merge::{merge, merge_journal, rises};
 use sleep_base::Mem;
 use sleep_model::{
@@ -15,7 +15,7 @@ use std::alloc::Global;
 
 /// An entry of a list, with its stamp.
 #[derive(Clone, Copy)]
-struct Made {
+struct StampedEntry {
     list: u32,
     stamp: Stamp,
     entry: Entry,
@@ -25,10 +25,10 @@ struct Made {
 #[derive(Drop)]
 struct MergeCase {
     alloc: Global,
-    made: Vec<Made>,
+    made: Vec<StampedEntry>,
 }
 
-/// The text behind that number of words.
+/// The text after that number of words.
 fn behind(text: &str, words: u32) -> &str {
     let mut rest = text;
     for _ in 0..words {
@@ -38,14 +38,14 @@ fn behind(text: &str, words: u32) -> &str {
 }
 
 /// The entry that a line tells.
-fn made_of(text: &str) -> Option<Made> {
+fn made_of(text: &str) -> Option<StampedEntry> {
     let words = Words::of(text);
     let (actor, kind) = entry_of(behind(text, 4))?;
     let stamp = Stamp {
         pos: words.long(2),
         tick: words.long(3),
     };
-    Some(Made {
+    Some(StampedEntry {
         list: words.number(0),
         stamp,
         entry: entry_at(words.long(1), 0, actor, kind),
@@ -100,7 +100,7 @@ fn merged(
 }
 
 /// The one log of these, where the journal, of two entries, is kept as a run keeps it.
-fn merged_kept(
+fn merged_preserved(
     alloc: Global,
     made: &[JournalEntry],
     histories: &[SourceList],
@@ -135,9 +135,9 @@ impl MergeCase {
         let journal = self.journal()?;
         let histories = self.histories()?;
         match word {
-            "rises" => out.say(one(Word::Flag(rises(&journal)))),
+            "rises" => out.say(one(ReplyWord::Flag(rises(&journal)))),
             "merged" => say_log(merged(self.alloc, &journal, &histories), out),
-            "merged_kept" => say_log(merged_kept(self.alloc, &journal, &histories), out),
+            "merged_kept" => say_log(merged_preserved(self.alloc, &journal, &histories), out),
             _ => out.say(NO_CALL),
         }
         drop(histories);
@@ -151,7 +151,7 @@ impl MergeCase {
     }
 }
 
-impl Tried for MergeCase {
+impl CaseRunner for MergeCase {
     fn answer(&mut self, line: &str, out: &mut Out) {
         let (word, rest) = cut(line, ' ');
         let done = match word {

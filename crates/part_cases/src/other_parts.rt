@@ -10,7 +10,7 @@ use crate::logs::{counts, entries};
 use crate::merges::merges;
 use crate::plain::plain;
 use crate::plans::plans;
-use crate::said::Out;
+use crate::reply::Out;
 use crate::streams::{sinks, sources, whole};
 use crate::sysfs::sysfs;
 use crate::values::{json, values};
@@ -20,7 +20,7 @@ use std::thread::Threads;
 
 /// A part that takes nothing but memory.
 #[derive(Clone, Copy)]
-enum Part {
+enum Subject {
     Source,
     Sink,
     Plain,
@@ -37,47 +37,47 @@ enum Part {
     Whole,
 }
 
-const PARTS: [(&str, Part); 14] = [
-    ("source", Part::Source),
-    ("sink", Part::Sink),
-    ("plain", Part::Plain),
-    ("json", Part::Json),
-    ("value", Part::Value),
-    ("entries", Part::Entries),
-    ("counts", Part::Counts),
-    ("answers", Part::Answers),
-    ("autosleep", Part::Autosleep),
-    ("sysfs", Part::Sysfs),
-    ("generated", Part::Generated),
-    ("plan", Part::Plan),
-    ("merge", Part::Merge),
-    ("whole", Part::Whole),
+const SUBJECTS: [(&str, Subject); 14] = [
+    ("source", Subject::Source),
+    ("sink", Subject::Sink),
+    ("plain", Subject::Plain),
+    ("json", Subject::Json),
+    ("value", Subject::Value),
+    ("entries", Subject::Entries),
+    ("counts", Subject::Counts),
+    ("answers", Subject::Answers),
+    ("autosleep", Subject::Autosleep),
+    ("sysfs", Subject::Sysfs),
+    ("generated", Subject::Generated),
+    ("plan", Subject::Plan),
+    ("merge", Subject::Merge),
+    ("whole", Subject::Whole),
 ];
 
 /// Answers the lines of a part whose head is a text.
-fn answer_told(alloc: Global, part: Part, text: &str, lines: &str, out: &mut Out) {
+fn answer_text(alloc: Global, part: Subject, text: &str, lines: &str, out: &mut Out) {
     match part {
-        Part::Source => sources(alloc, text, lines, out),
-        Part::Sink => sinks(alloc, Words::of(text), lines, out),
-        Part::Value => values(alloc, text, lines, out),
-        Part::Generated => generated(alloc, Words::of(text), lines, out),
-        Part::Plan => plans(alloc, text, lines, out),
-        part => answer_bare(alloc, part, lines, out),
+        Subject::Source => sources(alloc, text, lines, out),
+        Subject::Sink => sinks(alloc, Words::of(text), lines, out),
+        Subject::Value => values(alloc, text, lines, out),
+        Subject::Generated => generated(alloc, Words::of(text), lines, out),
+        Subject::Plan => plans(alloc, text, lines, out),
+        part => answer_plain(alloc, part, lines, out),
     }
 }
 
 /// Answers the lines of a part whose head is a word.
-fn answer_bare(alloc: Global, part: Part, lines: &str, out: &mut Out) {
+fn answer_plain(alloc: Global, part: Subject, lines: &str, out: &mut Out) {
     match part {
-        Part::Plain => plain(alloc, lines, out),
-        Part::Json => json(alloc, lines, out),
-        Part::Entries => entries(alloc, lines, out),
-        Part::Counts => counts(alloc, lines, out),
-        Part::Answers => answers(alloc, lines, out),
-        Part::Autosleep => autosleeps(lines, out),
-        Part::Sysfs => sysfs(alloc, lines, out),
-        Part::Merge => merges(alloc, lines, out),
-        Part::Whole => whole(alloc, lines, out),
+        Subject::Plain => plain(alloc, lines, out),
+        Subject::Json => json(alloc, lines, out),
+        Subject::Entries => entries(alloc, lines, out),
+        Subject::Counts => counts(alloc, lines, out),
+        Subject::Answers => answers(alloc, lines, out),
+        Subject::Autosleep => autosleeps(lines, out),
+        Subject::Sysfs => sysfs(alloc, lines, out),
+        Subject::Merge => merges(alloc, lines, out),
+        Subject::Whole => whole(alloc, lines, out),
         _ => out.lack(),
     }
 }
@@ -107,8 +107,8 @@ pub fn answer_other_part<R: Threads + Wait + Sync>(
     out: &mut Out,
 ) {
     let (name, rest) = cut(head, ' ');
-    match found(&PARTS, name) {
-        Some(part) => answer_told(alloc, part, rest, lines, out),
+    match found(&SUBJECTS, name) {
+        Some(part) => answer_text(alloc, part, rest, lines, out),
         None => answer_running(rt, alloc, head, lines, out),
     }
 }

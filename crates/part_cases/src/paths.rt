@@ -1,15 +1,15 @@
 //! The path of an attempt through its stages: `path`.
 
-use crate::asked::{Word, Words, cut, found};
+use crate::asked::{ReplyWord, Words, cut, found};
 use crate::kinds::entry_of;
-use crate::parts::{Tried, answer_lines};
-use crate::said::{NO_CALL, Out, SAID, Said, error, long, maybe_long, number, one, two};
+use crate::parts::{CaseRunner, answer_lines};
+use crate::reply::{CaseReply, NO_CALL, NO_REPLY, Out, error, long, maybe_long, number, one, two};
 use sleep_model::{Actor, Kind, Sleep, Stage, Thaw};
 use sleep_state::Path;
 
 /// A question about an attempt.
 #[derive(Clone, Copy)]
-enum Verb {
+enum PathQuestion {
     Attempts,
     Maker,
     Stage,
@@ -18,13 +18,13 @@ enum Verb {
     Sleep,
 }
 
-const VERBS: [(&str, Verb); 6] = [
-    ("attempts", Verb::Attempts),
-    ("maker", Verb::Maker),
-    ("stage", Verb::Stage),
-    ("failed", Verb::Failed),
-    ("freeze_since", Verb::FreezeSince),
-    ("sleep", Verb::Sleep),
+const VERBS: [(&str, PathQuestion); 6] = [
+    ("attempts", PathQuestion::Attempts),
+    ("maker", PathQuestion::Maker),
+    ("stage", PathQuestion::Stage),
+    ("failed", PathQuestion::Failed),
+    ("freeze_since", PathQuestion::FreezeSince),
+    ("sleep", PathQuestion::Sleep),
 ];
 
 /// The name of a stage that is one alone.
@@ -48,74 +48,80 @@ fn alone_name(stage: Stage) -> &'static str {
 }
 
 /// The words of a stage.
-fn said_stage(stage: Stage) -> Said {
+fn stage_reply(stage: Stage) -> CaseReply {
     match stage {
-        Stage::Freezes(group) => two(Word::Text("freezes"), Word::Text(group.name())),
-        Stage::PlatformDown(step) => two(Word::Text("platform_down"), Word::Text(step.name())),
-        Stage::PlatformUp(step) => two(Word::Text("platform_up"), Word::Text(step.name())),
-        Stage::Downs(phase) => two(Word::Text("downs"), Word::Phase(phase)),
-        Stage::Ups(phase) => two(Word::Text("ups"), Word::Phase(phase)),
-        Stage::Thaws(Thaw::All) => two(Word::Text("thaws"), Word::Text("all")),
-        Stage::Thaws(Thaw::Kernel) => two(Word::Text("thaws"), Word::Text("kernel")),
-        stage => one(Word::Text(alone_name(stage))),
+        Stage::Freezes(group) => two(ReplyWord::Text("freezes"), ReplyWord::Text(group.name())),
+        Stage::PlatformDown(step) => two(
+            ReplyWord::Text("platform_down"),
+            ReplyWord::Text(step.name()),
+        ),
+        Stage::PlatformUp(step) => two(
+            ReplyWord::Text("platform_up"),
+            ReplyWord::Text(step.name()),
+        ),
+        Stage::Downs(phase) => two(ReplyWord::Text("downs"), ReplyWord::Phase(phase)),
+        Stage::Ups(phase) => two(ReplyWord::Text("ups"), ReplyWord::Phase(phase)),
+        Stage::Thaws(Thaw::All) => two(ReplyWord::Text("thaws"), ReplyWord::Text("all")),
+        Stage::Thaws(Thaw::Kernel) => two(ReplyWord::Text("thaws"), ReplyWord::Text("kernel")),
+        stage => one(ReplyWord::Text(alone_name(stage))),
     }
 }
 
 /// The words of an actor.
-pub fn said_actor(who: Actor) -> Said {
+pub fn actor_reply(who: Actor) -> CaseReply {
     match who {
-        Actor::Script(task) => two(Word::Text("task"), number(task)),
-        Actor::Dev(device) => two(Word::Text("dev"), number(device)),
-        Actor::Timer(source) => two(Word::Text("timer"), number(source)),
-        Actor::Auto => one(Word::Text("auto")),
-        Actor::Time => one(Word::Text("time")),
+        Actor::Script(task) => two(ReplyWord::Text("task"), number(task)),
+        Actor::Dev(device) => two(ReplyWord::Text("dev"), number(device)),
+        Actor::Timer(source) => two(ReplyWord::Text("timer"), number(source)),
+        Actor::Auto => one(ReplyWord::Text("auto")),
+        Actor::Time => one(ReplyWord::Text("time")),
     }
 }
 
-pub fn said_maker(maker: Option<Actor>) -> Said {
+pub fn maker_reply(maker: Option<Actor>) -> CaseReply {
     match maker {
-        Some(who) => said_actor(who),
-        None => one(Word::Nothing),
+        Some(who) => actor_reply(who),
+        None => one(ReplyWord::Nothing),
     }
 }
 
-fn said_stage_of(stage: Option<Stage>) -> Said {
+fn stage_of_reply(stage: Option<Stage>) -> CaseReply {
     match stage {
-        Some(stage) => said_stage(stage),
-        None => one(Word::Nothing),
+        Some(stage) => stage_reply(stage),
+        None => one(ReplyWord::Nothing),
     }
 }
 
-fn said_sleep(sleep: Option<Sleep>) -> Said {
+fn sleep_reply(sleep: Option<Sleep>) -> CaseReply {
     match sleep {
         Some(sleep) => two(long(sleep.pos), long(sleep.since)),
-        None => one(Word::Nothing),
+        None => one(ReplyWord::Nothing),
     }
 }
 
-fn said_of(path: &Path, verb: Verb) -> Said {
+fn reply_of(path: &Path, verb: PathQuestion) -> CaseReply {
     match verb {
-        Verb::Attempts => one(number(path.attempts())),
-        Verb::Maker => said_maker(path.maker()),
-        Verb::Stage => said_stage_of(path.stage()),
-        Verb::Failed => one(error(path.failed())),
-        Verb::FreezeSince => one(maybe_long(path.freeze_since())),
-        Verb::Sleep => said_sleep(path.sleep()),
+        PathQuestion::Attempts => one(number(path.attempts())),
+        PathQuestion::Maker => maker_reply(path.maker()),
+        PathQuestion::Stage => stage_of_reply(path.stage()),
+        PathQuestion::Failed => one(error(path.failed())),
+        PathQuestion::FreezeSince => one(maybe_long(path.freeze_since())),
+        PathQuestion::Sleep => sleep_reply(path.sleep()),
     }
 }
 
-/// Notes an entry of an actor, behind a position and at a time, where few attempts were begun.
+/// Notes an entry of an actor, after a position and at a time, where few attempts were begun.
 #[tactic(auto, using(sleep_state::proofs::Counting::attempts_few))]
-fn noted(path: &mut Path, who: Actor, kind: Kind, pos: u64, time: u64) -> Said {
+fn noted(path: &mut Path, who: Actor, kind: Kind, pos: u64, time: u64) -> CaseReply {
     if path.attempts() > 9 {
         return NO_CALL;
     }
     path.note(kind, who, pos, time);
-    SAID
+    NO_REPLY
 }
 
 /// The same by a text: the position, the time and the entry.
-fn note(path: &mut Path, text: &str) -> Said {
+fn note(path: &mut Path, text: &str) -> CaseReply {
     let (pos, rest) = cut(text, ' ');
     let (time, entry) = cut(rest, ' ');
     let (pos, time) = (Words::of(pos).long(0), Words::of(time).long(0));
@@ -125,14 +131,14 @@ fn note(path: &mut Path, text: &str) -> Said {
     }
 }
 
-impl Tried for Path {
+impl CaseRunner for Path {
     fn answer(&mut self, line: &str, out: &mut Out) {
         let (word, rest) = cut(line, ' ');
-        let said = match found(&VERBS, word) {
-            Some(verb) => said_of(self, verb),
+        let reply = match found(&VERBS, word) {
+            Some(verb) => reply_of(self, verb),
             None => note(self, rest),
         };
-        out.say(said);
+        out.say(reply);
     }
 }
 

@@ -1,71 +1,71 @@
 //! The table of phases: `phases`, and a table of the row of a phase with a copy that walks the other way, `phase_twice PHASE`.
 
-use crate::asked::{Word, Words, cut, found};
-use crate::parts::{Tried, answer_lines};
-use crate::said::{Out, Said, five, one};
+use crate::asked::{ReplyWord, Words, cut, found};
+use crate::parts::{CaseRunner, answer_lines};
+use crate::reply::{CaseReply, Out, five, one};
 use phase_table::{CaseTable, Phase, PhaseRow, phases};
 
 /// What a row says: its phase, the mirror, whether the phase walks forward, whether devices go down in it, and whether it
 /// tests for a wakeup.
-fn said_row(row: PhaseRow) -> Said {
+fn row_reply(row: PhaseRow) -> CaseReply {
     five(
-        Word::Phase(row.phase),
-        Word::Phase(row.mirror),
-        Word::Flag(row.forward),
-        Word::Flag(row.down),
-        Word::Flag(row.checks),
+        ReplyWord::Phase(row.phase),
+        ReplyWord::Phase(row.mirror),
+        ReplyWord::Flag(row.forward),
+        ReplyWord::Flag(row.down),
+        ReplyWord::Flag(row.checks),
     )
 }
 
-fn said_found(row: Option<PhaseRow>) -> Said {
+fn found_reply(row: Option<PhaseRow>) -> CaseReply {
     match row {
-        Some(row) => said_row(row),
-        None => one(Word::Nothing),
+        Some(row) => row_reply(row),
+        None => one(ReplyWord::Nothing),
     }
 }
 
 /// What a phase says: the mirror, whether it walks forward, whether devices go down in it, whether they come up, and
 /// whether it tests for a wakeup.
-fn said_phase(phase: Phase) -> Said {
+fn phase_reply(phase: Phase) -> CaseReply {
     five(
-        Word::Phase(phase.mirror()),
-        Word::Flag(phase.forward()),
-        Word::Flag(phase.is_down()),
-        Word::Flag(phase.is_up()),
-        Word::Flag(phase.checks_wakeup()),
+        ReplyWord::Phase(phase.mirror()),
+        ReplyWord::Flag(phase.forward()),
+        ReplyWord::Flag(phase.is_down()),
+        ReplyWord::Flag(phase.is_up()),
+        ReplyWord::Flag(phase.checks_wakeup()),
     )
 }
 
 /// The phase of that name.
-fn said_named(text: &str) -> Said {
+fn named_reply(text: &str) -> CaseReply {
     one(match Phase::of_name(text) {
-        Some(phase) => Word::Text(phase.name()),
-        None => Word::Nothing,
+        Some(phase) => ReplyWord::Text(phase.name()),
+        None => ReplyWord::Nothing,
     })
 }
 
 /// A question.
 #[derive(Clone, Copy)]
-enum Verb {
+enum RowQuestion {
     Row,
     Phase,
     Named,
 }
 
-const VERBS: [(&str, Verb); 3] = [
-    ("row", Verb::Row),
-    ("phase", Verb::Phase),
-    ("named", Verb::Named),
+const VERBS: [(&str, RowQuestion); 3] = [
+    ("row", RowQuestion::Row),
+    ("phase", RowQuestion::Phase),
+    ("named", RowQuestion::Named),
 ];
 
-impl<const LEN: usize> Tried for CaseTable<LEN> {
+impl<const LEN: usize> CaseRunner for CaseTable<LEN> {
     fn answer(&mut self, line: &str, out: &mut Out) {
         let (word, rest) = cut(line, ' ');
         let phase = Words::of(rest).phase(0);
         out.say(match found(&VERBS, word) {
-            Some(Verb::Row) => said_found(self.row(phase)),
-            Some(Verb::Phase) => said_phase(phase),
-            _ => said_named(rest),
+            Some(RowQuestion::Row) => found_reply(self.row(phase)),
+            Some(RowQuestion::Phase) => phase_reply(phase),
+            _ => named_reply(rest),
         });
     }
 }
@@ -74,7 +74,7 @@ impl<const LEN: usize> Tried for CaseTable<LEN> {
 pub fn phase_rows(lines: &str, out: &mut Out) {
     let mut table = phases();
     for row in &table.rows {
-        out.say(said_row(*row));
+        out.say(row_reply(*row));
     }
     answer_lines(&mut table, lines, out);
 }

@@ -1,8 +1,8 @@
 //! Plain values of the model and of the outside: errors, names, lists, flags of devices, positions of the event word, and
 //! an index of keys: `plain`.
 
-use crate::asked::{Word, Words, cut};
-use crate::said::{NO_CALL, Out, Said, long, number, one, size, three};
+use crate::asked::{ReplyWord, Words, cut};
+use crate::reply::{CaseReply, NO_CALL, Out, long, number, one, size, three};
 use bitflags::Flags;
 use key_index::KeyIndex;
 use sleep_base::{Errno, Mem};
@@ -10,22 +10,22 @@ use sleep_model::{DeviceFlags, ListOf, Name, pos};
 use std::alloc::Global;
 
 /// An error, its number, and the error that its number, below zero, answers.
-fn said_error(text: &str) -> Said {
+fn error_reply(text: &str) -> CaseReply {
     match Errno::of_name(text) {
         Some(error) => three(
-            Word::Text(error.name()),
+            ReplyWord::Text(error.name()),
             number(u32::from(error.number())),
             answered(-i32::from(error.number())),
         ),
-        None => one(Word::Nothing),
+        None => one(ReplyWord::Nothing),
     }
 }
 
 /// The error of an answer.
-fn answered(answer: i32) -> Word {
+fn answered(answer: i32) -> ReplyWord {
     match Errno::of_answer(answer) {
-        Some(error) => Word::Error(error),
-        None => Word::Nothing,
+        Some(error) => ReplyWord::Error(error),
+        None => ReplyWord::Nothing,
     }
 }
 
@@ -38,7 +38,7 @@ fn say_name(text: &str, out: &mut Out) {
 }
 
 /// The numbers that words tell.
-pub fn told_numbers(alloc: Global, text: &str) -> Result<Vec<u32>, Mem> {
+pub fn numbers_in(alloc: Global, text: &str) -> Result<Vec<u32>, Mem> {
     let mut numbers = Vec::new(alloc);
     for word in text.split(' ') {
         numbers.push(word.parse::<u32>().unwrap_or(0))?;
@@ -48,7 +48,7 @@ pub fn told_numbers(alloc: Global, text: &str) -> Result<Vec<u32>, Mem> {
 
 /// Says how long a list of these is, what it has, and what it gives back.
 fn say_list(alloc: Global, text: &str, out: &mut Out) -> Result<(), Mem> {
-    let list = ListOf::of_vec(told_numbers(alloc, text)?);
+    let list = ListOf::of_vec(numbers_in(alloc, text)?);
     out.say(one(size(list.len())));
     out.list(list.as_slice());
     out.list(&list.into_vec());
@@ -56,7 +56,7 @@ fn say_list(alloc: Global, text: &str, out: &mut Out) -> Result<(), Mem> {
 }
 
 /// The flags of a device that words name.
-fn told_flags(text: &str) -> DeviceFlags {
+fn flags_in(text: &str) -> DeviceFlags {
     let mut flags = DeviceFlags::from_bits_retain(0);
     for word in text.split(' ') {
         flags |= match word {
@@ -70,23 +70,23 @@ fn told_flags(text: &str) -> DeviceFlags {
 }
 
 /// The bits of flags, and whether they have that of an asynchronous device and that of a source of wakeup.
-fn said_flags(flags: DeviceFlags) -> Said {
+fn flags_reply(flags: DeviceFlags) -> CaseReply {
     three(
         number(u32::from(flags.bits())),
-        Word::Flag(flags.contains(DeviceFlags::ASYNC)),
-        Word::Flag(flags.contains(DeviceFlags::WAKEUP)),
+        ReplyWord::Flag(flags.contains(DeviceFlags::ASYNC)),
+        ReplyWord::Flag(flags.contains(DeviceFlags::WAKEUP)),
     )
 }
 
-/// Says the place of each key, the first words, among the others behind a bar; `-` for one that is not there.
+/// Says the place of each key, the first words, among the others after a bar; `-` for one that is not there.
 fn say_places(alloc: Global, text: &str, out: &mut Out) -> Result<(), Mem> {
     let (asked, keys) = cut(text, '|');
-    let index = KeyIndex::new(alloc, told_numbers(alloc, keys)?)?;
+    let index = KeyIndex::new(alloc, numbers_in(alloc, keys)?)?;
     for key in asked.split(' ') {
         let place = index.place(&key.parse::<u32>().unwrap_or(0));
         out.say(one(match place {
             Some(place) => size(place),
-            None => Word::Nothing,
+            None => ReplyWord::Nothing,
         }));
     }
     Ok(())
@@ -97,12 +97,12 @@ fn answer(alloc: Global, line: &str, out: &mut Out) -> Result<(), Mem> {
     let (word, text) = cut(line, ' ');
     let words = Words::of(text);
     match word {
-        "error" => out.say(said_error(text)),
+        "error" => out.say(error_reply(text)),
         "answer" => out.say(one(answered(words.signed(0)))),
         "name" => say_name(text, out),
         "list" => say_list(alloc, text, out)?,
         "pos" => out.say(one(long(pos(words.now(0))))),
-        "device_flags" => out.say(said_flags(told_flags(text))),
+        "device_flags" => out.say(flags_reply(flags_in(text))),
         "places" => say_places(alloc, text, out)?,
         _ => out.say(NO_CALL),
     }

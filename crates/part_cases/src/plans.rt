@@ -4,9 +4,9 @@
 ghost use Rattle.std.specs.Prelude.{◌≡◌, length, IfOk};
 ghost use Rattle.sleep_model.specs.Scripts.{operations};
 
-use crate::asked::{Word, cut};
-use crate::parts::{Tried, answer_lines};
-use crate::said::{NO_CALL, Out, Said, number, one};
+use crate::asked::{ReplyWord, cut};
+use crate::parts::{CaseRunner, answer_lines};
+use crate::reply::{CaseReply, NO_CALL, Out, number, one};
 use script_plan::Plan;
 use sleep_base::Mem;
 use sleep_model::{ListOf, Name, Op, Script, Step, TaskKind, Text};
@@ -53,22 +53,22 @@ fn script(alloc: Global, autosleep: &[u8]) -> Result<Script, Mem>
 }
 
 /// What an operation is.
-fn said_operation(op: Option<&Op>) -> Said {
+fn operation_reply(op: Option<&Op>) -> CaseReply {
     one(match op {
-        Some(Op::Autosleep { .. }) => Word::Text("autosleep"),
-        Some(Op::State { .. }) => Word::Text("state"),
-        Some(_) => Word::Text("another"),
-        None => Word::Nothing,
+        Some(Op::Autosleep { .. }) => ReplyWord::Text("autosleep"),
+        Some(Op::State { .. }) => ReplyWord::Text("state"),
+        Some(_) => ReplyWord::Text("another"),
+        None => ReplyWord::Nothing,
     })
 }
 
-impl Tried for Plan<'_> {
+impl CaseRunner for Plan<'_> {
     fn answer(&mut self, line: &str, out: &mut Out) {
         let (word, rest) = cut(line, ' ');
         let place = rest.parse::<u32>().unwrap_or(0) as usize;
         out.say(match word {
             "calls_before" => one(number(self.calls_before(place))),
-            "operation" => said_operation(self.operation(place)),
+            "operation" => operation_reply(self.operation(place)),
             _ => NO_CALL,
         });
     }

@@ -1,10 +1,10 @@
 //! Notifiers, processors and the platform: `platform CPUS PRIORITY ..` with the priority of each notifier.
 
 use crate::asked::{Words, cut, found};
-use crate::machines::bare_machine;
-use crate::parts::{Tried, answer_lines};
-use crate::said::{NO_CALL, Out, Said, maybe, one};
-use crate::told::said_kind;
+use crate::entry_replies::kind_reply;
+use crate::machines::empty_machine;
+use crate::parts::{CaseRunner, answer_lines};
+use crate::reply::{CaseReply, NO_CALL, Out, maybe, one};
 use platform_steps::Platform;
 use sleep_base::Mem;
 use sleep_model::{ListOf, Machine, Name, Notifier, PlatDo, PlatPart, PlatUndo};
@@ -36,7 +36,7 @@ fn next_of(platform: &Platform, next: Next) -> Option<u32> {
 }
 
 /// What a turn does, for the first notifier or processor.
-const PARTS: [(&str, PlatPart); 11] = [
+const STEPS: [(&str, PlatPart); 11] = [
     ("notify_prepare", PlatPart::NotifyPrepare(0)),
     ("notify_post", PlatPart::NotifyPost(0)),
     ("cpu_off", PlatPart::CpuOff(0)),
@@ -62,28 +62,28 @@ fn numbered(part: PlatPart, number: u32) -> PlatPart {
 }
 
 /// The entry of a turn: its part, the number, the answer, and whether a wakeup is pending.
-fn turned(platform: &mut Platform, part: PlatPart, words: Words) -> Said {
+fn turned(platform: &mut Platform, part: PlatPart, words: Words) -> CaseReply {
     let part = numbered(part, words.number(0));
-    said_kind(platform.turn(part, words.error(1), words.flag(2)))
+    kind_reply(platform.turn(part, words.error(1), words.flag(2)))
 }
 
 /// The same of a part by its name.
-fn turned_by(platform: &mut Platform, text: &str) -> Said {
+fn turned_by(platform: &mut Platform, text: &str) -> CaseReply {
     let (name, rest) = cut(text, ' ');
-    match found(&PARTS, name) {
+    match found(&STEPS, name) {
         Some(part) => turned(platform, part, Words::of(rest)),
         None => NO_CALL,
     }
 }
 
-impl Tried for Platform {
+impl CaseRunner for Platform {
     fn answer(&mut self, line: &str, out: &mut Out) {
         let (word, rest) = cut(line, ' ');
-        let said = match found(&NEXT, word) {
+        let reply = match found(&NEXT, word) {
             Some(next) => one(maybe(next_of(self, next))),
             None => turned_by(self, rest),
         };
-        out.say(said);
+        out.say(reply);
     }
 }
 
@@ -102,7 +102,7 @@ fn notifiers_of(alloc: Global, text: &str) -> Result<Vec<Notifier>, Mem> {
 /// A machine of that number of processors, with notifiers of these priorities.
 fn machine_of(alloc: Global, text: &str) -> Result<Machine, Mem> {
     let (cpus, priorities) = cut(text, ' ');
-    let mut machine = bare_machine(alloc);
+    let mut machine = empty_machine(alloc);
     machine.cpus = cpus.parse::<u32>().unwrap_or(1);
     machine.notifiers = ListOf::of_vec(notifiers_of(alloc, priorities)?);
     Ok(machine)
@@ -117,7 +117,7 @@ fn platform_of(alloc: Global, machine: &Machine) -> Result<Platform, Mem> {
 }
 
 /// The platform that a text tells.
-fn told_platform(alloc: Global, text: &str) -> Result<Platform, Mem> {
+fn platform_in(alloc: Global, text: &str) -> Result<Platform, Mem> {
     let machine = machine_of(alloc, text)?;
     let platform = platform_of(alloc, &machine);
     drop(machine);
@@ -126,7 +126,7 @@ fn told_platform(alloc: Global, text: &str) -> Result<Platform, Mem> {
 
 /// Answers the lines of a platform.
 pub fn platforms(alloc: Global, text: &str, lines: &str, out: &mut Out) {
-    match told_platform(alloc, text) {
+    match platform_in(alloc, text) {
         Ok(mut platform) => {
             answer_lines(&mut platform, lines, out);
             drop(platform);

@@ -1,9 +1,9 @@
 //! Bytes in and out: `source CHUNK FAILS TEXT`, `sink ROOM CHUNK FAILS`, a reader and a writer of std as streams, and each
 //! call that reads or writes all: `whole`. A `FAILS` is the number of a call that fails.
 
-use crate::asked::{Word, Words, cut};
-use crate::parts::{Tried, answer_lines};
-use crate::said::{NO_CALL, Out, long, one, size};
+use crate::asked::{ReplyWord, Words, cut};
+use crate::parts::{CaseRunner, answer_lines};
+use crate::reply::{NO_CALL, Out, long, one, size};
 use sleep_base::{
     ByteSink, ByteSource, Failed, Mem, MemSink, MemSource, ReadStop, StdSink, StdSource, read_all,
     write_all,
@@ -33,7 +33,7 @@ fn say_read<S: ByteSource>(source: &mut S, out: &mut Out) {
     }
 }
 
-impl Tried for MemSource {
+impl CaseRunner for MemSource {
     fn answer(&mut self, line: &str, out: &mut Out) {
         match line {
             "read" => say_read(self, out),
@@ -55,7 +55,7 @@ fn say_write<K: ByteSink>(sink: &mut K, text: &str, out: &mut Out) {
     }
 }
 
-impl Tried for MemSink {
+impl CaseRunner for MemSink {
     fn answer(&mut self, line: &str, out: &mut Out) {
         let (word, text) = cut(line, ' ');
         match word {
@@ -67,7 +67,7 @@ impl Tried for MemSink {
     }
 }
 
-/// The text behind that number of words.
+/// The text after that number of words.
 fn behind(text: &str, words: u32) -> &str {
     let mut rest = text;
     for _ in 0..words {
@@ -142,7 +142,7 @@ fn write_twice(text: &str, out: &mut Out) {
     let mut buf = [0; 2];
     let mut sink = StdSink::new(&mut buf[..]);
     let is_done = write_all(&mut sink, text.as_bytes()).is_ok();
-    out.say(one(Word::Flag(is_done)));
+    out.say(one(ReplyWord::Flag(is_done)));
     out.say(one(long(sink.faults())));
 }
 

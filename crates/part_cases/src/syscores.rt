@@ -1,73 +1,73 @@
-//! The parts of the core that are suspended last: `syscore PARTS`.
+//! The parts of the core that are suspended last: `syscore SUBJECTS`.
 
-use crate::asked::{Word, Words, cut, found};
+use crate::asked::{ReplyWord, Words, cut, found};
+use crate::entry_replies::kind_reply;
 use crate::kinds::kind_of;
-use crate::parts::{Tried, answer_lines};
-use crate::said::{NO_CALL, Out, SAID, Said, maybe, one};
-use crate::told::said_kind;
+use crate::parts::{CaseRunner, answer_lines};
+use crate::reply::{CaseReply, NO_CALL, NO_REPLY, Out, maybe, one};
 use std::alloc::Global;
 use syscore_ops::Syscore;
 
 /// A call, or a question.
 #[derive(Clone, Copy)]
-enum Verb {
+enum SyscoreCall {
     Suspend,
     Resume,
     Next,
     NextStarted,
 }
 
-const VERBS: [(&str, Verb); 4] = [
-    ("suspend", Verb::Suspend),
-    ("resume", Verb::Resume),
-    ("next", Verb::Next),
-    ("next_started", Verb::NextStarted),
+const VERBS: [(&str, SyscoreCall); 4] = [
+    ("suspend", SyscoreCall::Suspend),
+    ("resume", SyscoreCall::Resume),
+    ("next", SyscoreCall::Next),
+    ("next_started", SyscoreCall::NextStarted),
 ];
 
 /// The entry of the next part that is suspended.
-fn suspended(core: &mut Syscore, words: Words) -> Said {
+fn suspended(core: &mut Syscore, words: Words) -> CaseReply {
     if core.next().is_none() {
-        return one(Word::Nothing);
+        return one(ReplyWord::Nothing);
     }
-    said_kind(core.suspend_turn(words.error(0)))
+    kind_reply(core.suspend_turn(words.error(0)))
 }
 
 /// The entry of the next part that is resumed.
-fn resumed(core: &mut Syscore) -> Said {
+fn resumed(core: &mut Syscore) -> CaseReply {
     match core.resume_turn() {
-        Some(kind) => said_kind(kind),
-        None => one(Word::Nothing),
+        Some(kind) => kind_reply(kind),
+        None => one(ReplyWord::Nothing),
     }
 }
 
-fn said_of(core: &mut Syscore, verb: Verb, words: Words) -> Said {
+fn reply_of(core: &mut Syscore, verb: SyscoreCall, words: Words) -> CaseReply {
     match verb {
-        Verb::Suspend => suspended(core, words),
-        Verb::Resume => resumed(core),
-        Verb::Next => one(maybe(core.next())),
-        Verb::NextStarted => one(maybe(core.next_started())),
+        SyscoreCall::Suspend => suspended(core, words),
+        SyscoreCall::Resume => resumed(core),
+        SyscoreCall::Next => one(maybe(core.next())),
+        SyscoreCall::NextStarted => one(maybe(core.next_started())),
     }
 }
 
 /// Notes an entry.
-fn note(core: &mut Syscore, text: &str) -> Said {
+fn note(core: &mut Syscore, text: &str) -> CaseReply {
     match kind_of(text) {
         Some(kind) => {
             core.note(kind);
-            SAID
+            NO_REPLY
         }
         None => NO_CALL,
     }
 }
 
-impl Tried for Syscore {
+impl CaseRunner for Syscore {
     fn answer(&mut self, line: &str, out: &mut Out) {
         let (word, rest) = cut(line, ' ');
-        let said = match found(&VERBS, word) {
-            Some(verb) => said_of(self, verb, Words::of(rest)),
+        let reply = match found(&VERBS, word) {
+            Some(verb) => reply_of(self, verb, Words::of(rest)),
             None => note(self, rest),
         };
-        out.say(said);
+        out.say(reply);
     }
 }
 

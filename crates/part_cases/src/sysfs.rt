@@ -1,8 +1,8 @@
 //! The files of sleep: `sysfs`. In texts a bar stands for a newline.
 
-use crate::asked::{Word, Words, cut};
-use crate::said::{NO_CALL, Out, Said, number, one, two};
-use crate::told::said_due;
+use crate::asked::{ReplyWord, Words, cut};
+use crate::entry_replies::due_reply;
+use crate::reply::{CaseReply, NO_CALL, Out, number, one, two};
 use script_plan::is_autosleep_text;
 use sleep_base::{Errno, Mem};
 use sleep_model::{Kind, State, state_word};
@@ -17,7 +17,7 @@ const ATTEMPT: Kind = Kind::Attempt {
 };
 
 /// A text with a newline in place of each bar.
-pub fn told_text(alloc: Global, text: &str) -> Result<Vec<u8>, Mem> {
+pub fn text_in(alloc: Global, text: &str) -> Result<Vec<u8>, Mem> {
     let mut bytes = Vec::new(alloc);
     for byte in text.as_bytes() {
         bytes.push(if *byte == b'|' { b'\n' } else { *byte })?;
@@ -25,19 +25,19 @@ pub fn told_text(alloc: Global, text: &str) -> Result<Vec<u8>, Mem> {
     Ok(bytes)
 }
 
-fn said_state(state: Result<State, Errno>) -> Word {
+fn sysfs_reply(state: Result<State, Errno>) -> ReplyWord {
     match state {
-        Ok(state) => Word::Text(state_word(state)),
-        Err(error) => Word::Error(error),
+        Ok(state) => ReplyWord::Text(state_word(state)),
+        Err(error) => ReplyWord::Error(error),
     }
 }
 
 /// The state of a text, and whether autosleep takes it.
-fn said_text(alloc: Global, text: &str) -> Result<Said, Mem> {
-    let text = told_text(alloc, text)?;
+fn text_reply(alloc: Global, text: &str) -> Result<CaseReply, Mem> {
+    let text = text_in(alloc, text)?;
     Ok(two(
-        said_state(decode_state(&text)),
-        Word::Flag(is_autosleep_text(&text)),
+        sysfs_reply(decode_state(&text)),
+        ReplyWord::Flag(is_autosleep_text(&text)),
     ))
 }
 
@@ -45,7 +45,7 @@ fn said_text(alloc: Global, text: &str) -> Result<Said, Mem> {
 /// that it waits, whether it is asked to freeze, and then the word and the number that is written, or whether the text is
 /// that of a state. Of a write to autosleep: whether another holds the lock, whether the writer does, and whether the text
 /// is `mem` or `off`. Of a read: the word, whether it has said that it waits, and whether it is asked to freeze.
-fn said_call(word: &str, words: Words) -> Said {
+fn call_reply(word: &str, words: Words) -> CaseReply {
     let (first, second, third, fourth) = (
         words.flag(0),
         words.flag(1),
@@ -53,8 +53,8 @@ fn said_call(word: &str, words: Words) -> Said {
         words.flag(3),
     );
     match word {
-        "read_count" => said_due(read_count(words.now(0), second, third)),
-        "write_count" => said_due(write_count(
+        "read_count" => due_reply(read_count(words.now(0), second, third)),
+        "write_count" => due_reply(write_count(
             first,
             second,
             third,
@@ -62,7 +62,7 @@ fn said_call(word: &str, words: Words) -> Said {
             words.now(4),
             words.number(5),
         )),
-        "write_state" => said_due(write_state(
+        "write_state" => due_reply(write_state(
             first,
             second,
             third,
@@ -70,7 +70,7 @@ fn said_call(word: &str, words: Words) -> Said {
             words.flag(4),
             ATTEMPT,
         )),
-        "write_autosleep" => said_due(write_autosleep(first, second, third, fourth)),
+        "write_autosleep" => due_reply(write_autosleep(first, second, third, fourth)),
         "saved_number" => one(number(saved_number(words.maybe(0), words.maybe(1)))),
         _ => NO_CALL,
     }
@@ -80,12 +80,12 @@ fn said_call(word: &str, words: Words) -> Said {
 pub fn sysfs(alloc: Global, lines: &str, out: &mut Out) {
     for line in lines.split('\n') {
         let (word, text) = cut(line, ' ');
-        let said = match word {
-            "text" => said_text(alloc, text),
-            _ => Ok(said_call(word, Words::of(text))),
+        let reply = match word {
+            "text" => text_reply(alloc, text),
+            _ => Ok(call_reply(word, Words::of(text))),
         };
-        match said {
-            Ok(said) => out.say(said),
+        match reply {
+            Ok(reply) => out.say(reply),
             Err(_) => out.lack(),
         }
     }

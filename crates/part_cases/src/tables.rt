@@ -1,8 +1,8 @@
 //! Rows of numbers, stacks and flags: `rows COUNT`, `stack`, `flags COUNT`.
 
-use crate::asked::{Word, Words, cut};
-use crate::parts::{Tried, answer_lines};
-use crate::said::{NO_CALL, Out, SAID, Said, maybe, one, size};
+use crate::asked::{ReplyWord, Words, cut};
+use crate::parts::{CaseRunner, answer_lines};
+use crate::reply::{CaseReply, NO_CALL, NO_REPLY, Out, maybe, one, size};
 use device_rows::{Flags, Rows, Stack};
 use sleep_base::Mem;
 use std::alloc::Global;
@@ -33,23 +33,23 @@ fn row_within(rows: &Rows, row: u32) -> &[u32] {
     rows.row_within(row)
 }
 
-fn said_done(done: Result<(), Mem>) -> Said {
-    one(Word::Flag(done.is_ok()))
+fn done_reply(done: Result<(), Mem>) -> CaseReply {
+    one(ReplyWord::Flag(done.is_ok()))
 }
 
 /// What rows answer to a call that changes them.
-fn changed(rows: &mut Rows, word: &str, words: Words) -> Said {
+fn changed(rows: &mut Rows, word: &str, words: Words) -> CaseReply {
     let (row, number) = (words.number(0), words.number(1));
     match word {
-        "push" => said_done(push(rows, row, number)),
-        "append" => said_done(append(rows, row, number)),
-        "add_row" => said_done(rows.add_row()),
+        "push" => done_reply(push(rows, row, number)),
+        "append" => done_reply(append(rows, row, number)),
+        "add_row" => done_reply(rows.add_row()),
         "len" => one(size(rows.len())),
         _ => NO_CALL,
     }
 }
 
-impl Tried for Rows {
+impl CaseRunner for Rows {
     fn answer(&mut self, line: &str, out: &mut Out) {
         let (word, rest) = cut(line, ' ');
         let words = Words::of(rest);
@@ -72,11 +72,11 @@ pub fn rows(alloc: Global, words: Words, lines: &str, out: &mut Out) {
     }
 }
 
-impl Tried for Stack<u32> {
+impl CaseRunner for Stack<u32> {
     fn answer(&mut self, line: &str, out: &mut Out) {
         let (word, rest) = cut(line, ' ');
         out.say(match word {
-            "push" => said_done(self.push(Words::of(rest).number(0))),
+            "push" => done_reply(self.push(Words::of(rest).number(0))),
             _ => one(maybe(self.pop())),
         });
     }
@@ -90,16 +90,16 @@ pub fn stacks(alloc: Global, lines: &str, out: &mut Out) {
     out.list(&rest);
 }
 
-impl Tried for Flags {
+impl CaseRunner for Flags {
     fn answer(&mut self, line: &str, out: &mut Out) {
         let (word, rest) = cut(line, ' ');
         let words = Words::of(rest);
         out.say(match word {
             "set" => {
                 self.set(words.number(0), words.flag(1));
-                SAID
+                NO_REPLY
             }
-            "is_set" => one(Word::Flag(self.is_set(words.number(0)))),
+            "is_set" => one(ReplyWord::Flag(self.is_set(words.number(0)))),
             _ => one(size(self.len())),
         });
     }

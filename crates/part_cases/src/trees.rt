@@ -1,26 +1,26 @@
 //! Devices by name: `tree`, and requests for a runtime status: `requests`.
 
-use crate::asked::{Word, Words, cut};
-use crate::parts::{Tried, answer_lines};
-use crate::said::{NO_CALL, Out, Said, answer, five, maybe, number, one};
+use crate::asked::{ReplyWord, Words, cut};
+use crate::parts::{CaseRunner, answer_lines};
+use crate::reply::{CaseReply, NO_CALL, Out, answer, five, maybe, number, one};
 use device_tree::{Tree, TreeFault, request};
 use sleep_model::{Device, DeviceFlags, Name, Runtime};
 use std::alloc::Global;
 
 /// The number of a device that is registered, or why it is not.
-fn said_registered(answer: Result<u32, TreeFault>) -> Word {
+fn registered_reply(answer: Result<u32, TreeFault>) -> ReplyWord {
     match answer {
         Ok(device) => number(device),
-        Err(TreeFault::NoParent) => Word::Text("no parent"),
-        Err(TreeFault::NameTaken) => Word::Text("name taken"),
-        Err(TreeFault::TooMany) => Word::Text("too many"),
-        Err(TreeFault::Mem) => Word::Text("out of memory"),
+        Err(TreeFault::NoParent) => ReplyWord::Text("no parent"),
+        Err(TreeFault::NameTaken) => ReplyWord::Text("name taken"),
+        Err(TreeFault::TooMany) => ReplyWord::Text("too many"),
+        Err(TreeFault::Mem) => ReplyWord::Text("out of memory"),
     }
 }
 
 /// Registers a device of that name below a parent.
-fn registered(tree: &mut Tree, name: Name, parent: Option<u32>) -> Word {
-    said_registered(tree.register(Device {
+fn registered(tree: &mut Tree, name: Name, parent: Option<u32>) -> ReplyWord {
+    registered_reply(tree.register(Device {
         name,
         parent,
         flags: DeviceFlags::ASYNC,
@@ -28,7 +28,7 @@ fn registered(tree: &mut Tree, name: Name, parent: Option<u32>) -> Word {
 }
 
 /// The answer of a call with a name.
-fn named(tree: &mut Tree, word: &str, name: Name, parent: Option<u32>) -> Word {
+fn named(tree: &mut Tree, word: &str, name: Name, parent: Option<u32>) -> ReplyWord {
     match word {
         "register" => registered(tree, name, parent),
         _ => maybe(tree.find(&name)),
@@ -45,7 +45,7 @@ fn numbered(tree: &Tree, word: &str, device: u32, out: &mut Out) {
     }
 }
 
-impl Tried for Tree {
+impl CaseRunner for Tree {
     fn answer(&mut self, line: &str, out: &mut Out) {
         let (word, rest) = cut(line, ' ');
         let (name, parent) = cut(rest, ' ');
@@ -64,12 +64,12 @@ pub fn trees(alloc: Global, lines: &str, out: &mut Out) {
     let mut tree = Tree::new(alloc);
     answer_lines(&mut tree, lines, out);
     let devices = tree.into_devices();
-    out.say(one(Word::Number(devices.len() as i128)));
+    out.say(one(ReplyWord::Number(devices.len() as i128)));
 }
 
 /// The answer to a request, and what is kept of the device then: whether it is suspended, whether it is prepared, and whether
 /// runtime PM is disabled by direct-complete and by late.
-fn requested(words: Words) -> Said {
+fn requested(words: Words) -> CaseReply {
     let to_suspended = words.flag(3);
     let mut kept = Runtime {
         suspended: !to_suspended,
@@ -80,10 +80,10 @@ fn requested(words: Words) -> Said {
     let given = request(&mut kept, to_suspended);
     five(
         answer(given),
-        Word::Flag(kept.suspended),
-        Word::Flag(kept.prepared),
-        Word::Flag(kept.off_direct),
-        Word::Flag(kept.off_late),
+        ReplyWord::Flag(kept.suspended),
+        ReplyWord::Flag(kept.prepared),
+        ReplyWord::Flag(kept.off_direct),
+        ReplyWord::Flag(kept.off_late),
     )
 }
 

@@ -1,7 +1,7 @@
 //! JSON values: `json` with texts and whether they are read, and `value TEXT` with questions about what a text spells.
 
-use crate::asked::{Word, Words, cut, found};
-use crate::said::{NO_CALL, Out, Said, maybe_long, one, two};
+use crate::asked::{ReplyWord, Words, cut, found};
+use crate::reply::{CaseReply, NO_CALL, Out, maybe_long, one, two};
 use borrowed_json::{
     Scratch, Value, as_array, as_bool, as_i64, as_object, as_str, as_u64, get, read_value,
 };
@@ -9,11 +9,11 @@ use sleep_base::Mem;
 use std::alloc::Global;
 
 /// Whether these bytes are read, by this reader and by serde_json's own.
-fn said_read(alloc: Global, bytes: &[u8]) -> Result<Said, Mem> {
+fn read_reply(alloc: Global, bytes: &[u8]) -> Result<CaseReply, Mem> {
     let mut scratch = Scratch::new(alloc);
     let is_read = read_value(alloc, bytes, &mut scratch)?.is_some();
     let is_known = serde_json::Value::from_slice(alloc, bytes).is_ok();
-    Ok(two(Word::Flag(is_read), Word::Flag(is_known)))
+    Ok(two(ReplyWord::Flag(is_read), ReplyWord::Flag(is_known)))
 }
 
 /// A list in a list, to that depth.
@@ -26,7 +26,7 @@ fn nested(alloc: Global, depth: u32) -> Result<Vec<u8>, Mem> {
 }
 
 /// Bytes that numbers tell.
-fn told_bytes(alloc: Global, text: &str) -> Result<Vec<u8>, Mem> {
+fn bytes_in(alloc: Global, text: &str) -> Result<Vec<u8>, Mem> {
     let mut bytes = Vec::new(alloc);
     for word in text.split(' ') {
         bytes.push(word.parse::<u8>().unwrap_or(0))?;
@@ -35,15 +35,15 @@ fn told_bytes(alloc: Global, text: &str) -> Result<Vec<u8>, Mem> {
 }
 
 /// A whole number with a sign.
-fn signed(number: Option<i64>) -> Word {
+fn signed(number: Option<i64>) -> ReplyWord {
     match number {
-        Some(number) => Word::Number(i128::from(number)),
-        None => Word::Nothing,
+        Some(number) => ReplyWord::Number(i128::from(number)),
+        None => ReplyWord::Nothing,
     }
 }
 
 /// What a text is as a whole number, without and with a sign.
-fn said_number(alloc: Global, text: &str) -> Result<Said, Mem> {
+fn number_reply(alloc: Global, text: &str) -> Result<CaseReply, Mem> {
     let mut scratch = Scratch::new(alloc);
     match read_value(alloc, text.as_bytes(), &mut scratch)? {
         Some(value) => Ok(two(maybe_long(as_u64(&value)), signed(as_i64(&value)))),
@@ -52,13 +52,13 @@ fn said_number(alloc: Global, text: &str) -> Result<Said, Mem> {
 }
 
 /// `read TEXT`, `bytes NUMBER ..`, `nested DEPTH`: whether they are read; `number TEXT`: which numbers it is.
-fn said_text(alloc: Global, line: &str) -> Result<Said, Mem> {
+fn text_reply(alloc: Global, line: &str) -> Result<CaseReply, Mem> {
     let (word, text) = cut(line, ' ');
     match word {
-        "read" => said_read(alloc, text.as_bytes()),
-        "bytes" => said_read(alloc, &told_bytes(alloc, text)?),
-        "nested" => said_read(alloc, &nested(alloc, Words::of(text).number(0))?),
-        "number" => said_number(alloc, text),
+        "read" => read_reply(alloc, text.as_bytes()),
+        "bytes" => read_reply(alloc, &bytes_in(alloc, text)?),
+        "nested" => read_reply(alloc, &nested(alloc, Words::of(text).number(0))?),
+        "number" => number_reply(alloc, text),
         _ => Ok(NO_CALL),
     }
 }
@@ -66,8 +66,8 @@ fn said_text(alloc: Global, line: &str) -> Result<Said, Mem> {
 /// Says of each text whether it is read.
 pub fn json(alloc: Global, lines: &str, out: &mut Out) {
     for line in lines.split('\n') {
-        match said_text(alloc, line) {
-            Ok(said) => out.say(said),
+        match text_reply(alloc, line) {
+            Ok(reply) => out.say(reply),
             Err(_) => out.lack(),
         }
     }
@@ -75,7 +75,7 @@ pub fn json(alloc: Global, lines: &str, out: &mut Out) {
 
 /// What a value is asked.
 #[derive(Clone, Copy)]
-enum Asks {
+enum ValueQuestion {
     Object,
     Array,
     Bool,
@@ -83,19 +83,19 @@ enum Asks {
     Text,
 }
 
-const ASKS: [(&str, Asks); 5] = [
-    ("object", Asks::Object),
-    ("array", Asks::Array),
-    ("bool", Asks::Bool),
-    ("number", Asks::Number),
-    ("text", Asks::Text),
+const ASKS: [(&str, ValueQuestion); 5] = [
+    ("object", ValueQuestion::Object),
+    ("array", ValueQuestion::Array),
+    ("bool", ValueQuestion::Bool),
+    ("number", ValueQuestion::Number),
+    ("text", ValueQuestion::Text),
 ];
 
 /// A count as a word, or `-`.
-fn counted(count: Option<usize>) -> Word {
+fn counted(count: Option<usize>) -> ReplyWord {
     match count {
-        Some(count) => Word::Number(count as i128),
-        None => Word::Nothing,
+        Some(count) => ReplyWord::Number(count as i128),
+        None => ReplyWord::Nothing,
     }
 }
 
@@ -112,16 +112,18 @@ fn say_text(text: Option<&str>, out: &mut Out) {
 }
 
 /// Says what a value is.
-fn say_value(value: &Value<'_>, asks: Asks, out: &mut Out) {
+fn say_value(value: &Value<'_>, asks: ValueQuestion, out: &mut Out) {
     match asks {
-        Asks::Object => out.say(one(counted(as_object(value).map(|members| members.len())))),
-        Asks::Array => out.say(one(counted(as_array(value).map(|items| items.len())))),
-        Asks::Bool => out.say(one(match as_bool(value) {
-            Some(flag) => Word::Flag(flag),
-            None => Word::Nothing,
+        ValueQuestion::Object => out.say(one(counted(as_object(value).map(
+            |members| members.len(),
+        )))),
+        ValueQuestion::Array => out.say(one(counted(as_array(value).map(|items| items.len())))),
+        ValueQuestion::Bool => out.say(one(match as_bool(value) {
+            Some(flag) => ReplyWord::Flag(flag),
+            None => ReplyWord::Nothing,
         })),
-        Asks::Number => out.say(one(maybe_long(as_u64(value)))),
-        Asks::Text => say_text(as_str(value), out),
+        ValueQuestion::Number => out.say(one(maybe_long(as_u64(value)))),
+        ValueQuestion::Text => say_text(as_str(value), out),
     }
 }
 

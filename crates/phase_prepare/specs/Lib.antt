@@ -1,2 +1,2 @@
-pub mod AtPlaces
+pub mod AtPoints
 pub mod Prepares

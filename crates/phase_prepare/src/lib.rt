@@ -3,7 +3,7 @@
 //!
 //! Promises: What prepare and complete do next, exactly. By the clauses of `prepare_due`, `complete_due`.
 //!
-//! Begin reading in `src/prepare.rt`, `src/down.rt`, `src/up.rt`.
+//! Begin reading in `src/prepare.rt`.
 #![tactic(auto)]
 
 mod law;

@@ -8,9 +8,9 @@ use Rattle.sleep_model.specs.declared.entry.Entry.{Entry}
 use Rattle.sleep_model.specs.declared.machine.Machine.{Machine}
 use Rattle.sleep_model.specs.declared.word.EventNow.{EventNow}
 use Rattle.sleep_model.specs.Devices.{next_to_schedule, next_up, walk_up, up_due, scheduled_due}
-use Rattle.async_board.specs.AtPlaces.{board_at}
-use Rattle.phase_resume.specs.Ups.{walk_up_on, walk_due_on, scheduled_up_on}
-use Rattle.phase_resume.specs.AtPlaces.{Follows}
+use Rattle.async_board.specs.AtPoints.{board_at}
+use Rattle.phase_resume.specs.Ups.{walk_up_on, walk_up_due_on, scheduled_up_on}
+use Rattle.phase_resume.specs.AtPoints.{ResumeFollows}
 
 module _ (m : Machine) (past : List Entry) (now : EventNow) where
   walk_same : (p : Phase) → is_up p ≡ true → (scheduled next : Option ℕ) → walk_up_on (board_at m past) p scheduled next ≡ walk_up m past p scheduled next
@@ -25,7 +25,7 @@ module _ (m : Machine) (past : List Entry) (now : EventNow) where
   walk_same phase.Resume e None None = refl
   walk_same p e scheduled next = absurd (false≢true e)
 
-  walk_is : (p : Phase) → is_up p ≡ true → walk_due_on (board_at m past) p ≡ up_due m past p None
+  walk_is : (p : Phase) → is_up p ≡ true → walk_up_due_on (board_at m past) p ≡ up_due m past p None
   walk_is phase.ResumeNoirq e = walk_same phase.ResumeNoirq e (next_to_schedule m past phase.Noirq) (next_up m past phase.Noirq)
   walk_is phase.Early e = walk_same phase.Early e (next_to_schedule m past phase.Late) (next_up m past phase.Late)
   walk_is phase.Resume e = walk_same phase.Resume e (next_to_schedule m past phase.Suspend) (next_up m past phase.Suspend)
@@ -37,5 +37,5 @@ module _ (m : Machine) (past : List Entry) (now : EventNow) where
   scheduled_is phase.Resume d e = refl
   scheduled_is p d e = absurd (false≢true e)
 
-  pub follows : Follows m past now
+  pub follows : ResumeFollows m past now
   follows = record { walk = walk_is; scheduled = scheduled_is }

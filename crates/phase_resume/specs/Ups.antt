@@ -3,8 +3,8 @@ use Rattle.std.specs.Prelude.{ℕ, Option, Some, None}
 use Rattle.phase_table.specs.declared.phase.Phase.{Phase}
 use Rattle.phase_table.specs.Phases.{mirror}
 use Rattle.sleep_model.specs.declared.entry.Kind.TheVariants as kind
-use Rattle.sleep_model.specs.declared.place.Due.{Due}
-use Rattle.sleep_model.specs.declared.place.Due.TheVariants.{Makes}
+use Rattle.sleep_model.specs.declared.progress.Due.{Due}
+use Rattle.sleep_model.specs.declared.progress.Due.TheVariants.{Makes}
 use Rattle.sleep_model.specs.Devices.{after_device}
 use Rattle.async_board.specs.Boards.{BoardState, next_to_schedule_on, next_up_on, waits_up_on, waits_above_on}
 
@@ -23,5 +23,5 @@ walk_up_on board p None (Some d) = scheduled_up_on board p d
 walk_up_on board p None None = close_up_on board p
 
 -- the walk up, where it is inside no callback (dpm_noirq_resume_devices, dpm_resume_early, dpm_resume)
-abbrev pub walk_due_on : BoardState → Phase → Due
-walk_due_on board p = walk_up_on board p (next_to_schedule_on board (mirror p)) (next_up_on board (mirror p))
+abbrev pub walk_up_due_on : BoardState → Phase → Due
+walk_up_due_on board p = walk_up_on board p (next_to_schedule_on board (mirror p)) (next_up_on board (mirror p))

@@ -4,7 +4,7 @@
 //! Promises: What each walk up, and each scheduled device, does next, exactly. By the clauses of `walk_due`,
 //! `device_due`.
 //!
-//! Begin reading in `src/prepare.rt`, `src/down.rt`, `src/up.rt`.
+//! Begin reading in `src/up.rt`.
 #![tactic(auto)]
 
 mod law;

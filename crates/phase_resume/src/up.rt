@@ -1,5 +1,5 @@
 ghost use Rattle.std.specs.Prelude.{◌≡◌};
-ghost use Rattle.phase_resume.specs.Ups.{walk_due_on, scheduled_up_on, close_up_on};
+ghost use Rattle.phase_resume.specs.Ups.{walk_up_due_on, scheduled_up_on, close_up_on};
 
 use async_board::Board;
 use sleep_model::{Due, Kind, Phase, Why};
@@ -10,7 +10,7 @@ use sleep_model::{Due, Kind, Phase, Why};
 /// first to the last, each once all above it are up, and it ends once all are up. It brings up no
 /// device that the mirror phase did not suspend.
 pub fn walk_due(board: &Board, p: Phase) -> Due
-    ensures { result ≡ walk_due_on board.now p }
+    ensures { result ≡ walk_up_due_on board.now p }
 {
     let down = p.mirror();
     if let Some(device) = board.next_to_schedule(down) {

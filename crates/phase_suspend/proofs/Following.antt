@@ -9,8 +9,8 @@ use Rattle.sleep_model.specs.declared.entry.Entry.{Entry}
 use Rattle.sleep_model.specs.declared.machine.Machine.{Machine}
 use Rattle.sleep_model.specs.declared.word.EventNow.{EventNow}
 use Rattle.sleep_model.specs.Devices.{phase_failed, next_down, walk_down, down_due, scheduled_due}
-use Rattle.phase_suspend.specs.Downs.{walk_down_on, walk_due_on, scheduled_down_on}
-use Rattle.phase_suspend.specs.AtPlaces.{down_at, Follows}
+use Rattle.phase_suspend.specs.Downs.{walk_down_on, walk_down_due_on, scheduled_down_on}
+use Rattle.phase_suspend.specs.AtPoints.{down_at, SuspendFollows}
 
 module _ (m : Machine) (past : List Entry) (now : EventNow) where
   walk_same : (p : Phase) → is_down p ≡ true → (error : Option Errno) (next : Option ℕ) → walk_down_on (down_at m past now) p error next ≡ walk_down m past now p error next
@@ -25,7 +25,7 @@ module _ (m : Machine) (past : List Entry) (now : EventNow) where
   walk_same phase.Noirq e (Some r) next = refl
   walk_same p e error next = absurd (false≢true e)
 
-  walk_is : (p : Phase) → is_down p ≡ true → walk_due_on (down_at m past now) p ≡ down_due m past now p None
+  walk_is : (p : Phase) → is_down p ≡ true → walk_down_due_on (down_at m past now) p ≡ down_due m past now p None
   walk_is phase.Suspend e = walk_same phase.Suspend e (phase_failed past) (next_down m past phase.Suspend)
   walk_is phase.Late e = walk_same phase.Late e (phase_failed past) (next_down m past phase.Late)
   walk_is phase.Noirq e = walk_same phase.Noirq e (phase_failed past) (next_down m past phase.Noirq)
@@ -37,5 +37,5 @@ module _ (m : Machine) (past : List Entry) (now : EventNow) where
   scheduled_is phase.Noirq d e = refl
   scheduled_is p d e = absurd (false≢true e)
 
-  pub follows : Follows m past now
+  pub follows : SuspendFollows m past now
   follows = record { walk = walk_is; scheduled = scheduled_is; answer = λ d to_suspended. refl }

@@ -7,10 +7,10 @@ use Rattle.phase_table.specs.Phases.{tests_wakeup}
 use Rattle.sleep_model.specs.declared.entry.Kind.{Kind}
 use Rattle.sleep_model.specs.declared.entry.Kind.TheVariants as kind
 use Rattle.sleep_model.specs.declared.entry.SkipCause.TheVariants as skip
-use Rattle.sleep_model.specs.declared.place.Due.{Due}
-use Rattle.sleep_model.specs.declared.place.Due.TheVariants.{Makes}
+use Rattle.sleep_model.specs.declared.progress.Due.{Due}
+use Rattle.sleep_model.specs.declared.progress.Due.TheVariants.{Makes}
 use Rattle.sleep_model.specs.Devices.{after_device, unless_failed}
-use Rattle.sleep_model.specs.Stands.{stand_at, is_direct_complete}
+use Rattle.sleep_model.specs.PhaseStates.{state_at, is_direct_complete}
 use Rattle.sleep_model.specs.Walk.{is_so, or_else}
 use Rattle.async_board.specs.Boards.{BoardState, next_down_on, waits_down_on, waits_below_on, all_direct_complete_on}
 use Rattle.phase_suspend.specs.declared.down.Down.{Down}
@@ -45,7 +45,7 @@ is_direct_now_on s d = is_so s.asks_direct d && is_so s.statuses d && not (is_so
 -- phase p leaves d alone (__device_suspend, __device_suspend_late, direct_complete)
 abbrev pub is_direct_on : DownState → Phase → ℕ → Bool
 is_direct_on s phase.Suspend d = is_direct_now_on s d
-is_direct_on s p d = is_direct_complete (stand_at s.board.suspend d)
+is_direct_on s p d = is_direct_complete (state_at s.board.suspend d)
 
 -- a device at its turn (__device_suspend)
 abbrev pub taken_on : DownState → Phase → ℕ → Kind
@@ -69,8 +69,8 @@ walk_down_on s p None (Some d) = take_down_on s p d
 walk_down_on s p error next = close_down_on s p
 
 -- the walk down, where it is inside no callback (dpm_suspend, dpm_suspend_late, dpm_noirq_suspend_devices)
-abbrev pub walk_due_on : DownState → Phase → Due
-walk_due_on s p = walk_down_on s p s.failed (next_down_on s.board p)
+abbrev pub walk_down_due_on : DownState → Phase → Due
+walk_down_due_on s p = walk_down_on s p s.failed (next_down_on s.board p)
 
 -- a device that is scheduled on the way down, at its turn (async_suspend)
 abbrev pub scheduled_down_on : DownState → Phase → ℕ → Due

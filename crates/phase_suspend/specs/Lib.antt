@@ -1,3 +1,3 @@
-pub mod AtPlaces
+pub mod AtPoints
 pub mod Downs
 pub mod Spanned

@@ -1,7 +1,7 @@
 ghost use Rattle.std.specs.Prelude.{◌≡◌, None};
 ghost use Rattle.sleep_model.specs.Devices.{unless_failed};
 ghost use Rattle.sleep_model.specs.Walk.{or_else};
-ghost use Rattle.phase_suspend.specs.Downs.{down_state, is_direct_on, taken_on, take_down_on, close_down_on, walk_due_on, scheduled_down_on};
+ghost use Rattle.phase_suspend.specs.Downs.{down_state, is_direct_on, taken_on, take_down_on, close_down_on, walk_down_due_on, scheduled_down_on};
 
 use async_board::{Board, is_direct_complete};
 use device_rows::Flags;
@@ -44,7 +44,7 @@ fn is_direct(env: &DownEnv<'_>, p: Phase, device: u32) -> bool
                 && !env.wakeup.is_set(device)
                 && env.board.all_direct_complete(device)
         }
-        _ => is_direct_complete(env.board.stand(Phase::Suspend, device)),
+        _ => is_direct_complete(env.board.state(Phase::Suspend, device)),
     }
 }
 
@@ -79,7 +79,7 @@ impl Down {
     /// one before it begins, is direct-complete or is skipped, and ends once all that were scheduled are
     /// through: by an error, or where no device is left.
     pub fn walk_due(&self, env: &DownEnv<'_>, p: Phase) -> Due
-        ensures { result ≡ walk_due_on (down_state self.now env.now) p }
+        ensures { result ≡ walk_down_due_on (down_state self.now env.now) p }
     {
         match (self.failed, env.board.next_down(p)) {
             (None, Some(device)) => self.take(env, p, device),

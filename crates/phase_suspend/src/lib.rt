@@ -6,7 +6,7 @@
 //! inside an attempt is answered EACCES, EAGAIN or 0, exactly. By the clauses of `Down::walk_due`, `device_due`;
 //! `runtime_due`.
 //!
-//! Begin reading in `src/prepare.rt`, `src/down.rt`, `src/up.rt`.
+//! Begin reading in `src/down.rt`.
 #![tactic(auto)]
 
 mod down;

@@ -9,7 +9,7 @@ use sleep_base::Errno;
 use sleep_model::Phase;
 
 /// What a request is answered that a device be runtime suspended, or active: `EACCES` exactly where
-/// its runtime PM is disabled, else `EAGAIN` exactly where it is prepared and is to be suspended,
+/// its runtime PM is disabled, else `EAGAIN` exactly if it is prepared and is to be suspended,
 /// else 0 (`__pm_runtime_set_status`, `rpm_check_suspend_allowed`).
 ///
 /// Runtime PM is disabled for a device that is direct-complete, where `disabled_by_direct` says that
@@ -24,12 +24,12 @@ pub fn runtime_due(
 ) -> Option<Errno>
     ensures { result ≡ runtime_due_on board.now disabled_by_direct disabled_by_late device to_suspended }
 {
-    let stand = board.stand(Phase::Suspend, device);
-    let is_off = (disabled_by_direct && is_direct_complete(stand))
-        || (disabled_by_late && is_taken(board.stand(Phase::Late, device)));
+    let state = board.state(Phase::Suspend, device);
+    let is_off = (disabled_by_direct && is_direct_complete(state))
+        || (disabled_by_late && is_taken(board.state(Phase::Late, device)));
     if is_off {
         Some(Errno::EACCES)
-    } else if is_prepared(stand) && to_suspended {
+    } else if is_prepared(state) && to_suspended {
         Some(Errno::EAGAIN)
     } else {
         None

@@ -5,21 +5,21 @@ use Rattle.phase_table.specs.declared.table.PhaseRow.{PhaseRow}
 use Rattle.phase_table.specs.declared.phase.Phase.TheVariants.{Prepare, Suspend, Late, Noirq, Syscore, SyscoreResume, ResumeNoirq, Early, Resume, Complete}
 
 -- the place of a phase in an undisturbed attempt (dpm_prepare, dpm_suspend, dpm_suspend_late, dpm_suspend_noirq, syscore_suspend and their ways back)
-abbrev pub phase_place : Phase → ℕ
-phase_place Prepare = 0
-phase_place Suspend = 1
-phase_place Late = 2
-phase_place Noirq = 3
-phase_place Syscore = 4
-phase_place SyscoreResume = 5
-phase_place ResumeNoirq = 6
-phase_place Early = 7
-phase_place Resume = 8
-phase_place Complete = 9
+abbrev pub phase_rank : Phase → ℕ
+phase_rank Prepare = 0
+phase_rank Suspend = 1
+phase_rank Late = 2
+phase_rank Noirq = 3
+phase_rank Syscore = 4
+phase_rank SyscoreResume = 5
+phase_rank ResumeNoirq = 6
+phase_rank Early = 7
+phase_rank Resume = 8
+phase_rank Complete = 9
 
 -- the same phase
 abbrev pub is_phase : Phase → Phase → Bool
-is_phase p q = phase_place p == phase_place q
+is_phase p q = phase_rank p == phase_rank q
 
 -- the phase that undoes a phase, and the other way round (dpm_complete, dpm_resume, dpm_resume_early, dpm_resume_noirq, syscore_resume)
 abbrev pub mirror : Phase → Phase

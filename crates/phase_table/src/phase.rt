@@ -124,7 +124,7 @@ impl Phase {
         by_phase!(named of bytes)
     }
 
-    /// The phase of that name. None exactly where the text is no phase's name.
+    /// The phase of that name. None exactly if the text is no phase's name.
     pub fn of_name(text: &str) -> Option<Phase>
         ensures phase { result ≡ phase_named text.now }
         ensures found { IfSome result (λ p. text.now ≡ phase_name p) }
@@ -133,7 +133,7 @@ impl Phase {
         Phase::of_bytes(text.as_bytes())
     }
 
-    /// The phase whose name these bytes are. None exactly where they are no phase's name.
+    /// The phase whose name these bytes are. None exactly if they are no phase's name.
     #[tactic(auto, using(crate::proofs::Naming::none_named))]
     pub fn of_bytes(bytes: &[u8]) -> Option<Phase>
         ensures phase { result ≡ phase_named bytes.now }

@@ -21,7 +21,7 @@ pub struct CaseTable<const N: usize> {
 }
 
 impl<const N: usize> CaseTable<N> {
-    /// The first row of that phase. None exactly where no row is of it.
+    /// The first row of that phase. None exactly if no row is of it.
     pub fn row(&self, p: Phase) -> Option<PhaseRow>
         ensures { result ≡ row_with p self.now.rows }
     {

@@ -14,25 +14,25 @@ use Rattle.sleep_model.specs.Walk.{is_so, first_where}
 -- the order in which notifiers are called, which of them are owed their post, how many processors there are, and which are off
 pub record Steps : Type 0 where
   pub order : List ℕ
-  pub told : List Bool
+  pub notified_flags : List Bool
   pub cpus : ℕ
   pub off : List Bool
 
 -- nobody has heard, and no processor is off
 abbrev pub first_steps : Machine → Steps
-first_steps m = record { order = call_order m; told = replicate (length m.notifiers) false; cpus = m.cpus; off = replicate m.cpus false }
+first_steps m = record { order = call_order m; notified_flags = replicate (length m.notifiers) false; cpus = m.cpus; off = replicate m.cpus false }
 
 -- what an entry leaves (pm_notifier_call_chain, freeze_secondary_cpus, thaw_secondary_cpus)
 abbrev pub steps_after : Kind → Steps → Steps
-steps_after kind s = record s { told = notified_after kind s.told; off = cpus_off_after kind s.off }
+steps_after kind s = record s { notified_flags = notified_after kind s.notified_flags; off = cpus_off_after kind s.off }
 
 -- the notifier that is to be told of the attempt (PM_SUSPEND_PREPARE)
 abbrev pub called_next : Steps → Option ℕ
-called_next s = first_where (λ x. not (is_so s.told x)) s.order
+called_next s = first_where (λ x. not (is_so s.notified_flags x)) s.order
 
 -- the notifier that is to be told of its end (PM_POST_SUSPEND)
 abbrev pub posted_next : Steps → Option ℕ
-posted_next s = first_where (is_so s.told) s.order
+posted_next s = first_where (is_so s.notified_flags) s.order
 
 -- the processor that is stopped next (freeze_secondary_cpus)
 abbrev pub stopped_next : Steps → Option ℕ
@@ -42,7 +42,7 @@ stopped_next s = first_where (λ k. not (is_so s.off k)) (range_with_len 1 (s.cp
 abbrev pub started_next : Steps → Option ℕ
 started_next s = first_where (is_so s.off) (range_with_len 1 (s.cpus - 1))
 
--- the entry of a step that answers so; a processor is stopped only where no wakeup is pending (freeze_secondary_cpus)
+-- the entry of a step that answers so; a processor is stopped only if no wakeup is pending (freeze_secondary_cpus)
 abbrev pub part_entry : PlatPart → Option Errno → Bool → Kind
 part_entry (part.NotifyPrepare x) r pending = kind.NotifyPrepare x r
 part_entry (part.NotifyPost x) r pending = kind.NotifyPost x

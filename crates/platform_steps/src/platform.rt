@@ -15,7 +15,7 @@ use std::marker::Model;
 #[derive(Drop)]
 pub struct Platform {
     order: Vec<u32>,
-    told: Flags,
+    notified_flags: Flags,
     cpus: u32,
     off: Flags,
 }
@@ -25,7 +25,7 @@ impl Model for Platform {
 
     ghost Value = { Steps };
 
-    ghost view = { λ p. record { order = p.order.items; told = p.told; cpus = p.cpus; off = p.off } };
+    ghost view = { λ p. record { order = p.order.items; notified_flags = p.notified_flags; cpus = p.cpus; off = p.off } };
 }
 
 impl Platform {
@@ -38,11 +38,11 @@ impl Platform {
         ensures { IfOk result (λ p. p ≡ first_steps machine.now) }
     {
         let order = call_order(alloc, machine.notifiers.as_slice())?;
-        let told = Flags::new(alloc, machine.notifiers.len())?;
+        let notified_flags = Flags::new(alloc, machine.notifiers.len())?;
         let off = Flags::new(alloc, machine.cpus as usize)?;
         Ok(Platform {
             order,
-            told,
+            notified_flags,
             cpus: machine.cpus,
             off,
         })
@@ -54,20 +54,20 @@ impl Platform {
         ensures { self.new ≡ steps_after kind self.old }
     {
         match kind {
-            Kind::NotifyPrepare(x, None) => self.told.set(x, true),
-            Kind::NotifyPost(x) => self.told.set(x, false),
+            Kind::NotifyPrepare(x, None) => self.notified_flags.set(x, true),
+            Kind::NotifyPost(x) => self.notified_flags.set(x, false),
             Kind::CpuOff(k) => self.off.set(k, true),
             Kind::CpuOn(k) => self.off.set(k, false),
             _ => (),
         }
     }
 
-    /// The notifier that is to be told of the attempt. None where all are (`PM_SUSPEND_PREPARE`).
+    /// The notifier that is to be told of the attempt. None if all are (`PM_SUSPEND_PREPARE`).
     #[tactic(auto, using(sleep_model::proofs::Searches::find_is_first))]
     pub fn next_called(&self) -> Option<u32>
         ensures { result ≡ called_next self.now }
     {
-        first_unset(&self.told, &self.order)
+        first_unset(&self.notified_flags, &self.order)
     }
 
     /// The notifier that is to be told of its end. None where nobody is owed it (`PM_POST_SUSPEND`).
@@ -75,10 +75,10 @@ impl Platform {
     pub fn next_posted(&self) -> Option<u32>
         ensures { result ≡ posted_next self.now }
     {
-        first_set(&self.told, &self.order)
+        first_set(&self.notified_flags, &self.order)
     }
 
-    /// The processor that is stopped next. None where all but the first are off
+    /// The processor that is stopped next. None if all but the first are off
     /// (`freeze_secondary_cpus`).
     #[tactic(auto, using(sleep_model::proofs::Searches::find_is_first))]
     pub fn next_cpu_off(&self) -> Option<u32>
@@ -87,7 +87,7 @@ impl Platform {
         first_on(&self.off, self.cpus)
     }
 
-    /// The processor that is started next. None where none of the others is off
+    /// The processor that is started next. None if none of the others is off
     /// (`thaw_secondary_cpus`).
     #[tactic(auto, using(sleep_model::proofs::Searches::find_is_first))]
     pub fn next_cpu_on(&self) -> Option<u32>

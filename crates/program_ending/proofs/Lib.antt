@@ -1,2 +1,2 @@
 pub mod Saying
-pub mod Telling
+pub mod CommandEndings

@@ -22,31 +22,31 @@ status_of (Refused refusal) = refusal_status refusal
 status_of NoMemory = 8
 
 -- a line of standard error
-abbrev pub line : List ℕ → List ℕ
-line text = text ++ 10 ∷ []
+abbrev pub error_line : List ℕ → List ℕ
+error_line text = text ++ 10 ∷ []
 
 -- what the program says where an input is refused
 abbrev pub refusal_text : Refusal → List ℕ
-refusal_text LongMachine = line (codes "machine: longer than 16777216 bytes")
-refusal_text (Broken rule place) = line (codes "machine: rule " ++ decimal rule ++ codes ": " ++ string_bytes place)
-refusal_text (SourceFull name) = line (codes "source full: " ++ name)
-refusal_text LongInput = line (codes "input: longer than 268435456 bytes")
-refusal_text (BadLine n) = line (codes "log: line " ++ decimal n)
-refusal_text TooManyLinks = line (codes "log: links")
-refusal_text LinkCycle = line (codes "log: cycle")
-refusal_text LongLocks = line (codes "locks: longer than 16777216 bytes")
-refusal_text (BadLockLine n) = line (codes "locks: line " ++ decimal n)
+refusal_text LongMachine = error_line (codes "machine: longer than 16777216 bytes")
+refusal_text (Broken rule place) = error_line (codes "machine: rule " ++ decimal rule ++ codes ": " ++ string_bytes place)
+refusal_text (SourceFull name) = error_line (codes "source full: " ++ name)
+refusal_text LongInput = error_line (codes "input: longer than 268435456 bytes")
+refusal_text (BadLine n) = error_line (codes "log: line " ++ decimal n)
+refusal_text TooManyLinks = error_line (codes "log: links")
+refusal_text LinkCycle = error_line (codes "log: cycle")
+refusal_text LongLocks = error_line (codes "locks: longer than 16777216 bytes")
+refusal_text (BadLockLine n) = error_line (codes "locks: line " ++ decimal n)
 
 -- what the program says on standard error
 abbrev pub text_of : Ending → List ℕ
 text_of Done = []
 text_of Stuck = []
 text_of Illegal = []
-text_of NoForm = line (codes "usage: run [--workers N] or gen SEED DEVICES or soak SEED DEVICES or check or idle WAKERS EVENTS SESSIONS [--workers N] or locks or stats")
-text_of ReadFault = line (codes "read fault")
-text_of WriteFault = line (codes "write fault")
+text_of NoForm = error_line (codes "usage: run [--workers N] or gen SEED DEVICES or soak SEED DEVICES or check or idle WAKERS EVENTS SESSIONS [--workers N] or locks or stats")
+text_of ReadFault = error_line (codes "read fault")
+text_of WriteFault = error_line (codes "write fault")
 text_of (Refused refusal) = refusal_text refusal
-text_of NoMemory = line (codes "want of memory")
+text_of NoMemory = error_line (codes "want of memory")
 
 -- ---- its pieces
 
@@ -95,7 +95,7 @@ abbrev pub name_of : Ending → List ℕ
 name_of (Refused refusal) = refusal_name refusal
 name_of ending = []
 
--- what it says behind all that: the end of a refusal's line
+-- what it says after all that: the end of a refusal's line
 abbrev pub tail_of : Ending → List ℕ
-tail_of (Refused refusal) = line []
+tail_of (Refused refusal) = error_line []
 tail_of ending = []

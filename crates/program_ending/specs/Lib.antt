@@ -1,3 +1,3 @@
 pub mod Endings
 pub mod Streams
-pub mod Telling
+pub mod CommandEndings

@@ -59,11 +59,11 @@ KeepsInput old new = new.input ≡ old.input
 
 -- a text, of a run that is stuck or not, was written whole; where a write failed, a front of it
 abbrev pub Writes : Stream → Stream → List ℕ → Bool → Ending → Type 0
-Writes old new said stuck Done = (stuck ≡ false) × Appends old.bytes new.bytes said
-Writes old new said stuck Stuck = (stuck ≡ true) × Appends old.bytes new.bytes said
-Writes old new said stuck WriteFault = Rose old.faults new.faults × ((front back : List ℕ) × (said ≡ front ++ back) × Appends old.bytes new.bytes front)
-Writes old new said stuck _ = ⊥
+Writes old new shown_text stuck Done = (stuck ≡ false) × Appends old.bytes new.bytes shown_text
+Writes old new shown_text stuck Stuck = (stuck ≡ true) × Appends old.bytes new.bytes shown_text
+Writes old new shown_text stuck WriteFault = Rose old.faults new.faults × ((front back : List ℕ) × (shown_text ≡ front ++ back) × Appends old.bytes new.bytes front)
+Writes old new shown_text stuck _ = ⊥
 
 -- the text was said on a stream, or a front of it where its count of faults rose
 abbrev pub Says : Option (List ℕ) → Option (List ℕ) → ℕ → ℕ → List ℕ → Type 0
-Says old new before now said = Appends old new said ⊎ ((front back : List ℕ) × (said ≡ front ++ back) × Appends old new front × Rose before now)
+Says old new before now shown_text = Appends old new shown_text ⊎ ((front back : List ℕ) × (shown_text ≡ front ++ back) × Appends old new front × Rose before now)

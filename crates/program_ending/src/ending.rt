@@ -87,7 +87,7 @@ impl Ending {
         }
     }
 
-    /// What it says behind all that: the end of a refusal's line.
+    /// What it says after all that: the end of a refusal's line.
     pub fn tail(&self) -> &'static str
         ensures { result.now ≡ tail_of self.now }
     {

@@ -10,7 +10,7 @@ use std::alloc::Global;
 pub const MOST_MACHINE: u32 = 16_777_216;
 
 /// Reads the whole input. `Refused` with `long` where more than `most` bytes come, `ReadFault` at the first read that
-/// fails, `NoMemory` for want of memory.
+/// fails, `NoMemory` if it is out of memory.
 pub fn read_input<S: ByteSource>(
     alloc: Global,
     input: &mut S,

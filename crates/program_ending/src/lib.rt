@@ -6,20 +6,20 @@
 //!
 //! Promises: An ending's status, and its text piece by piece. An input is read whole, within its limit, or the
 //! ending says why not. A text is written whole, or up to the first write that fails. By the clauses of
-//! `Ending::status`, `head`, `number`, `colon`, `name`, `tail`; `read_input`, `write_said`, `say`.
+//! `Ending::status`, `head`, `number`, `colon`, `name`, `tail`; `read_input`, `write_run_text`, `say`.
 //!
-//! Begin reading in `src/ending.rt`, `src/refusal.rt`, `src/input.rt`, `src/said.rt`; `specs/Endings.antt`,
-//! `specs/Streams.antt`, `specs/Telling.antt`.
+//! Begin reading in `src/ending.rt`, `src/refusal.rt`, `src/input.rt`, `src/run_text.rt`; `specs/Endings.antt`,
+//! `specs/Streams.antt`, `specs/CommandEndings.antt`.
 #![tactic(auto)]
 
 mod ending;
 mod input;
 mod refusal;
-mod said;
+mod run_text;
 mod standard_error;
 
 pub use ending::Ending;
 pub use input::{MOST_MACHINE, read_input};
 pub use refusal::Refusal;
-pub use said::{Said, write_said, write_told};
+pub use run_text::{RunText, write_result, write_run_text};
 pub use standard_error::say;

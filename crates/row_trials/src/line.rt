@@ -4,7 +4,7 @@ ghost use Rattle.std.specs.Prelude.{◌≤◌, length};
 
 /// What a line says of its row.
 #[derive(Clone, Copy, Debug, PartialEq, Eq)]
-pub(crate) enum Verb {
+pub(crate) enum RowField {
     Words,
     Repeat,
     Input,
@@ -20,23 +20,23 @@ pub(crate) enum Verb {
 /// A line: what it says, and its number.
 #[derive(Clone, Copy, Debug)]
 pub(crate) struct Line {
-    pub(crate) verb: Verb,
+    pub(crate) verb: RowField,
     pub(crate) number: usize,
 }
 
 /// What the words before a line's number say.
-fn verb_of(name: &str) -> Option<Verb> {
+fn verb_of(name: &str) -> Option<RowField> {
     match name {
-        "words" => Some(Verb::Words),
-        "repeat" => Some(Verb::Repeat),
-        "input" => Some(Verb::Input),
-        "chunk" => Some(Verb::Chunk),
-        "write room" => Some(Verb::WriteRoom),
-        "read fails" => Some(Verb::ReadFails),
-        "write fails" => Some(Verb::WriteFails),
-        "error fails" => Some(Verb::ErrorFails),
-        "row" => Some(Verb::Row),
-        "asks" => Some(Verb::Asks),
+        "words" => Some(RowField::Words),
+        "repeat" => Some(RowField::Repeat),
+        "input" => Some(RowField::Input),
+        "chunk" => Some(RowField::Chunk),
+        "write room" => Some(RowField::WriteRoom),
+        "read fails" => Some(RowField::ReadFails),
+        "write fails" => Some(RowField::WriteFails),
+        "error fails" => Some(RowField::ErrorFails),
+        "row" => Some(RowField::Row),
+        "asks" => Some(RowField::Asks),
         _ => None,
     }
 }
@@ -61,7 +61,7 @@ fn line_length(bytes: &[u8]) -> usize
     bytes.len()
 }
 
-/// The text of the first line, and the bytes behind it. `None` where it has no newline or is no text.
+/// The text of the first line, and the bytes after it. `None` if it has no newline or is no text.
 pub(crate) fn cut_text(bytes: &[u8]) -> Option<(&str, &[u8])> {
     let (text, rest) = bytes.split_at(line_length(bytes));
     let (_, behind) = rest.split_first()?;
@@ -69,14 +69,14 @@ pub(crate) fn cut_text(bytes: &[u8]) -> Option<(&str, &[u8])> {
     Some((text, behind))
 }
 
-/// The first line, and the bytes behind it.
+/// The first line, and the bytes after it.
 pub(crate) fn cut_line(bytes: &[u8]) -> Option<(Line, &[u8])> {
     let (text, behind) = cut_text(bytes)?;
     let line = line_of(text)?;
     Some((line, behind))
 }
 
-/// That many bytes, and those behind the newline that stands behind them.
+/// That many bytes, and those after the newline that stands after them.
 pub(crate) fn cut_piece(bytes: &[u8], count: usize) -> Option<(&[u8], &[u8])> {
     if count > bytes.len() {
         return None;

@@ -23,7 +23,7 @@ fn writes<R: Threads + Wait + Sync>(
 const RELAXED: &str =
     r#"{"version": 1, "sources": ["a"], "actors": [{"name": "w", "kind": "user", "repeat": 2, "script": [{"op": "relax", "source": "a", "times": 15000}]}]}"#;
 
-/// What is written behind the calls.
+/// What is written after the calls.
 const RELAXED_END: &str =
     "0 0/0/0 task:w exit\nsource a 0 0 0 0 0 0 0\nsource autosleep 0 0 0 0 0 0 0\nfinished\n";
 

@@ -10,7 +10,7 @@ use std::thread::Threads;
 
 /// The streams of a call of the program, in memory.
 #[derive(Drop)]
-struct Ends {
+struct CallStreams {
     source: MemSource,
     out: MemSink,
     err: MemSink,
@@ -20,7 +20,7 @@ struct Ends {
 #[derive(Drop)]
 pub(crate) struct Outcome {
     status: u8,
-    ends: Ends,
+    ends: CallStreams,
 }
 
 /// The numbers of calls that fail: this one, if it is one.
@@ -44,13 +44,13 @@ fn sink_of(alloc: Global, room: usize, chunk: usize, fails: usize) -> Result<Mem
     MemSink::new(alloc, room, chunk.max(1), fails)
 }
 
-impl Ends {
+impl CallStreams {
     /// The streams over that input.
     fn new(alloc: Global, input: Vec<u8>, streams: Streams) -> Result<Self, Mem> {
         let source = source_of(alloc, input, streams)?;
         let out = sink_of(alloc, streams.room, streams.chunk, streams.write_fails)?;
         let err = sink_of(alloc, 4_096, streams.chunk, streams.error_fails)?;
-        Ok(Ends { source, out, err })
+        Ok(CallStreams { source, out, err })
     }
 
     /// Runs the program over these streams. Answers its status.
@@ -87,7 +87,7 @@ impl Outcome {
             streams,
             ..
         } = row;
-        let mut ends = Ends::new(alloc, input, streams)?;
+        let mut ends = CallStreams::new(alloc, input, streams)?;
         let status = ends.status_of(rt, alloc, &words, gate);
         drop(words);
         Ok(Outcome { status, ends })
@@ -118,7 +118,7 @@ impl Outcome {
     }
 
     /// What is said of the row of that number.
-    pub(crate) fn told(&self, alloc: Global, number: usize) -> Result<Vec<u8>, Mem> {
+    pub(crate) fn report(&self, alloc: Global, number: usize) -> Result<Vec<u8>, Mem> {
         let status = self.status();
         let left = self.ends.source.left().len();
         let (out, err) = (self.out().len(), self.err().len());

@@ -1,7 +1,7 @@
 //! A row: its words, its input, and how the streams behave.
 
 use crate::fault::RowsFault;
-use crate::line::{Line, Verb, cut_piece, cut_text};
+use crate::line::{Line, RowField, cut_piece, cut_text};
 use std::alloc::Global;
 
 /// How the streams behave. A call whose number is 0 is none.
@@ -100,15 +100,15 @@ impl Row {
         left: &'a [u8],
     ) -> Result<&'a [u8], RowsFault> {
         match line.verb {
-            Verb::Words => return self.take_words(alloc, line.number, left),
-            Verb::Input => return self.take_piece(line.number, left),
-            Verb::Repeat => self.repeat = line.number,
-            Verb::Chunk => self.streams.chunk = line.number,
-            Verb::WriteRoom => self.streams.room = line.number,
-            Verb::ReadFails => self.streams.read_fails = line.number,
-            Verb::WriteFails => self.streams.write_fails = line.number,
-            Verb::ErrorFails => self.streams.error_fails = line.number,
-            Verb::Row | Verb::Asks => {}
+            RowField::Words => return self.take_words(alloc, line.number, left),
+            RowField::Input => return self.take_piece(line.number, left),
+            RowField::Repeat => self.repeat = line.number,
+            RowField::Chunk => self.streams.chunk = line.number,
+            RowField::WriteRoom => self.streams.room = line.number,
+            RowField::ReadFails => self.streams.read_fails = line.number,
+            RowField::WriteFails => self.streams.write_fails = line.number,
+            RowField::ErrorFails => self.streams.error_fails = line.number,
+            RowField::Row | RowField::Asks => {}
         }
         Ok(left)
     }

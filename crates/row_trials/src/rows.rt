@@ -2,7 +2,7 @@
 
 use crate::command::told_command;
 use crate::fault::RowsFault;
-use crate::line::{Line, Verb, cut_line};
+use crate::line::{Line, RowField, cut_line};
 use crate::outcome::Outcome;
 use crate::row::Row;
 use sleep_base::{ByteSink, Mem, write_all};
@@ -15,7 +15,7 @@ fn fill<'a>(row: &mut Row, alloc: Global, rows: &'a [u8]) -> Result<(Line, &'a [
     let mut left = rows;
     for _ in 0..rows.len() {
         let (line, after) = cut_line(left).ok_or(RowsFault::Form)?;
-        if line.verb == Verb::Row || line.verb == Verb::Asks {
+        if line.verb == RowField::Row || line.verb == RowField::Asks {
             return Ok((line, after));
         }
         left = row.take(alloc, line, after)?;
@@ -31,19 +31,19 @@ fn told_outcome<R: Threads + Wait + Sync>(
     number: usize,
 ) -> Result<Vec<u8>, Mem> {
     let outcome = Outcome::new(rt, alloc, row)?;
-    let text = outcome.told(alloc, number);
+    let text = outcome.report(alloc, number);
     drop(outcome);
     text
 }
 
 /// What is said of a row that this line ends.
-fn told<R: Threads + Wait + Sync>(
+fn report<R: Threads + Wait + Sync>(
     rt: &R,
     alloc: Global,
     row: Row,
     end: Line,
 ) -> Result<Vec<u8>, Mem> {
-    if end.verb == Verb::Row {
+    if end.verb == RowField::Row {
         return told_outcome(rt, alloc, row, end.number);
     }
     let text = told_command(alloc, &row.words, end.number);
@@ -66,7 +66,7 @@ fn run_row<'a, R: Threads + Wait + Sync, K: ByteSink>(
             return Err(fault);
         }
     };
-    let text = told(rt, alloc, row, end)?;
+    let text = report(rt, alloc, row, end)?;
     write_all(out, &text)?;
     Ok(after)
 }

@@ -112,7 +112,7 @@ fn reports_pass_the_machines_lock(rt: HostRuntime) {
 
 /// The first turns of some jobs wait for each other, and each job's turns are counted.
 #[derive(Drop)]
-struct Meeting {
+struct FirstTurns {
     /// Which of the first three jobs meet.
     meets: [bool; 3],
     come: [AtomicBool; 3],
@@ -129,10 +129,10 @@ fn no_flags() -> [AtomicBool; 3] {
     ]
 }
 
-impl Meeting {
+impl FirstTurns {
     /// A meeting of those.
     fn of(meets: [bool; 3]) -> Self {
-        Meeting {
+        FirstTurns {
             meets,
             come: no_flags(),
             met: no_flags(),
@@ -160,7 +160,7 @@ impl Meeting {
     }
 }
 
-impl Gate for Meeting {
+impl Gate for FirstTurns {
     fn pass(&self, job: u32) {
         let at = job as usize;
         let Some(passes) = self.passes.get(at) else {
@@ -180,7 +180,7 @@ fn meets_well<R: Threads + Wait + Sync>(
     rt: &R,
     alloc: Global,
     words: &[&str],
-    gate: &Meeting,
+    gate: &FirstTurns,
 ) -> Result<bool, Mem> {
     let outcome = given_with(rt, alloc, words, SMALLEST_ATTEMPT, gate)?;
     let is_so = is_done(&outcome, SMALLEST_ATTEMPT_LOG.as_bytes());
@@ -223,7 +223,7 @@ fn is_meeting<R: Threads + Wait + Sync>(
     meets: [bool; 3],
     turns: (u64, u64),
 ) -> Result<bool, Mem> {
-    let gate = Meeting::of(meets);
+    let gate = FirstTurns::of(meets);
     let is_well = meets_well(rt, alloc, words, &gate)?;
     Ok(is_well && gate.was(turns))
 }
@@ -266,7 +266,7 @@ fn is_one_log<R: Threads + Wait + Sync>(rt: &R, alloc: Global) -> Result<bool, M
     Ok(is_same && has_all)
 }
 
-/// The log of one interrupt is the same for each number of workers, also where its text is made in slices.
+/// The log of one interrupt is the same for each number of workers, also if its text is made in slices.
 #[test]
 fn slices_are_one_log(rt: HostRuntime) {
     assert!(rt; is_one_log(&rt, rt.alloc()) == Ok(true));

@@ -7,8 +7,8 @@ use Rattle.sleep_model.specs.declared.entry.Kind.{Kind}
 use Rattle.sleep_model.specs.declared.entry.Kind.TheVariants as kind
 use Rattle.sleep_model.specs.declared.machine.Machine.{Machine}
 use Rattle.sleep_model.specs.declared.machine.Script.{Script}
-use Rattle.sleep_model.specs.declared.place.Due.TheVariants.{Makes}
-use Rattle.sleep_model.specs.declared.place.Sleep.{Sleep}
+use Rattle.sleep_model.specs.declared.progress.Due.TheVariants.{Makes}
+use Rattle.sleep_model.specs.declared.progress.Sleep.{Sleep}
 use Rattle.sleep_model.specs.declared.word.EventNow.{EventNow}
 use Rattle.sleep_model.specs.Attempt.{sleep_of, sleeps_now, wakes_due}
 use Rattle.sleep_model.specs.Due.{is_over}
@@ -16,7 +16,7 @@ use Rattle.sleep_model.specs.Tasks.{is_line}
 use Rattle.rule_definitions.specs.Questions.{is_maker}
 use Rattle.sleep_model.specs.Legal.{JumpStep}
 use Rattle.sleep_model.specs.Numbers.{numbers, time_of}
-use Rattle.sleep_model.specs.Parts.{Part, OfJournal, OfTime, journal}
+use Rattle.sleep_model.specs.EntryClasses.{EntryClass, OfJournal, OfTime, journal}
 use Rattle.sleep_model.specs.Sources.{history}
 
 -- a task makes nothing while the machine sleeps, unless it is an interrupt line (own)
@@ -43,7 +43,7 @@ KeepsEnabled m past now who k = AwakeActor m past who (is_maker past who) × Wak
 -- ---- among all entries
 
 -- who makes an entry of the journal may go on; time jumps, forward, to the least pending time, where nobody can make anything and something is left to do (suspend_enter; jumps are own)
-abbrev pub EnabledEntry : Machine → List Entry → Entry → Part → Type 0
+abbrev pub EnabledEntry : Machine → List Entry → Entry → EntryClass → Type 0
 EnabledEntry m past e OfJournal = KeepsEnabled m (journal past) (numbers past) e.actor e.kind
 EnabledEntry m past e OfTime =
     JumpStep m (journal past) (λ s. history s past) (numbers past) e.time × (time_of past < e.time)

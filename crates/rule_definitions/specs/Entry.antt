@@ -4,7 +4,7 @@ use Rattle.sleep_model.specs.declared.entry.Entry.{Entry}
 use Rattle.sleep_model.specs.declared.machine.Machine.{Machine}
 use Rattle.sleep_model.specs.Legal.{IsLegal}
 use Rattle.sleep_model.specs.Numbers.{numbers}
-use Rattle.sleep_model.specs.Parts.{Part, OfJournal, part_of, journal}
+use Rattle.sleep_model.specs.EntryClasses.{EntryClass, OfJournal, class_of, journal}
 use Rattle.rule_definitions.specs.Answers.{KeepsAnswers}
 use Rattle.rule_definitions.specs.Attempts.{KeepsAttempts}
 use Rattle.rule_definitions.specs.Enabled.{EnabledEntry}
@@ -22,7 +22,7 @@ use Rattle.rule_definitions.specs.Steps.{StepsEntry}
 use Rattle.rule_definitions.specs.Walk.{WalkEntry}
 
 -- what is asked of an entry of the journal alone
-abbrev pub OnJournal : Part → Type 0 → Type 0
+abbrev pub OnJournal : EntryClass → Type 0 → Type 0
 OnJournal OfJournal rule = rule
 OnJournal _ rule = Unit {0}
 
@@ -44,8 +44,8 @@ pub data Rule : Type 0 where
   Enabled : Rule
   Source : Rule
 
--- an entry of that part behind these keeps that rule (kernel/power/suspend.c, kernel/power/main.c, drivers/base/power/main.c, drivers/base/power/wakeup.c)
-abbrev pub KeepsRule : Machine → List Entry → Entry → Part → Rule → Type 0
+-- an entry of that part after these keeps that rule (kernel/power/suspend.c, kernel/power/main.c, drivers/base/power/main.c, drivers/base/power/wakeup.c)
+abbrev pub KeepsRule : Machine → List Entry → Entry → EntryClass → Rule → Type 0
 KeepsRule m past e part Links = OnJournal part (KeepsLinks m (journal past) e.kind)
 KeepsRule m past e part Numbers = KeepsNumbers past e part
 KeepsRule m past e part Attempts = OnJournal part (KeepsAttempts (journal past) e.kind)
@@ -62,8 +62,8 @@ KeepsRule m past e part Steps = StepsEntry m past e part
 KeepsRule m past e part Enabled = EnabledEntry m past e part
 KeepsRule m past e part Source = SourceEntry m past e part
 
--- an entry of that part behind these keeps each rule (kernel/power/suspend.c, kernel/power/main.c, drivers/base/power/main.c, drivers/base/power/wakeup.c)
-pub record KeepsPart (m : Machine) (past : List Entry) (e : Entry) (part : Part) : Type 0 where
+-- an entry of that part after these keeps each rule (kernel/power/suspend.c, kernel/power/main.c, drivers/base/power/main.c, drivers/base/power/wakeup.c)
+pub record KeepsPart (m : Machine) (past : List Entry) (e : Entry) (part : EntryClass) : Type 0 where
   pub links : KeepsRule m past e part Links
   pub numbers : KeepsRule m past e part Numbers
   pub attempts : KeepsRule m past e part Attempts
@@ -80,29 +80,29 @@ pub record KeepsPart (m : Machine) (past : List Entry) (e : Entry) (part : Part)
   pub enabled : KeepsRule m past e part Enabled
   pub source : KeepsRule m past e part Source
 
--- an entry behind these keeps each rule (kernel/power/suspend.c, kernel/power/main.c, drivers/base/power/main.c, drivers/base/power/wakeup.c)
+-- an entry after these keeps each rule (kernel/power/suspend.c, kernel/power/main.c, drivers/base/power/main.c, drivers/base/power/wakeup.c)
 abbrev pub KeepsEntry : Machine → List Entry → Entry → Type 0
-KeepsEntry m past e = KeepsPart m past e (part_of e.kind)
+KeepsEntry m past e = KeepsPart m past e (class_of e.kind)
 
--- behind legal entries one more is legal exactly where it keeps each rule (kernel/power/suspend.c, kernel/power/main.c)
-pub record LegalIsKept (m : Machine) (past : List Entry) (e : Entry) : Type 0 where
+-- after legal entries one more is legal exactly if it keeps each rule (kernel/power/suspend.c, kernel/power/main.c)
+pub record LegalKeepsRules (m : Machine) (past : List Entry) (e : Entry) : Type 0 where
   pub keeps : IsLegal m (e ∷ past) → KeepsEntry m past e
   pub legal : KeepsEntry m past e → IsLegal m (e ∷ past)
 
--- so behind each legal list of entries, of whatever machine: what is legal is what keeps the rules (kernel/power/suspend.c, kernel/power/main.c)
+-- so after each legal list of entries, of whatever machine: what is legal is what keeps the rules (kernel/power/suspend.c, kernel/power/main.c)
 abbrev pub OneForEntries : Type 0
-OneForEntries = (m : Machine) (past : List Entry) (e : Entry) → IsLegal m past → LegalIsKept m past e
+OneForEntries = (m : Machine) (past : List Entry) (e : Entry) → IsLegal m past → LegalKeepsRules m past e
 
 -- each entry, the newest first, keeps each rule where it stands
 abbrev pub KeepsEach : Machine → List Entry → Type 0
 KeepsEach m [] = Unit {0}
 KeepsEach m (e ∷ past) = KeepsEntry m past e × KeepsEach m past
 
--- a list of entries is legal exactly where each of them keeps each rule (kernel/power/suspend.c, kernel/power/main.c)
-pub record LegalIsKeptThroughout (m : Machine) (past : List Entry) : Type 0 where
+-- a list of entries is legal exactly if each of them keeps each rule (kernel/power/suspend.c, kernel/power/main.c)
+pub record LegalLogKeepsRules (m : Machine) (past : List Entry) : Type 0 where
   pub keeps : IsLegal m past → KeepsEach m past
   pub legal : KeepsEach m past → IsLegal m past
 
 -- so for every machine and every list of entries (kernel/power/suspend.c, kernel/power/main.c)
 abbrev pub OneForLists : Type 0
-OneForLists = (m : Machine) (past : List Entry) → LegalIsKeptThroughout m past
+OneForLists = (m : Machine) (past : List Entry) → LegalLogKeepsRules m past

@@ -8,16 +8,16 @@ use Rattle.sleep_model.specs.declared.entry.Kind.TheVariants as kind
 use Rattle.sleep_model.specs.declared.machine.Machine.{Machine}
 use Rattle.sleep_model.specs.declared.machine.Op.{Op}
 use Rattle.sleep_model.specs.declared.machine.Script.{Script}
-use Rattle.sleep_model.specs.declared.place.Due.TheVariants.{Makes}
-use Rattle.sleep_model.specs.declared.place.Freezing.{Freezing}
+use Rattle.sleep_model.specs.declared.progress.Due.TheVariants.{Makes}
+use Rattle.sleep_model.specs.declared.progress.Freezing.{Freezing}
 use Rattle.sleep_model.specs.declared.word.EventNow.{EventNow}
 use Rattle.sleep_model.specs.Attempt.{froze_due, freeze_since}
 use Rattle.sleep_model.specs.Calls.{calls_due, is_calling, made}
 use Rattle.sleep_model.specs.Freezer.{freezing, left}
 use Rattle.sleep_model.specs.Tasks.{is_user, freezes_at}
-use Rattle.rule_definitions.specs.Questions.{is_maker, seat_of, op_of}
+use Rattle.rule_definitions.specs.Questions.{is_maker, position_of, op_of}
 use Rattle.sleep_model.specs.Numbers.{numbers}
-use Rattle.sleep_model.specs.Parts.{Part, OfJournal, journal}
+use Rattle.sleep_model.specs.EntryClasses.{EntryClass, OfJournal, journal}
 use Rattle.sleep_model.specs.Sources.{history}
 
 -- a frozen task makes nothing; one that is asked says at a freeze point that it freezes, and nothing else; nobody else says so (try_to_freeze, __refrigerator)
@@ -37,10 +37,10 @@ FreezesTask f begun op (Some s) k = FreezesBy f (freezes_at (is_user s.kind) beg
 
 -- tasks outside attempts of their own freeze where they are asked to, and nobody else does (try_to_freeze)
 abbrev pub FreezesActor : Machine → List Entry → Actor → Bool → Kind → Type 0
-FreezesActor m past (actor.Script i) false k = FreezesTask (freezing m i past) (seat_of m past i).waits (op_of m past i) (slice_get m.actors i) k
+FreezesActor m past (actor.Script i) false k = FreezesTask (freezing m i past) (position_of m past i).waits (op_of m past i) (slice_get m.actors i) k
 FreezesActor m past _ _ k = FreezesNot k
 
--- a freeze ends by who is left, by its time, or by a wakeup, and only where it has begun (try_to_freeze_tasks)
+-- a freeze ends by who is left, by its time, or by a wakeup, and only if it has begun (try_to_freeze_tasks)
 abbrev pub FreezeEnds : Machine → List Entry → EventNow → Option ℕ → Kind → Type 0
 FreezeEnds m past now None (kind.Froze g end) = ⊥
 FreezeEnds m past now (Some since) (kind.Froze g end) = froze_due past now g since (left m g past) ≡ Makes (kind.Froze g end)
@@ -69,7 +69,7 @@ asked_now m past i = asked_at (is_at_turn m past (actor.Script i)) (freezing m i
 -- tasks outside attempts of their own freeze where they are asked to and come to it, and nobody else does (try_to_freeze)
 abbrev pub FreezesEntry : Machine → List Entry → Actor → Bool → Kind → Type 0
 FreezesEntry m past (actor.Script i) false k =
-    FreezesTask (asked_now m past i) (seat_of m (journal past) i).waits (op_of m (journal past) i) (slice_get m.actors i) k
+    FreezesTask (asked_now m past i) (position_of m (journal past) i).waits (op_of m (journal past) i) (slice_get m.actors i) k
 FreezesEntry m past _ _ k = FreezesNot k
 
 -- a task of that kind makes no call, nor a step of one, while it is frozen, or asked at a freeze point (__refrigerator, try_to_freeze)
@@ -80,11 +80,11 @@ GoesOn f begun op (Some s) = (f.frozen ≡ false) × ((f.asked && freezes_at (is
 -- so for tasks outside attempts of their own (__refrigerator, try_to_freeze)
 abbrev pub GoesOnEntry : Machine → List Entry → Actor → Bool → Type 0
 GoesOnEntry m past (actor.Script i) false =
-    GoesOn (asked_now m past i) (seat_of m (journal past) i).waits (op_of m (journal past) i) (slice_get m.actors i)
+    GoesOn (asked_now m past i) (position_of m (journal past) i).waits (op_of m (journal past) i) (slice_get m.actors i)
 GoesOnEntry m past _ _ = Unit {0}
 
 -- tasks freeze where they are asked to and come to it, frozen ones make nothing, and a freeze ends rightly (try_to_freeze, try_to_freeze_tasks)
-abbrev pub FreezerEntry : Machine → List Entry → Entry → Part → Type 0
+abbrev pub FreezerEntry : Machine → List Entry → Entry → EntryClass → Type 0
 FreezerEntry m past e OfJournal =
     FreezesEntry m past e.actor (is_maker (journal past) e.actor) e.kind
     × FreezeEnds m (journal past) (numbers past) (freeze_since (journal past)) e.kind

@@ -1,11 +1,11 @@
--- The law: an entry of the journal is due of its actor exactly where it keeps all rules.
+-- The law: an entry of the journal is due of its actor exactly if it keeps all rules.
 use Rattle.std.specs.Prelude.{◌≡◌, ℕ, true, false, List}
 use Rattle.sleep_model.specs.declared.entry.Actor.{Actor}
 use Rattle.sleep_model.specs.declared.entry.Actor.TheVariants as actor
 use Rattle.sleep_model.specs.declared.entry.Entry.{Entry}
 use Rattle.sleep_model.specs.declared.entry.Kind.{Kind}
 use Rattle.sleep_model.specs.declared.machine.Machine.{Machine}
-use Rattle.sleep_model.specs.declared.place.Due.TheVariants.{Makes}
+use Rattle.sleep_model.specs.declared.progress.Due.TheVariants.{Makes}
 use Rattle.sleep_model.specs.declared.word.EventNow.{EventNow}
 use Rattle.sleep_model.specs.Due.{due}
 use Rattle.sleep_model.specs.Legal.{JournalPart}
@@ -18,7 +18,7 @@ use Rattle.rule_definitions.specs.Restored.{KeepsRestored}
 abbrev pub IsDue : Machine → List Entry → EventNow → Actor → Kind → Type 0
 IsDue m past now who k = due m past who now ≡ Makes k
 
--- behind a legal journal what is due keeps all rules, and, behind any entries, what keeps most of them is due (kernel/power/suspend.c, kernel/power/main.c)
+-- after a legal journal what is due keeps all rules, and, after any entries, what keeps most of them is due (kernel/power/suspend.c, kernel/power/main.c)
 pub record AreOne (m : Machine) (past : List Entry) (now : EventNow) (who : Actor) (k : Kind) : Type 0 where
   pub keeps : JournalPart m past → IsDue m past now who k → KeepsAll m past now who k
   pub makes : KeepsMost m past now who k → IsDue m past now who k
@@ -47,11 +47,11 @@ OneForMakers =
     (m : Machine) (past : List Entry) (now : EventNow) (who : Actor) (k : Kind) → is_maker past who ≡ true
     → AreOne m past now who k
 
--- so for every actor: for each machine, behind each legal journal, an entry of the journal is due exactly where it keeps all rules (kernel/power/suspend.c, kernel/power/main.c)
+-- so for every actor: for each machine, after each legal journal, an entry of the journal is due exactly if it keeps all rules (kernel/power/suspend.c, kernel/power/main.c)
 abbrev pub OneForAll : Type 0
 OneForAll = (m : Machine) (past : List Entry) (now : EventNow) (who : Actor) (k : Kind) → AreOne m past now who k
 
--- behind a legal journal what keeps most rules undoes only what is owed, and ends an attempt only where nothing is (suspend_devices_and_enter, suspend_finish)
+-- after a legal journal what keeps most rules undoes only what is owed, and ends an attempt only if nothing is (suspend_devices_and_enter, suspend_finish)
 abbrev pub OwedFollows : Type 0
 OwedFollows =
     (m : Machine) (past : List Entry) (now : EventNow) (who : Actor) (k : Kind) → JournalPart m past

@@ -6,8 +6,8 @@ use Rattle.sleep_model.specs.declared.entry.Kind.{Kind}
 use Rattle.sleep_model.specs.declared.entry.Kind.TheVariants as kind
 use Rattle.sleep_model.specs.declared.machine.Machine.{Machine}
 use Rattle.sleep_model.specs.declared.machine.What.TheVariants as what
-use Rattle.sleep_model.specs.declared.place.Stage.{Stage}
-use Rattle.sleep_model.specs.declared.place.Stage.TheVariants as stage
+use Rattle.sleep_model.specs.declared.progress.Stage.{Stage}
+use Rattle.sleep_model.specs.declared.progress.Stage.TheVariants as stage
 use Rattle.sleep_model.specs.declared.word.EventNow.{EventNow}
 use Rattle.phase_table.specs.declared.phase.Phase.{Phase}
 use Rattle.phase_table.specs.declared.phase.Phase.TheVariants as phase
@@ -17,7 +17,7 @@ use Rattle.sleep_model.specs.Notifiers.{next_called, next_posted, next_cpu_off, 
 use Rattle.rule_definitions.specs.Questions.{is_maker, row_now}
 use Rattle.sleep_model.specs.Devices.{callback}
 use Rattle.sleep_model.specs.Numbers.{numbers}
-use Rattle.sleep_model.specs.Parts.{Part, Notes, Moves, journal}
+use Rattle.sleep_model.specs.EntryClasses.{EntryClass, Notes, Moves, journal}
 
 -- an entry of a phase on the devices' way down (dpm_suspend)
 abbrev pub IsOfDown : Phase → Kind → Type 0
@@ -81,13 +81,13 @@ KeepsPath m past now who k = PathOf m past now (is_maker past who) k
 
 -- ---- among all entries
 
--- inside an attempt its maker calls on sources only where it is inside a callback (dpm_run_callback, pm_wakeup_event)
+-- inside an attempt its maker calls on sources only if it is inside a callback (dpm_run_callback, pm_wakeup_event)
 abbrev pub ReportsOf : List Entry → Bool → Type 0
 ReportsOf past true = is_some (callback past) ≡ true
 ReportsOf past false = Unit {0}
 
--- inside an attempt its maker keeps to the table, and calls on sources from callbacks alone (enter_state, dpm_run_callback)
-abbrev pub PathEntry : Machine → List Entry → Entry → Part → Type 0
+-- inside an attempt its maker keeps to the table, and calls on sources only from callbacks (enter_state, dpm_run_callback)
+abbrev pub PathEntry : Machine → List Entry → Entry → EntryClass → Type 0
 PathEntry m past e (Notes s call) = ReportsOf (journal past) (is_maker (journal past) e.actor)
 PathEntry m past e (Moves s step) = Unit {0}
 PathEntry m past e _ = KeepsPath m (journal past) (numbers past) e.actor e.kind

@@ -5,25 +5,25 @@ use Rattle.sleep_model.specs.declared.entry.Entry.{Entry}
 use Rattle.sleep_model.specs.declared.entry.Kind.{Kind}
 use Rattle.sleep_model.specs.declared.machine.Machine.{Machine}
 use Rattle.sleep_model.specs.declared.machine.Op.{Op}
-use Rattle.sleep_model.specs.declared.place.Seat.{Seat}
-use Rattle.sleep_model.specs.declared.place.Stage.{Stage}
-use Rattle.sleep_model.specs.declared.place.Stage.TheVariants as stage
+use Rattle.sleep_model.specs.declared.progress.ScriptPosition.{ScriptPosition}
+use Rattle.sleep_model.specs.declared.progress.Stage.{Stage}
+use Rattle.sleep_model.specs.declared.progress.Stage.TheVariants as stage
 use Rattle.sleep_model.specs.declared.word.EventNow.{EventNow}
 use Rattle.phase_table.specs.declared.phase.Phase.{Phase}
 use Rattle.sleep_model.specs.Devices.{phase_failed, taken, unless_failed}
 use Rattle.sleep_model.specs.Laws.{steps_of}
 use Rattle.sleep_model.specs.Notifiers.{next_called, next_posted, next_cpu_off, next_cpu_on, next_stopped, next_started}
 use Rattle.sleep_model.specs.Path.{maker, is_actor}
-use Rattle.sleep_model.specs.Seats.{seats, seat_at}
-use Rattle.sleep_model.specs.Table.{stage_of, behind, by_case}
+use Rattle.sleep_model.specs.Positions.{positions, position_at}
+use Rattle.sleep_model.specs.Table.{stage_of, next_stage, by_case}
 
 -- where script i stands (own)
-abbrev pub seat_of : Machine → List Entry → ℕ → Seat
-seat_of m past i = seat_at (seats (length m.actors) past) i
+abbrev pub position_of : Machine → List Entry → ℕ → ScriptPosition
+position_of m past i = position_at (positions (length m.actors) past) i
 
 -- the operation of script i that is under way, if one is left (own)
 abbrev pub op_of : Machine → List Entry → ℕ → Option Op
-op_of m past i = slice_get (steps_of (slice_get m.actors i)) (seat_of m past i).done
+op_of m past i = slice_get (steps_of (slice_get m.actors i)) (position_of m past i).done
 
 -- the actor makes the open attempt (system_transition_mutex)
 abbrev pub is_maker : List Entry → Actor → Bool
@@ -42,7 +42,7 @@ has_more m past _ = true
 -- the row that is under way, unless it has nothing left: then the row that follows it (suspend_enter)
 abbrev pub row_at : Machine → List Entry → Option Stage → Option Stage
 row_at m past None = None
-row_at m past (Some here) = Some (by_case (has_more m past here) here (behind here))
+row_at m past (Some here) = Some (by_case (has_more m past here) here (next_stage here))
 
 -- the row of the open attempt's next entry (suspend_enter)
 abbrev pub row_now : Machine → List Entry → Option Stage

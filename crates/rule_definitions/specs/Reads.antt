@@ -8,10 +8,10 @@ use Rattle.sleep_model.specs.declared.entry.Kind.TheVariants as kind
 use Rattle.sleep_model.specs.declared.machine.Machine.{Machine}
 use Rattle.sleep_model.specs.declared.machine.Op.{Op}
 use Rattle.sleep_model.specs.declared.machine.Op.TheVariants as op
-use Rattle.sleep_model.specs.declared.place.Due.TheVariants.{Makes}
-use Rattle.sleep_model.specs.declared.place.Seat.{Seat}
-use Rattle.sleep_model.specs.declared.place.Work.{Work}
-use Rattle.sleep_model.specs.declared.place.Work.TheVariants.{Reading, Saving, Attempting}
+use Rattle.sleep_model.specs.declared.progress.Due.TheVariants.{Makes}
+use Rattle.sleep_model.specs.declared.progress.ScriptPosition.{ScriptPosition}
+use Rattle.sleep_model.specs.declared.progress.Work.{Work}
+use Rattle.sleep_model.specs.declared.progress.Work.TheVariants.{Reading, Saving, Attempting}
 use Rattle.sleep_model.specs.declared.word.EventNow.{EventNow}
 use Rattle.sleep_model.specs.Autosleep.{auto_save, work}
 use Rattle.sleep_model.specs.Freezer.{freezing}
@@ -21,7 +21,7 @@ use Rattle.sleep_model.specs.Path.{attempts, is_actor}
 use Rattle.sleep_model.specs.Steps.{read_due, count_due, saved_number, state_due, unless_unsaved}
 use Rattle.sleep_model.specs.Tasks.{is_mem, is_off}
 use Rattle.sleep_model.specs.Word.{visible}
-use Rattle.rule_definitions.specs.Questions.{is_maker, seat_of, op_of}
+use Rattle.rule_definitions.specs.Questions.{is_maker, position_of, op_of}
 
 -- ---- an entry of anybody whose own step is another: there it waits nowhere, and has no text and no number
 
@@ -62,54 +62,54 @@ ReadsElse past now who _ = Unit {0}
 -- ---- an entry of a task at its operation
 
 -- at a read: the count where no event is in progress, else that it waits, or gives up (pm_get_wakeup_count)
-abbrev pub IsRead : EventNow → Seat → Bool → Option Op → Kind → Type 0
-IsRead now seat asked (Some op.Read) k = read_due now seat.waits asked ≡ Makes k
-IsRead now seat asked _ k = IsReadElse now k
+abbrev pub IsRead : EventNow → ScriptPosition → Bool → Option Op → Kind → Type 0
+IsRead now position asked (Some op.Read) k = read_due now position.waits asked ≡ Makes k
+IsRead now position asked _ k = IsReadElse now k
 
 -- at a save: by the lock, by autosleep, by its number and the count (wakeup_count_store, pm_save_wakeup_count)
-abbrev pub IsSave : List Entry → EventNow → Actor → Seat → Bool → Option Op → ℕ → Kind → Type 0
-IsSave past now who seat asked (Some (op.Save count)) c k =
-    count_due (is_some (holder past)) (is_on past) seat.waits asked now (saved_number count seat.last_read) ≡ Makes k
-IsSave past now who seat asked _ c k = IsSaveElse past now who c k
+abbrev pub IsSave : List Entry → EventNow → Actor → ScriptPosition → Bool → Option Op → ℕ → Kind → Type 0
+IsSave past now who position asked (Some (op.Save count)) c k =
+    count_due (is_some (holder past)) (is_on past) position.waits asked now (saved_number count position.last_read) ≡ Makes k
+IsSave past now who position asked _ c k = IsSaveElse past now who c k
 
 -- at a write to the state: by the task's last save, by the lock, by autosleep and by its text (state_store)
-abbrev pub IsWrite : List Entry → Actor → Seat → Bool → Option Op → Kind → Type 0
-IsWrite past who seat asked (Some (op.State text if_saved)) k =
-    unless_unsaved if_saved seat.saved
-    (state_due (is_some (holder past)) (is_on past) seat.waits asked (is_mem text) (kind.Attempt (attempts past + 1) (in_force past))) ≡ Makes k
-IsWrite past who seat asked _ k = IsWriteElse past who k
+abbrev pub IsWrite : List Entry → Actor → ScriptPosition → Bool → Option Op → Kind → Type 0
+IsWrite past who position asked (Some (op.State text if_saved)) k =
+    unless_unsaved if_saved position.saved
+    (state_due (is_some (holder past)) (is_on past) position.waits asked (is_mem text) (kind.Attempt (attempts past + 1) (in_force past))) ≡ Makes k
+IsWrite past who position asked _ k = IsWriteElse past who k
 
 -- a good write begins an attempt (state_store, pm_suspend)
-abbrev pub IsGoodWrite : List Entry → Seat → Bool → Option Op → Kind → Type 0
-IsGoodWrite past seat asked (Some (op.State text if_saved)) k =
-    unless_unsaved if_saved seat.saved (state_due (is_some (holder past)) (is_on past) seat.waits asked (is_mem text) k) ≡ Makes k
-IsGoodWrite past seat asked _ k = Unit {0}
+abbrev pub IsGoodWrite : List Entry → ScriptPosition → Bool → Option Op → Kind → Type 0
+IsGoodWrite past position asked (Some (op.State text if_saved)) k =
+    unless_unsaved if_saved position.saved (state_due (is_some (holder past)) (is_on past) position.waits asked (is_mem text) k) ≡ Makes k
+IsGoodWrite past position asked _ k = Unit {0}
 
--- a write to autosleep is refused only where its text is neither (autosleep_store)
+-- a write to autosleep is refused only if its text is neither (autosleep_store)
 abbrev pub IsBadText : Option Op → Type 0
 IsBadText (Some (op.Autosleep text)) = (is_mem text || is_off text) ≡ false
 IsBadText _ = Unit {0}
 
--- autosleep is set only where the lock is free (pm_autosleep_lock)
+-- autosleep is set only if the lock is free (pm_autosleep_lock)
 abbrev pub IsFree : List Entry → Option Op → Type 0
 IsFree past (Some (op.Autosleep text)) = is_some (holder past) ≡ false
 IsFree past _ = Unit {0}
 
 -- an entry of a task at its operation (kernel/power/main.c)
-abbrev pub ReadsTask : List Entry → EventNow → Actor → Seat → Bool → Option Op → Kind → Type 0
-ReadsTask past now who seat asked o kind.ReadWait = IsRead now seat asked o kind.ReadWait
-ReadsTask past now who seat asked o (kind.Read c) = IsRead now seat asked o (kind.Read c)
-ReadsTask past now who seat asked o kind.ReadIntr = IsRead now seat asked o kind.ReadIntr
-ReadsTask past now who seat asked o (kind.SaveWait c) = IsSave past now who seat asked o c (kind.SaveWait c)
-ReadsTask past now who seat asked o (kind.Saved c) = IsSave past now who seat asked o c (kind.Saved c)
-ReadsTask past now who seat asked o (kind.SaveErr c r) = IsSave past now who seat asked o c (kind.SaveErr c r)
-ReadsTask past now who seat asked o kind.StateWait = IsWrite past who seat asked o kind.StateWait
-ReadsTask past now who seat asked o (kind.StateErr r) = IsWrite past who seat asked o (kind.StateErr r)
-ReadsTask past now who seat asked o kind.StateUnsaved = IsWrite past who seat asked o kind.StateUnsaved
-ReadsTask past now who seat asked o (kind.Attempt n guarded) = IsGoodWrite past seat asked o (kind.Attempt n guarded)
-ReadsTask past now who seat asked o kind.AutoBad = IsBadText o
-ReadsTask past now who seat asked o (kind.AutoSet state) = IsFree past o
-ReadsTask past now who seat asked o k = ReadsElse past now who k
+abbrev pub ReadsTask : List Entry → EventNow → Actor → ScriptPosition → Bool → Option Op → Kind → Type 0
+ReadsTask past now who position asked o kind.ReadWait = IsRead now position asked o kind.ReadWait
+ReadsTask past now who position asked o (kind.Read c) = IsRead now position asked o (kind.Read c)
+ReadsTask past now who position asked o kind.ReadIntr = IsRead now position asked o kind.ReadIntr
+ReadsTask past now who position asked o (kind.SaveWait c) = IsSave past now who position asked o c (kind.SaveWait c)
+ReadsTask past now who position asked o (kind.Saved c) = IsSave past now who position asked o c (kind.Saved c)
+ReadsTask past now who position asked o (kind.SaveErr c r) = IsSave past now who position asked o c (kind.SaveErr c r)
+ReadsTask past now who position asked o kind.StateWait = IsWrite past who position asked o kind.StateWait
+ReadsTask past now who position asked o (kind.StateErr r) = IsWrite past who position asked o (kind.StateErr r)
+ReadsTask past now who position asked o kind.StateUnsaved = IsWrite past who position asked o kind.StateUnsaved
+ReadsTask past now who position asked o (kind.Attempt n guarded) = IsGoodWrite past position asked o (kind.Attempt n guarded)
+ReadsTask past now who position asked o kind.AutoBad = IsBadText o
+ReadsTask past now who position asked o (kind.AutoSet state) = IsFree past o
+ReadsTask past now who position asked o k = ReadsElse past now who k
 
 -- ---- an entry of autosleep's work, and of all others
 
@@ -123,7 +123,7 @@ ReadsWork past now _ k = ReadsElse past now actor.Auto k
 
 -- by who makes it: a task or the work outside attempts of its own, or anybody else (kernel/power/main.c, kernel/power/autosleep.c)
 abbrev pub ReadsActor : Machine → List Entry → EventNow → Actor → Bool → Kind → Type 0
-ReadsActor m past now (actor.Script i) false k = ReadsTask past now (actor.Script i) (seat_of m past i) (freezing m i past).asked (op_of m past i) k
+ReadsActor m past now (actor.Script i) false k = ReadsTask past now (actor.Script i) (position_of m past i) (freezing m i past).asked (op_of m past i) k
 ReadsActor m past now actor.Auto false k = ReadsWork past now (work past) k
 ReadsActor m past now who _ k = ReadsElse past now who k
 

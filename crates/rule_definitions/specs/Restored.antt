@@ -5,6 +5,6 @@ use Rattle.sleep_model.specs.declared.entry.Kind.{Kind}
 use Rattle.sleep_model.specs.declared.machine.Machine.{Machine}
 use Rattle.sleep_model.specs.Laws.{Restored}
 
--- the end of an attempt stands only where nothing is owed (suspend_devices_and_enter, suspend_finish)
+-- the end of an attempt stands only if nothing is owed (suspend_devices_and_enter, suspend_finish)
 abbrev pub KeepsRestored : Machine → List Entry → Kind → Type 0
 KeepsRestored m past k = Restored m past k

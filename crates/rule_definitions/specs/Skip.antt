@@ -4,13 +4,13 @@ use Rattle.sleep_model.specs.declared.entry.Entry.{Entry}
 use Rattle.sleep_model.specs.declared.entry.Kind.{Kind}
 use Rattle.sleep_model.specs.declared.entry.Kind.TheVariants as kind
 use Rattle.sleep_model.specs.declared.machine.Machine.{Machine}
-use Rattle.sleep_model.specs.declared.place.Stage.{Stage}
-use Rattle.sleep_model.specs.declared.place.Stage.TheVariants as stage
-use Rattle.sleep_model.specs.declared.place.Stand.TheVariants as stand
+use Rattle.sleep_model.specs.declared.progress.Stage.{Stage}
+use Rattle.sleep_model.specs.declared.progress.Stage.TheVariants as stage
+use Rattle.sleep_model.specs.declared.progress.PhaseState.TheVariants as state
 use Rattle.sleep_model.specs.declared.word.EventNow.{EventNow}
 use Rattle.phase_table.specs.declared.phase.Phase.{Phase}
 use Rattle.phase_table.specs.Phases.{is_down}
-use Rattle.sleep_model.specs.Devices.{callback, phase_failed, next_down, waits_below, stand_in, is_async_device}
+use Rattle.sleep_model.specs.Devices.{callback, phase_failed, next_down, waits_below, state_in, is_async_device}
 use Rattle.rule_definitions.specs.Questions.{row_now, turn_of}
 
 -- the walk down stands at device d: no callback runs, no error stands, d is the last that the phase has not taken, and all below it are through (dpm_suspend, dpm_wait_for_subordinate)
@@ -23,7 +23,7 @@ pub record IsNextDown (m : Machine) (past : List Entry) (p : Phase) (d : ℕ) : 
 -- device d was scheduled on the way down, and all below it are through (async_suspend, dpm_wait_for_subordinate)
 pub record IsScheduledDown (m : Machine) (past : List Entry) (p : Phase) (d : ℕ) : Type 0 where
   pub down : is_down p ≡ true
-  pub stands : stand_in m past p d ≡ stand.Scheduled
+  pub states : state_in m past p d ≡ state.Scheduled
   pub waits : waits_below m past p d ≡ None
 
 -- it is device d's turn in phase p: an asynchronous one was scheduled there, for another the walk of that phase is under way (dpm_suspend, async_suspend)
@@ -32,7 +32,7 @@ IsTurn m past p d true row = IsScheduledDown m past p d
 IsTurn m past p d false (Some (stage.Downs q)) = (p ≡ q) × IsNextDown m past q d
 IsTurn m past p d false _ = ⊥
 
--- a device is passed over at its turn, for the cause that comes first, and begins to go down only where there is none (__device_suspend)
+-- a device is passed over at its turn, for the cause that comes first, and begins to go down only if there is none (__device_suspend)
 abbrev pub KeepsSkip : Machine → List Entry → EventNow → Kind → Type 0
 KeepsSkip m past now (kind.Skip p d cause) =
     IsTurn m past p d (is_async_device m d) (row_now m past) × (turn_of m past now p d ≡ kind.Skip p d cause)

@@ -10,12 +10,12 @@ use Rattle.sleep_model.specs.declared.machine.Machine.{Machine}
 use Rattle.sleep_model.specs.declared.machine.Op.{Op}
 use Rattle.sleep_model.specs.declared.machine.Op.TheVariants as op
 use Rattle.sleep_model.specs.declared.machine.Script.{Script}
-use Rattle.sleep_model.specs.declared.place.AsyncWork.{AsyncWork}
-use Rattle.sleep_model.specs.declared.place.AsyncWork.TheVariants.{Scheduled, Inside}
-use Rattle.sleep_model.specs.declared.place.Due.TheVariants.{Makes}
-use Rattle.sleep_model.specs.declared.place.Seat.{Seat}
-use Rattle.sleep_model.specs.declared.place.Work.{Work}
-use Rattle.sleep_model.specs.declared.place.Work.TheVariants.{Resting, Reading, Saving, Attempting, Looking, Napping, Closing}
+use Rattle.sleep_model.specs.declared.progress.AsyncWork.{AsyncWork}
+use Rattle.sleep_model.specs.declared.progress.AsyncWork.TheVariants.{Scheduled, Inside}
+use Rattle.sleep_model.specs.declared.progress.Due.TheVariants.{Makes}
+use Rattle.sleep_model.specs.declared.progress.ScriptPosition.{ScriptPosition}
+use Rattle.sleep_model.specs.declared.progress.Work.{Work}
+use Rattle.sleep_model.specs.declared.progress.Work.TheVariants.{Resting, Reading, Saving, Attempting, Looking, Napping, Closing}
 use Rattle.sleep_model.specs.declared.word.EventNow.{EventNow}
 use Rattle.sleep_model.specs.declared.word.WordKind.{WordKind}
 use Rattle.sleep_model.specs.Autosleep.{may_run, seen_count, work}
@@ -26,10 +26,10 @@ use Rattle.sleep_model.specs.Marks.{mark_at, raised}
 use Rattle.sleep_model.specs.Numbers.{numbers, time_of}
 use Rattle.sleep_model.specs.Steps.{sleep_due, mark_due}
 use Rattle.sleep_model.specs.Tasks.{is_mem, is_off, is_user, freezes_at}
-use Rattle.rule_definitions.specs.Questions.{is_maker, seat_of, op_of}
+use Rattle.rule_definitions.specs.Questions.{is_maker, position_of, op_of}
 use Rattle.sleep_model.specs.Calls.{is_left}
 use Rattle.sleep_model.specs.Legal.{IsOwnTurn, IsOwnCall, IsOutside}
-use Rattle.sleep_model.specs.Parts.{Part, OfJournal, Notes, Moves, OfTime, journal}
+use Rattle.sleep_model.specs.EntryClasses.{EntryClass, OfJournal, Notes, Moves, OfTime, journal}
 use Rattle.sleep_model.specs.Path.{is_actor}
 use Rattle.sleep_model.specs.Sources.{history, owed, caller, IsNext}
 
@@ -70,32 +70,32 @@ abbrev pub IsLinkStateOf : ℕ → ℕ → Bool → Kind → Type 0
 IsLinkStateOf supplier consumer active (kind.LinkState s c to r) = (s ≡ supplier) × (c ≡ consumer) × (to ≡ active)
 IsLinkStateOf supplier consumer active _ = ⊥
 
--- an entry of that operation, or the exit behind the last (kernel/power/main.c; scripts are own)
-abbrev pub IsOfOp : Machine → List Entry → Seat → Option Op → Kind → Type 0
-IsOfOp m past seat None k = is_exit k ≡ true
-IsOfOp m past seat (Some op.Read) k = is_of_read k ≡ true
-IsOfOp m past seat (Some (op.Save count)) k = is_of_save k ≡ true
-IsOfOp m past seat (Some (op.State text if_saved)) k = is_of_write k ≡ true
-IsOfOp m past seat (Some (op.Autosleep text)) k = IsOfAutosleep seat.waits (is_mem text) (is_off text) k
-IsOfOp m past seat (Some (op.Sleep ms)) k = sleep_due kind.Sleep ms seat (time_of past) ≡ Makes k
-IsOfOp m past seat (Some (op.SleepD ms)) k = sleep_due kind.SleepD ms seat (time_of past) ≡ Makes k
-IsOfOp m past seat (Some op.FreezePoint) k = is_pass k ≡ true
-IsOfOp m past seat (Some (op.Post mark)) k = IsPostOf mark k
-IsOfOp m past seat (Some (op.Wait mark)) k = mark_due mark (mark_at (raised (length m.marks) past) mark) ≡ Makes k
-IsOfOp m past seat (Some (op.Runtime d to_suspended)) k = IsRequestOf d to_suspended k
-IsOfOp m past seat (Some (op.Link supplier consumer)) k = IsLinkOf supplier consumer k
-IsOfOp m past seat (Some (op.LinkState supplier consumer active)) k = IsLinkStateOf supplier consumer active k
-IsOfOp m past seat (Some _) k = ⊥
+-- an entry of that operation, or the exit after the last (kernel/power/main.c; scripts are own)
+abbrev pub IsOfOp : Machine → List Entry → ScriptPosition → Option Op → Kind → Type 0
+IsOfOp m past position None k = is_exit k ≡ true
+IsOfOp m past position (Some op.Read) k = is_of_read k ≡ true
+IsOfOp m past position (Some (op.Save count)) k = is_of_save k ≡ true
+IsOfOp m past position (Some (op.State text if_saved)) k = is_of_write k ≡ true
+IsOfOp m past position (Some (op.Autosleep text)) k = IsOfAutosleep position.waits (is_mem text) (is_off text) k
+IsOfOp m past position (Some (op.Sleep ms)) k = sleep_due kind.Sleep ms position (time_of past) ≡ Makes k
+IsOfOp m past position (Some (op.SleepD ms)) k = sleep_due kind.SleepD ms position (time_of past) ≡ Makes k
+IsOfOp m past position (Some op.FreezePoint) k = is_pass k ≡ true
+IsOfOp m past position (Some (op.Post mark)) k = IsPostOf mark k
+IsOfOp m past position (Some (op.Wait mark)) k = mark_due mark (mark_at (raised (length m.marks) past) mark) ≡ Makes k
+IsOfOp m past position (Some (op.Runtime d to_suspended)) k = IsRequestOf d to_suspended k
+IsOfOp m past position (Some (op.Link supplier consumer)) k = IsLinkOf supplier consumer k
+IsOfOp m past position (Some (op.LinkState supplier consumer active)) k = IsLinkStateOf supplier consumer active k
+IsOfOp m past position (Some _) k = ⊥
 
 -- an entry of the operation; or that the task freezes, at one that has a freeze point (try_to_freeze)
-abbrev pub IsStep : Machine → List Entry → Bool → Seat → Option Op → Kind → Type 0
-IsStep m past user seat o kind.Frozen = freezes_at user seat.waits o ≡ true
-IsStep m past user seat o k = IsOfOp m past seat o k
+abbrev pub IsStep : Machine → List Entry → Bool → ScriptPosition → Option Op → Kind → Type 0
+IsStep m past user position o kind.Frozen = freezes_at user position.waits o ≡ true
+IsStep m past user position o k = IsOfOp m past position o k
 
 -- a script that is there and has not exited is at its operation (do_exit; scripts are own)
-abbrev pub IsScriptStep : Machine → List Entry → Seat → Option Op → Option Script → Kind → Type 0
-IsScriptStep m past seat o None k = ⊥
-IsScriptStep m past seat o (Some s) k = (seat.exited ≡ false) × IsStep m past (is_user s.kind) seat o k
+abbrev pub IsScriptStep : Machine → List Entry → ScriptPosition → Option Op → Option Script → Kind → Type 0
+IsScriptStep m past position o None k = ⊥
+IsScriptStep m past position o (Some s) k = (position.exited ≡ false) × IsStep m past (is_user s.kind) position o k
 
 -- ---- autosleep's work, and devices
 
@@ -155,7 +155,7 @@ IsMakerStep m _ = ⊥
 -- an entry of an actor that makes the open attempt, or of its own steps: timers and time make none of the journal (own)
 abbrev pub StepsOf : Machine → List Entry → EventNow → Actor → Bool → Kind → Type 0
 StepsOf m past now who true k = IsMakerStep m k
-StepsOf m past now (actor.Script i) false k = IsScriptStep m past (seat_of m past i) (op_of m past i) (slice_get m.actors i) k
+StepsOf m past now (actor.Script i) false k = IsScriptStep m past (position_of m past i) (op_of m past i) (slice_get m.actors i) k
 StepsOf m past now actor.Auto false k = IsWorkStep m past now (work past) k
 StepsOf m past now (actor.Dev d) false k = IsDeviceStep d (async_work m past d) k
 StepsOf m past now (actor.Timer s) false k = ⊥
@@ -176,7 +176,7 @@ abbrev pub IsOfCall : List Entry → Actor → ℕ → WordKind → Type 0
 IsOfCall past who s step = (is_inside (history s past) who ≡ true) × IsNext step (owed (history s past))
 
 -- an entry of the journal is its actor's next step, once the calls before it are made whole; a note is its actor's next call; a step of the word is owed by its actor; time makes the jumps (own)
-abbrev pub StepsEntry : Machine → List Entry → Entry → Part → Type 0
+abbrev pub StepsEntry : Machine → List Entry → Entry → EntryClass → Type 0
 StepsEntry m past e OfJournal =
     KeepsSteps m (journal past) (numbers past) e.actor e.kind × IsOwnTurn m (journal past) (λ s. history s past) e.actor
     × IsOutside m (λ s. history s past) e.actor

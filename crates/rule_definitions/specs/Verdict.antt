@@ -4,7 +4,7 @@ use Rattle.sleep_model.specs.declared.entry.Entry.{Entry}
 use Rattle.sleep_model.specs.declared.log.Log.{Log}
 use Rattle.sleep_model.specs.declared.machine.Machine.{Machine}
 use Rattle.sleep_model.specs.Legal.{IsLegalLog, IsFinishedLog, stats_of}
-use Rattle.sleep_model.specs.Parts.{part_of}
+use Rattle.sleep_model.specs.EntryClasses.{class_of}
 use Rattle.rule_definitions.specs.Entry.{Rule, Links, Numbers, Attempts, Reads, Walk, Skip, Runtime, Owed, Freezer, Path, Answers, Restored, Steps, Enabled, Source, KeepsRule, KeepsEach}
 
 -- the number that a verdict gives a rule (own)
@@ -27,10 +27,10 @@ number_of Source = 22
 
 -- an entry breaks that rule, and keeps each that has a lesser number (own)
 pub record BreaksFirst (m : Machine) (past : List Entry) (e : Entry) (rule : Rule) : Type 0 where
-  pub breaks : KeepsRule m past e (part_of e.kind) rule → ⊥
-  pub lesser : (other : Rule) → number_of other < number_of rule → KeepsRule m past e (part_of e.kind) other
+  pub breaks : KeepsRule m past e (class_of e.kind) rule → ⊥
+  pub lesser : (other : Rule) → number_of other < number_of rule → KeepsRule m past e (class_of e.kind) other
 
--- the first bad line of a log, from 1, and its number: an entry behind which all is well, with the least rule that it breaks; where all entries are well, the first line of statistics that is not its source's; where these are, the end of a log that is not finished (own)
+-- the first bad line of a log, from 1, and its number: an entry after which all is well, with the least rule that it breaks; where all entries are well, the first line of statistics that is not its source's; where these are, the end of a log that is not finished (own)
 pub data IsFirstBad (m : Machine) (log : Log) : ℕ → ℕ → Type 0 where
   AtEntry : (later past : List Entry) (e : Entry) (rule : Rule) → reverse log.entries ≡ later ++ e ∷ past → KeepsEach m past → BreaksFirst m past e rule → IsFirstBad m log (length past + 1) (number_of rule)
   AtStats : (k : ℕ) → KeepsEach m (reverse log.entries) → k < length log.stats → take k log.stats ≡ take k (stats_of m (reverse log.entries)) → (slice_get log.stats k ≡ slice_get (stats_of m (reverse log.entries)) k → ⊥) → IsFirstBad m log (length log.entries + k + 1) 22

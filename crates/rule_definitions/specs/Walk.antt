@@ -6,26 +6,26 @@ use Rattle.sleep_model.specs.declared.entry.Kind.{Kind}
 use Rattle.sleep_model.specs.declared.entry.Kind.TheVariants as kind
 use Rattle.sleep_model.specs.declared.machine.Machine.{Machine}
 use Rattle.sleep_model.specs.declared.machine.What.TheVariants as what
-use Rattle.sleep_model.specs.declared.place.Callback.{Callback}
-use Rattle.sleep_model.specs.declared.place.Stage.{Stage}
-use Rattle.sleep_model.specs.declared.place.Stage.TheVariants as stage
-use Rattle.sleep_model.specs.declared.place.Stand.TheVariants as stand
+use Rattle.sleep_model.specs.declared.progress.Callback.{Callback}
+use Rattle.sleep_model.specs.declared.progress.Stage.{Stage}
+use Rattle.sleep_model.specs.declared.progress.Stage.TheVariants as stage
+use Rattle.sleep_model.specs.declared.progress.PhaseState.TheVariants as state
 use Rattle.sleep_model.specs.declared.word.EventNow.{EventNow}
 use Rattle.phase_table.specs.declared.phase.Phase.{Phase}
 use Rattle.phase_table.specs.declared.phase.Phase.TheVariants as phase
 use Rattle.phase_table.specs.Phases.{is_down, mirror}
 use Rattle.sleep_model.specs.Answers.{answer, answer_number}
-use Rattle.sleep_model.specs.Devices.{async_work, callback, device_error, phase_failed, is_async_device, stand_in, waits_above, waits_down, waits_up, next_down, next_to_schedule, next_up, next_prepared, next_completed}
+use Rattle.sleep_model.specs.Devices.{async_work, callback, device_error, phase_failed, is_async_device, state_in, waits_above, waits_down, waits_up, next_down, next_to_schedule, next_up, next_prepared, next_completed}
 use Rattle.sleep_model.specs.Path.{attempts}
 use Rattle.rule_definitions.specs.Questions.{row_now, turn_of}
 use Rattle.rule_definitions.specs.Skip.{IsNextDown, IsScheduledDown}
 use Rattle.sleep_model.specs.declared.entry.Actor.{Actor}
 use Rattle.sleep_model.specs.declared.entry.Actor.TheVariants as actor
-use Rattle.sleep_model.specs.declared.place.AsyncWork.{AsyncWork}
-use Rattle.sleep_model.specs.declared.place.AsyncWork.TheVariants.{Inside}
+use Rattle.sleep_model.specs.declared.progress.AsyncWork.{AsyncWork}
+use Rattle.sleep_model.specs.declared.progress.AsyncWork.TheVariants.{Inside}
 use Rattle.sleep_model.specs.Legal.{IsOwnTurn, IsOwnCall}
 use Rattle.sleep_model.specs.Numbers.{numbers}
-use Rattle.sleep_model.specs.Parts.{Part, OfJournal, Notes, Moves, OfTime, journal}
+use Rattle.sleep_model.specs.EntryClasses.{EntryClass, OfJournal, Notes, Moves, OfTime, journal}
 use Rattle.sleep_model.specs.Sources.{history}
 use Rattle.rule_definitions.specs.Questions.{is_maker}
 use Rattle.rule_definitions.specs.Steps.{is_inside}
@@ -58,7 +58,7 @@ SchedulesAt m past p d _ = ⊥
 -- an asynchronous device that was scheduled begins once all below it are through, or all above it are up (async_suspend, async_resume)
 abbrev pub BeginsAsync : Machine → List Entry → EventNow → Phase → ℕ → Bool → Type 0
 BeginsAsync m past now p d true = IsScheduledDown m past p d × (turn_of m past now p d ≡ kind.Begin p d)
-BeginsAsync m past now p d false = (stand_in m past (mirror p) d ≡ stand.Rescheduled) × (waits_above m past (mirror p) d ≡ None)
+BeginsAsync m past now p d false = (state_in m past (mirror p) d ≡ state.Rescheduled) × (waits_above m past (mirror p) d ≡ None)
 
 -- the walk up stands at device d: no callback runs, none is left to be scheduled, d is the first that is down, and all above it are up (dpm_resume, dpm_wait_for_superior)
 pub record IsNextUp (m : Machine) (past : List Entry) (p : Phase) (d : ℕ) : Type 0 where
@@ -82,8 +82,8 @@ BeginsBy m past now p d false row = BeginsAt m past now p d row
 
 -- an asynchronous device ends where it is inside its callback (async_suspend, async_resume)
 abbrev pub EndsAsync : Machine → List Entry → Phase → ℕ → Bool → Type 0
-EndsAsync m past p d true = stand_in m past p d ≡ stand.Suspending
-EndsAsync m past p d false = stand_in m past (mirror p) d ≡ stand.Resuming
+EndsAsync m past p d true = state_in m past p d ≡ state.Suspending
+EndsAsync m past p d false = state_in m past (mirror p) d ≡ state.Resuming
 
 -- the maker is inside the callback of that device (dpm_run_callback)
 abbrev pub IsInside : ℕ → Option Callback → Type 0
@@ -104,14 +104,14 @@ EndsBy m past p d false row = EndsAt past p d row
 -- ---- a phase is done
 
 -- no device is left, or an error ends the phase early (dpm_suspend, dpm_prepare)
-abbrev pub is_through : Option Errno → Option ℕ → Bool
-is_through error next = is_some error || is_none next
+abbrev pub is_done : Option Errno → Option ℕ → Bool
+is_done error next = is_some error || is_none next
 
 -- a phase on the way down is done where no callback runs, none that was scheduled is under way, and it is through (dpm_suspend, async_synchronize_full)
 pub record IsDownDone (m : Machine) (past : List Entry) (p : Phase) : Type 0 where
   pub free : callback past ≡ None
   pub waits : waits_down m past p ≡ None
-  pub through : is_through (phase_failed past) (next_down m past p) ≡ true
+  pub through : is_done (phase_failed past) (next_down m past p) ≡ true
 
 -- a phase on the way up, whose mirror is p, is done where no callback runs and all are up (dpm_resume, async_synchronize_full)
 pub record IsUpDone (m : Machine) (past : List Entry) (p : Phase) : Type 0 where
@@ -122,7 +122,7 @@ pub record IsUpDone (m : Machine) (past : List Entry) (p : Phase) : Type 0 where
 
 -- the phase under way is done (dpm_prepare, dpm_suspend, dpm_resume, dpm_complete)
 abbrev pub DoneAt : Machine → List Entry → Phase → Option Stage → Type 0
-DoneAt m past p (Some stage.Prepares) = (p ≡ phase.Prepare) × (is_through (phase_failed past) (next_prepared m past) ≡ true)
+DoneAt m past p (Some stage.Prepares) = (p ≡ phase.Prepare) × (is_done (phase_failed past) (next_prepared m past) ≡ true)
 DoneAt m past p (Some (stage.Downs q)) = (p ≡ q) × IsDownDone m past q
 DoneAt m past p (Some (stage.Ups q)) = (p ≡ q) × IsUpDone m past (mirror q)
 DoneAt m past p (Some stage.Completes) = (p ≡ phase.Complete) × (next_completed m past ≡ None)
@@ -168,7 +168,7 @@ EndsOwn past who (kind.End p e r) = IsOwnCallback past who e
 EndsOwn past who _ = ⊥
 
 -- devices are taken in order and answer what the machine answers; inside a callback its maker makes its reports in order, with their steps, then its end, and nothing else (drivers/base/power/main.c)
-abbrev pub WalkEntry : Machine → List Entry → Entry → Part → Type 0
+abbrev pub WalkEntry : Machine → List Entry → Entry → EntryClass → Type 0
 WalkEntry m past e OfJournal =
     KeepsWalk m (journal past) (numbers past) e.kind × ReportsMade m past e.actor e.kind
     × (is_in_callback m (journal past) e.actor ≡ true → EndsOwn (journal past) e.actor e.kind)

@@ -9,10 +9,10 @@ use Rattle.machine_rounds.specs.Runs.{Fails, IsFull}
 use Rattle.program_ending.specs.declared.ending.Ending.{Ending}
 use Rattle.program_ending.specs.declared.ending.Ending.TheVariants.{Done, Stuck, Illegal, NoForm, ReadFault, WriteFault, Refused, NoMemory}
 use Rattle.program_ending.specs.declared.refusal.Refusal.TheVariants.{SourceFull}
-use Rattle.program_ending.specs.Telling.{Refuses}
+use Rattle.program_ending.specs.CommandEndings.{Refuses}
 use Rattle.program_ending.specs.Streams.{Streams, ReadWhole, KeepsOut}
 use Rattle.run_commands.specs.declared.run.Ran.{Ran}
-use Rattle.run_commands.specs.Endings.{IsEndingOf, IsFullNamed, IsLogOf, IsRunOf, RefusesRun, RunEnded, WritesLog, is_stuck}
+use Rattle.run_commands.specs.Endings.{IsEndingOfRun, IsFullNamed, IsLogOf, IsRunOf, RefusesRun, RunEnded, WritesLog, is_stuck}
 use Rattle.run_commands.proofs.Generating.{ends_as}
 
 -- a source that is full is named
@@ -21,7 +21,7 @@ fills bytes m s (Refused (SourceFull name)) spells full named = record { machine
 fills bytes m s ending spells full named = absurd named
 
 -- a run that gives no log ends the program so
-pub ended_fault : (bytes : List ℕ) (m : Machine) (f : RunFault) (ending : Ending) → machine_in bytes ≡ Some m → Fails m f → IsEndingOf m f ending → Refuses (RefusesRun bytes) ending
+pub ended_fault : (bytes : List ℕ) (m : Machine) (f : RunFault) (ending : Ending) → machine_in bytes ≡ Some m → Fails m f → IsEndingOfRun m f ending → Refuses (RefusesRun bytes) ending
 ended_fault bytes m (fault.SourceFull s) ending spells fails is = fills bytes m s ending spells fails is
 ended_fault bytes m fault.Mem ending spells fails is = subst (Refuses (RefusesRun bytes)) (sym is) tt
 

@@ -6,11 +6,11 @@ use Rattle.sleep_model.specs.Accepted.{IsAccepted}
 use Rattle.sleep_model.specs.Legal.{IsFinishedLog, IsStuckLog}
 use Rattle.sleep_model.specs.Order.{parents_of}
 use Rattle.sleep_model.specs.Places.{places}
-use Rattle.device_links.specs.Passes.{CanStand}
+use Rattle.device_links.specs.Passes.{CanBeAdded}
 use Rattle.machine_file.specs.Spelling.{spelling}
 use Rattle.sleep_script.specs.Generated.{generated}
 use Rattle.machine_rounds.specs.Runs.{IsFull, IsRun}
-use Rattle.run_commands.specs.declared.counts.Counts.{Counts}
+use Rattle.run_commands.specs.declared.counts.LogCounts.{LogCounts}
 use Rattle.program_ending.specs.declared.ending.Ending.{Ending}
 use Rattle.program_ending.specs.declared.ending.Ending.TheVariants.{Done, Stuck, Illegal, NoForm, ReadFault, WriteFault, Refused, NoMemory}
 use Rattle.run_commands.specs.Counting.{count_line, counts_of}
@@ -18,7 +18,7 @@ use Rattle.program_ending.specs.Streams.{Stream, Writes}
 use Rattle.run_commands.specs.Endings.{EndsAs, GenEnded, IsLineOf, SoakEnded, is_stuck}
 
 -- the links of a machine that a file may spell
-pub can_stand : (m : Machine) → IsAccepted m → CanStand (parents_of m.devices) m.links
+pub can_stand : (m : Machine) → IsAccepted m → CanBeAdded (parents_of m.devices) m.links
 can_stand m a = record { few = omega (arith, a.few_links); linked = a.links }
 
 -- calls of sixteen places fill no source
@@ -34,9 +34,9 @@ ends_as m log run = by run.over
     by (inr stuck) = subst (λ end. EndsAs m log (is_stuck end)) (sym stuck.says) stuck
 
 -- the line of the numbers of a log is told of its run
-pub line_told : (seed devices : ℕ) (m : Machine) (log : Log) (counts : Counts) (stuck : Bool) (said : List ℕ) → m ≡ generated seed devices → IsRun m log → stuck ≡ is_stuck log.end
-    → counts ≡ counts_of log → said ≡ count_line counts stuck → IsLineOf seed devices said stuck
-line_told seed devices m log counts stuck said is run ending counted line = record {
+pub line_text : (seed devices : ℕ) (m : Machine) (log : Log) (counts : LogCounts) (stuck : Bool) (shown_text : List ℕ) → m ≡ generated seed devices → IsRun m log → stuck ≡ is_stuck log.end
+    → counts ≡ counts_of log → shown_text ≡ count_line counts stuck → IsLineOf seed devices shown_text stuck
+line_text seed devices m log counts stuck shown_text is run ending counted line = record {
   log = log;
   run = subst (λ k. IsRun k log) is run;
   ends = subst (λ k. EndsAs k log stuck) is (subst (EndsAs m log) (sym ending) (ends_as m log run));
@@ -44,8 +44,8 @@ line_told seed devices m log counts stuck said is run ending counted line = reco
 }
 
 -- a file that was written, or a front of it
-pub gen_ended : (seed devices : ℕ) (old new : Stream) (said : List ℕ) (ending : Ending) → said ≡ spelling (generated seed devices) → Writes old new said false ending → GenEnded seed devices old new ending
-gen_ended seed devices old new said ending is h = by ending (subst (λ text. Writes old new text false ending) is h)
+pub gen_ended : (seed devices : ℕ) (old new : Stream) (shown_text : List ℕ) (ending : Ending) → shown_text ≡ spelling (generated seed devices) → Writes old new shown_text false ending → GenEnded seed devices old new ending
+gen_ended seed devices old new shown_text ending is h = by ending (subst (λ text. Writes old new text false ending) is h)
   where
     by : (ending : Ending) → Writes old new (spelling (generated seed devices)) false ending → GenEnded seed devices old new ending
     by Done h = h
@@ -58,12 +58,12 @@ gen_ended seed devices old new said ending is h = by ending (subst (λ text. Wri
     by NoMemory h = absurd h
 
 -- a line that was written, or a front of it
-pub soak_ended : (seed devices : ℕ) (old new : Stream) (said : List ℕ) (stuck : Bool) (ending : Ending) → IsLineOf seed devices said stuck → Writes old new said stuck ending → SoakEnded seed devices old new ending
-soak_ended seed devices old new said stuck Done line h = (said, stuck, line, h)
-soak_ended seed devices old new said stuck Stuck line h = (said, stuck, line, h)
-soak_ended seed devices old new said stuck Illegal line h = (said, stuck, line, h)
-soak_ended seed devices old new said stuck NoForm line h = (said, stuck, line, h)
-soak_ended seed devices old new said stuck ReadFault line h = (said, stuck, line, h)
-soak_ended seed devices old new said stuck WriteFault line h = (said, stuck, line, h)
-soak_ended seed devices old new said stuck (Refused refusal) line h = (said, stuck, line, h)
-soak_ended seed devices old new said stuck NoMemory line h = absurd h
+pub soak_ended : (seed devices : ℕ) (old new : Stream) (shown_text : List ℕ) (stuck : Bool) (ending : Ending) → IsLineOf seed devices shown_text stuck → Writes old new shown_text stuck ending → SoakEnded seed devices old new ending
+soak_ended seed devices old new shown_text stuck Done line h = (shown_text, stuck, line, h)
+soak_ended seed devices old new shown_text stuck Stuck line h = (shown_text, stuck, line, h)
+soak_ended seed devices old new shown_text stuck Illegal line h = (shown_text, stuck, line, h)
+soak_ended seed devices old new shown_text stuck NoForm line h = (shown_text, stuck, line, h)
+soak_ended seed devices old new shown_text stuck ReadFault line h = (shown_text, stuck, line, h)
+soak_ended seed devices old new shown_text stuck WriteFault line h = (shown_text, stuck, line, h)
+soak_ended seed devices old new shown_text stuck (Refused refusal) line h = (shown_text, stuck, line, h)
+soak_ended seed devices old new shown_text stuck NoMemory line h = absurd h

@@ -6,7 +6,7 @@ use Rattle.sleep_model.specs.declared.entry.Kind.TheVariants.{Attempt, Enter}
 use Rattle.sleep_model.specs.declared.log.Log.{Log}
 use Rattle.sleep_model.specs.Places.{one_if}
 use Rattle.sleep_model.specs.Text.{newline}
-use Rattle.run_commands.specs.declared.counts.Counts.{Counts}
+use Rattle.run_commands.specs.declared.counts.LogCounts.{LogCounts}
 
 -- an attempt begins (enter_state)
 abbrev pub begins_attempt : Kind → Bool
@@ -29,7 +29,7 @@ entered_in [] = 0
 entered_in (e ∷ rest) = one_if (begins_sleep e.kind) + entered_in rest
 
 -- the numbers of a log: its entries, the attempts, those that entered, and the others
-abbrev pub counts_of : Log → Counts
+abbrev pub counts_of : Log → LogCounts
 counts_of log = record {
   entries = length log.entries;
   attempts = attempts_in log.entries;
@@ -37,7 +37,7 @@ counts_of log = record {
   aborted = attempts_in log.entries - entered_in log.entries;
 }
 
--- a number behind its word
+-- a number after its word
 abbrev pub counted : List ℕ → ℕ → List ℕ
 counted word n = word ++ decimal n
 
@@ -47,7 +47,7 @@ line_end false = codes " finished" ++ newline
 line_end true = codes " stuck" ++ newline
 
 -- the line of a log's numbers, and of how the run ended
-abbrev pub count_line : Counts → Bool → List ℕ
+abbrev pub count_line : LogCounts → Bool → List ℕ
 count_line c stuck =
     counted (codes "entries ") c.entries ++ counted (codes " attempts ") c.attempts ++ counted (codes " entered ") c.entered
     ++ counted (codes " aborted ") c.aborted ++ line_end stuck

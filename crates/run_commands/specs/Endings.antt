@@ -18,7 +18,7 @@ use Rattle.program_ending.specs.declared.ending.Ending.TheVariants.{Done, Stuck,
 use Rattle.program_ending.specs.declared.refusal.Refusal.{Refusal}
 use Rattle.program_ending.specs.declared.refusal.Refusal.TheVariants.{LongMachine, Broken, SourceFull}
 use Rattle.program_ending.specs.Streams.{KeepsOut, ReadWhole, RefusesInput, Stream, Streams, Writes, most_machine}
-use Rattle.program_ending.specs.Telling.{Refuses}
+use Rattle.program_ending.specs.CommandEndings.{Refuses}
 use Rattle.run_commands.specs.Counting.{count_line, counts_of}
 use Rattle.run_commands.specs.declared.run.Ran.{Ran}
 
@@ -35,13 +35,13 @@ EndsAs m log false = IsFinishedLog m log
 EndsAs m log true = IsStuckLog m log
 
 -- the text is that of the log of a run of the machine that the bytes spell, which is stuck or not
-pub record IsLogOf (bytes said : List ℕ) (stuck : Bool) : Type 0 where
+pub record IsLogOf (bytes shown_text : List ℕ) (stuck : Bool) : Type 0 where
   pub machine : Machine
   pub log : Log
   pub spells : machine_in bytes ≡ Some machine
   pub run : IsRun machine log
   pub ends : EndsAs machine log stuck
-  pub is_text : said ≡ text machine log
+  pub is_text : shown_text ≡ text machine log
 
 -- the first rule that the bytes break is that one, and there
 abbrev pub IsBroken : List ℕ → ℕ → List ℕ → Type 0
@@ -60,10 +60,10 @@ abbrev pub IsFullNamed : Machine → ℕ → Ending → Type 0
 IsFullNamed m s (Refused (SourceFull name)) = name ≡ source m s
 IsFullNamed m s _ = ⊥
 
--- how the program ends where a run gives no log: a full source is named, and only want of memory says want of memory
-abbrev pub IsEndingOf : Machine → RunFault → Ending → Type 0
-IsEndingOf m (fault.SourceFull s) ending = IsFullNamed m s ending
-IsEndingOf m fault.Mem ending = ending ≡ NoMemory
+-- how the program ends where a run gives no log: a full source is named, and only out of memory says out of memory
+abbrev pub IsEndingOfRun : Machine → RunFault → Ending → Type 0
+IsEndingOfRun m (fault.SourceFull s) ending = IsFullNamed m s ending
+IsEndingOfRun m fault.Mem ending = ending ≡ NoMemory
 
 -- why the bytes give no log: they break a rule, or spell a machine that fills a source
 abbrev pub RefusesRun : List ℕ → Refusal → Type 0
@@ -92,11 +92,11 @@ WritesLog ran = WritesText ran.machine ran.log
 
 -- the whole input was a machine file, and the text is that of its log
 abbrev pub RanFile : Stream → Stream → List ℕ → Bool → Type 0
-RanFile old new said stuck = (bytes : List ℕ) × ReadWhole most_machine old new bytes × IsLogOf bytes said stuck
+RanFile old new shown_text stuck = (bytes : List ℕ) × ReadWhole most_machine old new bytes × IsLogOf bytes shown_text stuck
 
 -- the log's text was written, or a front of it
 abbrev pub WroteLog : Streams → Streams → Ending → Type 0
-WroteLog old new ending = (said : List ℕ) × (stuck : Bool) × RanFile old.input new.input said stuck × Writes old.output new.output said stuck ending
+WroteLog old new ending = (shown_text : List ℕ) × (stuck : Bool) × RanFile old.input new.input shown_text stuck × Writes old.output new.output shown_text stuck ending
 
 -- what an ending of a run of a file means
 abbrev pub RunEnded : Streams → Streams → Ending → Type 0
@@ -121,14 +121,14 @@ GenEnded seed devices old new ending = Writes old new (spelling (generated seed 
 -- ---- soak
 
 -- the text is the line of the numbers of one log: that of a run of the generator's machine, which is stuck or not
-pub record IsLineOf (seed devices : ℕ) (said : List ℕ) (stuck : Bool) : Type 0 where
+pub record IsLineOf (seed devices : ℕ) (shown_text : List ℕ) (stuck : Bool) : Type 0 where
   pub log : Log
   pub run : IsRun (generated seed devices) log
   pub ends : EndsAs (generated seed devices) log stuck
-  pub is_line : said ≡ count_line (counts_of log) stuck
+  pub is_line : shown_text ≡ count_line (counts_of log) stuck
 
 -- what an ending of soak means: the line was written, or a front of it, or memory ran out
 abbrev pub SoakEnded : ℕ → ℕ → Stream → Stream → Ending → Type 0
 SoakEnded seed devices old new NoMemory = new ≡ old
 SoakEnded seed devices old new ending =
-    (said : List ℕ) × (stuck : Bool) × IsLineOf seed devices said stuck × Writes old new said stuck ending
+    (shown_text : List ℕ) × (stuck : Bool) × IsLineOf seed devices shown_text stuck × Writes old new shown_text stuck ending

@@ -12,7 +12,7 @@ use std::alloc::Global;
 
 /// How many entries a log has, and what became of its attempts.
 #[derive(Clone, Copy)]
-pub struct Counts {
+pub struct LogCounts {
     /// Entries of the log, jumps included.
     pub entries: usize,
     /// Attempts that were begun.
@@ -40,7 +40,7 @@ fn begins_sleep(kind: Kind) -> bool
     }
 }
 
-/// 1 where it is so, else 0.
+/// 1 if it is so, else 0.
 fn one_if(so: bool) -> usize
     ensures { result ≡ one_if so }
 {
@@ -55,7 +55,7 @@ pub fn is_stuck(end: &LogEnd) -> bool
 }
 
 /// The numbers of a log.
-pub fn counts_of(log: &Log) -> Counts
+pub fn counts_of(log: &Log) -> LogCounts
     ensures { result ≡ counts_of log.now }
 {
     let entries = log.entries.len();
@@ -66,7 +66,7 @@ pub fn counts_of(log: &Log) -> Counts
         attempts += one_if(begins_attempt(entry.kind));
         entered += one_if(begins_sleep(entry.kind));
     }
-    Counts {
+    LogCounts {
         entries,
         attempts,
         entered,
@@ -74,7 +74,7 @@ pub fn counts_of(log: &Log) -> Counts
     }
 }
 
-/// Puts a number behind a line, with its word before it.
+/// Puts a number after a line, with its word before it.
 fn put_count(line: &mut Vec<u8>, word: &str, number: usize) -> Result<(), Mem>
     ensures { OnOk result (line.new.items ≡ line.old.items ++ counted word.now number) }
 {
@@ -92,7 +92,7 @@ fn line_end(stuck: bool) -> &'static str
 }
 
 /// The line of a log's numbers, and of how the run ended. `Mem` if there is no memory for it.
-pub fn count_line(alloc: Global, counts: Counts, stuck: bool) -> Result<Vec<u8>, Mem>
+pub fn count_line(alloc: Global, counts: LogCounts, stuck: bool) -> Result<Vec<u8>, Mem>
     ensures { IfOk result (λ line. line.items ≡ count_line counts stuck) }
 {
     let mut line = Vec::new(alloc);

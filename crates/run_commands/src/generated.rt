@@ -14,7 +14,7 @@ ghost use Rattle.run_commands.specs.Endings.{GenEnded, IsLineOf, SoakEnded};
 use crate::counts::{count_line, counts_of, is_stuck};
 use device_links::Links;
 use machine_file::write_machine;
-use program_ending::{Ending, Said, write_said};
+use program_ending::{Ending, RunText, write_run_text};
 use sleep_base::{ByteSink, Mem, lost};
 use sleep_model::{Device, Log, Machine};
 use sleep_run::{OpenGate, RunFault, run_machine};
@@ -42,7 +42,7 @@ pub fn write_generated<K: ByteSink>(alloc: Global, seed: u64, devices: u32, out:
 {
     let stuck = false;
     match file_of(alloc, seed, devices) {
-        Ok(text) => write_said(out, &Said { text, stuck }),
+        Ok(text) => write_run_text(out, &RunText { text, stuck }),
         Err(_) => Ending::NoMemory,
     }
 }
@@ -87,10 +87,10 @@ fn line_of<R: Threads + Wait + Sync>(
     alloc: Global,
     seed: u64,
     devices: u32,
-) -> Result<Said, Mem>
+) -> Result<RunText, Mem>
     requires some { 1 ≤ devices }
     requires few { devices ≤ 1000 }
-    ensures { IfOk result (λ said. IsLineOf seed devices said.text.items said.stuck) }
+    ensures { IfOk result (λ shown_text. IsLineOf seed devices shown_text.text.items shown_text.stuck) }
 {
     let machine = generate(alloc, seed, devices)?;
     let Ok(log) = log_of(rt, alloc, &machine) else {
@@ -100,7 +100,7 @@ fn line_of<R: Threads + Wait + Sync>(
     let counts = counts_of(&log);
     drop((machine, log));
     let text = count_line(alloc, counts, stuck)?;
-    Ok(Said { text, stuck })
+    Ok(RunText { text, stuck })
 }
 
 /// Runs the generated machine of a seed with this number of devices, and writes the numbers of its log.
@@ -117,7 +117,7 @@ pub fn soak_generated<R: Threads + Wait + Sync, K: ByteSink>(
         (stream (K.written out.old) (K.faults out.old)) (stream (K.written out.new) (K.faults out.new)) result }
 {
     match line_of(rt, alloc, seed, devices) {
-        Ok(said) => write_said(out, &said),
+        Ok(shown_text) => write_run_text(out, &shown_text),
         Err(_) => Ending::NoMemory,
     }
 }

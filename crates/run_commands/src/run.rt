@@ -3,7 +3,7 @@
 ghost use Rattle.std.specs.Prelude.{◌≡◌, ◌≤◌, length};
 ghost use Rattle.machine_rounds.specs.Runs.{Fails};
 ghost use Rattle.program_ending.specs.Streams.{stream, streams};
-ghost use Rattle.run_commands.specs.Endings.{GivesRun, IsEndingOf, IsFullNamed, RunEnded, WritesLog, WritesText};
+ghost use Rattle.run_commands.specs.Endings.{GivesRun, IsEndingOfRun, IsFullNamed, RunEnded, WritesLog, WritesText};
 
 use crate::counts::is_stuck;
 use apart_log::{ApartLog, SlicedText};
@@ -28,10 +28,10 @@ fn full(machine: &Machine, source: u32) -> Ending
     }
 }
 
-/// How the program ends where a run gives no log: a full source is named, and never told as want of memory.
+/// How the program ends where a run gives no log: a full source is named, and never told as out of memory.
 fn without_log(machine: &Machine, fault: RunFault) -> Ending
     requires { Fails machine.now fault }
-    ensures { IsEndingOf machine.now fault result }
+    ensures { IsEndingOfRun machine.now fault result }
 {
     match fault {
         RunFault::SourceFull(source) => full(machine, source),
@@ -47,7 +47,7 @@ pub struct Ran {
 }
 
 /// The machine that the bytes spell with the log of its run by this number of workers, or how the program ends without one: `Broken` where
-/// they break a rule and so spell none, `SourceFull` where a source's history has no place for a call, `NoMemory` where there is no memory.
+/// they break a rule and so spell none, `SourceFull` if a source's history has no place for a call, `NoMemory` if there is no memory.
 #[tactic(auto, using(crate::proofs::Filling::ended_fault))]
 fn run_of_bytes<R: Threads + Wait + Sync, G: Gate + Sync>(
     rt: &R,
@@ -90,7 +90,7 @@ fn write_text<K: ByteSink>(alloc: Global, out: &mut K, machine: &Machine, log: &
     }
 }
 
-/// Writes the log of a run as its text is put together: `Done`, or `Stuck` where the run was stuck. `NoMemory` before
+/// Writes the log of a run as its text is put together: `Done`, or `Stuck` if the run was stuck. `NoMemory` before
 /// anything was written, `WriteFault` at the first write that fails: a front of the text was written.
 fn write_whole<K: ByteSink>(alloc: Global, out: &mut K, ran: Ran) -> Ending
     ensures { WritesLog ran (stream (K.written out.old) (K.faults out.old)) (stream (K.written out.new) (K.faults out.new)) result }

@@ -13,41 +13,41 @@ use Rattle.sleep_model.specs.declared.word.Stamp.{Stamp}
 use Rattle.sleep_model.specs.declared.word.WordKind.{WordKind}
 use Rattle.sleep_model.specs.declared.word.WordKind.TheVariants as step
 use Rattle.sleep_model.specs.Calls.{note}
-use Rattle.sleep_model.specs.Legal.{is_behind, is_there}
-use Rattle.sleep_model.specs.Merge.{is_jump, of_source, position_behind, step_number}
+use Rattle.sleep_model.specs.Legal.{last_is_of, is_there}
+use Rattle.sleep_model.specs.Merge.{is_jump, of_source, next_position, step_number}
 use Rattle.sleep_model.specs.Numbers.{time_of}
-use Rattle.sleep_model.specs.Parts.{Part, Notes, Moves, part_of, is_kept}
+use Rattle.sleep_model.specs.EntryClasses.{EntryClass, Notes, Moves, class_of, is_in_journal}
 use Rattle.sleep_model.specs.Path.{is_same}
-use Rattle.sleep_model.specs.Sources.{IsNext as Next, SourceStep, behind_first, caller, caller_after, is_of, makes, owed, owed_after, since}
+use Rattle.sleep_model.specs.Sources.{IsNext as Next, SourceStep, steps_after_first, caller, caller_after, is_of, makes, owed, owed_after, since}
 use Rattle.sleep_model.specs.Word.{position}
 use Rattle.log_merge.proofs.Reading.{both}
 use Rattle.merge_laws.proofs.Calling.{same_actor}
 use Rattle.wakeup_source.specs.declared.call_by.CallBy.{CallBy}
-use Rattle.wakeup_source.specs.Called.{Scene, Steps, after_note, after_step}
-use Rattle.wakeup_source.specs.SourceStates.{AreInOrder, SourceState, note_entry, note_tick, step_entry, step_kind, with_note, with_step}
+use Rattle.wakeup_source.specs.Called.{SourceView, Steps, after_note, after_step}
+use Rattle.wakeup_source.specs.SourceStates.{RiseUpTo, SourceState, note_entry, note_tick, step_entry, step_kind, with_note, with_step}
 use Rattle.wakeup_source.specs.SourceStates as states
-use Rattle.wakeup_source.specs.Told.{MayCall}
-use Rattle.run_laws.specs.Acts.{IsNext, Made, MayHave, bare, put_if, with_entry}
+use Rattle.wakeup_source.specs.Shown.{MayCall}
+use Rattle.run_laws.specs.Acts.{IsNext, Made, MayHave, unstamped, put_if, with_entry}
 use Rattle.run_laws.specs.Called.{CallGrows, IsCalled, IsReady, knows}
-use Rattle.run_laws.specs.Held.{EachJump, Held, IsGrowth, IsInPlace, IsInTime, follows, is_above}
-use Rattle.run_laws.proofs.Held.{each_by, held_grows}
+use Rattle.run_laws.specs.Invariant.{EachJump, RunInvariant, IsGrowth, IsNewestOfOwn, IsInTime, follows, is_above}
+use Rattle.run_laws.proofs.Invariant.{each_by, grows}
 
 -- ---- parts and lists
 
-pub part_note : (s : ℕ) (c : SourceCall) → part_of (note s c) ≡ Notes s c
-part_note s call.Awake = refl
-part_note s call.Relax = refl
-part_note s (call.Event ms hard) = refl
-part_note s call.Expire = refl
+pub class_note : (s : ℕ) (c : SourceCall) → class_of (note s c) ≡ Notes s c
+class_note s call.Awake = refl
+class_note s call.Relax = refl
+class_note s (call.Event ms hard) = refl
+class_note s call.Expire = refl
 
-part_step : (s : ℕ) (x : WordKind) → part_of (step_kind s x) ≡ Moves s x
-part_step s step.Start = refl
-part_step s step.Finish = refl
-part_step s step.Hard = refl
+class_step : (s : ℕ) (x : WordKind) → class_of (step_kind s x) ≡ Moves s x
+class_step s step.Start = refl
+class_step s step.Finish = refl
+class_step s step.Hard = refl
 
-pub bare_same : (past : List SourceEntry) → states.bare past ≡ bare (map of_source past)
-bare_same [] = refl
-bare_same (e ∷ past) = ap (λ (l : List Entry). e.entry ∷ l) (bare_same past)
+pub unstamped_same : (past : List SourceEntry) → states.unstamped past ≡ unstamped (map of_source past)
+unstamped_same [] = refl
+unstamped_same (e ∷ past) = ap (λ (l : List Entry). e.entry ∷ l) (unstamped_same past)
 
 same_number : (s : ℕ) → (s == s) ≡ true
 same_number s = grind (arith, nat_tests)
@@ -57,10 +57,10 @@ same_number s = grind (arith, nat_tests)
 pub above : (t t' p p' : ℕ) → nat_le t t' && nat_le p p' ≡ true → (u q : ℕ) → t' < u → p' ≤ q → nat_lt t u && nat_le p q ≡ true
 above t t' p p' h u q a b = grind (arith, nat_tests)
 
--- an entry whose stamp is behind what was known follows
+-- an entry whose stamp is after what was known follows
 pub follows_known : (floor : Stamp) (l : List JournalEntry) (e : JournalEntry) → knows floor l ≡ true → floor.tick < e.stamp.tick → floor.pos ≤ e.stamp.pos → follows e l ≡ true
 follows_known floor [] e h t p = refl
-follows_known floor (x ∷ l) e h t p = above x.stamp.tick floor.tick (position_behind x) floor.pos h e.stamp.tick e.stamp.pos t p
+follows_known floor (x ∷ l) e h t p = above x.stamp.tick floor.tick (next_position x) floor.pos h e.stamp.tick e.stamp.pos t p
 
 known_longer : (t t' p p' : ℕ) → nat_le t t' && nat_le p p' ≡ true → (u q : ℕ) → t' ≤ u → p' ≤ q → nat_le t u && nat_le p q ≡ true
 known_longer t t' p p' h u q a b = grind (arith, nat_tests)
@@ -68,9 +68,9 @@ known_longer t t' p p' h u q a b = grind (arith, nat_tests)
 at_most_self : (a : ℕ) → nat_le a a ≡ true
 at_most_self a = grind (arith, nat_tests)
 
-pub in_order_known : (floor : Stamp) (past : List SourceEntry) → AreInOrder floor past → knows floor (map of_source past) ≡ true
+pub in_order_known : (floor : Stamp) (past : List SourceEntry) → RiseUpTo floor past → knows floor (map of_source past) ≡ true
 in_order_known floor [] h = refl
-in_order_known floor (e ∷ past) h = both (nat_le e.stamp.tick floor.tick) (nat_le (position_behind (of_source e)) floor.pos) (is e.stamp.tick floor.tick h.1) (is (position_behind (of_source e)) floor.pos h.0)
+in_order_known floor (e ∷ past) h = both (nat_le e.stamp.tick floor.tick) (nat_le (next_position (of_source e)) floor.pos) (is e.stamp.tick floor.tick h.1) (is (next_position (of_source e)) floor.pos h.0)
   where
     is : (a b : ℕ) → a ≤ b → nat_le a b ≡ true
     is a b l = grind (arith, nat_tests)
@@ -86,18 +86,18 @@ record IsPut (s : ℕ) (who : Actor) (e : JournalEntry) (old new : Made) : Type 
   others_own : (w : Actor) → is_same who w ≡ false → new.own w ≡ old.own w
 
 -- the part is that source's
-record IsPartOf (s : ℕ) (p : Part) : Type 0 where
-  unkept : is_kept p ≡ false
+record IsClassOf (s : ℕ) (p : EntryClass) : Type 0 where
+  unkept : is_in_journal p ≡ false
   still : is_jump p ≡ false
   of : (t : ℕ) → is_of t p ≡ (s == t)
 
-note_part : (s : ℕ) (c : SourceCall) → IsPartOf s (Notes s c)
-note_part s c = record { unkept = refl; still = refl; of = λ t. refl }
+note_class : (s : ℕ) (c : SourceCall) → IsClassOf s (Notes s c)
+note_class s c = record { unkept = refl; still = refl; of = λ t. refl }
 
-step_part : (s : ℕ) (x : WordKind) → IsPartOf s (Moves s x)
-step_part s x = record { unkept = refl; still = refl; of = λ t. refl }
+step_class : (s : ℕ) (x : WordKind) → IsClassOf s (Moves s x)
+step_class s x = record { unkept = refl; still = refl; of = λ t. refl }
 
-put : (s : ℕ) (e : JournalEntry) (made : Made) → IsPartOf s (part_of e.entry.kind) → IsPut s e.entry.actor e made (with_entry e made)
+put : (s : ℕ) (e : JournalEntry) (made : Made) → IsClassOf s (class_of e.entry.kind) → IsPut s e.entry.actor e made (with_entry e made)
 put s e made p = record {
   journal = ap (λ (b : Bool). put_if b e made.journal) p.unkept;
   source = ap (λ (b : Bool). put_if b e (made.of s)) (p.of s ∙ same_number s);
@@ -109,7 +109,7 @@ put s e made p = record {
 -- ---- what is known inside a call
 
 record Going (m : Machine) (first made : Made) (by : CallBy) (source : SourceState) (steps : List WordKind) : Type 0 where
-  held : Held m made
+  invariant : RunInvariant m made
   journal : made.journal ≡ first.journal
   entries : made.of source.id ≡ map of_source source.past
   others : (s : ℕ) → (source.id == s) ≡ false → made.of s ≡ first.of s
@@ -118,20 +118,20 @@ record Going (m : Machine) (first made : Made) (by : CallBy) (source : SourceSta
   there : nat_le source.id (length m.sources) ≡ true
   newest : knows source.floor (made.of source.id) ≡ true
   jumps_known : EachJump (λ jump. knows source.floor (jump ∷ []) ≡ true) made.journal
-  time : by.now ≡ time_of (bare made.journal)
-  owes : owed (bare (made.of source.id)) ≡ steps
-  calls : caller (bare (made.of source.id)) ≡ Some by.actor
-  behind : is_behind source.id by.actor (bare (made.own by.actor)) ≡ true
+  time : by.now ≡ time_of (unstamped made.journal)
+  owes : owed (unstamped (made.of source.id)) ≡ steps
+  calls : caller (unstamped (made.of source.id)) ≡ Some by.actor
+  behind : last_is_of source.id by.actor (unstamped (made.own by.actor)) ≡ true
 
 pub above_jumps : (floor : Stamp) (e : JournalEntry) (l : List JournalEntry) → floor.tick < e.stamp.tick → floor.pos ≤ e.stamp.pos
     → EachJump (λ jump. knows floor (jump ∷ []) ≡ true) l → EachJump (λ jump. is_above e jump ≡ true) l
 above_jumps floor e l t p h =
     each_by (λ jump. knows floor (jump ∷ []) ≡ true) (λ jump. is_above e jump ≡ true) l
-    (λ jump k. above jump.stamp.tick floor.tick (position_behind jump) floor.pos k e.stamp.tick e.stamp.pos t p) h
+    (λ jump k. above jump.stamp.tick floor.tick (next_position jump) floor.pos k e.stamp.tick e.stamp.pos t p) h
 
 -- ---- a step
 
-step_number_note : (s : ℕ) (c : SourceCall) (e : JournalEntry) → e.entry.kind ≡ note s c → position_behind e ≡ e.stamp.pos + 0
+step_number_note : (s : ℕ) (c : SourceCall) (e : JournalEntry) → e.entry.kind ≡ note s c → next_position e ≡ e.stamp.pos + 0
 step_number_note s c e is = ap (λ (n : ℕ). e.stamp.pos + n) (none c is)
   where
     none : (c : SourceCall) → e.entry.kind ≡ note s c → step_number e ≡ 0
@@ -140,7 +140,7 @@ step_number_note s c e is = ap (λ (n : ℕ). e.stamp.pos + n) (none c is)
     none (call.Event ms hard) is = rw is refl
     none call.Expire is = rw is refl
 
-step_number_step : (s : ℕ) (x : WordKind) (e : JournalEntry) → e.entry.kind ≡ step_kind s x → position_behind e ≡ e.stamp.pos + 1
+step_number_step : (s : ℕ) (x : WordKind) (e : JournalEntry) → e.entry.kind ≡ step_kind s x → next_position e ≡ e.stamp.pos + 1
 step_number_step s x e is = ap (λ (n : ℕ). e.stamp.pos + n) (one x is)
   where
     one : (x : WordKind) → e.entry.kind ≡ step_kind s x → step_number e ≡ 1
@@ -148,8 +148,8 @@ step_number_step s x e is = ap (λ (n : ℕ). e.stamp.pos + n) (one x is)
     one step.Finish is = rw is refl
     one step.Hard is = rw is refl
 
-pub knows_itself : (e : JournalEntry) (l : List JournalEntry) (floor : Stamp) → e.stamp.tick ≡ floor.tick → position_behind e ≡ floor.pos → knows floor (e ∷ l) ≡ true
-knows_itself e l floor t p = both (nat_le e.stamp.tick floor.tick) (nat_le (position_behind e) floor.pos) (same e.stamp.tick floor.tick t) (same (position_behind e) floor.pos p)
+pub knows_itself : (e : JournalEntry) (l : List JournalEntry) (floor : Stamp) → e.stamp.tick ≡ floor.tick → next_position e ≡ floor.pos → knows floor (e ∷ l) ≡ true
+knows_itself e l floor t p = both (nat_le e.stamp.tick floor.tick) (nat_le (next_position e) floor.pos) (same e.stamp.tick floor.tick t) (same (next_position e) floor.pos p)
   where
     same : (a b : ℕ) → a ≡ b → nat_le a b ≡ true
     same a b e = grind (arith, nat_tests)
@@ -158,7 +158,7 @@ jumps_longer : (floor floor' : Stamp) (l : List JournalEntry) → floor.tick ≤
     → EachJump (λ jump. knows floor (jump ∷ []) ≡ true) l → EachJump (λ jump. knows floor' (jump ∷ []) ≡ true) l
 jumps_longer floor floor' l t p h =
     each_by (λ jump. knows floor (jump ∷ []) ≡ true) (λ jump. knows floor' (jump ∷ []) ≡ true) l
-    (λ jump k. known_longer jump.stamp.tick floor.tick (position_behind jump) floor.pos k floor'.tick floor'.pos t p) h
+    (λ jump k. known_longer jump.stamp.tick floor.tick (next_position jump) floor.pos k floor'.tick floor'.pos t p) h
 
 some_tick : (a : ℕ) → nat_lt 0 (a + 1) ≡ true
 some_tick a = grind (arith, nat_tests)
@@ -174,16 +174,16 @@ module _ (m : Machine) (first made : Made) (by : CallBy) (source : SourceState) 
   abbrev after : Made
   after = with_entry e made
 
-  part : part_of e.entry.kind ≡ Moves source.id x
-  part = part_step source.id x
+  part : class_of e.entry.kind ≡ Moves source.id x
+  part = class_step source.id x
 
-  is_part : IsPartOf source.id (part_of e.entry.kind)
-  is_part = subst (IsPartOf source.id) (sym part) (step_part source.id x)
+  is_class : IsClassOf source.id (class_of e.entry.kind)
+  is_class = subst (IsClassOf source.id) (sym part) (step_class source.id x)
 
   is_put : IsPut source.id by.actor e made after
-  is_put = put source.id e made is_part
+  is_put = put source.id e made is_class
 
-  next_owed : (steps : List WordKind) → steps ≡ x ∷ rest → SourceStep (bare (made.of source.id)) by.now by.actor (Moves source.id x)
+  next_owed : (steps : List WordKind) → steps ≡ x ∷ rest → SourceStep (unstamped (made.of source.id)) by.now by.actor (Moves source.id x)
   next_owed steps is = (subst (λ (l : List WordKind). Next x l) (sym g.owes) refl, g.calls)
 
   growth : IsGrowth m made e
@@ -191,20 +191,20 @@ module _ (m : Machine) (first made : Made) (by : CallBy) (source : SourceState) 
     next = subst (IsNext m made by.actor e.entry) (sym part) g.behind;
     may = subst (MayHave made e.entry) (sym part) (next_owed (x ∷ rest) refl);
     there = ap (is_there m) part ∙ g.there;
-    of_journal = λ is. absurd (let bad : true ≡ false = sym is ∙ is_part.unkept in cc);
-    of_jump = λ is. absurd (let bad : true ≡ false = sym is ∙ is_part.still in cc);
+    of_journal = λ is. absurd (let bad : true ≡ false = sym is ∙ is_class.unkept in cc);
+    of_jump = λ is. absurd (let bad : true ≡ false = sym is ∙ is_class.still in cc);
     tick = some_tick source.floor.tick;
-    in_place = subst (IsInPlace made e) (sym part) (follows_known source.floor (made.of source.id) e g.newest (omega arith) low);
+    in_place = subst (IsNewestOfOwn made e) (sym part) (follows_known source.floor (made.of source.id) e g.newest (omega arith) low);
     own = follows_known source.floor (made.own by.actor) e g.own (omega arith) low;
-    in_time = subst (IsInTime made e) (sym is_part.still) (above_jumps source.floor e made.journal (omega arith) low g.jumps_known, g.time);
+    in_time = subst (IsInTime made e) (sym is_class.still) (above_jumps source.floor e made.journal (omega arith) low g.jumps_known, g.time);
   }
 
-  left : position_behind e ≡ stepped.floor.pos
+  left : next_position e ≡ stepped.floor.pos
   left = step_number_step source.id x e refl
 
   goes_on : Going m first after by stepped rest
   goes_on = record {
-    held = held_grows m made e g.held growth;
+    invariant = grows m made e g.invariant growth;
     journal = is_put.journal ∙ g.journal;
     entries = is_put.source ∙ ap (λ (l : List JournalEntry). e ∷ l) g.entries;
     others = λ s other. is_put.others s other ∙ g.others s other;
@@ -214,24 +214,24 @@ module _ (m : Machine) (first made : Made) (by : CallBy) (source : SourceState) 
     newest = ap (knows stepped.floor) is_put.source ∙ knows_itself e (made.of source.id) stepped.floor refl left;
     jumps_known = subst (λ (l : List JournalEntry). EachJump (λ jump. knows stepped.floor (jump ∷ []) ≡ true) l) (sym is_put.journal)
         (jumps_longer source.floor stepped.floor made.journal (omega arith) (omega (arith, low)) g.jumps_known);
-    time = g.time ∙ ap (λ (l : List JournalEntry). time_of (bare l)) (sym is_put.journal);
-    owes = ap (λ (l : List JournalEntry). owed (bare l)) is_put.source
-        ∙ ap (λ (p : Part). owed_after p (since (bare (made.of source.id))) (owed (bare (made.of source.id)))) part
-        ∙ ap behind_first g.owes;
-    calls = ap (λ (l : List JournalEntry). caller (bare l)) is_put.source
-        ∙ ap (λ (p : Part). caller_after p by.actor (caller (bare (made.of source.id)))) part ∙ g.calls;
-    behind = ap (λ (l : List JournalEntry). is_behind source.id by.actor (bare l)) is_put.own
-        ∙ ap (λ (b : Bool). cond b (is_of source.id (part_of e.entry.kind)) (is_behind source.id by.actor (bare (made.own by.actor)))) (same_actor by.actor)
-        ∙ is_part.of source.id ∙ same_number source.id;
+    time = g.time ∙ ap (λ (l : List JournalEntry). time_of (unstamped l)) (sym is_put.journal);
+    owes = ap (λ (l : List JournalEntry). owed (unstamped l)) is_put.source
+        ∙ ap (λ (p : EntryClass). owed_after p (since (unstamped (made.of source.id))) (owed (unstamped (made.of source.id)))) part
+        ∙ ap steps_after_first g.owes;
+    calls = ap (λ (l : List JournalEntry). caller (unstamped l)) is_put.source
+        ∙ ap (λ (p : EntryClass). caller_after p by.actor (caller (unstamped (made.of source.id)))) part ∙ g.calls;
+    behind = ap (λ (l : List JournalEntry). last_is_of source.id by.actor (unstamped l)) is_put.own
+        ∙ ap (λ (b : Bool). cond b (is_of source.id (class_of e.entry.kind)) (last_is_of source.id by.actor (unstamped (made.own by.actor)))) (same_actor by.actor)
+        ∙ is_class.of source.id ∙ same_number source.id;
   }
 
 -- ---- all steps
 
-steps_go : (m : Machine) (first made : Made) (by : CallBy) (steps : List WordKind) (old new : Scene) → old.floor ≡ old.source.floor.pos
+steps_go : (m : Machine) (first made : Made) (by : CallBy) (steps : List WordKind) (old new : SourceView) → old.floor ≡ old.source.floor.pos
     → Going m first made by old.source steps → Steps by steps old new → (after : Made) × IsCalled m first after by new.source
 steps_go m first made by [] old new f g h =
     let done : IsCalled m first made by old.source = record {
-      held = g.held;
+      invariant = g.invariant;
       journal = g.journal;
       entries = g.entries;
       others = g.others;
@@ -239,7 +239,7 @@ steps_go m first made by [] old new f g h =
       others_own = g.others_own;
       owes_none = g.owes;
     } in
-    (made, subst (IsCalled m first made by) (ap (λ (s : Scene). s.source) (sym h)) done)
+    (made, subst (IsCalled m first made by) (ap (λ (s : SourceView). s.source) (sym h)) done)
 steps_go m first made by (x ∷ rest) old new f g h =
     let low : old.source.floor.pos ≤ position h.0 = subst (λ (n : ℕ). n ≤ position h.0) f h.2 in
     steps_go m first (after m first made by old.source x rest h.0 g low) by rest (after_step by x h.0 old) new refl
@@ -264,14 +264,14 @@ module _ (m : Machine) (made : Made) (by : CallBy) (c : SourceCall) (source : So
   abbrev behind : Made
   behind = with_entry n made
 
-  own_is : states.bare source.past ≡ bare (made.of source.id)
-  own_is = bare_same source.past ∙ ap bare (sym r.entries)
+  own_is : states.unstamped source.past ≡ unstamped (made.of source.id)
+  own_is = unstamped_same source.past ∙ ap unstamped (sym r.entries)
 
-  noted_part : part_of n.entry.kind ≡ Notes source.id c
-  noted_part = part_note source.id c
+  noted_class : class_of n.entry.kind ≡ Notes source.id c
+  noted_class = class_note source.id c
 
-  noted_of : IsPartOf source.id (part_of n.entry.kind)
-  noted_of = subst (IsPartOf source.id) (sym noted_part) (note_part source.id c)
+  noted_of : IsClassOf source.id (class_of n.entry.kind)
+  noted_of = subst (IsClassOf source.id) (sym noted_class) (note_class source.id c)
 
   noted_put : IsPut source.id by.actor n made behind
   noted_put = put source.id n made noted_of
@@ -284,25 +284,25 @@ module _ (m : Machine) (made : Made) (by : CallBy) (c : SourceCall) (source : So
 
   note_grows : IsGrowth m made n
   note_grows = record {
-    next = subst (IsNext m made by.actor n.entry) (sym noted_part) (r.next, r.free);
-    may = subst (MayHave made n.entry) (sym noted_part)
-        (subst (λ (own : List Entry). SourceStep own by.now by.actor (Notes source.id c)) own_is (may_note source.id c (states.bare source.past) by.now by.actor r.settled.owes_none r.may));
-    there = ap (is_there m) noted_part ∙ r.there;
+    next = subst (IsNext m made by.actor n.entry) (sym noted_class) (r.next, r.free);
+    may = subst (MayHave made n.entry) (sym noted_class)
+        (subst (λ (own : List Entry). SourceStep own by.now by.actor (Notes source.id c)) own_is (may_note source.id c (states.unstamped source.past) by.now by.actor r.settled.owes_none r.may));
+    there = ap (is_there m) noted_class ∙ r.there;
     of_journal = λ is. absurd (let bad : true ≡ false = sym is ∙ noted_of.unkept in cc);
     of_jump = λ is. absurd (let bad : true ≡ false = sym is ∙ noted_of.still in cc);
     tick = some_tick (max by.floor.tick source.floor.tick);
-    in_place = subst (IsInPlace made n) (sym noted_part)
+    in_place = subst (IsNewestOfOwn made n) (sym noted_class)
         (ap (follows n) r.entries ∙ follows_known source.floor (map of_source source.past) n (in_order_known source.floor source.past r.settled.in_order) source_tick low);
     own = follows_known by.floor (made.own by.actor) n r.own by_tick by_low;
     in_time = subst (IsInTime made n) (sym noted_of.still) (above_jumps by.floor n made.journal by_tick by_low r.jumps, r.time);
   }
 
-  stays_at : position_behind n ≡ position seen
-  stays_at = let is : position_behind n ≡ position seen + 0 = step_number_note source.id c n refl in omega (arith, is)
+  stays_at : next_position n ≡ position seen
+  stays_at = let is : next_position n ≡ position seen + 0 = step_number_note source.id c n refl in omega (arith, is)
 
-  begins : Going m made behind by noted (makes c (since (states.bare source.past)))
+  begins : Going m made behind by noted (makes c (since (states.unstamped source.past)))
   begins = record {
-    held = held_grows m made n r.held note_grows;
+    invariant = grows m made n r.invariant note_grows;
     journal = noted_put.journal;
     entries = noted_put.source ∙ ap (λ (l : List JournalEntry). n ∷ l) r.entries;
     others = noted_put.others;
@@ -312,14 +312,14 @@ module _ (m : Machine) (made : Made) (by : CallBy) (c : SourceCall) (source : So
     newest = ap (knows noted.floor) noted_put.source ∙ knows_itself n (made.of source.id) noted.floor refl stays_at;
     jumps_known = subst (λ (l : List JournalEntry). EachJump (λ jump. knows noted.floor (jump ∷ []) ≡ true) l) (sym noted_put.journal)
         (jumps_longer by.floor noted.floor made.journal (omega (arith, by_tick)) by_low r.jumps);
-    time = r.time ∙ ap (λ (l : List JournalEntry). time_of (bare l)) (sym noted_put.journal);
-    owes = ap (λ (l : List JournalEntry). owed (bare l)) noted_put.source
-        ∙ ap (λ (p : Part). owed_after p (since (bare (made.of source.id))) (owed (bare (made.of source.id)))) noted_part
+    time = r.time ∙ ap (λ (l : List JournalEntry). time_of (unstamped l)) (sym noted_put.journal);
+    owes = ap (λ (l : List JournalEntry). owed (unstamped l)) noted_put.source
+        ∙ ap (λ (p : EntryClass). owed_after p (since (unstamped (made.of source.id))) (owed (unstamped (made.of source.id)))) noted_class
         ∙ ap (λ (own : List Entry). makes c (since own)) (sym own_is);
-    calls = ap (λ (l : List JournalEntry). caller (bare l)) noted_put.source
-        ∙ ap (λ (p : Part). caller_after p by.actor (caller (bare (made.of source.id)))) noted_part;
-    behind = ap (λ (l : List JournalEntry). is_behind source.id by.actor (bare l)) noted_put.own
-        ∙ ap (λ (b : Bool). cond b (is_of source.id (part_of n.entry.kind)) (is_behind source.id by.actor (bare (made.own by.actor)))) (same_actor by.actor)
+    calls = ap (λ (l : List JournalEntry). caller (unstamped l)) noted_put.source
+        ∙ ap (λ (p : EntryClass). caller_after p by.actor (caller (unstamped (made.of source.id)))) noted_class;
+    behind = ap (λ (l : List JournalEntry). last_is_of source.id by.actor (unstamped l)) noted_put.own
+        ∙ ap (λ (b : Bool). cond b (is_of source.id (class_of n.entry.kind)) (last_is_of source.id by.actor (unstamped (made.own by.actor)))) (same_actor by.actor)
         ∙ noted_of.of source.id ∙ same_number source.id;
   }
 
@@ -329,6 +329,6 @@ call_grows m made by c old new r h =
     let by_low : by.floor.pos ≤ position seen = h.1.4 in
     let low : old.source.floor.pos ≤ position seen = h.1.5 in
     let is : h.0 ≡ after_note by c seen h.0.looked old = h.1.6 in
-    steps_go m made (behind m made by c old.source seen r by_low low) by (makes c (since (states.bare old.source.past))) (after_note by c seen h.0.looked old) new refl
+    steps_go m made (behind m made by c old.source seen r by_low low) by (makes c (since (states.unstamped old.source.past))) (after_note by c seen h.0.looked old) new refl
     (begins m made by c old.source seen r by_low low)
-    (subst (λ (s : Scene). Steps by (makes c (since (states.bare old.source.past))) s new) is h.2)
+    (subst (λ (s : SourceView). Steps by (makes c (since (states.unstamped old.source.past))) s new) is h.2)

@@ -1,9 +1,9 @@
 pub mod Acts
 pub mod Called
-pub mod Held
+pub mod Invariant
 pub mod Jobs
-pub mod Laid
+pub mod ClosedOver
 pub mod Passes
 pub mod Seated
-pub mod Told
+pub mod Premises
 pub mod Turned

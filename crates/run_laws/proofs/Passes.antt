@@ -8,7 +8,7 @@ use Rattle.sleep_model.specs.declared.entry.Actor.{Actor}
 use Rattle.sleep_model.specs.declared.entry.JournalEntry.{JournalEntry}
 use Rattle.sleep_model.specs.Path.{is_same}
 use Rattle.turn_lock.specs.declared.view.Made.{Made}
-use Rattle.turn_lock.specs.Books.{AreBelow, bare, made, made_by}
+use Rattle.turn_lock.specs.Bookings.{AreBelow, empty, made, made_by}
 use Rattle.merge_laws.proofs.Lists.{all_head, all_tail}
 use Rattle.merge_laws.proofs.Placing.{number_is}
 use Rattle.run_laws.specs.Passes.{LogSays, LogSaysWho, Noted, items, items_by}
@@ -56,7 +56,7 @@ module _ (makers : ℕ → Actor) (object n : ℕ) (apart : (j k : ℕ) → j < 
       (subst (λ (b : Bool). list_all (by_it (makers e.0)) (cond b (made object place e.1 ∷ made_by e.0 object (place + 1) es) (made_by e.0 object (place + 1) es)) ≡ true) (same_number e.0) (h e.0 l))
 
   by_maker : (place : ℕ) (es : List (ℕ × Noted)) → AreBelow n es → Own place es → (k : ℕ) → k < n
-      → map (λ (m : Made Noted). m.entry) (made_by k object place es) ≡ items_by (makers k) (bare es)
+      → map (λ (m : Made Noted). m.entry) (made_by k object place es) ≡ items_by (makers k) (empty es)
   by_maker place [] below h k l = refl
   by_maker place (e ∷ es) below h k l = by (e.0 == k) refl (by_maker (place + 1) es below.1 (rest_own place e es h) k l)
     where
@@ -70,14 +70,14 @@ module _ (makers : ℕ → Actor) (object n : ℕ) (apart : (j k : ℕ) → j < 
           let one : e.0 ≡ k = apart e.0 k below.0 l (ap (λ (a : Actor). is_same a (makers k)) (sym maker) ∙ is) in
           absurd (let bad : true ≡ false = sym (same_number k) ∙ ap (λ (j : ℕ). j == k) (sym one) ∙ other in cc)
 
-      by : (b : Bool) → (e.0 == k) ≡ b → map (λ (m : Made Noted). m.entry) (made_by k object (place + 1) es) ≡ items_by (makers k) (bare es)
-          → map (λ (m : Made Noted). m.entry) (cond b (made object place e.1 ∷ made_by k object (place + 1) es) (made_by k object (place + 1) es)) ≡ items_by (makers k) (e.1 ∷ bare es)
+      by : (b : Bool) → (e.0 == k) ≡ b → map (λ (m : Made Noted). m.entry) (made_by k object (place + 1) es) ≡ items_by (makers k) (empty es)
+          → map (λ (m : Made Noted). m.entry) (cond b (made object place e.1 ∷ made_by k object (place + 1) es) (made_by k object (place + 1) es)) ≡ items_by (makers k) (e.1 ∷ empty es)
       by true is rest =
           let one : e.0 ≡ k = number_is e.0 k is in
           let mine : is_same e.1.entry.entry.actor (makers k) ≡ true = subst (λ (j : ℕ). is_same e.1.entry.entry.actor (makers j) ≡ true) one its in
-          ap (λ (l : List Noted). e.1 ∷ l) rest ∙ ap (λ (b : Bool). cond b (e.1 ∷ items_by (makers k) (bare es)) (items_by (makers k) (bare es))) (sym mine)
+          ap (λ (l : List Noted). e.1 ∷ l) rest ∙ ap (λ (b : Bool). cond b (e.1 ∷ items_by (makers k) (empty es)) (items_by (makers k) (empty es))) (sym mine)
       by false is rest =
-          rest ∙ ap (λ (b : Bool). cond b (e.1 ∷ items_by (makers k) (bare es)) (items_by (makers k) (bare es))) (sym (others (is_same e.1.entry.entry.actor (makers k)) refl is))
+          rest ∙ ap (λ (b : Bool). cond b (e.1 ∷ items_by (makers k) (empty es)) (items_by (makers k) (empty es))) (sym (others (is_same e.1.entry.entry.actor (makers k)) refl is))
 
 -- ---- the closed table
 
@@ -86,12 +86,12 @@ module _ {V R : Type 0} (root : V → R) (journal : V → List JournalEntry) (fi
   says makers object old new closed have is_old is_new =
       let object_is = closed.objects object new is_new in
       let same : object_is.0 ≡ old = let both : some object_is.0 ≡ some old = sym object_is.1 ∙ is_old in cc in
-      let grown : items (journal new) ≡ items (journal old) ++ bare (closed.log object) =
-      object_is.3 ∙ ap (λ (u : V). items (journal u) ++ bare (closed.log object)) same in
+      let grown : items (journal new) ≡ items (journal old) ++ empty (closed.log object) =
+      object_is.3 ∙ ap (λ (u : V). items (journal u) ++ empty (closed.log object)) same in
       let place : ℕ = length (items (journal old)) in
       record {
-        new = bare (closed.log object);
-        journal = gained (journal old) (journal new) (bare (closed.log object)) grown;
+        new = empty (closed.log object);
+        journal = gained (journal old) (journal new) (empty (closed.log object)) grown;
         noted = grown;
         each = λ k l.
             ap (map (λ (m : Made Noted). m.entry)) (closed.booked k l object old is_old)

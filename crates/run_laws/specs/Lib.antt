@@ -1,8 +1,8 @@
 pub mod Acts
 pub mod Called
-pub mod Held
+pub mod Invariant
 pub mod Jobs
-pub mod Laid
+pub mod ClosedOver
 pub mod Passes
 pub mod Seated
 pub mod Turned

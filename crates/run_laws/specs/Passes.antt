@@ -7,7 +7,7 @@ use Rattle.sleep_model.specs.declared.entry.Actor.{Actor}
 use Rattle.sleep_model.specs.declared.entry.JournalEntry.{JournalEntry}
 use Rattle.sleep_model.specs.Path.{is_same}
 use Rattle.turn_lock.specs.declared.view.Made.{Made}
-use Rattle.turn_lock.specs.Books.{of_object}
+use Rattle.turn_lock.specs.Bookings.{of_object}
 use Rattle.turn_lock.specs.Locks.{AreClosed}
 
 -- an entry of the journal, with the entries before it, the newest first

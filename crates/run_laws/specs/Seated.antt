@@ -11,11 +11,11 @@ use Rattle.event_word.specs.Histories.{AreClosed}
 use Rattle.event_word.specs.Looks.{GrewTo}
 use Rattle.event_word.specs.Steps.{MadeStep}
 use Rattle.wakeup_source.specs.declared.call_by.CallBy.{CallBy}
-use Rattle.wakeup_source.specs.Called.{Calls, Scene}
-use Rattle.wakeup_source.specs.SourceStates.{SourceState, bare}
-use Rattle.wakeup_source.specs.Told.{AreOwnSteps, steps_of}
+use Rattle.wakeup_source.specs.Called.{Calls, SourceView}
+use Rattle.wakeup_source.specs.SourceStates.{SourceState, unstamped}
+use Rattle.wakeup_source.specs.Shown.{AreOwnSteps, steps_in}
 use Rattle.merge_laws.specs.Apart.{is_journals}
-use Rattle.run_laws.specs.Laid.{IsLaid, is_placed}
+use Rattle.run_laws.specs.ClosedOver.{IsClosedOver, has_position}
 
 -- an entry is a step on the word, or carries one of the words that were looked at
 abbrev pub sees : List EventNow → JournalEntry → Bool
@@ -23,11 +23,11 @@ sees looked e = is_word_step e || list_any (is_word e.entry.now) looked
 
 -- each of the entries does, and is stamped with the position of its word
 abbrev pub AreSeen : List EventNow → List JournalEntry → Type 0
-AreSeen looked entries = (list_all (sees looked) entries ≡ true) × (list_all is_placed entries ≡ true)
+AreSeen looked entries = (list_all (sees looked) entries ≡ true) × (list_all has_position entries ≡ true)
 
 -- a seat made the steps of a source's entries, the newest first, and looked at the words of its notes
 pub record IsSeated (made : List MadeStep) (looked : List EventNow) (past : List SourceEntry) : Type 0 where
-  pub steps : made ≡ steps_of (bare past)
+  pub steps : made ≡ steps_in (unstamped past)
   pub seen : AreSeen looked (map of_source past)
 
 -- the tick of the newest of these entries, 0 if there is none
@@ -40,7 +40,7 @@ abbrev pub IsFresh : SourceState → Type 0
 IsFresh source = source.floor.tick ≡ newest_tick source.past
 
 -- by a call the source keeps its seat so
-pub record SeatKept (new : Scene) : Type 0 where
+pub record SeatAgrees (new : SourceView) : Type 0 where
   pub made : List MadeStep
   pub looked : List EventNow
   pub made_is : new.made ≡ Some made
@@ -48,15 +48,15 @@ pub record SeatKept (new : Scene) : Type 0 where
   pub seated : IsSeated made looked new.source.past
 
 -- a call on a source whose bump tells its seat's steps and looks leaves the seat's those of the source
-abbrev pub SeatKeeps : Type 0
-SeatKeeps =
-    (by : CallBy) (call : SourceCall) (old new : Scene) (made : List MadeStep) (looked : List EventNow)
+abbrev pub SeatAgreesAfterCalls : Type 0
+SeatAgreesAfterCalls =
+    (by : CallBy) (call : SourceCall) (old new : SourceView) (made : List MadeStep) (looked : List EventNow)
     → old.made ≡ Some made → old.looked ≡ Some looked → IsSeated made looked old.source.past → Calls by call old new
-    → AreOwnSteps old.made new.made old.source new.source → SeatKept new
+    → AreOwnSteps old.made new.made old.source new.source → SeatAgrees new
 
 -- an entry of the journal by the word that the machine's seat looked at last leaves all of the journal seen
-abbrev pub WatchKeeps : Type 0
-WatchKeeps =
+abbrev pub WatchAgrees : Type 0
+WatchAgrees =
     (looked new : List EventNow) (journal : List JournalEntry) (e : JournalEntry) → AreSeen looked journal
     → GrewTo e.entry.now (Some looked) (Some new) → e.stamp.pos ≡ position e.entry.now → AreSeen new (e ∷ journal)
 
@@ -74,8 +74,8 @@ pub record AreSeated
       → IsSeated (slice_index_or made s []) (slice_index_or looked (seat s) []) (reverse (slice_index_or histories s []))
 
 -- so the table lays all steps
-abbrev pub SeatsLay : Type 0
-SeatsLay =
+abbrev pub SeatsCoverTable : Type 0
+SeatsCoverTable =
     (made : List (List MadeStep)) (looked : List (List EventNow)) (answer : EventNow)
     (journal : List JournalEntry) (histories : List (List SourceEntry))
-    → AreSeated made looked answer journal histories → IsLaid made looked answer journal histories
+    → AreSeated made looked answer journal histories → IsClosedOver made looked answer journal histories

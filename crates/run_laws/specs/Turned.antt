@@ -1,4 +1,4 @@
--- A turn of the machine and a jump of time, with what is known before and behind them (own).
+-- A turn of the machine and a jump of time, with what is known before and after them (own).
 use Rattle.std.specs.Prelude.{◌≡◌, ◌≤◌, ◌<◌, ℕ, true, false, List, [], ◌∷◌}
 use Rattle.sleep_model.specs.declared.entry.Actor.{Actor}
 use Rattle.sleep_model.specs.declared.entry.Actor.TheVariants as actor
@@ -7,49 +7,49 @@ use Rattle.sleep_model.specs.declared.machine.Machine.{Machine}
 use Rattle.sleep_model.specs.declared.word.Stamp.{Stamp}
 use Rattle.sleep_model.specs.Calls.{calls_due, notes_of}
 use Rattle.sleep_model.specs.Legal.{JournalPart, JumpStep}
-use Rattle.sleep_model.specs.Parts.{OfTime, part_of}
+use Rattle.sleep_model.specs.EntryClasses.{OfTime, class_of}
 use Rattle.sleep_model.specs.Path.{is_same}
-use Rattle.run_laws.specs.Acts.{IsFree, Made, bare, with_entry}
+use Rattle.run_laws.specs.Acts.{IsFree, Made, unstamped, with_entry}
 use Rattle.run_laws.specs.Called.{knows}
-use Rattle.run_laws.specs.Held.{AllOf, EachJump, Held}
+use Rattle.run_laws.specs.Invariant.{AllOf, EachJump, RunInvariant}
 
 -- the stamp of the newest entry; nothing at first
 abbrev pub newest_stamp : List JournalEntry → Stamp
 newest_stamp [] = record { pos = 0; tick = 0 }
 newest_stamp (e ∷ past) = e.stamp
 
--- a stamp is behind what was known
-pub record IsBehind (floor stamp : Stamp) : Type 0 where
+-- a stamp is after what was known
+pub record IsAfter (floor stamp : Stamp) : Type 0 where
   pub tick : floor.tick < stamp.tick
   pub pos : floor.pos ≤ stamp.pos
 
--- an actor may make an entry of the journal: it is inside no call, has made all that are due, and the entry is legal and behind what its actor and the journal last knew
+-- an actor may make an entry of the journal: it is inside no call, has made all that are due, and the entry is legal and after what its actor and the journal last knew
 pub record MayTurn (m : Machine) (made : Made) (who : Actor) (floor : Stamp) (e : JournalEntry) : Type 0 where
-  pub held : Held m made
+  pub invariant : RunInvariant m made
   pub by : e.entry.actor ≡ who
   pub timeless : is_same who actor.Time ≡ false
   pub free : IsFree m made who
-  pub all_made : notes_of who (bare (made.own who)) ≡ calls_due m who (bare made.journal)
-  pub legal : JournalPart m (bare (e ∷ made.journal))
+  pub all_made : notes_of who (unstamped (made.own who)) ≡ calls_due m who (unstamped made.journal)
+  pub legal : JournalPart m (unstamped (e ∷ made.journal))
   pub own : knows floor (made.own who) ≡ true
   pub jumps : EachJump (λ jump. knows floor (jump ∷ []) ≡ true) made.journal
-  pub behind : IsBehind floor e.stamp
-  pub last : IsBehind (newest_stamp made.journal) e.stamp
+  pub behind : IsAfter floor e.stamp
+  pub last : IsAfter (newest_stamp made.journal) e.stamp
 
--- time may jump: where nobody can make anything, behind all that was made
+-- time may jump: where nobody can make anything, after all that was made
 pub record MayLeap (m : Machine) (made : Made) (floor : Stamp) (e : JournalEntry) : Type 0 where
-  pub held : Held m made
+  pub invariant : RunInvariant m made
   pub by : e.entry.actor ≡ actor.Time
-  pub leaps : part_of e.entry.kind ≡ OfTime
-  pub step : JumpStep m (bare made.journal) (λ s. bare (made.of s)) e.entry.now e.entry.time
-  pub legal : JournalPart m (bare (e ∷ made.journal))
+  pub leaps : class_of e.entry.kind ≡ OfTime
+  pub step : JumpStep m (unstamped made.journal) (λ s. unstamped (made.of s)) e.entry.now e.entry.time
+  pub legal : JournalPart m (unstamped (e ∷ made.journal))
   pub all : AllOf (λ other. knows floor (other ∷ [])) made
   pub own : knows floor (made.own actor.Time) ≡ true
-  pub behind : IsBehind floor e.stamp
+  pub behind : IsAfter floor e.stamp
 
 -- after it the same is known: the journal has the entry, and its maker, and nothing else has changed
 pub record IsTurned (m : Machine) (old new : Made) (who : Actor) (e : JournalEntry) : Type 0 where
-  pub held : Held m new
+  pub invariant : RunInvariant m new
   pub journal : new.journal ≡ e ∷ old.journal
   pub sources : (s : ℕ) → new.of s ≡ old.of s
   pub own : knows e.stamp (new.own who) ≡ true

@@ -2,18 +2,18 @@
 
 ghost use Rattle.run_laws.specs.Acts.{ActsAreSteps};
 ghost use Rattle.run_laws.specs.Called.{CallGrows};
-ghost use Rattle.run_laws.specs.Held.{HeldEnds, HeldGrows, HeldTells, NothingIsHeld};
-ghost use Rattle.run_laws.specs.Jobs.{JobsFollow, JobsTell, SettledIsFree};
-ghost use Rattle.run_laws.specs.Laid.{LooksLast, TableLays};
+ghost use Rattle.run_laws.specs.Invariant.{InvariantEnds, InvariantGrows, InvariantMerges, InvariantBegins};
+ghost use Rattle.run_laws.specs.Jobs.{JobsFollow, JobsWantNext, SettledIsFree};
+ghost use Rattle.run_laws.specs.ClosedOver.{LooksLast, TableCovers};
 ghost use Rattle.run_laws.specs.Passes.{LogSaysWho};
-ghost use Rattle.run_laws.specs.Seated.{SeatKeeps, SeatsLay, WatchKeeps};
+ghost use Rattle.run_laws.specs.Seated.{SeatAgreesAfterCalls, SeatsCoverTable, WatchAgrees};
 ghost use Rattle.run_laws.specs.Turned.{LeapGrows, TurnGrows};
 
 /// Where the table of the word is closed, each source's seat made the steps of its history, and each look
 /// was one of a seat, all steps have positions without a gap and chain, each look saw a word between two of
 /// them, and the closing tells the last word.
-pub fn closed_table_lays_the_word()
-    ensures { TableLays }
+pub fn closed_table_covers_the_word()
+    ensures { TableCovers }
 {}
 
 /// One more entry, by the journal, the sources' histories and its actor's own entries its actor's next,
@@ -23,31 +23,31 @@ pub fn acts_are_steps()
 {}
 
 /// Of nothing made all is known.
-pub fn nothing_is_held()
-    ensures { NothingIsHeld }
+pub fn invariant_begins()
+    ensures { InvariantBegins }
 {}
 
 /// What is known of all that was made is known again after each entry that may be made: jumps stay held,
 /// each entry keeps its side of each, and each list goes on falling.
-pub fn what_is_held_grows()
-    ensures { HeldGrows }
+pub fn invariant_grows()
+    ensures { InvariantGrows }
 {}
 
 /// With the closed table of the word, what is known at the end is all that
-/// `kept_lists_merge_to_a_legal_log` asks of the journal and the histories.
-pub fn what_is_held_merges()
-    ensures { HeldTells }
+/// `lists_merge_to_a_legal_log` asks of the journal and the histories.
+pub fn invariant_merges()
+    ensures { InvariantMerges }
 {}
 
-/// Where no source's floor is above a look, the look saw the last word.
+/// If no source's floor is above a look, the look saw the last word.
 pub fn last_look_saw_the_last_word()
     ensures { LooksLast }
 {}
 
 /// What is known at the end makes the merge a legal log; where the run is over, or nobody goes on, by all
 /// that was made and the last word that was seen, a finished or a stuck one.
-pub fn what_is_held_ends()
-    ensures { HeldEnds }
+pub fn invariant_ends()
+    ensures { InvariantEnds }
 {}
 
 /// The job of an actor follows each entry: another's leaves it, a turn of its own and a call bring it on,
@@ -57,28 +57,28 @@ pub fn jobs_follow_all_that_was_made()
 {}
 
 /// What a job wants, whose actor is inside no call, is the next that its actor makes.
-pub fn jobs_tell_what_is_next()
-    ensures { JobsTell }
+pub fn jobs_want_what_is_next()
+    ensures { JobsWantNext }
 {}
 
-/// Where no source is owed a step, nobody is inside a call.
+/// If no source is owed a step, nobody is inside a call.
 pub fn settled_sources_free_all()
     ensures { SettledIsFree }
 {}
 
 /// A whole call on a source, which is its caller's next and knows its own newest entry and each jump, leaves
-/// all known again: its note, and each step behind it.
+/// all known again: its note, and each step after it.
 pub fn calls_keep_all_known()
     ensures { CallGrows }
 {}
 
-/// A turn of the machine by an actor that has made all its calls, behind what it and the journal last knew,
+/// A turn of the machine by an actor that has made all its calls, after what it and the journal last knew,
 /// leaves all known again.
 pub fn turns_keep_all_known()
     ensures { TurnGrows }
 {}
 
-/// A jump of time behind all that was made, where nobody can make anything, leaves all known again.
+/// A jump of time after all that was made, where nobody can make anything, leaves all known again.
 pub fn jumps_keep_all_known()
     ensures { LeapGrows }
 {}
@@ -86,18 +86,18 @@ pub fn jumps_keep_all_known()
 /// A call on a source leaves its seat's steps those of the source, and each note's word one that its seat
 /// looked at.
 pub fn calls_keep_their_seat()
-    ensures { SeatKeeps }
+    ensures { SeatAgreesAfterCalls }
 {}
 
 /// An entry of the journal by the word that the machine looked at last leaves each word there one that it
 /// looked at.
 pub fn turns_keep_the_watch()
-    ensures { WatchKeeps }
+    ensures { WatchAgrees }
 {}
 
 /// At the closed table, what each source and the machine keep beside their seats lays all steps.
-pub fn seats_lay_the_table()
-    ensures { SeatsLay }
+pub fn seats_cover_the_table()
+    ensures { SeatsCoverTable }
 {}
 
 /// Where the table of locks is closed, and each pass made entries of one actor alone, a journal has gained of

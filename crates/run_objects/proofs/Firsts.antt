@@ -6,7 +6,7 @@ use lib.ListN.{get_elem?}
 use Rattle.event_word.specs.declared.table.EventSeat.{EventSeat}
 use Rattle.event_word.specs.Lists.{tokens}
 use Rattle.event_word.specs.Seats.{IsUntouched, Token, number_of}
-use Rattle.event_word.proofs.Keeping.{at_end}
+use Rattle.event_word.proofs.Invariance.{at_end}
 use Rattle.wakeup_source.specs.SourceStates.{new_source}
 use Rattle.run_objects.specs.Objects.{AreFirst, AreUncalled, SeatedSourceState, seats_of}
 

@@ -14,17 +14,17 @@ use Rattle.event_word.specs.Seats.{Token, looked_of, made_of}
 use Rattle.event_word.specs.Steps.{MadeStep}
 use Rattle.merge_laws.specs.Apart.{is_journals}
 use Rattle.merge_laws.proofs.Lists.{all_reverse}
-use Rattle.run_laws.specs.Laid.{is_placed}
+use Rattle.run_laws.specs.ClosedOver.{has_position}
 use Rattle.run_laws.specs.Seated.{AreSeen, AreSeated, IsSeated, sees}
-use Rattle.run_laws.proofs.Seated.{seats_lay}
-use Rattle.run_objects.specs.Closed.{IsLaidTable, histories_of}
-use Rattle.run_objects.specs.Objects.{AreKept, IsSeatedSource, SeatedSourceState, seats_of}
+use Rattle.run_laws.proofs.Seated.{seats_cover}
+use Rattle.run_objects.specs.Closed.{IsClosedTable, histories_of}
+use Rattle.run_objects.specs.Objects.{SourcesInvariant, IsSeatedSource, SeatedSourceState, seats_of}
 
 -- ---- sources that are taken apart, one after another
 
-pub kept_more : (sources : List SeatedSourceState) (s : SeatedSourceState) → AreKept sources → IsSeatedSource s → AreKept (sources ++ s ∷ [])
-kept_more [] s are is = (is, tt)
-kept_more (x ∷ sources) s are is = (are.0, kept_more sources s are.1 is)
+pub preserved_more : (sources : List SeatedSourceState) (s : SeatedSourceState) → SourcesInvariant sources → IsSeatedSource s → SourcesInvariant (sources ++ s ∷ [])
+preserved_more [] s are is = (is, tt)
+preserved_more (x ∷ sources) s are is = (are.0, preserved_more sources s are.1 is)
 
 pub histories_more : (histories : List (List SourceEntry)) (history : List SourceEntry) (sources : List SeatedSourceState) (s : SeatedSourceState) → histories ≡ histories_of sources
     → history ≡ reverse s.source.past → histories ++ history ∷ [] ≡ histories_of (sources ++ s ∷ [])
@@ -68,7 +68,7 @@ module _ (seats : List EventSeat) (sources : List SeatedSourceState) (same : tok
       ∙ sym (map_both (λ (s : SeatedSourceState). s.seat) looked_of sources)
 
 -- each source's history is that of its seat
-seated_at : (sources : List SeatedSourceState) (more : List (List EventNow)) (s : ℕ) → AreKept sources → s < length (histories_of sources)
+seated_at : (sources : List SeatedSourceState) (more : List (List EventNow)) (s : ℕ) → SourcesInvariant sources → s < length (histories_of sources)
     → IsSeated (get_or (made_by sources) s []) (get_or (looked_by sources ++ more) s []) (reverse (get_or (histories_of sources) s []))
 unfolding made_by looked_by
 seated_at [] more s are low = absurd (omega (arith, low))
@@ -91,10 +91,10 @@ any_last q (x ∷ xs) a h = by (q x) (any_last q xs a h)
 
 -- ---- the table
 
-pub laid : (seats : List EventSeat) (sources : List SeatedSourceState) (looked : List EventNow) (journal : List JournalEntry) (answer : EventNow) → tokens seats ≡ seats_of sources
-    → AreKept sources → AreSeen looked journal → list_all is_journals journal ≡ true → AreClosed (made_lists seats) (looked_lists seats ++ looked ∷ []) answer
-    → IsLaidTable looked (reverse journal) (histories_of sources)
-laid seats sources looked journal answer same are seen own closed =
+pub closed_over : (seats : List EventSeat) (sources : List SeatedSourceState) (looked : List EventNow) (journal : List JournalEntry) (answer : EventNow) → tokens seats ≡ seats_of sources
+    → SourcesInvariant sources → AreSeen looked journal → list_all is_journals journal ≡ true → AreClosed (made_lists seats) (looked_lists seats ++ looked ∷ []) answer
+    → IsClosedTable looked (reverse journal) (histories_of sources)
+closed_over seats sources looked journal answer same are seen own closed =
     let made = made_is seats sources same in
     let looks = looked_is seats sources same in
     let closed_by : AreClosed (made_by sources) (looked_by sources ++ looked ∷ []) answer =
@@ -106,7 +106,7 @@ laid seats sources looked journal answer same are seen own closed =
       kept = all_reverse is_journals journal own;
       machine = length (looked_by sources);
       watched = subst (λ (l : List EventNow). AreSeen l (reverse journal)) (sym (at_last (looked_by sources) looked))
-          (all_reverse (sees looked) journal seen.0, all_reverse is_placed journal seen.1);
+          (all_reverse (sees looked) journal seen.0, all_reverse has_position journal seen.1);
       seat = λ s. s;
       seated = λ s low. seated_at sources (looked ∷ []) s are low;
     } in
@@ -114,6 +114,6 @@ laid seats sources looked journal answer same are seen own closed =
       steps = made_by sources;
       looks = looked_by sources ++ looked ∷ [];
       answer = answer;
-      laid = seats_lay (made_by sources) (looked_by sources ++ looked ∷ []) answer (reverse journal) (histories_of sources) seated;
+      closed_over = seats_cover (made_by sources) (looked_by sources ++ looked ∷ []) answer (reverse journal) (histories_of sources) seated;
       seen = λ now h. any_last (λ words. list_any (is_word now) words) (looked_by sources) looked h;
     }

@@ -18,7 +18,7 @@ use Rattle.sleep_core.specs.declared.turns.CoreTurn.TheVariants.{Did, NotYet, Do
 use Rattle.sleep_core.specs.Cores.{CoreState, made_entry}
 use Rattle.sleep_core.specs.Histories.{last_stamp}
 use Rattle.sleep_core.specs.Turned.{AfterTurn}
-use Rattle.run_laws.specs.Laid.{is_placed}
+use Rattle.run_laws.specs.ClosedOver.{has_position}
 use Rattle.run_laws.specs.Seated.{AreSeen, sees}
 use Rattle.run_laws.proofs.Seated.{watch_keeps}
 use Rattle.run_objects.specs.Objects.{IsSeatedCore, SeatedCoreState}
@@ -32,7 +32,7 @@ looked_on looked new journal word h g =
       entry = record { time = 0; now = word; actor = actor.Time; kind = kind.Jump };
     } in
     let more : AreSeen new (e ∷ journal) = watch_keeps looked new journal e h g refl in
-    (all_tail (sees new) e journal more.0, all_tail is_placed e journal more.1)
+    (all_tail (sees new) e journal more.0, all_tail has_position e journal more.1)
 
 -- the machine after looks
 pub looked : (old new : SeatedCoreState) (word : EventNow) → IsSeatedCore old → IsLook new.seat → IsUnused new.seat → new.core ≡ old.core
@@ -78,7 +78,7 @@ same_number a b h = grind (arith, nat_tests)
 seen_more : (looked : List EventNow) (journal : List JournalEntry) (e : JournalEntry) → AreSeen looked journal → list_any (is_word e.entry.now) looked ≡ true → e.stamp.pos ≡ position e.entry.now → AreSeen looked (e ∷ journal)
 seen_more looked journal e h word at = (
   all_more (sees looked) e journal (right_of (is_word_step e) (list_any (is_word e.entry.now) looked) word) h.0,
-  all_more is_placed e journal (same_number e.stamp.pos (position e.entry.now) at) h.1,
+  all_more has_position e journal (same_number e.stamp.pos (position e.entry.now) at) h.1,
 )
 
 -- the machine after such a turn

@@ -9,44 +9,44 @@ use Rattle.sleep_model.specs.declared.word.EventNow.{EventNow}
 use Rattle.sleep_model.specs.declared.word.Stamp.{Stamp}
 use Rattle.sleep_model.specs.declared.word.WordKind.{WordKind}
 use Rattle.sleep_model.specs.declared.word.WordKind.TheVariants as step
-use Rattle.sleep_model.specs.Parts.{Part, OfJournal, Notes, Moves, OfTime, part_of}
+use Rattle.sleep_model.specs.EntryClasses.{EntryClass, OfJournal, Notes, Moves, OfTime, class_of}
 use Rattle.sleep_model.specs.Sources.{makes, most_entries, since, since_after, starting}
-use Rattle.event_word.specs.Seats.{IsSource, Token, looked_of, made_of, number_of}
+use Rattle.event_word.specs.Seats.{IsSourceSeat, Token, looked_of, made_of, number_of}
 use Rattle.event_word.specs.Steps.{MadeStep, active_after, can_make, fits, is_active}
 use Rattle.wakeup_source.specs.declared.call_by.CallBy.{CallBy}
 use Rattle.wakeup_source.specs.declared.fault.SourceFault.{SourceFault}
-use Rattle.wakeup_source.specs.Called.{Calls, Scene, Steps, after_step}
-use Rattle.wakeup_source.specs.SourceStates.{IsSettled, SourceState, bare}
-use Rattle.wakeup_source.specs.Told.{AreOwnSteps, step_by, steps_of}
+use Rattle.wakeup_source.specs.Called.{Calls, SourceView, Steps, after_step}
+use Rattle.wakeup_source.specs.SourceStates.{IsSettled, SourceState, unstamped}
+use Rattle.wakeup_source.specs.Shown.{AreOwnSteps, step_by, steps_in}
 use Rattle.run_laws.specs.Seated.{IsSeated}
 use Rattle.run_laws.proofs.Seated.{call_fresh, seat_keeps}
-use Rattle.run_objects.specs.Objects.{IsSeatedSource, SeatedSourceState, scene_of}
+use Rattle.run_objects.specs.Objects.{IsSeatedSource, SeatedSourceState, viewed_source_of}
 
 -- ---- what a seat can do next
 
-active_after_part : (p : Part) (time : ℕ) (before : EventNow) (made : List MadeStep) (began : Option ℕ) → is_active made ≡ is_some began
+active_after_class : (p : EntryClass) (time : ℕ) (before : EventNow) (made : List MadeStep) (began : Option ℕ) → is_active made ≡ is_some began
     → is_active (step_by p before made) ≡ is_some (since_after p time began)
-active_after_part OfJournal time before made began h = h
-active_after_part (Notes s c) time before made began h = h
-active_after_part (Moves s step.Start) time before made began h = refl
-active_after_part (Moves s step.Finish) time before made began h = refl
-active_after_part (Moves s step.Hard) time before made began h = h
-active_after_part OfTime time before made began h = h
+active_after_class OfJournal time before made began h = h
+active_after_class (Notes s c) time before made began h = h
+active_after_class (Moves s step.Start) time before made began h = refl
+active_after_class (Moves s step.Finish) time before made began h = refl
+active_after_class (Moves s step.Hard) time before made began h = h
+active_after_class OfTime time before made began h = h
 
--- an event is in progress by the steps exactly where one is by the entries
-active_is : (own : List Entry) → is_active (steps_of own) ≡ is_some (since own)
+-- an event is in progress by the steps exactly if one is by the entries
+active_is : (own : List Entry) → is_active (steps_in own) ≡ is_some (since own)
 active_is [] = refl
-active_is (e ∷ own) = active_after_part (part_of e.kind) e.time e.now (steps_of own) (since own) (active_is own)
+active_is (e ∷ own) = active_after_class (class_of e.kind) e.time e.now (steps_in own) (since own) (active_is own)
 
-few_after_part : (p : Part) (before : EventNow) (made : List MadeStep) (n : ℕ) → length made ≤ n → length (step_by p before made) ≤ suc n
-few_after_part OfJournal before made n h = omega arith
-few_after_part (Notes s c) before made n h = omega arith
-few_after_part (Moves s x) before made n h = omega (arith, h)
-few_after_part OfTime before made n h = omega arith
+few_after_class : (p : EntryClass) (before : EventNow) (made : List MadeStep) (n : ℕ) → length made ≤ n → length (step_by p before made) ≤ suc n
+few_after_class OfJournal before made n h = omega arith
+few_after_class (Notes s c) before made n h = omega arith
+few_after_class (Moves s x) before made n h = omega (arith, h)
+few_after_class OfTime before made n h = omega arith
 
-few_steps : (past : List SourceEntry) → length (steps_of (bare past)) ≤ length past
+few_steps : (past : List SourceEntry) → length (steps_in (unstamped past)) ≤ length past
 few_steps [] = omega arith
-few_steps (e ∷ past) = few_after_part (part_of e.entry.kind) e.entry.now (steps_of (bare past)) (length past) (few_steps past)
+few_steps (e ∷ past) = few_after_class (class_of e.entry.kind) e.entry.now (steps_in (unstamped past)) (length past) (few_steps past)
 
 can_one : (k : WordKind) (n : ℕ) (active : Bool) (rest : List WordKind) → n < 60000 → fits k active ≡ true → can_make (suc n) (active_after k active) rest ≡ true
     → can_make n active (k ∷ rest) ≡ true
@@ -78,24 +78,24 @@ can_all call.Expire None n h = refl
 can_all call.Expire (Some s) n h = can_one step.Finish n true [] (omega arith) refl refl
 
 -- a seat that made the steps of a history with four places left can make those of a call
-pub can_call : (c : SourceCall) (made : List MadeStep) (past : List SourceEntry) → made ≡ steps_of (bare past) → length past + 4 ≤ most_entries
-    → can_make (length made) (is_active made) (makes c (since (bare past))) ≡ true
+pub can_call : (c : SourceCall) (made : List MadeStep) (past : List SourceEntry) → made ≡ steps_in (unstamped past) → length past + 4 ≤ most_entries
+    → can_make (length made) (is_active made) (makes c (since (unstamped past))) ≡ true
 can_call c made past is room =
-    ap (λ (m : List MadeStep). can_make (length m) (is_active m) (makes c (since (bare past)))) is
-    ∙ ap (λ (b : Bool). can_make (length (steps_of (bare past))) b (makes c (since (bare past)))) (active_is (bare past))
-    ∙ can_all c (since (bare past)) (length (steps_of (bare past))) (omega (arith, few_steps past))
+    ap (λ (m : List MadeStep). can_make (length m) (is_active m) (makes c (since (unstamped past)))) is
+    ∙ ap (λ (b : Bool). can_make (length (steps_in (unstamped past))) b (makes c (since (unstamped past)))) (active_is (unstamped past))
+    ∙ can_all c (since (unstamped past)) (length (steps_in (unstamped past))) (omega (arith, few_steps past))
 
 -- ---- a call
 
-steps_number : (by : CallBy) (steps : List WordKind) (old new : Scene) → Steps by steps old new → new.source.id ≡ old.source.id
-steps_number by [] old new h = ap (λ (s : Scene). s.source.id) h
+steps_number : (by : CallBy) (steps : List WordKind) (old new : SourceView) → Steps by steps old new → new.source.id ≡ old.source.id
+steps_number by [] old new h = ap (λ (s : SourceView). s.source.id) h
 steps_number by (x ∷ rest) old new h = steps_number by rest (after_step by x h.0 old) new h.3
 
 -- a call leaves the source its number
-pub call_number : (by : CallBy) (c : SourceCall) (old new : Scene) → Calls by c old new → new.source.id ≡ old.source.id
+pub call_number : (by : CallBy) (c : SourceCall) (old new : SourceView) → Calls by c old new → new.source.id ≡ old.source.id
 call_number by c old new h =
-    steps_number by (makes c (since (bare old.source.past))) h.0 new h.2
-    ∙ ap (λ (s : Scene). s.source.id) h.1.6
+    steps_number by (makes c (since (unstamped old.source.past))) h.0 new h.2
+    ∙ ap (λ (s : SourceView). s.source.id) h.1.6
 
 pub second : {A B : Type 0} {x y : A × B} → x ≡ y → x.1 ≡ y.1
 second e = ap (λ p. p.1) e
@@ -109,21 +109,21 @@ pub record IsLeft (old new : SeatedSourceState) : Type 0 where
   pub kept : IsSeatedSource new
   pub number : new.source.id ≡ old.source.id
 
-pub called : (result : Result Stamp SourceFault) (by : CallBy) (c : SourceCall) (old new : SeatedSourceState) → IsSeatedSource old → IsSource new.seat
-    → number_of new.seat ≡ number_of old.seat → IsSettled new.source → OnOk result (Calls by c (scene_of old) (scene_of new))
+pub called : (result : Result Stamp SourceFault) (by : CallBy) (c : SourceCall) (old new : SeatedSourceState) → IsSeatedSource old → IsSourceSeat new.seat
+    → number_of new.seat ≡ number_of old.seat → IsSettled new.source → OnOk result (Calls by c (viewed_source_of old) (viewed_source_of new))
     → OnOk result (AreOwnSteps (Some (made_of old.seat)) (Some (made_of new.seat)) old.source new.source)
     → OnErr result ((new.source ≡ old.source) × (new.seat ≡ old.seat)) → IsLeft old new
-called (Ok stamp) by c old new kept seat number settled calls tells err =
-    let id = call_number by c (scene_of old) (scene_of new) calls in
-    let k = seat_keeps by c (scene_of old) (scene_of new) (made_of old.seat) (looked_of old.seat) refl refl kept.seated calls tells in
+called (Ok stamp) by c old new kept seat number settled calls shows err =
+    let id = call_number by c (viewed_source_of old) (viewed_source_of new) calls in
+    let k = seat_keeps by c (viewed_source_of old) (viewed_source_of new) (made_of old.seat) (looked_of old.seat) refl refl kept.seated calls shows in
     let made_is : made_of new.seat ≡ k.made = let e = k.made_is in cc in
     let looked_is : looked_of new.seat ≡ k.looked = let e = k.looked_is in cc in
     let seated : IsSeated (made_of new.seat) (looked_of new.seat) new.source.past =
     subst (λ (m : List MadeStep). IsSeated m (looked_of new.seat) new.source.past) (sym made_is)
     (subst (λ (l : List EventNow). IsSeated k.made l new.source.past) (sym looked_is) k.seated) in record {
-      kept = record { seat = seat; number = number ∙ kept.number ∙ ap (λ (n : ℕ). Some n) (sym id); seated = seated; settled = settled; fresh = call_fresh by c (scene_of old) (scene_of new) calls };
+      kept = record { seat = seat; number = number ∙ kept.number ∙ ap (λ (n : ℕ). Some n) (sym id); seated = seated; settled = settled; fresh = call_fresh by c (viewed_source_of old) (viewed_source_of new) calls };
       number = id;
     }
-called (Err fault) by c old new kept seat number settled calls tells err =
+called (Err fault) by c old new kept seat number settled calls shows err =
     let made : SourceState → Token → SeatedSourceState = λ s t. record { source = s; seat = t } in
     let same : new ≡ old = ap (λ (s : SourceState). made s new.seat) err.0 ∙ ap (λ (t : Token). made old.source t) err.1 in record { kept = subst IsSeatedSource (sym same) kept; number = ap (λ (s : SeatedSourceState). s.source.id) same }

@@ -44,11 +44,11 @@ abbrev pub core_state : machine.Inside → SeatedCoreState
 core_state s = record { core = s.core; seat = look_seat s.seat }
 
 -- the seat is in its place, and the source's
-pub record KeepsSource (s : source.Inside) : Type 0 where
+pub record SourceFieldsInvariant (s : source.Inside) : Type 0 where
   pub placed : is_some s.seat ≡ true
   pub kept : IsSeatedSource (source_state s)
 
 -- the seat is in its place, and the machine's
-pub record KeepsCore (s : machine.Inside) : Type 0 where
+pub record CoreFieldsInvariant (s : machine.Inside) : Type 0 where
   pub placed : is_some s.seat ≡ true
   pub kept : IsSeatedCore (core_state s)

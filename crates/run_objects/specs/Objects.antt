@@ -2,8 +2,8 @@
 use Rattle.std.specs.Prelude.{◌≡◌, ◌≤◌, ℕ, List, [], ◌∷◌, map, Some, None}
 use mathlib.Core.Option.{some}
 use lib.ListN.{get_elem?}
-use Rattle.event_word.specs.Seats.{Token, IsLook, IsSource, IsUntouched, IsUnused, made_of, looked_of, floor_of, number_of}
-use Rattle.wakeup_source.specs.Called.{Scene, scene}
+use Rattle.event_word.specs.Seats.{Token, IsLook, IsSourceSeat, IsUntouched, IsUnused, made_of, looked_of, floor_of, number_of}
+use Rattle.wakeup_source.specs.Called.{SourceView, viewed_source}
 use Rattle.wakeup_source.specs.SourceStates.{IsSettled, SourceState, new_source}
 use Rattle.sleep_core.specs.Cores.{CoreState}
 use Rattle.sleep_core.specs.Histories.{last_stamp}
@@ -21,7 +21,7 @@ pub record SeatedCoreState : Type 0 where
 
 -- between calls the seat is the source's, its steps and looks are those of the source's history, and the source last knew the tick of its newest entry (wakeup_source_activate)
 pub record IsSeatedSource (s : SeatedSourceState) : Type 0 where
-  pub seat : IsSource s.seat
+  pub seat : IsSourceSeat s.seat
   pub number : number_of s.seat ≡ Some s.source.id
   pub seated : IsSeated (made_of s.seat) (looked_of s.seat) s.source.past
   pub settled : IsSettled s.source
@@ -35,8 +35,8 @@ pub record IsSeatedCore (s : SeatedCoreState) : Type 0 where
   pub low : (last_stamp s.core.past).pos ≤ floor_of s.seat
 
 -- what a source's seat tells of the word, beside the source (combined_event_count)
-abbrev pub scene_of : SeatedSourceState → Scene
-scene_of s = scene None (Some (made_of s.seat)) (Some (looked_of s.seat)) (floor_of s.seat) s.source
+abbrev pub viewed_source_of : SeatedSourceState → SourceView
+viewed_source_of s = viewed_source None (Some (made_of s.seat)) (Some (looked_of s.seat)) (floor_of s.seat) s.source
 
 -- the seats of sources
 abbrev pub seats_of : List SeatedSourceState → List Token
@@ -51,6 +51,6 @@ abbrev pub AreFirst : List Token → Type 0
 AreFirst seats = (k : ℕ) (t : Token) → get_elem? seats k ≡ some t → (number_of t ≡ Some k) × IsUntouched t
 
 -- each source keeps its seat (wakeup_source_activate)
-abbrev pub AreKept : List SeatedSourceState → Type 0
-AreKept [] = Unit {0}
-AreKept (s ∷ rest) = IsSeatedSource s × AreKept rest
+abbrev pub SourcesInvariant : List SeatedSourceState → Type 0
+SourcesInvariant [] = Unit {0}
+SourcesInvariant (s ∷ rest) = IsSeatedSource s × SourcesInvariant rest

@@ -10,7 +10,7 @@
 //! source's history, and each other word there, or in the journal, is one that the seat looked at. The closed table
 //! lays the steps of all histories, and the journal and each history are answered as they stand. By the clauses of
 //! `SeatedSource::call`: `calls`, `full`, `err`; `SeatedCore::look`, `turn`, `turn_by`, `jump`; `source`, `core`:
-//! `kept`; `seated_sources`; `close_table`: `laid`, `journal`, `histories`.
+//! `kept`; `seated_sources`; `close_table`: `closed_over`, `journal`, `histories`.
 //!
 //! Begin reading in `src/machine.rt`, `src/source.rt`, `specs/Objects.antt`, `specs/Closed.antt`.
 #![tactic(auto)]

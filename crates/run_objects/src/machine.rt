@@ -8,7 +8,7 @@ ghost use Rattle.sleep_model.specs.Legal.{JournalPart};
 ghost use Rattle.sleep_model.specs.Merge.{is_word};
 ghost use Rattle.sleep_model.specs.Numbers.{time_of};
 ghost use Rattle.sleep_model.specs.Word.{position};
-ghost use Rattle.sleep_state.specs.Places.{entries};
+ghost use Rattle.sleep_state.specs.JournalRooms.{entries};
 ghost use Rattle.event_word.specs.Looks.{GrewTo};
 ghost use Rattle.event_word.specs.Seats.{floor_of, looked_of, sources_of};
 ghost use Rattle.sleep_core.specs.Cores.{IsActor, jump_entry, next_stamp, with_entry};
@@ -29,7 +29,7 @@ use std::sync::Wait;
 #[derive(Drop)]
 pub struct SeatedCore<'m> {
     core: Core<'m>,
-    // The seat is out within a call alone.
+    // The seat is out only within a call.
     seat: Option<LookSeat>,
 }
 
@@ -38,11 +38,11 @@ impl<'m> Model for SeatedCore<'m> {
 
     ghost Value = { SeatedCoreState };
 
-    ghost use Rattle.run_objects.specs.ObjectFields.{KeepsCore, core_state};
+    ghost use Rattle.run_objects.specs.ObjectFields.{CoreFieldsInvariant, core_state};
 
     ghost view = { core_state };
 
-    ghost invariant = { KeepsCore };
+    ghost invariant = { CoreFieldsInvariant };
 }
 
 /// Takes the seat out of its place.
@@ -80,7 +80,7 @@ impl<'m> SeatedCore<'m> {
 
     /// Looks at the event word until its position is at least `floor`.
     pub fn look<R: Wait>(&mut self, rt: &R, table: &EventTable, floor: u64) -> EventNow
-        requires table { self.old.seat.table_id ≡ table.now.desk.shared.table_id }
+        requires table { self.old.seat.table_id ≡ table.now.cells.shared.table_id }
         ensures core { self.new.core ≡ self.old.core }
         ensures table { self.new.seat.table_id ≡ self.old.seat.table_id }
         ensures sources { sources_of self.new.seat ≡ sources_of self.old.seat }
@@ -107,7 +107,7 @@ impl<'m> SeatedCore<'m> {
         floor: Stamp,
         now: u64,
     ) -> Result<CoreTurn, CoreFault>
-        requires table { self.old.seat.table_id ≡ table.now.desk.shared.table_id }
+        requires table { self.old.seat.table_id ≡ table.now.cells.shared.table_id }
         requires actor { IsActor self.old.core.machine who }
         requires calls { calls ≡ calls_due self.old.core.machine who (entries self.old.core.past) }
         requires now { now ≡ time_of (entries self.old.core.past) }
@@ -148,7 +148,7 @@ impl<'m> SeatedCore<'m> {
     }
 
     /// Time jumps to `to` ms, later than now, as seen at the word that was looked at last. That the moment is the
-    /// next pending one is for the caller to see to. `Mem` where there is no memory; nothing has changed then.
+    /// next pending one is for the caller to see to. `Mem` if there is no memory; nothing has changed then.
     pub fn jump(&mut self, word: EventNow, to: u64, floor: Stamp) -> Result<Stamp, Mem>
         requires seen { list_any (is_word word) (looked_of self.old.seat) ≡ true }
         requires newest { position word ≡ floor_of self.old.seat }
@@ -167,7 +167,7 @@ impl<'m> SeatedCore<'m> {
     }
 
     /// The seat, and the journal.
-    pub(crate) fn into_parts(self) -> (LookSeat, Journal)
+    pub(crate) fn into_components(self) -> (LookSeat, Journal)
         ensures seat { result.0.token ≡ self.entry.seat }
         ensures journal { result.1.past ≡ self.entry.core.past }
         ensures kept { IsSeatedCore self.entry }

@@ -28,7 +28,7 @@ fn seated(alloc: Global, seats: Vec<EventSeat>) -> Result<Vec<SeatedSource>, Mem
 }
 
 /// The table with the word 0/0/0, a source with its seat for each number below `sources`, 1 to 256, and the
-/// machine's seat. `Mem` where there is no memory.
+/// machine's seat. `Mem` if there is no memory.
 pub fn seated_sources(
     alloc: Global,
     sources: u32,
@@ -37,7 +37,7 @@ pub fn seated_sources(
     ensures count { IfOk result (λ made. (vec_len made.1 ≡ sources) × (sources_of made.2.token ≡ sources)) }
     ensures sources { IfOk result (λ made. AreUncalled made.1.items) }
     ensures seats { IfOk result (λ made. AreNew made.2.token (seats_of made.1.items)) }
-    ensures look { IfOk result (λ made. made.2.token.table_id ≡ made.0.desk.shared.table_id) }
+    ensures look { IfOk result (λ made. made.2.token.table_id ≡ made.0.cells.shared.table_id) }
     ensures untouched { IfOk result (λ made. IsUntouched made.2.token) }
 {
     let (table, seats, look) = EventTable::new(alloc, sources)?;

@@ -33,7 +33,7 @@ impl SeenWord {
 }
 
 impl Events for SeenWord {
-    ghost tells = { λ word. Some word };
+    ghost shows = { λ word. Some word };
 
     ghost looked = { λ _. None };
 

@@ -5,10 +5,10 @@ ghost use Rattle.std.specs.Bool.{OnFalse, OnTrue};
 ghost use Rattle.wakeup_source.specs.declared.fault.SourceFault.TheVariants as SourceFault;
 ghost use Rattle.sleep_model.specs.Sources.{makes, since, most_entries};
 ghost use Rattle.event_word.specs.Seats.{IsUntouched, number_of};
-ghost use Rattle.wakeup_source.specs.Called.{Calls, scene};
-ghost use Rattle.wakeup_source.specs.SourceStates.{IsSettled, bare, latest, new_source};
-ghost use Rattle.wakeup_source.specs.Told.{AreOwnSteps, MayCall};
-ghost use Rattle.run_objects.specs.Objects.{IsSeatedSource, scene_of};
+ghost use Rattle.wakeup_source.specs.Called.{Calls, viewed_source};
+ghost use Rattle.wakeup_source.specs.SourceStates.{IsSettled, unstamped, latest, new_source};
+ghost use Rattle.wakeup_source.specs.Shown.{AreOwnSteps, MayCall};
+ghost use Rattle.run_objects.specs.Objects.{IsSeatedSource, viewed_source_of};
 
 use event_word::{Bump, EventSeat, EventTable};
 use sleep_model::{SourceCall, SourceList, Stamp};
@@ -22,7 +22,7 @@ use wakeup_source::{CallBy, MOST_ENTRIES, SourceFault, WakeSource};
 #[derive(Drop)]
 pub struct SeatedSource {
     source: WakeSource<MOST_ENTRIES>,
-    // The seat is out within a call alone.
+    // The seat is out only within a call.
     seat: Option<EventSeat>,
 }
 
@@ -31,11 +31,11 @@ impl Model for SeatedSource {
 
     ghost Value = { SeatedSourceState };
 
-    ghost use Rattle.run_objects.specs.ObjectFields.{KeepsSource, source_state};
+    ghost use Rattle.run_objects.specs.ObjectFields.{SourceFieldsInvariant, source_state};
 
     ghost view = { source_state };
 
-    ghost invariant = { KeepsSource };
+    ghost invariant = { SourceFieldsInvariant };
 }
 
 /// Takes the seat out of its place.
@@ -68,18 +68,18 @@ fn make<R: Wait, B: Bump>(
     by: CallBy,
     call: SourceCall,
 ) -> Result<Stamp, SourceFault>
-    requires time { latest (bare source.old.past) ≤ by.now }
+    requires time { latest (unstamped source.old.past) ≤ by.now }
     requires small { by.now ≤ 2 ^ 63 }
-    requires can { B.can events.old (makes call (since (bare source.old.past))) ≡ true }
-    requires may { MayCall call (bare source.old.past) by.now }
+    requires can { B.can events.old (makes call (since (unstamped source.old.past))) ≡ true }
+    requires may { MayCall call (unstamped source.old.past) by.now }
     ensures calls { OnOk result (Calls by call
-        (scene (B.tells events.old) (B.made events.old) (B.looked events.old) (B.floor events.old) source.old)
-        (scene (B.tells events.new) (B.made events.new) (B.looked events.new) (B.floor events.new) source.new)) }
+        (viewed_source (B.shows events.old) (B.made events.old) (B.looked events.old) (B.floor events.old) source.old)
+        (viewed_source (B.shows events.new) (B.made events.new) (B.looked events.new) (B.floor events.new) source.new)) }
     ensures made { OnOk result (AreOwnSteps (B.made events.old) (B.made events.new) source.old source.new) }
     ensures stamp { IfOk result (λ stamp. stamp ≡ source.new.floor) }
     ensures full { (result ≡ Err SourceFault.Full) ↔ (most_entries < length source.old.past + 4) }
     ensures err { OnErr result ((source.new ≡ source.old) × (events.new ≡ events.old)) }
-    ensures time { latest (bare source.new.past) ≤ by.now }
+    ensures time { latest (unstamped source.new.past) ≤ by.now }
     ensures settled { IsSettled source.new }
     ensures root { B.root events.new ≡ B.root events.old }
 {
@@ -117,7 +117,7 @@ impl SeatedSource {
     }
 
     /// A whole call (`__pm_stay_awake`, `__pm_relax`, `pm_wakeup_ws_event`, `pm_wakeup_timer_fn`). Answers what the
-    /// caller then knows. `Full` where fewer than four places are left, `Mem` where there is no memory: nothing has
+    /// caller then knows. `Full` where fewer than four places are left, `Mem` if there is no memory: nothing has
     /// changed then.
     #[inline(always)]
     pub fn call<R: Wait>(
@@ -127,17 +127,17 @@ impl SeatedSource {
         by: CallBy,
         call: SourceCall,
     ) -> Result<Stamp, SourceFault>
-        requires time { latest (bare self.old.source.past) ≤ by.now }
+        requires time { latest (unstamped self.old.source.past) ≤ by.now }
         requires small { by.now ≤ 2 ^ 63 }
-        requires may { MayCall call (bare self.old.source.past) by.now }
-        requires table { self.old.seat.table_id ≡ table.now.desk.shared.table_id }
+        requires may { MayCall call (unstamped self.old.source.past) by.now }
+        requires table { self.old.seat.table_id ≡ table.now.cells.shared.table_id }
         ensures calls { IfOk result (λ stamp. (stamp ≡ self.new.source.floor)
-            × Calls by call (scene_of self.old) (scene_of self.new)) }
+            × Calls by call (viewed_source_of self.old) (viewed_source_of self.new)) }
         ensures full { (result ≡ Err SourceFault.Full) ↔ (most_entries < length self.old.source.past + 4) }
         ensures err { OnErr result (self.new ≡ self.old) }
         ensures table { self.new.seat.table_id ≡ self.old.seat.table_id }
         ensures number { (number_of self.new.seat ≡ number_of self.old.seat) × (self.new.source.id ≡ self.old.source.id) }
-        ensures time { latest (bare self.new.source.past) ≤ by.now }
+        ensures time { latest (unstamped self.new.source.past) ≤ by.now }
         ensures settled { IsSettled self.new.source }
     {
         if is_full(&self.source) {
@@ -150,7 +150,7 @@ impl SeatedSource {
     }
 
     /// The seat, and the entries of the source, the oldest first.
-    pub(crate) fn into_parts(self) -> (EventSeat, SourceList)
+    pub(crate) fn into_components(self) -> (EventSeat, SourceList)
         ensures seat { result.0.token ≡ self.seat }
         ensures entries { result.1 ≡ reverse self.source.past }
         ensures kept { IsSeatedSource self }

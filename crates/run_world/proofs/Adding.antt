@@ -2,7 +2,7 @@
 use Rattle.std.proofs.Common.{◌≡◌, ◌∙◌, ℕ, List, [], ◌∷◌, ◌++◌, length, drop, refl, sym, ap, append_assoc, length-append, arith}
 use Rattle.std.proofs.Math.Seq.{drop-append_seam}
 use Rattle.sleep_model.specs.declared.entry.JournalEntry.{JournalEntry}
-use Rattle.turn_lock.specs.Books.{placed}
+use Rattle.turn_lock.specs.Bookings.{placed}
 use Rattle.run_laws.specs.Passes.{Noted, items}
 use Rattle.run_world.specs.Roots.{notes_on}
 
@@ -23,11 +23,11 @@ items_count [] = refl
 items_count (e ∷ past) = omega (arith, length-append (items past) (record { entry = e; past = past } ∷ []), items_count past)
 
 module _ {I : Type 0} where
-  -- what stands behind the list that was had is what was gained
+  -- what stands after the list that was had is what was gained
   pub placed_more : (object place : ℕ) (had now more : List I) → now ≡ had ++ more → length had ≡ place → placed object (length had) (drop (length had) now) ≡ placed object place more
   placed_more object place had now more grown count =
       ap (λ (l : List I). placed object (length had) (drop (length had) l)) grown ∙ ap (placed object (length had)) (drop-append_seam had more) ∙ ap (λ (n : ℕ). placed object n more) count
 
-  -- nothing stands behind it where nothing was gained
+  -- nothing stands after it where nothing was gained
   pub placed_none : (object : ℕ) (had now : List I) → now ≡ had → placed object (length had) (drop (length had) now) ≡ []
   placed_none object had now same = placed_more object (length had) had now [] (same ∙ sym (append_none had)) refl

@@ -13,25 +13,25 @@ use Rattle.sleep_model.specs.Numbers.{time_of}
 use Rattle.sleep_model.specs.Path.{attempts}
 use Rattle.sleep_model.specs.Sources.{makes, since}
 use Rattle.sleep_model.specs.Word.{position}
-use Rattle.sleep_state.specs.Places.{entries}
+use Rattle.sleep_state.specs.JournalRooms.{entries}
 use Rattle.sleep_core.specs.declared.turns.CoreFault.{CoreFault}
 use Rattle.sleep_core.specs.declared.turns.CoreTurn.{CoreTurn}
 use Rattle.sleep_core.specs.declared.turns.CoreTurn.TheVariants.{Did, NotYet, Done}
 use Rattle.sleep_core.specs.Cores.{CoreState, made_entry, with_entry}
 use Rattle.wakeup_source.specs.declared.call_by.CallBy.{CallBy}
 use Rattle.wakeup_source.specs.declared.fault.SourceFault.{SourceFault}
-use Rattle.wakeup_source.specs.Called.{Calls, Scene, Steps, after_step}
-use Rattle.wakeup_source.specs.SourceStates.{bare, note_entry, note_tick, step_entry}
+use Rattle.wakeup_source.specs.Called.{Calls, SourceView, Steps, after_step}
+use Rattle.wakeup_source.specs.SourceStates.{unstamped, note_entry, note_tick, step_entry}
 use Rattle.turn_lock.specs.declared.view.Made.{Made}
 use Rattle.turn_lock.specs.Passes.{HasGrown, gained}
 use Rattle.run_laws.specs.Passes.{Noted, items}
-use Rattle.run_objects.specs.Objects.{SeatedCoreState, SeatedSourceState, scene_of}
+use Rattle.run_objects.specs.Objects.{SeatedCoreState, SeatedSourceState, viewed_source_of}
 use Rattle.run_world.specs.declared.object.WorldObject.TheVariants as object
 use Rattle.run_world.specs.declared.timed.TimedSource.{TimedSource}
 use Rattle.run_world.specs.Roots.{notes_on}
 use Rattle.run_world.specs.Calling.{AfterCall, AfterMachineTurn, IsTried}
 use Rattle.run_world.specs.Objects.{notes_of, root_of}
-use Rattle.run_world.specs.Told.{AfterCoreTurn, AfterReport}
+use Rattle.run_world.specs.Outcomes.{AfterCoreTurn, AfterReport}
 use Rattle.run_world.proofs.Adding.{append_none, items_count, items_more, placed_more, placed_none}
 
 -- ---- a call
@@ -40,9 +40,9 @@ use Rattle.run_world.proofs.Adding.{append_none, items_count, items_more, placed
 HasMore : List SourceEntry → List SourceEntry → Type 0
 HasMore old new = (added : List SourceEntry) × (new ≡ added ++ old)
 
-steps_add : (by : CallBy) (steps : List WordKind) (base before : List SourceEntry) (old new : Scene) → old.source.past ≡ before ++ base → Steps by steps old new → HasMore base new.source.past
+steps_add : (by : CallBy) (steps : List WordKind) (base before : List SourceEntry) (old new : SourceView) → old.source.past ≡ before ++ base → Steps by steps old new → HasMore base new.source.past
 unfolding HasMore
-steps_add by [] base before old new is h = (before, ap (λ (s : Scene). s.source.past) h ∙ is)
+steps_add by [] base before old new is h = (before, ap (λ (s : SourceView). s.source.past) h ∙ is)
 steps_add by (step ∷ rest) base before old new is h =
     let e : SourceEntry = record {
       stamp = record { pos = position h.0; tick = old.source.floor.tick + 1 };
@@ -50,14 +50,14 @@ steps_add by (step ∷ rest) base before old new is h =
     } in
     steps_add by rest base (e ∷ before) (after_step by step h.0 old) new (ap (λ (l : List SourceEntry). e ∷ l) is) h.3
 
-call_adds : (by : CallBy) (c : SourceCall) (old new : Scene) → Calls by c old new → HasMore old.source.past new.source.past
+call_adds : (by : CallBy) (c : SourceCall) (old new : SourceView) → Calls by c old new → HasMore old.source.past new.source.past
 unfolding HasMore
 call_adds by c old new h =
     let e : SourceEntry = record {
       stamp = record { pos = position h.1.0; tick = note_tick by old.source };
       entry = note_entry old.source.id c by.actor by.now h.1.0;
     } in
-    steps_add by (makes c (since (bare old.source.past))) old.source.past (e ∷ []) h.0 new (ap (λ (s : Scene). s.source.past) h.1.6) h.2
+    steps_add by (makes c (since (unstamped old.source.past))) old.source.past (e ∷ []) h.0 new (ap (λ (s : SourceView). s.source.past) h.1.6) h.2
 
 grown_source : (old new added : List SourceEntry) → new ≡ added ++ old → items (map of_source new) ≡ items (map of_source old) ++ notes_on (map of_source old) (map of_source added)
 grown_source old new added is = ap (λ (l : List SourceEntry). items (map of_source l)) is ∙ ap items (map-append of_source added old) ∙ items_more (map of_source old) (map of_source added)
@@ -69,7 +69,7 @@ module _ (by : CallBy) (c : SourceCall) (old new : TimedSource) where
   pub report_grown : (result : Result (Option Stamp) SourceFault) → AfterCall by c old.source new.source result → HasGrown root_of notes_of (notes_of (object.Source old)) (object.Source new)
   unfolding HasMore
   report_grown (Ok (Some stamp)) h =
-      let more = call_adds by c (scene_of old.source) (scene_of new.source) h.calls in
+      let more = call_adds by c (viewed_source_of old.source) (viewed_source_of new.source) h.calls in
       (notes_on (map of_source old.source.source.past) (map of_source more.0), grown_source old.source.source.past new.source.source.past more.0 more.1)
   report_grown (Ok None) h = ([], same_notes h.2 ∙ sym (append_none (notes_of (object.Source old))))
   report_grown (Err fault) h = ([], same_notes h.1 ∙ sym (append_none (notes_of (object.Source old))))
@@ -82,10 +82,10 @@ module _ (by : CallBy) (c : SourceCall) (old new : TimedSource) where
       → AfterReport by c old.source.source.id old.source.source.past result (gained root_of notes_of (1 + old.source.source.id) (notes_of (object.Source old)) (object.Source new))
   unfolding HasMore
   report_after (Ok (Some stamp)) h =
-      let more = call_adds by c (scene_of old.source) (scene_of new.source) h.calls in (
+      let more = call_adds by c (viewed_source_of old.source) (viewed_source_of new.source) h.calls in (
         record {
-          old = scene_of old.source;
-          new = scene_of new.source;
+          old = viewed_source_of old.source;
+          new = viewed_source_of new.source;
           added = more.0;
           number = refl;
           settled = h.settled;
@@ -166,5 +166,5 @@ module _ (who : Actor) (calls : ℕ) (floor : Stamp) (now : ℕ) (old new : Seat
   unfolding gains
   turn_after result (inl h) = tried_after result h.0 h.1
   turn_after result (inr h) =
-      subst (λ (r : Result CoreTurn CoreFault). AfterCoreTurn old.core.machine who calls floor now old.core.past r gains) (sym h.told)
-      (inr (record { due = h.due; time = h.time; told = refl; due_is = h.due_is; time_is = h.time_is; differs = h.differs; gained = none_gained (same_journal h.same) }))
+      subst (λ (r : Result CoreTurn CoreFault). AfterCoreTurn old.core.machine who calls floor now old.core.past r gains) (sym h.shown)
+      (inr (record { due = h.due; time = h.time; shown = refl; due_is = h.due_is; time_is = h.time_is; differs = h.differs; gained = none_gained (same_journal h.same) }))

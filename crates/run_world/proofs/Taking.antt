@@ -18,7 +18,7 @@ use Rattle.turn_lock.specs.Passes.{Token, gained}
 use Rattle.run_laws.specs.Passes.{Noted, items}
 use Rattle.run_world.specs.declared.object.WorldObject.{WorldObject}
 use Rattle.run_world.specs.Objects.{IsWorldPass, notes_of, root_of}
-use Rattle.run_world.specs.Told.{AfterCoreTurn, AfterReport, FindsMachine, FindsSource}
+use Rattle.run_world.specs.Outcomes.{AfterCoreTurn, AfterReport, FindsMachine, FindsSource}
 
 module _ (m : Machine) (table locks : TableId) (moment : ℕ) (p : Token WorldObject Noted) (is : IsWorldPass m table locks moment p) where
   -- what is taken at a source's lock is that source, and lent so
@@ -36,7 +36,7 @@ module _ (old held new : WorldObject) (object : ℕ) (had : List Noted) (made be
   made_now : after ≡ made ++ gained root_of notes_of object had new
   made_now = after_is ∙ ap (λ (l : List (Made Noted)). l ++ gained root_of notes_of object had new) made_is
 
-  -- the pass has made what the report added, behind what it found
+  -- the pass has made what the report added, after what it found
   pub report_made : (by : CallBy) (c : SourceCall) (s : ℕ) (p : Token WorldObject Noted) (result : Result (Option Stamp) SourceFault) → (root_of old).number ≡ s → object ≡ 1 + s
       → IsTaken root_of notes_of p.me.0 (1 + s) held
       → ((past : List SourceEntry) × (notes_of old ≡ items (map of_source past)) × AfterReport by c (root_of old).number past result (gained root_of notes_of (1 + (root_of old).number) (notes_of old) new))
@@ -51,7 +51,7 @@ module _ (old held new : WorldObject) (object : ℕ) (had : List Noted) (made be
         (subst (λ (n : ℕ). AfterReport by c n past result (gained root_of notes_of (1 + n) (notes_of old) new)) number h)),
   )
 
-  -- the pass has made what the turn added, behind what it found
+  -- the pass has made what the turn added, after what it found
   pub turn_made : (m : Machine) (who : Actor) (calls : ℕ) (floor : Stamp) (now : ℕ) (p : Token WorldObject Noted) (result : Result CoreTurn CoreFault) → object ≡ 0
       → IsTaken root_of notes_of p.me.0 0 held
       → ((past : List JournalEntry) × (notes_of old ≡ items past) × AfterCoreTurn m who calls floor now past result (gained root_of notes_of 0 (notes_of old) new))

@@ -10,7 +10,7 @@ use Rattle.run_laws.specs.Passes.{Noted}
 use Rattle.run_objects.specs.Objects.{SeatedCoreState, SeatedSourceState}
 use Rattle.run_world.specs.declared.object.WorldObject.{WorldObject}
 use Rattle.run_world.specs.declared.object.WorldObject.TheVariants as object
-use Rattle.run_world.specs.Held.{AreAt, AreThose, IsAt, IsClosedWorld, IsMachine, IsThat}
+use Rattle.run_world.specs.ObjectLists.{AreAt, AreThose, IsAt, IsClosedWorld, IsMachine, IsThat}
 use Rattle.run_world.specs.Roots.{WorldRoot}
 use Rattle.run_world.specs.Objects.{AreObjects, notes_of, root_of}
 
@@ -44,7 +44,7 @@ unfolding HasRoots
 at_all moment [] have = tt
 at_all moment (y ∷ objects) have = (at_one moment y (have 0 y refl).0 (have 0 y refl).1, at_all moment objects (λ i x at. have (suc i) x at))
 
--- the objects at the close, by those at first: the machine comes first, and behind it the sources
+-- the objects at the close, by those at first: the machine comes first, and after it the sources
 pub record AreBack (moment : ℕ) (values : List WorldObject) : Type 0 where
   pub head : WorldObject
   pub rest : List WorldObject
@@ -72,15 +72,15 @@ module _ (moment : ℕ) (values rest : List WorldObject) (y : WorldObject) (b : 
   head_is : y ≡ b.head
   head_is = first_is ∙ ap (λ (l : List WorldObject). slice_index_or l 0 y) b.are
 
-  behind_is : rest ≡ b.rest
-  behind_is = rest_is ∙ ap (λ (l : List WorldObject). remove l 0) b.are
+  after_is : rest ≡ b.rest
+  after_is = rest_is ∙ ap (λ (l : List WorldObject). remove l 0) b.are
 
-  -- the first is the machine, and those behind it are sources
+  -- the first is the machine, and those after it are sources
   pub head_machine : IsMachine y
   head_machine = subst IsMachine (sym head_is) b.machine
 
   pub rest_at : AreAt moment rest
-  rest_at = subst (AreAt moment) (sym behind_is) b.sources
+  rest_at = subst (AreAt moment) (sym after_is) b.sources
 
   -- the world is closed
   pub closed_world : (first : List WorldObject) (passes : List (List (Made Noted))) (machine : SeatedCoreState) (sources : List SeatedSourceState)
@@ -92,7 +92,7 @@ module _ (moment : ℕ) (values rest : List WorldObject) (y : WorldObject) (b : 
     are = record {
       rest = b.rest;
       are = b.are ∙ ap (λ (h : WorldObject). h ∷ b.rest) (sym head_is ∙ is);
-      those = subst (AreThose sources) behind_is those;
+      those = subst (AreThose sources) after_is those;
       at = b.sources;
     };
   }

@@ -13,7 +13,7 @@ use Rattle.sleep_script.specs.Jobs.{IsWanted, JobState, TimerState, after_call, 
 use Rattle.fit_laws.specs.Ranged.{is_ranged}
 use Rattle.turn_lock.specs.declared.view.Made.{Made}
 use Rattle.run_laws.specs.Passes.{Noted}
-use Rattle.run_world.specs.Told.{IsReport, IsTurn}
+use Rattle.run_world.specs.Outcomes.{IsReport, IsTurn}
 use Rattle.run_world.specs.declared.task.Task.{Task}
 use Rattle.run_world.specs.declared.task.Task.TheVariants as task
 

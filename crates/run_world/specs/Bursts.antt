@@ -5,7 +5,7 @@ use Rattle.turn_lock.specs.declared.view.Made.{Made}
 use Rattle.run_laws.specs.Passes.{Noted}
 use Rattle.run_objects.specs.Objects.{SeatedCoreState, SeatedSourceState}
 use Rattle.run_world.specs.declared.object.WorldObject.{WorldObject}
-use Rattle.run_world.specs.Held.{AreAll, IsClosedWorld}
+use Rattle.run_world.specs.ObjectLists.{AreAll, IsClosedWorld}
 use Rattle.run_world.specs.declared.task.Task.{Task}
 use Rattle.run_world.specs.Acts.{Plays, all_gains}
 

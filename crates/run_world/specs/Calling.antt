@@ -11,7 +11,7 @@ use Rattle.sleep_model.specs.Legal.{JournalPart}
 use Rattle.sleep_model.specs.Numbers.{time_of}
 use Rattle.sleep_model.specs.Sources.{expiry, has_expired, most_entries}
 use Rattle.sleep_model.specs.Word.{position}
-use Rattle.sleep_state.specs.Places.{entries}
+use Rattle.sleep_state.specs.JournalRooms.{entries}
 use Rattle.sleep_core.specs.declared.turns.CoreFault.{CoreFault}
 use Rattle.sleep_core.specs.declared.turns.CoreTurn.{CoreTurn}
 use Rattle.sleep_core.specs.declared.turns.CoreTurn.TheVariants.{NotYet}
@@ -22,17 +22,17 @@ use Rattle.wakeup_source.specs.declared.call_by.CallBy.{CallBy}
 use Rattle.wakeup_source.specs.declared.fault.SourceFault.{SourceFault}
 use Rattle.wakeup_source.specs.declared.fault.SourceFault.TheVariants as fault
 use Rattle.wakeup_source.specs.Called.{Calls}
-use Rattle.wakeup_source.specs.SourceStates.{IsSettled, bare}
-use Rattle.wakeup_source.specs.Told.{MayCall}
+use Rattle.wakeup_source.specs.SourceStates.{IsSettled, unstamped}
+use Rattle.wakeup_source.specs.Shown.{MayCall}
 use Rattle.run_laws.specs.Seated.{IsFresh}
-use Rattle.run_objects.specs.Objects.{SeatedSourceState, scene_of}
+use Rattle.run_objects.specs.Objects.{SeatedSourceState, viewed_source_of}
 
 -- a whole call that may be made on a source between calls (__pm_stay_awake, __pm_relax, pm_wakeup_ws_event, pm_wakeup_timer_fn)
 pub record IsMade (by : CallBy) (call : SourceCall) (old new : SeatedSourceState) (stamp : Stamp) : Type 0 where
   pub settled : IsSettled old.source
   pub fresh : IsFresh old.source
-  pub may : MayCall call (bare old.source.past) by.now
-  pub calls : Calls by call (scene_of old) (scene_of new)
+  pub may : MayCall call (unstamped old.source.past) by.now
+  pub calls : Calls by call (viewed_source_of old) (viewed_source_of new)
   pub leaves : IsSettled new.source
   pub stamp_is : stamp ≡ new.source.floor
 
@@ -45,7 +45,7 @@ IsRefusedBy fault.Mem entries = entries + 4 ≤ most_entries
 abbrev pub AfterCall : CallBy → SourceCall → SeatedSourceState → SeatedSourceState → Result (Option Stamp) SourceFault → Type 0
 AfterCall by call old new (Ok (Some stamp)) = IsMade by call old new stamp
 AfterCall by call old new (Ok None) =
-    (call ≡ calls.Expire) × (has_expired (expiry (bare old.source.past)) by.now ≡ false) × (new ≡ old)
+    (call ≡ calls.Expire) × (has_expired (expiry (unstamped old.source.past)) by.now ≡ false) × (new ≡ old)
 AfterCall by call old new (Err fault) = IsRefusedBy fault (length old.source.past) × (new ≡ old)
 
 -- a turn of an actor whose calls were all made, by a word that is looked at
@@ -61,7 +61,7 @@ pub record IsTried (old new : CoreState) (who : Actor) (calls : ℕ) (floor : St
 pub record IsStale (old new : CoreState) (who : Actor) (calls now : ℕ) (result : Result CoreTurn CoreFault) : Type 0 where
   pub due : ℕ
   pub time : ℕ
-  pub told : result ≡ Ok (NotYet (why.Stale due time))
+  pub shown : result ≡ Ok (NotYet (why.Stale due time))
   pub due_is : due ≡ calls_due old.machine who (entries old.past)
   pub time_is : time ≡ time_of (entries old.past)
   pub differs : (due ≢ calls) ⊎ (time ≢ now)

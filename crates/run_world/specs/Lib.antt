@@ -2,7 +2,7 @@ pub mod NoteFields
 pub mod Roots
 pub mod Calling
 pub mod Objects
-pub mod Told
-pub mod Held
+pub mod Outcomes
+pub mod ObjectLists
 pub mod Acts
 pub mod Bursts

@@ -22,7 +22,7 @@ machine_root s = record { machine = Some s.core.machine; table = s.seat.table_id
 abbrev pub source_root : SeatedSourceState → ℕ → WorldRoot
 source_root s moment = record { machine = None; table = s.seat.table_id; number = s.source.id; moment = moment }
 
--- the newest of these entries first, each with those behind it and those before all, the oldest first
+-- the newest of these entries first, each with those after it and those before all, the oldest first
 abbrev pub notes_on : List JournalEntry → List JournalEntry → List Noted
 notes_on past [] = []
 notes_on past (e ∷ added) = notes_on past added ++ record { entry = e; past = added ++ past } ∷ []

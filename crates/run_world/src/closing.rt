@@ -5,9 +5,9 @@ ghost use Rattle.atomic_table.specs.Seated.{TableId};
 ghost use Rattle.sleep_model.specs.declared.machine.Machine.{Machine};
 ghost use Rattle.turn_lock.specs.Passes.{AreAll as AreAllPasses, first_of};
 ghost use Rattle.turn_lock.specs.Passing.{made_lists, tokens};
-ghost use Rattle.run_objects.specs.Objects.{AreKept, IsSeatedCore, IsSeatedSource};
+ghost use Rattle.run_objects.specs.Objects.{SourcesInvariant, IsSeatedCore, IsSeatedSource};
 ghost use Rattle.run_world.specs.declared.object.WorldObject.TheVariants as variant;
-ghost use Rattle.run_world.specs.Held.{AreAt, AreThose, IsAt, IsClosedWorld, IsMachine, IsThat};
+ghost use Rattle.run_world.specs.ObjectLists.{AreAt, AreThose, IsAt, IsClosedWorld, IsMachine, IsThat};
 ghost use Rattle.run_world.specs.Objects.{AreObjects};
 
 use crate::object::WorldObject;
@@ -38,7 +38,7 @@ fn source_of(object: WorldObject<'_>) -> SeatedSource
     match object {
         WorldObject::Source(timed) => {
             let source = timed.into_source();
-            let _kept = source.source();
+            let _preserved = source.source();
             source
         }
         WorldObject::Machine(_) => unreachable!(),
@@ -49,7 +49,7 @@ fn source_of(object: WorldObject<'_>) -> SeatedSource
 fn sources_of(alloc: Global, objects: Vec<WorldObject<'_>>) -> Result<Vec<SeatedSource>, Mem>
     requires { (moment : ℕ) × AreAt moment objects.items }
     ensures those { IfOk result (λ sources. AreThose sources.items objects.entry.items) }
-    ensures kept { IfOk result (λ sources. AreKept sources.items) }
+    ensures kept { IfOk result (λ sources. SourcesInvariant sources.items) }
 {
     let mut sources = Vec::with_capacity(alloc, objects.len())?;
     for object in objects {
@@ -59,7 +59,7 @@ fn sources_of(alloc: Global, objects: Vec<WorldObject<'_>>) -> Result<Vec<Seated
 }
 
 /// Closes the world: the machine, and its sources in the order of their numbers, with what the passes made, which
-/// stand in the order of theirs. Each keeps its seat. `Mem` where there is no memory.
+/// stand in the order of theirs. Each keeps its seat. `Mem` if there is no memory.
 pub fn close_world<'m>(
     alloc: Global,
     locks: LockTable<WorldObject<'m>>,
@@ -67,8 +67,8 @@ pub fn close_world<'m>(
 ) -> Result<(SeatedCore<'m>, Vec<SeatedSource>), Mem>
     requires passes { AreAllPasses locks.own (tokens passes.items) }
     requires objects { (m : Machine) × (table : TableId) × (moment : ℕ) × AreObjects m table moment (first_of locks.own) }
-    ensures closed { IfOk result (λ parts. IsClosedWorld (first_of locks.entry.own) (made_lists passes.entry.items) parts.0 parts.1.items) }
-    ensures kept { IfOk result (λ parts. IsSeatedCore parts.0 × AreKept parts.1.items) }
+    ensures closed { IfOk result (λ contents. IsClosedWorld (first_of locks.entry.own) (made_lists passes.entry.items) contents.0 contents.1.items) }
+    ensures kept { IfOk result (λ contents. IsSeatedCore contents.0 × SourcesInvariant contents.1.items) }
 {
     let mut objects = close_locks(alloc, locks, passes)?;
     let machine = machine_of(objects.remove(0));

@@ -18,26 +18,26 @@
 //! `IsBurst`). By the clauses of `World::report`, `World::core_turn`: `made`, `pass`, `same`; `world_objects`;
 //! `close_world`; `Task::next`, `floor`.
 //!
-//! Begin reading in `src/world.rt`, `src/object.rt`, `src/task.rt`; `specs/Objects.antt`, `specs/Told.antt`,
+//! Begin reading in `src/world.rt`, `src/object.rt`, `src/task.rt`; `specs/Objects.antt`, `specs/Outcomes.antt`,
 //! `specs/Acts.antt`, `specs/Bursts.antt`.
 #![tactic(auto)]
 
+mod boxed;
 mod closing;
 mod gate;
 mod note;
 mod object;
 mod opening;
-mod placed;
 mod task;
 mod timed;
 mod world;
 
+pub use boxed::BoxedCore;
 pub use closing::close_world;
 pub use gate::{Gate, OpenGate};
 pub use note::WorldNote;
 pub use object::WorldObject;
 pub use opening::world_objects;
-pub use placed::PlacedCore;
 pub use task::Task;
 pub use timed::TimedSource;
-pub use world::{Reply, World, WorldDesk, WorldPass};
+pub use world::{Reply, SharedWorld, World, WorldPass};

@@ -9,10 +9,10 @@ ghost use Rattle.sleep_core.specs.Cores.{IsActor};
 ghost use Rattle.run_laws.specs.Passes.{items};
 ghost use Rattle.turn_lock.specs.Passes.{HasGrown, gained};
 ghost use Rattle.run_world.specs.Objects.{notes_of, root_of};
-ghost use Rattle.run_world.specs.Told.{AfterCoreTurn, AfterReport};
+ghost use Rattle.run_world.specs.Outcomes.{AfterCoreTurn, AfterReport};
 
+use crate::boxed::BoxedCore;
 use crate::note::WorldNote;
-use crate::placed::PlacedCore;
 use crate::timed::TimedSource;
 use event_word::EventTable;
 use sleep_core::{CoreFault, CoreTurn};
@@ -26,7 +26,7 @@ use wakeup_source::{CallBy, SourceFault};
 #[derive(Drop)]
 pub enum WorldObject<'m> {
     /// The machine. It is object 0.
-    Machine(PlacedCore<'m>),
+    Machine(BoxedCore<'m>),
     /// A wakeup source. Source s is object 1 + s.
     Source(TimedSource),
 }
@@ -54,7 +54,7 @@ impl<'m> WorldObject<'m> {
         call: SourceCall,
     ) -> Result<Option<Stamp>, SourceFault>
         requires source { (root_of self.old).machine ≡ None }
-        requires table { (root_of self.old).table ≡ table.now.desk.shared.table_id }
+        requires table { (root_of self.old).table ≡ table.now.cells.shared.table_id }
         requires now { by.now ≡ (root_of self.old).moment }
         ensures root { root_of self.new ≡ root_of self.old }
         ensures grown { HasGrown root_of notes_of (notes_of self.old) self.new }
@@ -80,7 +80,7 @@ impl<'m> WorldObject<'m> {
         now: u64,
     ) -> Result<CoreTurn, CoreFault>
         requires machine { (m : Machine) × ((root_of self.old).machine ≡ Some m) × IsActor m who }
-        requires table { (root_of self.old).table ≡ table.now.desk.shared.table_id }
+        requires table { (root_of self.old).table ≡ table.now.cells.shared.table_id }
         ensures root { root_of self.new ≡ root_of self.old }
         ensures grown { HasGrown root_of notes_of (notes_of self.old) self.new }
         ensures after { (m : Machine) → (root_of self.old).machine ≡ Some m

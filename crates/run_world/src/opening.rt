@@ -1,18 +1,18 @@
 //! How the world of a burst is made of the machine and its sources.
 
 ghost use Rattle.std.specs.Prelude.{◌≡◌, ◌≤◌, ◌^◌, ◌∷◌, [], IfOk};
-ghost use Rattle.run_objects.specs.Objects.{AreKept};
+ghost use Rattle.run_objects.specs.Objects.{SourcesInvariant};
 ghost use Rattle.run_world.specs.declared.object.WorldObject.TheVariants as object;
-ghost use Rattle.run_world.specs.Held.{AreAll, AreTimely};
+ghost use Rattle.run_world.specs.ObjectLists.{AreAll, AreTimely};
 
+use crate::boxed::BoxedCore;
 use crate::object::WorldObject;
-use crate::placed::PlacedCore;
 use crate::timed::TimedSource;
 use run_objects::{SeatedCore, SeatedSource};
 use sleep_base::Mem;
 use std::alloc::Global;
 
-/// The machine as the first of all objects. `Mem` where there is no memory.
+/// The machine as the first of all objects. `Mem` if there is no memory.
 fn with_machine<'m>(
     alloc: Global,
     machine: SeatedCore<'m>,
@@ -20,14 +20,14 @@ fn with_machine<'m>(
 ) -> Result<Vec<WorldObject<'m>>, Mem>
     ensures { IfOk result (λ first. first.items ≡ object.Machine machine.entry ∷ []) }
 {
-    let placed = PlacedCore::of(alloc, machine)?;
+    let placed = BoxedCore::of(alloc, machine)?;
     let mut first = Vec::with_capacity(alloc, objects)?;
     first.push(WorldObject::Machine(placed))?;
     Ok(first)
 }
 
 /// The objects of a world, for a burst at that moment in ms: the machine, and its sources, which stand in the order of
-/// their numbers. Each keeps its seat. `Mem` where there is no memory.
+/// their numbers. Each keeps its seat. `Mem` if there is no memory.
 pub fn world_objects<'m>(
     alloc: Global,
     machine: SeatedCore<'m>,
@@ -37,11 +37,11 @@ pub fn world_objects<'m>(
     requires timely { AreTimely moment sources.items }
     requires small { moment ≤ 2 ^ 63 }
     ensures all { IfOk result (λ objects. AreAll moment machine.entry sources.items objects.items) }
-    ensures kept { IfOk result (λ objects. AreKept sources.items) }
+    ensures kept { IfOk result (λ objects. SourcesInvariant sources.items) }
 {
     let mut objects = with_machine(alloc, machine, sources.len())?;
     for source in sources {
-        let _kept = source.source();
+        let _preserved = source.source();
         objects.push(WorldObject::Source(TimedSource::new(source, moment)))?;
     }
     Ok(objects)

@@ -1,13 +1,13 @@
 //! A task of a burst.
 
 use sleep_model::{Stamp, Want};
-use sleep_script::{Job, TimerJob};
+use sleep_script::{ActorJob, TimerJob};
 
 /// What one worker does in a burst.
 #[derive(Drop)]
 pub enum Task<'m> {
     /// The job of a script, of autosleep's work or of a device.
-    Acts(Job<'m>),
+    Acts(ActorJob<'m>),
     /// The timer of a wakeup source.
     Fires(TimerJob),
 }

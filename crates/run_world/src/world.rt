@@ -9,7 +9,7 @@ ghost use Rattle.run_laws.specs.Passes.{Noted};
 ghost use Rattle.turn_lock.specs.declared.view.Made.{Made};
 ghost use Rattle.turn_lock.specs.Passes.{first_of, made_of, number_of};
 ghost use Rattle.run_world.specs.Objects.{IsWorldPass};
-ghost use Rattle.run_world.specs.Told.{AfterCoreTurn, AfterReport, FindsMachine, FindsSource};
+ghost use Rattle.run_world.specs.Outcomes.{AfterCoreTurn, AfterReport, FindsMachine, FindsSource};
 
 use crate::gate::Gate;
 use crate::note::WorldNote;
@@ -18,11 +18,11 @@ use event_word::EventTable;
 use sleep_core::{CoreFault, CoreTurn};
 use sleep_model::{Actor, Machine, SourceCall, Stamp};
 use std::sync::Wait;
-use turn_lock::{Desk, Pass, give, take};
+use turn_lock::{Pass, SharedLocks, give, take};
 use wakeup_source::{CallBy, SourceFault};
 
 /// The locks of the world, an object each.
-pub type WorldDesk<'m> = Desk<WorldObject<'m>, WorldNote>;
+pub type SharedWorld<'m> = SharedLocks<WorldObject<'m>, WorldNote>;
 
 /// The right to take one object of the world at a time. It knows what it made.
 pub type WorldPass<'m> = Pass<WorldObject<'m>>;
@@ -38,7 +38,7 @@ pub struct World<'w, 'm, R, G> {
     /// The event word.
     pub table: &'w EventTable,
     /// The locks: object 0 is the machine, object 1 + s the source s.
-    pub desk: &'w WorldDesk<'m>,
+    pub cells: &'w SharedWorld<'m>,
     /// The time in ms, which stands still in a burst.
     pub moment: u64,
 }
@@ -62,21 +62,21 @@ impl<'w, 'm, R: Wait, G: Gate> World<'w, 'm, R, G> {
         call: SourceCall,
         by: CallBy,
     ) -> Reply<'m, Result<Option<Stamp>, SourceFault>>
-        requires pass { IsWorldPass self.now.machine.now self.now.table.now.desk.shared.table_id
-            self.now.desk.now.shared.table_id self.now.moment pass.token }
+        requires pass { IsWorldPass self.now.machine.now self.now.table.now.cells.shared.table_id
+            self.now.cells.now.shared.table_id self.now.moment pass.token }
         requires there { source ≤ length self.now.machine.now.sources }
         requires now { by.now ≡ self.now.moment }
-        ensures pass { IsWorldPass self.now.machine.now self.now.table.now.desk.shared.table_id
-            self.now.desk.now.shared.table_id self.now.moment result.pass.token }
+        ensures pass { IsWorldPass self.now.machine.now self.now.table.now.cells.shared.table_id
+            self.now.cells.now.shared.table_id self.now.moment result.pass.token }
         ensures same { (number_of result.pass.token ≡ number_of pass.entry.token) × (first_of result.pass.token ≡ first_of pass.entry.token) }
         ensures made { (gains : List (Made Noted)) × (made_of result.pass.token ≡ made_of pass.entry.token ++ gains)
             × (past : List SourceEntry) × FindsSource pass.entry.token source past
             × AfterReport by call source past result.answer gains }
     {
-        let mut held = take(self.desk, self.rt, pass, 1 + source as usize);
+        let mut held = take(self.cells, self.rt, pass, 1 + source as usize);
         let answer = held.value().report(self.rt, self.table, by, call);
         Reply {
-            pass: give(self.desk, held),
+            pass: give(self.cells, held),
             answer,
         }
     }
@@ -94,23 +94,23 @@ impl<'w, 'm, R: Wait, G: Gate> World<'w, 'm, R, G> {
         floor: Stamp,
         now: u64,
     ) -> Reply<'m, Result<CoreTurn, CoreFault>>
-        requires pass { IsWorldPass self.now.machine.now self.now.table.now.desk.shared.table_id
-            self.now.desk.now.shared.table_id self.now.moment pass.token }
+        requires pass { IsWorldPass self.now.machine.now self.now.table.now.cells.shared.table_id
+            self.now.cells.now.shared.table_id self.now.moment pass.token }
         requires actor { IsActor self.now.machine.now who }
-        ensures pass { IsWorldPass self.now.machine.now self.now.table.now.desk.shared.table_id
-            self.now.desk.now.shared.table_id self.now.moment result.pass.token }
+        ensures pass { IsWorldPass self.now.machine.now self.now.table.now.cells.shared.table_id
+            self.now.cells.now.shared.table_id self.now.moment result.pass.token }
         ensures same { (number_of result.pass.token ≡ number_of pass.entry.token) × (first_of result.pass.token ≡ first_of pass.entry.token) }
         ensures made { (gains : List (Made Noted)) × (made_of result.pass.token ≡ made_of pass.entry.token ++ gains)
             × (past : List JournalEntry) × FindsMachine pass.entry.token past
             × AfterCoreTurn self.now.machine.now who calls floor now past result.answer gains }
     {
-        let mut held = take(self.desk, self.rt, pass, 0);
+        let mut held = take(self.cells, self.rt, pass, 0);
         self.gate.held(who);
         let answer = held
             .value()
             .turn(self.rt, self.table, who, calls, floor, now);
         Reply {
-            pass: give(self.desk, held),
+            pass: give(self.cells, held),
             answer,
         }
     }

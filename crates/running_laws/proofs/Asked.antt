@@ -18,7 +18,7 @@ use Rattle.sleep_model.specs.Legal.{JournalPart, is_idle, next_time}
 use Rattle.sleep_model.specs.Merge.{of_source}
 use Rattle.sleep_model.specs.Numbers.{time_of}
 use Rattle.sleep_model.specs.Path.{maker}
-use Rattle.sleep_state.specs.Places.{entries}
+use Rattle.sleep_state.specs.JournalRooms.{entries}
 use Rattle.sleep_core.specs.Cores.{IsActor}
 use Rattle.sleep_laws.proofs.Ending.{no_attempt}
 use Rattle.sleep_laws.proofs.Linking.{links_stand}
@@ -27,13 +27,13 @@ use Rattle.sleep_script.specs.Jobs.{JobState}
 use Rattle.fit_laws.proofs.Sourced.{IsNoteOf, call_sourced}
 use Rattle.wakeup_source.specs.SourceStates.{SourceState, latest}
 use Rattle.wakeup_source.specs.SourceStates as states
-use Rattle.wakeup_source.specs.Told.{MayCall}
+use Rattle.wakeup_source.specs.Shown.{MayCall}
 use Rattle.merge_laws.specs.Apart.{IsCall}
-use Rattle.run_laws.specs.Acts.{bare}
+use Rattle.run_laws.specs.Acts.{unstamped}
 use Rattle.merge_laws.proofs.Lists.{all_head}
 use Rattle.running_laws.specs.Running.{CallsNext, IsGoing, calls_made, histories}
-use Rattle.running_laws.proofs.Kept.{few_calls}
-use Rattle.running_laws.proofs.Lists.{entries_bare, source_at}
+use Rattle.running_laws.proofs.Invariant.{few_calls}
+use Rattle.running_laws.proofs.Lists.{entries_unstamped, source_at}
 
 -- a note is on a source of the machine, and is no expiry
 note_there : (m : Machine) (s : ℕ) (c : SourceCall) → IsNoteOf m (note s c) → s ≤ length m.sources
@@ -53,7 +53,7 @@ some_left n [] k e = absurd (cc)
 some_left zero (x ∷ xs) k e = omega arith
 some_left (suc n) (x ∷ xs) k e = omega (arith, some_left n xs k e)
 
-latest_within : (p : List SourceEntry) (at : ℕ) → list_all (λ e. nat_le e.entry.time at) (map of_source p) ≡ true → latest (states.bare p) ≤ at
+latest_within : (p : List SourceEntry) (at : ℕ) → list_all (λ e. nat_le e.entry.time at) (map of_source p) ≡ true → latest (states.unstamped p) ≤ at
 latest_within [] at h = omega arith
 latest_within (e ∷ p) at h =
     let here : nat_le e.entry.time at ≡ true = all_head (λ (x : JournalEntry). nat_le x.entry.time at) (of_source e) (map of_source p) h in
@@ -61,11 +61,11 @@ latest_within (e ∷ p) at h =
 
 module _ (m : Machine) (journal : List JournalEntry) (sources : List SourceState) (jobs : Actor → JobState) {floors : Actor → Stamp} (r : IsGoing m journal sources jobs floors) where
   -- no entry of a source is later than now
-  pub timely : (s : ℕ) (none : SourceState) → s < length sources → latest (states.bare (slice_index_or sources s none).past) ≤ time_of (entries journal)
+  pub timely : (s : ℕ) (none : SourceState) → s < length sources → latest (states.unstamped (slice_index_or sources s none).past) ≤ time_of (entries journal)
   timely s none l =
       latest_within (slice_index_or sources s none).past (time_of (entries journal))
-      (subst (λ (t : ℕ). list_all (λ e. nat_le e.entry.time t) (map of_source (slice_index_or sources s none).past) ≡ true) (sym (ap time_of (entries_bare journal)))
-      (ap (list_all (λ e. nat_le e.entry.time (time_of (bare journal)))) (sym (source_at sources s none l)) ∙ r.held.by_now.1 s))
+      (subst (λ (t : ℕ). list_all (λ e. nat_le e.entry.time t) (map of_source (slice_index_or sources s none).past) ≡ true) (sym (ap time_of (entries_unstamped journal)))
+      (ap (list_all (λ e. nat_le e.entry.time (time_of (unstamped journal)))) (sym (source_at sources s none l)) ∙ r.invariant.by_now.1 s))
 
   -- ---- an actor's next call
 
@@ -99,7 +99,7 @@ module _ (m : Machine) (journal : List JournalEntry) (sources : List SourceState
   -- ---- nobody goes on
 
   pub legal_journal : JournalPart m (entries journal)
-  legal_journal = subst (JournalPart m) (sym (entries_bare journal)) r.held.of_journal
+  legal_journal = subst (JournalPart m) (sym (entries_unstamped journal)) r.invariant.of_journal
 
   -- where nobody goes on and no moment is pending no attempt is open
   pub closes : (word : EventNow) → next_time m (entries journal) (histories sources) ≡ None → is_idle m (entries journal) (histories sources) word ≡ true → maker (entries journal) ≡ None

@@ -15,38 +15,38 @@ use Rattle.sleep_model.specs.Calls.{calls_of, is_note_of, made, note, notes_of, 
 use Rattle.sleep_model.specs.Fits.{fits_actor, is_word64}
 use Rattle.sleep_model.specs.Merge.{of_source}
 use Rattle.sleep_model.specs.Numbers.{time_of}
-use Rattle.sleep_model.specs.Parts.{Part, part_of}
+use Rattle.sleep_model.specs.EntryClasses.{EntryClass, class_of}
 use Rattle.sleep_model.specs.Path.{is_same}
 use Rattle.sleep_model.specs.Sources.{expiry, makes, since}
-use Rattle.end_laws.specs.Moments.{ExpiriesAreNear}
+use Rattle.end_laws.specs.Moments.{ExpiriesAreBounded}
 use Rattle.end_laws.proofs.Lasting.{IsBrief}
 use Rattle.sleep_model.specs.Word.{position}
-use Rattle.sleep_state.specs.Places.{entries}
+use Rattle.sleep_state.specs.JournalRooms.{entries}
 use Rattle.sleep_core.specs.Cores.{IsActor}
 use Rattle.sleep_script.specs.Jobs.{IsJobOf, JobState, after_call}
 use Rattle.sleep_script.proofs.Following.{call_made}
 use Rattle.wakeup_source.specs.declared.call_by.CallBy.{CallBy}
-use Rattle.wakeup_source.specs.Called.{Calls, Scene, Steps, after_note, after_step}
+use Rattle.wakeup_source.specs.Called.{Calls, SourceView, Steps, after_note, after_step}
 use Rattle.wakeup_source.specs.SourceStates.{IsSettled, SourceState, step_kind}
 use Rattle.wakeup_source.specs.SourceStates as states
-use Rattle.wakeup_source.specs.Told.{MayCall}
-use Rattle.fit_laws.specs.Ranged.{is_ranged, is_told}
+use Rattle.wakeup_source.specs.Shown.{MayCall}
+use Rattle.fit_laws.specs.Ranged.{is_ranged, is_ranged_entry}
 use Rattle.log_merge.proofs.Reading.{both}
 use Rattle.merge_laws.specs.Apart.{IsCall}
-use Rattle.run_laws.specs.Acts.{Made, bare}
+use Rattle.run_laws.specs.Acts.{Made, unstamped}
 use Rattle.run_laws.specs.Called.{IsCalled, IsReady, knows}
-use Rattle.run_laws.specs.Held.{EachJump, Held}
+use Rattle.run_laws.specs.Invariant.{EachJump, RunInvariant}
 use Rattle.run_laws.proofs.Acts.{actor_is}
 use Rattle.run_laws.specs.Seated.{IsFresh}
 use Rattle.run_laws.specs.Turned.{newest_stamp}
-use Rattle.run_laws.proofs.Called.{bare_same, call_grows, part_note}
+use Rattle.run_laws.proofs.Called.{unstamped_same, call_grows, class_note}
 use Rattle.run_laws.proofs.Seated.{call_fresh}
 use Rattle.running_laws.specs.Running.{AreJobs, FloorsKnow, IsGoing, IsMoved, IsRunning, IsSourceOf, IsWith, calls_made, entry_count, histories, made_so, of_sources}
-use Rattle.running_laws.proofs.Kept.{calls_are_notes, free}
+use Rattle.running_laws.proofs.Invariant.{calls_are_notes, free}
 use Rattle.running_laws.proofs.Known.{knows_more}
 use Rattle.running_laws.proofs.Turns.{all_raised, is_moved_one, moved_one}
-use Rattle.run_laws.proofs.Held.{each_by}
-use Rattle.running_laws.proofs.Lists.{entries_bare, source_at, source_other, source_set, sources_set}
+use Rattle.run_laws.proofs.Invariant.{each_by}
+use Rattle.running_laws.proofs.Lists.{entries_unstamped, source_at, source_other, source_set, sources_set}
 use Rattle.running_laws.proofs.Rising.{EndsBy, call_brief, call_ends, call_longer, call_rises, entries_set, floors_low, jobs_low, newest_is}
 
 -- ---- what a call adds
@@ -55,26 +55,26 @@ use Rattle.running_laws.proofs.Rising.{EndsBy, call_brief, call_ends, call_longe
 abbrev noted : SourceState → List JournalEntry
 noted source = map of_source source.past
 
-part_step : (s : ℕ) (x : WordKind) (who : Actor) (e : Entry) → is_note_of who e (part_of (step_kind s x)) ≡ false
-part_step s step.Start who e = refl
-part_step s step.Finish who e = refl
-part_step s step.Hard who e = refl
+class_step : (s : ℕ) (x : WordKind) (who : Actor) (e : Entry) → is_note_of who e (class_of (step_kind s x)) ≡ false
+class_step s step.Start who e = refl
+class_step s step.Finish who e = refl
+class_step s step.Hard who e = refl
 
 -- the steps of a call leave its floor no lower, its number, and the notes of everybody
-record AreSteps (old new : SourceState) : Type 0 where
+record AreCallSteps (old new : SourceState) : Type 0 where
   tick : old.floor.tick ≤ new.floor.tick
   pos : old.floor.pos ≤ new.floor.pos
   number : new.id ≡ old.id
-  notes : (who : Actor) → notes_of who (bare (noted new)) ≡ notes_of who (bare (noted old))
+  notes : (who : Actor) → notes_of who (unstamped (noted new)) ≡ notes_of who (unstamped (noted old))
 
-steps_are : (by : CallBy) (steps : List WordKind) (old new : Scene) → old.floor ≡ old.source.floor.pos → Steps by steps old new → AreSteps old.source new.source
+steps_are : (by : CallBy) (steps : List WordKind) (old new : SourceView) → old.floor ≡ old.source.floor.pos → Steps by steps old new → AreCallSteps old.source new.source
 steps_are by [] old new f h =
-    let same : new.source ≡ old.source = ap (λ (s : Scene). s.source) h in
+    let same : new.source ≡ old.source = ap (λ (s : SourceView). s.source) h in
     record {
       tick = omega (arith, ap (λ (s : SourceState). s.floor.tick) same);
       pos = omega (arith, ap (λ (s : SourceState). s.floor.pos) same);
       number = ap (λ (s : SourceState). s.id) same;
-      notes = λ who. ap (λ (s : SourceState). notes_of who (bare (noted s))) same;
+      notes = λ who. ap (λ (s : SourceState). notes_of who (unstamped (noted s))) same;
     }
 steps_are by (x ∷ rest) old new f h =
     let behind = steps_are by rest (after_step by x h.0 old) new refl h.3 in
@@ -83,7 +83,7 @@ steps_are by (x ∷ rest) old new f h =
       tick = omega (arith, behind.tick);
       pos = omega (arith, behind.pos, low);
       number = behind.number;
-      notes = λ who. behind.notes who ∙ ap (λ (b : Bool). one_more b (notes_of who (bare (noted old.source)))) (part_step old.source.id x who (states.step_entry old.source.id x by.actor by.now h.0));
+      notes = λ who. behind.notes who ∙ ap (λ (b : Bool). one_more b (notes_of who (unstamped (noted old.source)))) (class_step old.source.id x who (states.step_entry old.source.id x by.actor by.now h.0));
     }
 
 -- a call leaves a floor that is no lower than its caller's, its number, and one note more of its caller
@@ -91,21 +91,21 @@ record IsOneCall (by : CallBy) (old new : SourceState) : Type 0 where
   tick : by.floor.tick ≤ new.floor.tick
   pos : by.floor.pos ≤ new.floor.pos
   number : new.id ≡ old.id
-  notes : (who : Actor) → notes_of who (bare (noted new)) ≡ one_more (is_same by.actor who) (notes_of who (bare (noted old)))
+  notes : (who : Actor) → notes_of who (unstamped (noted new)) ≡ one_more (is_same by.actor who) (notes_of who (unstamped (noted old)))
 
-one_call : (by : CallBy) (c : SourceCall) (old new : Scene) → Calls by c old new → IsOneCall by old.source new.source
+one_call : (by : CallBy) (c : SourceCall) (old new : SourceView) → Calls by c old new → IsOneCall by old.source new.source
 one_call by c old new h =
     let seen : EventNow = h.1.0 in
     let is : h.0 ≡ after_note by c seen h.0.looked old = h.1.6 in
-    let steps = steps_are by (makes c (since (states.bare old.source.past))) (after_note by c seen h.0.looked old) new refl
-    (subst (λ (s : Scene). Steps by (makes c (since (states.bare old.source.past))) s new) is h.2) in
+    let steps = steps_are by (makes c (since (states.unstamped old.source.past))) (after_note by c seen h.0.looked old) new refl
+    (subst (λ (s : SourceView). Steps by (makes c (since (states.unstamped old.source.past))) s new) is h.2) in
     let low : by.floor.pos ≤ position seen = h.1.4 in
     record {
       tick = omega (arith, steps.tick);
       pos = omega (arith, steps.pos, low);
       number = steps.number;
       notes = λ who. steps.notes who
-          ∙ ap (λ (p : Part). one_more (is_note_of who (states.note_entry old.source.id c by.actor by.now seen) p) (notes_of who (bare (noted old.source)))) (part_note old.source.id c);
+          ∙ ap (λ (p : EntryClass). one_more (is_note_of who (states.note_entry old.source.id c by.actor by.now seen) p) (notes_of who (unstamped (noted old.source)))) (class_note old.source.id c);
     }
 
 -- ---- how many calls were made
@@ -140,26 +140,26 @@ made_more (suc n) s of other who b l h g = by (s == n) refl (λ k. made_more n s
 
 -- ---- what entries tell
 
-moves_told : (m : Machine) (s : ℕ) (x : WordKind) (who : Actor) (time : ℕ) (before : EventNow) → is_word64 time ≡ true → fits_actor m who ≡ true → is_told m (states.step_entry s x who time before) ≡ true
+moves_told : (m : Machine) (s : ℕ) (x : WordKind) (who : Actor) (time : ℕ) (before : EventNow) → is_word64 time ≡ true → fits_actor m who ≡ true → is_ranged_entry m (states.step_entry s x who time before) ≡ true
 moves_told m s step.Start who time before timed acts = both _ _ (both _ _ timed acts) refl
 moves_told m s step.Finish who time before timed acts = both _ _ (both _ _ timed acts) refl
 moves_told m s step.Hard who time before timed acts = both _ _ (both _ _ timed acts) refl
 
-steps_told : (m : Machine) (by : CallBy) (steps : List WordKind) (old new : Scene) → is_word64 by.now ≡ true → fits_actor m by.actor ≡ true → Steps by steps old new
-    → list_all (λ e. is_told m e.entry) (noted old.source) ≡ true → list_all (λ e. is_told m e.entry) (noted new.source) ≡ true
-steps_told m by [] old new timed acts h told = ap (λ (s : Scene). list_all (λ e. is_told m e.entry) (noted s.source)) h ∙ told
-steps_told m by (x ∷ rest) old new timed acts h told =
+steps_told : (m : Machine) (by : CallBy) (steps : List WordKind) (old new : SourceView) → is_word64 by.now ≡ true → fits_actor m by.actor ≡ true → Steps by steps old new
+    → list_all (λ e. is_ranged_entry m e.entry) (noted old.source) ≡ true → list_all (λ e. is_ranged_entry m e.entry) (noted new.source) ≡ true
+steps_told m by [] old new timed acts h shown = ap (λ (s : SourceView). list_all (λ e. is_ranged_entry m e.entry) (noted s.source)) h ∙ shown
+steps_told m by (x ∷ rest) old new timed acts h shown =
     steps_told m by rest (after_step by x h.0 old) new timed acts h.3
-    (both (is_told m (states.step_entry old.source.id x by.actor by.now h.0)) (list_all (λ e. is_told m e.entry) (noted old.source)) (moves_told m old.source.id x by.actor by.now h.0 timed acts) told)
+    (both (is_ranged_entry m (states.step_entry old.source.id x by.actor by.now h.0)) (list_all (λ e. is_ranged_entry m e.entry) (noted old.source)) (moves_told m old.source.id x by.actor by.now h.0 timed acts) shown)
 
-call_told : (m : Machine) (by : CallBy) (c : SourceCall) (old new : Scene) → is_word64 by.now ≡ true → fits_actor m by.actor ≡ true → is_ranged (note old.source.id c) ≡ true → Calls by c old new
-    → list_all (λ e. is_told m e.entry) (noted old.source) ≡ true → list_all (λ e. is_told m e.entry) (noted new.source) ≡ true
-call_told m by c old new timed acts ranged h told =
+call_told : (m : Machine) (by : CallBy) (c : SourceCall) (old new : SourceView) → is_word64 by.now ≡ true → fits_actor m by.actor ≡ true → is_ranged (note old.source.id c) ≡ true → Calls by c old new
+    → list_all (λ e. is_ranged_entry m e.entry) (noted old.source) ≡ true → list_all (λ e. is_ranged_entry m e.entry) (noted new.source) ≡ true
+call_told m by c old new timed acts ranged h shown =
     let seen : EventNow = h.1.0 in
     let is : h.0 ≡ after_note by c seen h.0.looked old = h.1.6 in
-    steps_told m by (makes c (since (states.bare old.source.past))) (after_note by c seen h.0.looked old) new timed acts
-    (subst (λ (s : Scene). Steps by (makes c (since (states.bare old.source.past))) s new) is h.2)
-    (both (is_told m (states.note_entry old.source.id c by.actor by.now seen)) (list_all (λ e. is_told m e.entry) (noted old.source)) (both _ _ (both _ _ timed acts) ranged) told)
+    steps_told m by (makes c (since (states.unstamped old.source.past))) (after_note by c seen h.0.looked old) new timed acts
+    (subst (λ (s : SourceView). Steps by (makes c (since (states.unstamped old.source.past))) s new) is h.2)
+    (both (is_ranged_entry m (states.note_entry old.source.id c by.actor by.now seen)) (list_all (λ e. is_ranged_entry m e.entry) (noted old.source)) (both _ _ (both _ _ timed acts) ranged) shown)
 
 -- ---- a call
 
@@ -168,11 +168,11 @@ module _ (m : Machine) (journal : List JournalEntry) (sources : List SourceState
   past = made_so journal sources r.own
 
   -- a source of the machine is called by an actor whose call is next, at the journal's time
-  pub record IsCalledNow (s : ℕ) (by : CallBy) (c : SourceCall) (old new : Scene) : Type 0 where
+  pub record IsCalledNow (s : ℕ) (by : CallBy) (c : SourceCall) (old new : SourceView) : Type 0 where
     pub there : s ≤ length m.sources
     pub old_is : old.source ≡ slice_index_or sources s old.source
     pub next : IsCall by.actor (calls_of m by.actor (entries journal)) (calls_made m sources by.actor) (note s c)
-    pub may : MayCall c (states.bare old.source.past) by.now
+    pub may : MayCall c (states.unstamped old.source.past) by.now
     pub floor_is : by.floor ≡ floors by.actor
     pub time_is : by.now ≡ time_of (entries journal)
     pub calls : Calls by c old new
@@ -181,7 +181,7 @@ module _ (m : Machine) (journal : List JournalEntry) (sources : List SourceState
     pub acts : fits_actor m by.actor ≡ true
     pub ranged : is_ranged (note s c) ≡ true
 
-  module _ (s : ℕ) (by : CallBy) (c : SourceCall) (old new : Scene) (h : IsCalledNow s by c old new) where
+  module _ (s : ℕ) (by : CallBy) (c : SourceCall) (old new : SourceView) (h : IsCalledNow s by c old new) where
     abbrev sources' : List SourceState
     sources' = slice_set sources s new.source
 
@@ -202,18 +202,18 @@ module _ (m : Machine) (journal : List JournalEntry) (sources : List SourceState
 
     ready : IsReady m past by c old.source
     ready = record {
-      held = r.held;
+      invariant = r.invariant;
       entries = ap (of_sources sources) here.number ∙ of_old;
       settled = here.settled;
       there = ap (λ (n : ℕ). nat_le n (length m.sources)) here.number ∙ (let l = h.there in let is : nat_le s (length m.sources) ≡ true = grind (arith, nat_tests) in is);
       free = free m journal sources jobs r by.actor;
-      next = subst (λ (n : ℕ). IsCall by.actor (calls_of m by.actor (bare journal)) (notes_of by.actor (bare (r.own by.actor))) (note n c)) (sym here.number)
-          (subst (λ (n : ℕ). IsCall by.actor (calls_of m by.actor (bare journal)) n (note s c)) (calls_are_notes m journal sources jobs r by.actor)
-          (subst (λ (xs : List Entry). IsCall by.actor (calls_of m by.actor xs) (calls_made m sources by.actor) (note s c)) (entries_bare journal) h.next));
+      next = subst (λ (n : ℕ). IsCall by.actor (calls_of m by.actor (unstamped journal)) (notes_of by.actor (unstamped (r.own by.actor))) (note n c)) (sym here.number)
+          (subst (λ (n : ℕ). IsCall by.actor (calls_of m by.actor (unstamped journal)) n (note s c)) (calls_are_notes m journal sources jobs r by.actor)
+          (subst (λ (xs : List Entry). IsCall by.actor (calls_of m by.actor xs) (calls_made m sources by.actor) (note s c)) (entries_unstamped journal) h.next));
       may = h.may;
       own = ap (λ (f : Stamp). knows f (r.own by.actor)) h.floor_is ∙ r.floors_know.own by.actor;
       jumps = subst (λ (f : Stamp). EachJump (λ jump. knows f (jump ∷ []) ≡ true) journal) (sym h.floor_is) (r.floors_know.jumps by.actor);
-      time = h.time_is ∙ ap time_of (entries_bare journal);
+      time = h.time_is ∙ ap time_of (entries_unstamped journal);
     }
 
     grown : (after : Made) × IsCalled m past after by new.source
@@ -259,23 +259,23 @@ module _ (m : Machine) (journal : List JournalEntry) (sources : List SourceState
             (λ jump. knows_more (floors by.actor) new.source.floor (jump ∷ []) tick pos) (r.floors_know.jumps by.actor)))
         by_jump other false e = subst (λ (f : Stamp). EachJump (λ jump. knows f (jump ∷ []) ≡ true) journal) (sym (w.others other e)) (r.floors_know.jumps other)
 
-    told : (t : ℕ) → list_all (λ e. is_told m e.entry) (of_sources sources' t) ≡ true
-    told t = is (s == t) refl
+    shown : (t : ℕ) → list_all (λ e. is_ranged_entry m e.entry) (of_sources sources' t) ≡ true
+    shown t = is (s == t) refl
       where
-        is : (b : Bool) → (s == t) ≡ b → list_all (λ e. is_told m e.entry) (of_sources sources' t) ≡ true
+        is : (b : Bool) → (s == t) ≡ b → list_all (λ e. is_ranged_entry m e.entry) (of_sources sources' t) ≡ true
         is true e =
             let same : s ≡ t = grind (arith, nat_tests) in
-            subst (λ (n : ℕ). list_all (λ e. is_told m e.entry) (of_sources sources' n) ≡ true) same
-            (ap (list_all (λ e. is_told m e.entry)) (source_set sources s new.source within)
-            ∙ call_told m by c old new h.timed h.acts (ap (λ (n : ℕ). is_ranged (note n c)) here.number ∙ h.ranged) h.calls (ap (list_all (λ e. is_told m e.entry)) (sym of_old) ∙ r.told.1 s))
-        is false e = ap (list_all (λ e. is_told m e.entry)) (source_other sources s t new.source e) ∙ r.told.1 t
+            subst (λ (n : ℕ). list_all (λ e. is_ranged_entry m e.entry) (of_sources sources' n) ≡ true) same
+            (ap (list_all (λ e. is_ranged_entry m e.entry)) (source_set sources s new.source within)
+            ∙ call_told m by c old new h.timed h.acts (ap (λ (n : ℕ). is_ranged (note n c)) here.number ∙ h.ranged) h.calls (ap (list_all (λ e. is_ranged_entry m e.entry)) (sym of_old) ∙ r.shown.1 s))
+        is false e = ap (list_all (λ e. is_ranged_entry m e.entry)) (source_other sources s t new.source e) ∙ r.shown.1 t
 
     -- the caller has made one call more
     made_now : (who : Actor) → calls_made m sources' who ≡ one_more (is_same by.actor who) (calls_made m sources who)
     made_now who =
-        made_more (length m.sources + 1) s (histories sources) (histories sources') who (is_same by.actor who) (omega (arith, h.there)) (λ t e. ap bare (source_other sources s t new.source e))
-        (ap (λ (l : List JournalEntry). notes_of who (bare l)) (source_set sources s new.source within)
-        ∙ (one.notes who ∙ ap (λ (l : List JournalEntry). one_more (is_same by.actor who) (notes_of who (bare l))) (sym of_old)))
+        made_more (length m.sources + 1) s (histories sources) (histories sources') who (is_same by.actor who) (omega (arith, h.there)) (λ t e. ap unstamped (source_other sources s t new.source e))
+        (ap (λ (l : List JournalEntry). notes_of who (unstamped l)) (source_set sources s new.source within)
+        ∙ (one.notes who ∙ ap (λ (l : List JournalEntry). one_more (is_same by.actor who) (notes_of who (unstamped l))) (sym of_old)))
 
     -- ---- how far ticks and expiries have come
 
@@ -315,22 +315,22 @@ module _ (m : Machine) (journal : List JournalEntry) (sources : List SourceState
             (omega (arith, new_low, new_fresh, newest_is new.source.past, ap (λ (l : List JournalEntry). (newest_stamp l).tick) (source_set sources s new.source within)))
         is false e = omega (arith, more, r.low.of_each t, ap (λ (l : List JournalEntry). (newest_stamp l).tick) (source_other sources s t new.source e))
 
-    each_near : ExpiriesAreNear (entries journal) (histories sources')
-    each_near t = is (s == t) refl
+    each_bounded : ExpiriesAreBounded (entries journal) (histories sources')
+    each_bounded t = is (s == t) refl
       where
         brief : IsBrief (note old.source.id c)
         brief = subst (λ (n : ℕ). IsBrief (note n c)) (sym here.number) (call_brief m r.accepted by.actor (entries journal) (calls_made m sources by.actor) s c h.next)
 
-        was : EndsBy (time_of (entries journal) + 86400000) (expiry (states.bare old.source.past))
-        was = subst (λ (xs : List Entry). EndsBy (time_of (entries journal) + 86400000) (expiry xs)) (ap bare of_old ∙ sym (bare_same old.source.past)) (r.near.expiries s)
+        was : EndsBy (time_of (entries journal) + 86400000) (expiry (states.unstamped old.source.past))
+        was = subst (λ (xs : List Entry). EndsBy (time_of (entries journal) + 86400000) (expiry xs)) (ap unstamped of_old ∙ sym (unstamped_same old.source.past)) (r.near.expiries s)
 
         is : (b : Bool) → (s == t) ≡ b → EndsBy (time_of (entries journal) + 86400000) (expiry (histories sources' t))
         is true e =
             let same : s ≡ t = grind (arith, nat_tests) in
             subst (λ (n : ℕ). EndsBy (time_of (entries journal) + 86400000) (expiry (histories sources' n))) same
-            (subst (λ (xs : List Entry). EndsBy (time_of (entries journal) + 86400000) (expiry xs)) (bare_same new.source.past ∙ sym (ap bare (source_set sources s new.source within)))
+            (subst (λ (xs : List Entry). EndsBy (time_of (entries journal) + 86400000) (expiry xs)) (unstamped_same new.source.past ∙ sym (ap unstamped (source_set sources s new.source within)))
             (call_ends (time_of (entries journal) + 86400000) by c old new h.calls brief (omega (arith, h.time_is)) was))
-        is false e = subst (λ (l : List JournalEntry). EndsBy (time_of (entries journal) + 86400000) (expiry (bare l))) (sym (source_other sources s t new.source e)) (r.near.expiries t)
+        is false e = subst (λ (l : List JournalEntry). EndsBy (time_of (entries journal) + 86400000) (expiry (unstamped l))) (sym (source_other sources s t new.source e)) (r.near.expiries t)
 
     -- after a call the run goes on, as its jobs do
     goes_on : (jobs' : Actor → JobState) (floors' : Actor → Stamp) → IsMoved floors floors' by.actor new.source.floor → AreJobs m journal sources' jobs'
@@ -338,18 +338,18 @@ module _ (m : Machine) (journal : List JournalEntry) (sources : List SourceState
     goes_on jobs' floors' w are low = record {
       accepted = r.accepted;
       own = grown.0.own;
-      held = subst (Held m) is_so grown.1.held;
+      invariant = subst (RunInvariant m) is_so grown.1.invariant;
       sources_are = sources_set m sources s new.source within (record { number = new_number; settled = h.settled; fresh = new_fresh }) r.sources_are;
       jobs_are = are;
       floors_know = known floors' w;
-      told = (r.told.0, told);
+      shown = (r.shown.0, shown);
       low = record {
         newest = omega (arith, more, r.low.newest);
         of_each = each_low;
         of_jobs = low;
         of_actors = floors_low floors floors' by.actor new.source.floor (entry_count journal sources) (entry_count journal sources') w new_low more r.low.of_actors;
       };
-      near = record { time = r.near.time; expiries = each_near };
+      near = record { time = r.near.time; expiries = each_bounded };
     }
 
     called_jobs : (jobs' : Actor → JobState) (stamp : Stamp) → IsActor m by.actor → 0 < length (jobs by.actor).pending → IsWith m jobs jobs' by.actor (after_call stamp (jobs by.actor)) → AreJobs m journal sources' jobs'
@@ -386,7 +386,7 @@ module _ (m : Machine) (journal : List JournalEntry) (sources : List SourceState
 -- ---- with one worker
 
 module _ (m : Machine) (journal : List JournalEntry) (sources : List SourceState) (jobs : Actor → JobState) {floor : Stamp} (r : IsRunning m journal sources jobs floor)
-    (s : ℕ) (by : CallBy) (c : SourceCall) (old new : Scene) (h : IsCalledNow m journal sources jobs r s by c old new) where
+    (s : ℕ) (by : CallBy) (c : SourceCall) (old new : SourceView) (h : IsCalledNow m journal sources jobs r s by c old new) where
   -- after the call of an actor that has a job the run goes on, and all know it
   pub running_call : (jobs' : Actor → JobState) (stamp : Stamp) → stamp ≡ new.source.floor → IsActor m by.actor → 0 < length (jobs by.actor).pending → IsWith m jobs jobs' by.actor (after_call stamp (jobs by.actor))
       → IsRunning m journal (slice_set sources s new.source) jobs' stamp

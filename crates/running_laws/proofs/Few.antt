@@ -14,23 +14,23 @@ use Rattle.sleep_model.specs.declared.word.Stamp.{Stamp}
 use Rattle.sleep_model.specs.Legal.{JournalPart, JumpStep, is_idle}
 use Rattle.sleep_model.specs.Merge.{of_source}
 use Rattle.sleep_model.specs.Numbers.{time_after, time_of}
-use Rattle.sleep_model.specs.Parts.{part_of}
+use Rattle.sleep_model.specs.EntryClasses.{class_of}
 use Rattle.sleep_model.specs.Places.{one_if}
-use Rattle.sleep_laws.proofs.Holding.{entry_of}
+use Rattle.sleep_laws.proofs.LockHolding.{entry_of}
 use Rattle.source_laws.proofs.Summing.{below_total, if_there, total}
 use Rattle.source_laws.proofs.Weighing.{below, below_most}
-use Rattle.merge_laws.specs.Apart.{AreJumps, JumpHeld, before}
+use Rattle.merge_laws.specs.Apart.{AreJumps, JumpIsLegal, before}
 use Rattle.end_laws.specs.Bounds.{but_jumps, one_but_jump}
 use Rattle.end_laws.proofs.Bounding.{few_in_journal, journal_bounded}
 use Rattle.end_laws.proofs.Moments.{wake}
-use Rattle.end_laws.proofs.Nearby.{are_near}
-use Rattle.sleep_state.specs.Places.{entries}
+use Rattle.end_laws.proofs.Nearby.{are_bounded}
+use Rattle.sleep_state.specs.JournalRooms.{entries}
 use Rattle.sleep_script.specs.Jobs.{JobState}
 use Rattle.wakeup_source.specs.SourceStates.{SourceState}
-use Rattle.run_laws.specs.Acts.{bare}
+use Rattle.run_laws.specs.Acts.{unstamped}
 use Rattle.running_laws.specs.Running.{IsGoing, entries_in, entry_count, histories}
-use Rattle.running_laws.proofs.Kept.{short}
-use Rattle.running_laws.proofs.Lists.{entries_bare, source_beyond}
+use Rattle.running_laws.proofs.Invariant.{short}
+use Rattle.running_laws.proofs.Lists.{entries_unstamped, source_beyond}
 use Rattle.running_laws.proofs.Rising.{EndsBy}
 
 -- ---- what sources had before a moment
@@ -114,12 +114,12 @@ module _ (m : Machine) (of : ℕ → List Entry) (n : ℕ) (outside : (s : ℕ) 
       each : (s : ℕ) → before u (of s) ≡ before t (of s)
       each s = by_range s (nat_lt s n) refl
 
-  -- behind a jump somebody can make something, by what the sources had before it
+  -- after a jump somebody can make something, by what the sources had before it
   stirred : (past : List Entry) (later : EventNow) → JournalPart m past → AreJumps m past of → jumped past ≡ true → is_idle m past (λ s. before (time_of past) (of s)) later ≡ false
   stirred [] later j a h = absurd (true≢false (sym h))
   stirred (e ∷ past) later j a h = by_entry e.time e.now e.actor e.kind h j a.0
     where
-      by_entry : (time : ℕ) (now : EventNow) (who : Actor) (k : Kind) → is_jump k ≡ true → JournalPart m (entry_of time now who k ∷ past) → JumpHeld m past of (entry_of time now who k) (part_of k)
+      by_entry : (time : ℕ) (now : EventNow) (who : Actor) (k : Kind) → is_jump k ≡ true → JournalPart m (entry_of time now who k ∷ past) → JumpIsLegal m past of (entry_of time now who k) (class_of k)
           → is_idle m (entry_of time now who k ∷ past) (λ s. before (time_of (entry_of time now who k ∷ past)) (of s)) later ≡ false
       by_entry time now who kind.Jump x j a =
           subst (λ (w : Actor). is_idle m (entry_of time now w kind.Jump ∷ past) (λ s. before time (of s)) later ≡ false) (sym j.0.0)
@@ -135,7 +135,7 @@ module _ (m : Machine) (of : ℕ → List Entry) (n : ℕ) (outside : (s : ℕ) 
   journal_length [] j a = omega arith
   journal_length (e ∷ past) j a = by_kind e.time e.now e.actor e.kind j a.0 (journal_length past j.1 a.1) (λ later x. stirred past later j.1 a.1 x)
     where
-      by_kind : (time : ℕ) (now : EventNow) (who : Actor) (k : Kind) → JournalPart m (entry_of time now who k ∷ past) → JumpHeld m past of (entry_of time now who k) (part_of k) → length past ≤ 2 * but_jumps past + had (time_of past) + one_if (jumped past) → ((later : EventNow) → jumped past ≡ true → is_idle m past (λ s. before (time_of past) (of s)) later ≡ false)
+      by_kind : (time : ℕ) (now : EventNow) (who : Actor) (k : Kind) → JournalPart m (entry_of time now who k ∷ past) → JumpIsLegal m past of (entry_of time now who k) (class_of k) → length past ≤ 2 * but_jumps past + had (time_of past) + one_if (jumped past) → ((later : EventNow) → jumped past ≡ true → is_idle m past (λ s. before (time_of past) (of s)) later ≡ false)
           → suc (length past) ≤ 2 * one_but_jump k (but_jumps past) + had (time_after k time (time_of past)) + one_if (is_jump k)
       by_kind time now who kind.Jump j a h wakes = by_jumped (jumped past) refl
         where
@@ -164,9 +164,9 @@ few_apart m of n out past j a = omega (arith, journal_length m of n out past j a
 abbrev of_all : List SourceState → ℕ
 of_all sources = total (λ (s : SourceState). length s.past) sources
 
-bare_length : (xs : List JournalEntry) → length (bare xs) ≡ length xs
-bare_length [] = refl
-bare_length (e ∷ xs) = ap suc (bare_length xs)
+unstamped_length : (xs : List JournalEntry) → length (unstamped xs) ≡ length xs
+unstamped_length [] = refl
+unstamped_length (e ∷ xs) = ap suc (unstamped_length xs)
 
 map_length : (xs : List SourceEntry) → length (map of_source xs) ≡ length xs
 map_length [] = refl
@@ -174,7 +174,7 @@ map_length (e ∷ xs) = ap suc (map_length xs)
 
 history_length : (sources : List SourceState) (s : ℕ) → length (histories sources s) ≡ if_there (λ (x : SourceState). length x.past) (slice_get sources s)
 history_length [] s = refl
-history_length (x ∷ sources) zero = bare_length (map of_source x.past) ∙ map_length x.past
+history_length (x ∷ sources) zero = unstamped_length (map of_source x.past) ∙ map_length x.past
 history_length (x ∷ sources) (suc s) = history_length sources s
 
 histories_few : (sources : List SourceState) (n : ℕ) → below n (λ s. length (histories sources s)) ≤ of_all sources
@@ -188,7 +188,7 @@ histories_few sources n =
 all_short : (sources : List SourceState) → ((s : ℕ) → length (histories sources s) ≤ 60000) → of_all sources ≤ length sources * 60000
 all_short [] h = omega arith
 all_short (x ∷ sources) h =
-    let first : length x.past ≤ 60000 = omega (arith, h 0, bare_length (map of_source x.past), map_length x.past) in
+    let first : length x.past ≤ 60000 = omega (arith, h 0, unstamped_length (map of_source x.past), map_length x.past) in
     let rest = all_short sources (λ s. h (suc s)) in
     omega (arith, first, rest)
 
@@ -199,17 +199,17 @@ all_counted (x ∷ sources) = ap (λ n. length x.past + n) (all_counted sources)
 -- a run has made as many entries as a log has at most
 pub run_few : (m : Machine) (journal : List JournalEntry) (sources : List SourceState) (jobs : Actor → JobState) {floors : Actor → Stamp} → IsGoing m journal sources jobs floors → entry_count journal sources ≤ 37585025
 run_few m journal sources jobs r =
-    let out : (s : ℕ) → length m.sources + 1 ≤ s → histories sources s ≡ [] = λ s l. ap bare (source_beyond sources s (omega (arith, l, r.sources_are.count))) in
+    let out : (s : ℕ) → length m.sources + 1 ≤ s → histories sources s ≡ [] = λ s l. ap unstamped (source_beyond sources s (omega (arith, l, r.sources_are.count))) in
     omega (
       arith,
       all_counted sources,
-      few_apart m (histories sources) (length m.sources + 1) out (bare journal) r.held.of_journal r.held.of_jumps,
-      bare_length journal,
+      few_apart m (histories sources) (length m.sources + 1) out (unstamped journal) r.invariant.of_journal r.invariant.of_jumps,
+      unstamped_length journal,
       histories_few sources (length m.sources + 1),
       all_short sources (short m journal sources jobs r),
       r.sources_are.count,
       r.accepted.sources,
-      journal_bounded m r.accepted (bare journal) r.held.of_journal,
+      journal_bounded m r.accepted (unstamped journal) r.invariant.of_journal,
       few_in_journal m r.accepted,
     )
 
@@ -220,7 +220,7 @@ tick_small m journal sources jobs g who = omega (arith, run_few m journal source
 pub next_small : (m : Machine) (journal : List JournalEntry) (sources : List SourceState) (jobs : Actor → JobState) {floors : Actor → Stamp} → IsGoing m journal sources jobs floors → (word : EventNow) (to : ℕ)
     → JumpStep m (entries journal) (histories sources) word to → to ≤ 2 ^ 63
 next_small m journal sources jobs g word to step =
-    let legal : JournalPart m (entries journal) = subst (JournalPart m) (sym (entries_bare journal)) g.held.of_journal in
+    let legal : JournalPart m (entries journal) = subst (JournalPart m) (sym (entries_unstamped journal)) g.invariant.of_journal in
     let ahead : to ≤ time_of (entries journal) + 86400000 =
-    subst (λ (o : Option ℕ). EndsBy (time_of (entries journal) + 86400000) o) step.least (are_near m g.accepted (entries journal) (histories sources) legal g.near.expiries) in
+    subst (λ (o : Option ℕ). EndsBy (time_of (entries journal) + 86400000) o) step.least (are_bounded m g.accepted (entries journal) (histories sources) legal g.near.expiries) in
     omega (arith, ahead, g.near.time, run_few m journal sources jobs g)

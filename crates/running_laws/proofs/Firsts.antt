@@ -14,11 +14,11 @@ use Rattle.sleep_script.specs.Jobs.{IsJobOf, JobState, first_job, no_stamp}
 use Rattle.sleep_script.proofs.Following.{first_is_job}
 use Rattle.sleep_core.specs.Cores.{IsActor}
 use Rattle.wakeup_source.specs.SourceStates.{IsSettled, SourceState, new_source}
-use Rattle.fit_laws.specs.Ranged.{is_told}
-use Rattle.run_laws.specs.Acts.{bare}
-use Rattle.run_laws.specs.Held.{Held, nothing}
+use Rattle.fit_laws.specs.Ranged.{is_ranged_entry}
+use Rattle.run_laws.specs.Acts.{unstamped}
+use Rattle.run_laws.specs.Invariant.{RunInvariant, nothing}
 use Rattle.run_laws.specs.Turned.{newest_stamp}
-use Rattle.run_laws.proofs.Held.{nothing_is_held}
+use Rattle.run_laws.proofs.Invariant.{invariant_begins}
 use Rattle.running_laws.specs.Running.{IsRunning, IsSourceOf, histories, made_so, of_sources}
 use Rattle.running_laws.proofs.Lists.{source_at, source_beyond}
 use Rattle.running_laws.proofs.Rising.{EndsBy}
@@ -50,21 +50,21 @@ module _ (m : Machine) (sources : List SourceState) (count : length sources ≡ 
   running_first jobs acc first = record {
     accepted = acc;
     own = λ who. [];
-    held = subst (Held m) nothing_is (nothing_is_held m);
+    invariant = subst (RunInvariant m) nothing_is (invariant_begins m);
     sources_are = record {
       count = count;
       each = λ s none l. subst (IsSourceOf s) (sym (new s none l)) (record { number = refl; settled = settled s; fresh = refl });
     };
     jobs_are = λ who a.
-        subst (λ (n : ℕ). IsJobOf m who [] n (jobs who)) (sym (none_made (length m.sources + 1) (histories sources) who (λ s. ap bare (none_yet s))))
+        subst (λ (n : ℕ). IsJobOf m who [] n (jobs who)) (sym (none_made (length m.sources + 1) (histories sources) who (λ s. ap unstamped (none_yet s))))
         (subst (λ (j : JobState). IsJobOf m who [] 0 j) (sym (first who a)) (first_is_job m who));
     floors_know = record { own = λ who. refl; jumps = λ who. tt };
-    told = (refl, λ s. ap (list_all (λ e. is_told m e.entry)) (none_yet s));
+    shown = (refl, λ s. ap (list_all (λ e. is_ranged_entry m e.entry)) (none_yet s));
     low = record {
       newest = omega arith;
       of_each = λ s. omega (arith, ap (λ (l : List JournalEntry). (newest_stamp l).tick) (none_yet s));
       of_jobs = λ who a. omega (arith, ap (λ (j : JobState). j.floor.tick) (first who a));
       of_actors = λ who. omega arith;
     };
-    near = record { time = omega arith; expiries = λ s. subst (λ (l : List JournalEntry). EndsBy 86400000 (expiry (bare l))) (sym (none_yet s)) tt };
+    near = record { time = omega arith; expiries = λ s. subst (λ (l : List JournalEntry). EndsBy 86400000 (expiry (unstamped l))) (sym (none_yet s)) tt };
   }

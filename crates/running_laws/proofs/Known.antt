@@ -9,17 +9,17 @@ use Rattle.sleep_model.specs.declared.machine.Machine.{Machine}
 use Rattle.sleep_model.specs.declared.word.Stamp.{Stamp}
 use Rattle.sleep_model.specs.Calls.{is_note_of, made, notes_of, one_more}
 use Rattle.sleep_model.specs.Legal.{is_there}
-use Rattle.sleep_model.specs.Merge.{entries_of, position_behind}
-use Rattle.sleep_model.specs.Parts.{Part, OfJournal, Notes, Moves, OfTime, part_of}
+use Rattle.sleep_model.specs.Merge.{entries_of, next_position}
+use Rattle.sleep_model.specs.EntryClasses.{EntryClass, OfJournal, Notes, Moves, OfTime, class_of}
 use Rattle.sleep_model.specs.Path.{is_same}
 use Rattle.sleep_model.specs.Sources.{history, is_of}
 use Rattle.log_merge.proofs.Reading.{both}
 use Rattle.merge_laws.specs.Apart.{is_journals, own_of}
 use Rattle.merge_laws.proofs.Calling.{made_own, same_actor}
 use Rattle.merge_laws.proofs.Lists.{all_head, all_map, all_more, all_tail, filter_map_through}
-use Rattle.run_laws.specs.Acts.{Made, bare}
+use Rattle.run_laws.specs.Acts.{Made, unstamped}
 use Rattle.run_laws.specs.Called.{knows}
-use Rattle.run_laws.specs.Held.{AllOf, EachJump, Held, falls, follows}
+use Rattle.run_laws.specs.Invariant.{AllOf, EachJump, RunInvariant, falls, follows}
 
 -- ---- what a stamp knows
 
@@ -44,9 +44,9 @@ less a b h = grind (arith, nat_tests)
 pub knows_more : (floor later : Stamp) (l : List JournalEntry) → floor.tick ≤ later.tick → floor.pos ≤ later.pos → knows floor l ≡ true → knows later l ≡ true
 knows_more floor later [] t p h = refl
 knows_more floor later (e ∷ l) t p h =
-    let tick : e.stamp.tick ≤ floor.tick = at_most e.stamp.tick floor.tick (first (nat_le e.stamp.tick floor.tick) (nat_le (position_behind e) floor.pos) h) in
-    let pos : position_behind e ≤ floor.pos = at_most (position_behind e) floor.pos (second (nat_le e.stamp.tick floor.tick) (nat_le (position_behind e) floor.pos) h) in
-    both (nat_le e.stamp.tick later.tick) (nat_le (position_behind e) later.pos) (at_most_is e.stamp.tick later.tick (omega (arith, tick, t))) (at_most_is (position_behind e) later.pos (omega (arith, pos, p)))
+    let tick : e.stamp.tick ≤ floor.tick = at_most e.stamp.tick floor.tick (first (nat_le e.stamp.tick floor.tick) (nat_le (next_position e) floor.pos) h) in
+    let pos : next_position e ≤ floor.pos = at_most (next_position e) floor.pos (second (nat_le e.stamp.tick floor.tick) (nat_le (next_position e) floor.pos) h) in
+    both (nat_le e.stamp.tick later.tick) (nat_le (next_position e) later.pos) (at_most_is e.stamp.tick later.tick (omega (arith, tick, t))) (at_most_is (next_position e) later.pos (omega (arith, pos, p)))
 
 -- of a list that falls it knows all, where it knows the newest
 pub knows_each : (floor : Stamp) (l : List JournalEntry) → falls l ≡ true → knows floor l ≡ true → list_all (λ e. knows floor (e ∷ [])) l ≡ true
@@ -58,12 +58,12 @@ knows_each floor (e ∷ l) f h =
     rest : (l : List JournalEntry) → follows e l ≡ true → knows floor l ≡ true
     rest [] g = refl
     rest (x ∷ l) g =
-        let above : x.stamp.tick < e.stamp.tick = less x.stamp.tick e.stamp.tick (first (nat_lt x.stamp.tick e.stamp.tick) (nat_le (position_behind x) e.stamp.pos) g) in
-        let behind : position_behind x ≤ e.stamp.pos = at_most (position_behind x) e.stamp.pos (second (nat_lt x.stamp.tick e.stamp.tick) (nat_le (position_behind x) e.stamp.pos) g) in
-        let tick : e.stamp.tick ≤ floor.tick = at_most e.stamp.tick floor.tick (first (nat_le e.stamp.tick floor.tick) (nat_le (position_behind e) floor.pos) h) in
-        let pos : position_behind e ≤ floor.pos = at_most (position_behind e) floor.pos (second (nat_le e.stamp.tick floor.tick) (nat_le (position_behind e) floor.pos) h) in
-        both (nat_le x.stamp.tick floor.tick) (nat_le (position_behind x) floor.pos) (at_most_is x.stamp.tick floor.tick (omega (arith, above, tick)))
-        (at_most_is (position_behind x) floor.pos (omega (arith, behind, pos)))
+        let above : x.stamp.tick < e.stamp.tick = less x.stamp.tick e.stamp.tick (first (nat_lt x.stamp.tick e.stamp.tick) (nat_le (next_position x) e.stamp.pos) g) in
+        let behind : next_position x ≤ e.stamp.pos = at_most (next_position x) e.stamp.pos (second (nat_lt x.stamp.tick e.stamp.tick) (nat_le (next_position x) e.stamp.pos) g) in
+        let tick : e.stamp.tick ≤ floor.tick = at_most e.stamp.tick floor.tick (first (nat_le e.stamp.tick floor.tick) (nat_le (next_position e) floor.pos) h) in
+        let pos : next_position e ≤ floor.pos = at_most (next_position e) floor.pos (second (nat_le e.stamp.tick floor.tick) (nat_le (next_position e) floor.pos) h) in
+        both (nat_le x.stamp.tick floor.tick) (nat_le (next_position x) floor.pos) (at_most_is x.stamp.tick floor.tick (omega (arith, above, tick)))
+        (at_most_is (next_position x) floor.pos (omega (arith, behind, pos)))
 
 -- and so each jump of it
 pub knows_jumps : (floor : Stamp) (l : List JournalEntry) → list_all (λ e. knows floor (e ∷ [])) l ≡ true → EachJump (λ jump. knows floor (jump ∷ []) ≡ true) l
@@ -95,21 +95,21 @@ all_filtered q p (e ∷ l) h = by (p e) (all_filtered q p l (all_tail q e l h))
     by false rest = rest
 
 -- who knows each actor's own entries knows all
-pub all_by_own : (m : Machine) (all : Made) (floor : Stamp) → Held m all → ((who : Actor) → knows floor (all.own who) ≡ true) → AllOf (λ e. knows floor (e ∷ [])) all
-all_by_own m all floor held h = (
-  all_by_actor q all.journal (λ who. ap (list_all q) (sym (held.steps.of_actors who).in_journal) ∙ all_filtered q is_journals (all.own who) (own who)),
-  λ s. all_by_actor q (all.of s) (λ who. ap (list_all q) (sym ((held.steps.of_actors who).in_sources s)) ∙ all_filtered q (λ e. is_of s (part_of e.entry.kind)) (all.own who) (own who)),
+pub all_by_own : (m : Machine) (all : Made) (floor : Stamp) → RunInvariant m all → ((who : Actor) → knows floor (all.own who) ≡ true) → AllOf (λ e. knows floor (e ∷ [])) all
+all_by_own m all floor invariant h = (
+  all_by_actor q all.journal (λ who. ap (list_all q) (sym (invariant.steps.of_actors who).in_journal) ∙ all_filtered q is_journals (all.own who) (own who)),
+  λ s. all_by_actor q (all.of s) (λ who. ap (list_all q) (sym ((invariant.steps.of_actors who).in_sources s)) ∙ all_filtered q (λ e. is_of s (class_of e.entry.kind)) (all.own who) (own who)),
 )
   where
     q : JournalEntry → Bool
     q e = knows floor (e ∷ [])
 
     own : (who : Actor) → list_all q (all.own who) ≡ true
-    own who = knows_each floor (all.own who) (held.own_fall who) (h who)
+    own who = knows_each floor (all.own who) (invariant.own_fall who) (h who)
 
 -- ---- the calls that an actor has made
 
-note_of_other : (who : Actor) (e : Entry) (p : Part) → is_same e.actor who ≡ false → is_note_of who e p ≡ false
+note_of_other : (who : Actor) (e : Entry) (p : EntryClass) → is_same e.actor who ≡ false → is_note_of who e p ≡ false
 note_of_other who e OfJournal h = refl
 note_of_other who e (Notes t c) h = h
 note_of_other who e (Moves t x) h = refl
@@ -121,37 +121,37 @@ notes_own who [] = refl
 notes_own who (e ∷ past) = by (is_same e.actor who) refl (notes_own who past)
   where
     by : (b : Bool) → is_same e.actor who ≡ b → notes_of who past ≡ notes_of who (own_of who past)
-        → one_more (is_note_of who e (part_of e.kind)) (notes_of who past) ≡ notes_of who (cond b (e ∷ own_of who past) (own_of who past))
-    by true is rest = ap (one_more (is_note_of who e (part_of e.kind))) rest
-    by false is rest = ap (λ (b : Bool). one_more b (notes_of who past)) (note_of_other who e (part_of e.kind) is) ∙ rest
+        → one_more (is_note_of who e (class_of e.kind)) (notes_of who past) ≡ notes_of who (cond b (e ∷ own_of who past) (own_of who past))
+    by true is rest = ap (one_more (is_note_of who e (class_of e.kind))) rest
+    by false is rest = ap (λ (b : Bool). one_more b (notes_of who past)) (note_of_other who e (class_of e.kind) is) ∙ rest
 
 made_by : (n : ℕ) (of other : ℕ → List Entry) (who : Actor) → ((s : ℕ) → notes_of who (of s) ≡ notes_of who (other s)) → made n of who ≡ made n other who
 made_by zero of other who h = refl
 made_by (suc n) of other who h = ap₂ (λ (a b : ℕ). a + b) (h n) (made_by n of other who h)
 
-own_bare : (who : Actor) (l : List JournalEntry) → own_of who (bare l) ≡ bare (entries_of who l)
-own_bare who l = filter_map_through (λ (e : JournalEntry). e.entry) (λ (e : Entry). is_same e.actor who) l
+own_unstamped : (who : Actor) (l : List JournalEntry) → own_of who (unstamped l) ≡ unstamped (entries_of who l)
+own_unstamped who l = filter_map_through (λ (e : JournalEntry). e.entry) (λ (e : Entry). is_same e.actor who) l
 
-history_bare : (s : ℕ) (l : List JournalEntry) → history s (bare l) ≡ bare (filter (λ e. is_of s (part_of e.entry.kind)) l)
-history_bare s l = filter_map_through (λ (e : JournalEntry). e.entry) (λ (e : Entry). is_of s (part_of e.kind)) l
+history_unstamped : (s : ℕ) (l : List JournalEntry) → history s (unstamped l) ≡ unstamped (filter (λ e. is_of s (class_of e.entry.kind)) l)
+history_unstamped s l = filter_map_through (λ (e : JournalEntry). e.entry) (λ (e : Entry). is_of s (class_of e.kind)) l
 
-own_of_own : (who : Actor) (l : List JournalEntry) → notes_of who (own_of who (bare l)) ≡ notes_of who (bare l)
-own_of_own who l = sym (notes_own who (bare l))
+own_of_own : (who : Actor) (l : List JournalEntry) → notes_of who (own_of who (unstamped l)) ≡ notes_of who (unstamped l)
+own_of_own who l = sym (notes_own who (unstamped l))
 
 -- how many calls an actor has made is told by its own entries, and by the sources'
-pub made_is_notes : (m : Machine) (all : Made) (who : Actor) → Held m all → made (length m.sources + 1) (λ s. bare (all.of s)) who ≡ notes_of who (bare (all.own who))
-made_is_notes m all who held =
-    made_by (length m.sources + 1) (λ s. bare (all.of s)) (λ s. history s (bare (all.own who))) who
-    (λ s. notes_own who (bare (all.of s))
-    ∙ ap (notes_of who) (own_bare who (all.of s) ∙ (ap bare (sym ((held.steps.of_actors who).in_sources s)) ∙ sym (history_bare s (all.own who)))))
-    ∙ (made_own m who (bare (all.own who)) (all_map (λ (e : JournalEntry). e.entry) (λ (e : Entry). is_there m (part_of e.kind)) (all.own who) (held.there who))
+pub made_is_notes : (m : Machine) (all : Made) (who : Actor) → RunInvariant m all → made (length m.sources + 1) (λ s. unstamped (all.of s)) who ≡ notes_of who (unstamped (all.own who))
+made_is_notes m all who invariant =
+    made_by (length m.sources + 1) (λ s. unstamped (all.of s)) (λ s. history s (unstamped (all.own who))) who
+    (λ s. notes_own who (unstamped (all.of s))
+    ∙ ap (notes_of who) (own_unstamped who (all.of s) ∙ (ap unstamped (sym ((invariant.steps.of_actors who).in_sources s)) ∙ sym (history_unstamped s (all.own who)))))
+    ∙ (made_own m who (unstamped (all.own who)) (all_map (λ (e : JournalEntry). e.entry) (λ (e : Entry). is_there m (class_of e.kind)) (all.own who) (invariant.there who))
     ∙ own_of_own who (all.own who))
 
 -- ---- an actor makes few calls
 
 few_notes : (who : Actor) (own : List Entry) → notes_of who own ≤ length own
 few_notes who [] = omega arith
-few_notes who (e ∷ own) = by_note (is_note_of who e (part_of e.kind)) (few_notes who own)
+few_notes who (e ∷ own) = by_note (is_note_of who e (class_of e.kind)) (few_notes who own)
   where
     by_note : (b : Bool) → notes_of who own ≤ length own → one_more b (notes_of who own) ≤ suc (length own)
     by_note true h = omega (arith, h)

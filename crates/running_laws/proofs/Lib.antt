@@ -1,6 +1,6 @@
 pub mod Lists
 pub mod Known
-pub mod Kept
+pub mod Invariant
 pub mod Rising
 pub mod Turns
 pub mod Calls

@@ -6,17 +6,17 @@ use Rattle.sleep_model.specs.declared.entry.Entry.{Entry}
 use Rattle.sleep_model.specs.declared.entry.JournalEntry.{JournalEntry}
 use Rattle.sleep_model.specs.declared.machine.Machine.{Machine}
 use Rattle.sleep_model.specs.Merge.{of_source}
-use Rattle.sleep_state.specs.Places.{entries}
+use Rattle.sleep_state.specs.JournalRooms.{entries}
 use Rattle.wakeup_source.specs.SourceStates.{SourceState}
 use Rattle.wakeup_source.specs.SourceStates as states
-use Rattle.run_laws.specs.Acts.{bare}
-use Rattle.run_laws.proofs.Called.{bare_same}
+use Rattle.run_laws.specs.Acts.{unstamped}
+use Rattle.run_laws.proofs.Called.{unstamped_same}
 use Rattle.running_laws.specs.Running.{AreSources, IsSourceOf, histories, of_sources}
 
 -- a journal without its stamps, said twice
-pub entries_bare : (journal : List JournalEntry) → entries journal ≡ bare journal
-entries_bare [] = refl
-entries_bare (e ∷ journal) = ap (λ (l : List Entry). e.entry ∷ l) (entries_bare journal)
+pub entries_unstamped : (journal : List JournalEntry) → entries journal ≡ unstamped journal
+entries_unstamped [] = refl
+entries_unstamped (e ∷ journal) = ap (λ (l : List Entry). e.entry ∷ l) (entries_unstamped journal)
 
 -- ---- one of a list is another
 
@@ -61,8 +61,8 @@ source_other (x ∷ sources) (suc s) zero new h = refl
 source_other (x ∷ sources) (suc s) (suc t) new h = source_other sources s t new (let apart : (s == t) ≡ false = grind (arith, nat_tests) in apart)
 
 -- without their stamps
-pub history_at : (sources : List SourceState) (s : ℕ) (none : SourceState) → s < length sources → histories sources s ≡ states.bare (slice_index_or sources s none).past
-history_at sources s none l = ap bare (source_at sources s none l) ∙ sym (bare_same (slice_index_or sources s none).past)
+pub history_at : (sources : List SourceState) (s : ℕ) (none : SourceState) → s < length sources → histories sources s ≡ states.unstamped (slice_index_or sources s none).past
+history_at sources s none l = ap unstamped (source_at sources s none l) ∙ sym (unstamped_same (slice_index_or sources s none).past)
 
 -- a source that is called keeps its number, and is between calls again
 pub sources_set : (m : Machine) (sources : List SourceState) (s : ℕ) (new : SourceState) → s < length sources → IsSourceOf s new → AreSources m sources → AreSources m (slice_set sources s new)

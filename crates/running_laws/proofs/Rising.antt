@@ -17,14 +17,14 @@ use Rattle.sleep_model.specs.Accepted.{IsAccepted}
 use Rattle.sleep_model.specs.Calls.{calls_of, note}
 use Rattle.sleep_model.specs.Merge.{of_source}
 use Rattle.sleep_model.specs.Numbers.{time_after}
-use Rattle.sleep_model.specs.Parts.{part_of}
+use Rattle.sleep_model.specs.EntryClasses.{class_of}
 use Rattle.sleep_model.specs.Path.{is_same}
 use Rattle.sleep_model.specs.Sources.{expiry, expiry_after, later, makes, since}
 use Rattle.end_laws.proofs.Lasting.{IsBrief, next_brief}
 use Rattle.sleep_core.specs.Cores.{IsActor}
 use Rattle.sleep_script.specs.Jobs.{JobState}
 use Rattle.wakeup_source.specs.declared.call_by.CallBy.{CallBy}
-use Rattle.wakeup_source.specs.Called.{Calls, Scene, Steps, after_note, after_step}
+use Rattle.wakeup_source.specs.Called.{Calls, SourceView, Steps, after_note, after_step}
 use Rattle.wakeup_source.specs.SourceStates.{SourceState, step_kind}
 use Rattle.wakeup_source.specs.SourceStates as states
 use Rattle.merge_laws.specs.Apart.{IsCall}
@@ -48,15 +48,15 @@ entries_more (x ∷ xs) [] l h = absurd (omega (arith, l))
 entries_more (x ∷ xs) (y ∷ ys) l h =
     omega (arith, h 0, length-map x.past of_source, length-map y.past of_source, entries_more xs ys (omega (arith, l)) (λ s. h (suc s)))
 
-steps_longer : (by : CallBy) (steps : List WordKind) (old new : Scene) → Steps by steps old new → length old.source.past ≤ length new.source.past
-steps_longer by [] old new h = omega (arith, ap (λ (s : Scene). length s.source.past) h)
+steps_longer : (by : CallBy) (steps : List WordKind) (old new : SourceView) → Steps by steps old new → length old.source.past ≤ length new.source.past
+steps_longer by [] old new h = omega (arith, ap (λ (s : SourceView). length s.source.past) h)
 steps_longer by (x ∷ rest) old new h = omega (arith, steps_longer by rest (after_step by x h.0 old) new h.3)
 
 -- a call adds its note at least
-pub call_longer : (by : CallBy) (c : SourceCall) (old new : Scene) → Calls by c old new → length old.source.past < length new.source.past
+pub call_longer : (by : CallBy) (c : SourceCall) (old new : SourceView) → Calls by c old new → length old.source.past < length new.source.past
 call_longer by c old new h =
     let is : h.0 ≡ after_note by c h.1.0 h.0.looked old = h.1.6 in
-    omega (arith, steps_longer by (makes c (since (states.bare old.source.past))) h.0 new h.2, ap (λ (s : Scene). length s.source.past) is)
+    omega (arith, steps_longer by (makes c (since (states.unstamped old.source.past))) h.0 new h.2, ap (λ (s : SourceView). length s.source.past) is)
 
 -- ---- ticks
 
@@ -65,19 +65,19 @@ pub newest_is : (past : List SourceEntry) → newest_tick past ≡ (newest_stamp
 newest_is [] = refl
 newest_is (e ∷ past) = refl
 
-steps_rise : (by : CallBy) (steps : List WordKind) (old new : Scene) → Steps by steps old new → new.source.floor.tick + length old.source.past ≡ old.source.floor.tick + length new.source.past
-steps_rise by [] old new h = omega (arith, ap (λ (s : Scene). s.source.floor.tick) h, ap (λ (s : Scene). length s.source.past) h)
+steps_rise : (by : CallBy) (steps : List WordKind) (old new : SourceView) → Steps by steps old new → new.source.floor.tick + length old.source.past ≡ old.source.floor.tick + length new.source.past
+steps_rise by [] old new h = omega (arith, ap (λ (s : SourceView). s.source.floor.tick) h, ap (λ (s : SourceView). length s.source.past) h)
 steps_rise by (x ∷ rest) old new h = omega (arith, steps_rise by rest (after_step by x h.0 old) new h.3)
 
 -- by a call ticks rise as far as there are more entries
-pub call_rises : (by : CallBy) (c : SourceCall) (old new : Scene) → Calls by c old new → new.source.floor.tick + length old.source.past ≡ max by.floor.tick old.source.floor.tick + length new.source.past
+pub call_rises : (by : CallBy) (c : SourceCall) (old new : SourceView) → Calls by c old new → new.source.floor.tick + length old.source.past ≡ max by.floor.tick old.source.floor.tick + length new.source.past
 call_rises by c old new h =
     let is : h.0 ≡ after_note by c h.1.0 h.0.looked old = h.1.6 in
     omega (
       arith,
-      steps_rise by (makes c (since (states.bare old.source.past))) h.0 new h.2,
-      ap (λ (s : Scene). s.source.floor.tick) is,
-      ap (λ (s : Scene). length s.source.past) is,
+      steps_rise by (makes c (since (states.unstamped old.source.past))) h.0 new h.2,
+      ap (λ (s : SourceView). s.source.floor.tick) is,
+      ap (λ (s : SourceView). length s.source.past) is,
     )
 
 -- one actor knows another stamp, and the others know what they knew
@@ -108,21 +108,21 @@ pub ends_later : (t u : ℕ) (o : Option ℕ) → t ≤ u → EndsBy t o → End
 ends_later t u None l h = tt
 ends_later t u (Some at) l h = omega (arith, l, h)
 
-step_ends : (t s : ℕ) (x : WordKind) (time : ℕ) (o : Option ℕ) → EndsBy t o → EndsBy t (expiry_after (part_of (step_kind s x)) time o)
+step_ends : (t s : ℕ) (x : WordKind) (time : ℕ) (o : Option ℕ) → EndsBy t o → EndsBy t (expiry_after (class_of (step_kind s x)) time o)
 step_ends t s step.Start time o h = h
 step_ends t s step.Finish time o h = tt
 step_ends t s step.Hard time o h = h
 
-steps_end : (t : ℕ) (by : CallBy) (steps : List WordKind) (old new : Scene) → Steps by steps old new → EndsBy t (expiry (states.bare old.source.past)) → EndsBy t (expiry (states.bare new.source.past))
-steps_end t by [] old new h e = subst (λ (s : Scene). EndsBy t (expiry (states.bare s.source.past))) (sym h) e
+steps_end : (t : ℕ) (by : CallBy) (steps : List WordKind) (old new : SourceView) → Steps by steps old new → EndsBy t (expiry (states.unstamped old.source.past)) → EndsBy t (expiry (states.unstamped new.source.past))
+steps_end t by [] old new h e = subst (λ (s : SourceView). EndsBy t (expiry (states.unstamped s.source.past))) (sym h) e
 steps_end t by (x ∷ rest) old new h e =
-    steps_end t by rest (after_step by x h.0 old) new h.3 (step_ends t old.source.id x by.now (expiry (states.bare old.source.past)) e)
+    steps_end t by rest (after_step by x h.0 old) new h.3 (step_ends t old.source.id x by.now (expiry (states.unstamped old.source.past)) e)
 
 event_ends : (t u : ℕ) (o : Option ℕ) → u ≤ t → EndsBy t o → EndsBy t (later u o)
 event_ends t u None l h = l
 event_ends t u (Some at) l h = omega (arith, l, h)
 
-note_ends : (t s : ℕ) (c : SourceCall) (time : ℕ) (o : Option ℕ) → IsBrief (note s c) → time + 86400000 ≤ t → EndsBy t o → EndsBy t (expiry_after (part_of (note s c)) time o)
+note_ends : (t s : ℕ) (c : SourceCall) (time : ℕ) (o : Option ℕ) → IsBrief (note s c) → time + 86400000 ≤ t → EndsBy t o → EndsBy t (expiry_after (class_of (note s c)) time o)
 note_ends t s call.Awake time o brief l h = tt
 note_ends t s call.Relax time o brief l h = h
 note_ends t s (call.Event ms hard) time o brief l h = by (ms == 0)
@@ -133,11 +133,11 @@ note_ends t s (call.Event ms hard) time o brief l h = by (ms == 0)
 note_ends t s call.Expire time o brief l h = h
 
 -- after a call the event in progress ends at most a day from now, if it did so before
-pub call_ends : (t : ℕ) (by : CallBy) (c : SourceCall) (old new : Scene) → Calls by c old new → IsBrief (note old.source.id c) → by.now + 86400000 ≤ t → EndsBy t (expiry (states.bare old.source.past))
-    → EndsBy t (expiry (states.bare new.source.past))
+pub call_ends : (t : ℕ) (by : CallBy) (c : SourceCall) (old new : SourceView) → Calls by c old new → IsBrief (note old.source.id c) → by.now + 86400000 ≤ t → EndsBy t (expiry (states.unstamped old.source.past))
+    → EndsBy t (expiry (states.unstamped new.source.past))
 call_ends t by c old new h brief l e =
-    steps_end t by (makes c (since (states.bare old.source.past))) h.0 new h.2
-    (subst (λ (s : Scene). EndsBy t (expiry (states.bare s.source.past))) (sym h.1.6) (note_ends t old.source.id c by.now (expiry (states.bare old.source.past)) brief l e))
+    steps_end t by (makes c (since (states.unstamped old.source.past))) h.0 new h.2
+    (subst (λ (s : SourceView). EndsBy t (expiry (states.unstamped s.source.past))) (sym h.1.6) (note_ends t old.source.id c by.now (expiry (states.unstamped old.source.past)) brief l e))
 
 -- an expiry is no event
 expiry_brief : (s t : ℕ) (c : SourceCall) → note s c ≡ kind.Expire t → IsBrief (note s c)
@@ -157,6 +157,6 @@ call_brief m acc actor.Time past n s c is = next_brief m acc actor.Time past n (
 -- ---- time
 
 -- no entry but a jump moves the time
-pub time_kept : (k : Kind) (n : ℕ) → time_after k n n ≡ n
-time_kept kind.Jump n = refl
-time_kept _ n = refl
+pub time_preserved : (k : Kind) (n : ℕ) → time_after k n n ≡ n
+time_preserved kind.Jump n = refl
+time_preserved _ n = refl

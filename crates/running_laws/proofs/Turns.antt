@@ -14,33 +14,33 @@ use Rattle.sleep_model.specs.Fits.{is_word64}
 use Rattle.sleep_model.specs.Legal.{JournalPart, JumpStep}
 use Rattle.sleep_model.specs.Merge.{is_jump}
 use Rattle.sleep_model.specs.Numbers.{time_of}
-use Rattle.sleep_model.specs.Parts.{OfJournal, part_of}
+use Rattle.sleep_model.specs.EntryClasses.{OfJournal, class_of}
 use Rattle.sleep_model.specs.Path.{attempts, is_same}
 use Rattle.sleep_model.specs.Sources.{expiry}
 use Rattle.sleep_model.specs.Word.{position}
-use Rattle.sleep_state.specs.Places.{entries}
+use Rattle.sleep_state.specs.JournalRooms.{entries}
 use Rattle.sleep_core.specs.Cores.{IsActor, jump_entry, made_entry, next_stamp}
 use Rattle.sleep_core.specs.Histories.{last_stamp}
 use Rattle.sleep_script.specs.Jobs.{IsJobOf, JobState, after_turn}
 use Rattle.sleep_script.proofs.Following.{other_entry, own_entry}
 use Rattle.wakeup_source.specs.SourceStates.{SourceState}
-use Rattle.end_laws.proofs.Nearby.{are_near}
-use Rattle.fit_laws.specs.Ranged.{is_ranged, is_told}
+use Rattle.end_laws.proofs.Nearby.{are_bounded}
+use Rattle.fit_laws.specs.Ranged.{is_ranged, is_ranged_entry}
 use Rattle.log_merge.proofs.Reading.{both}
 use Rattle.merge_laws.proofs.Calling.{same_actor}
 use Rattle.run_laws.specs.Acts.{Made, with_entry}
 use Rattle.run_laws.specs.Called.{knows}
-use Rattle.run_laws.specs.Held.{EachJump, Held}
+use Rattle.run_laws.specs.Invariant.{EachJump, RunInvariant}
 use Rattle.run_laws.specs.Turned.{IsTurned, MayLeap, MayTurn, newest_stamp}
 use Rattle.run_laws.proofs.Acts.{actor_is}
 use Rattle.run_laws.proofs.Called.{knows_itself}
-use Rattle.run_laws.proofs.Held.{each_by}
-use Rattle.run_laws.proofs.Turned.{leap_grows, leaves, turn_grows, turn_part}
-use Rattle.running_laws.specs.Running.{AreJobs, AreLow, FloorsKnow, IsGoing, IsMoved, IsNear, IsRunning, IsWith, calls_made, entry_count, histories, made_so}
-use Rattle.running_laws.proofs.Kept.{actor_told, all_known, calls_are_notes, free}
+use Rattle.run_laws.proofs.Invariant.{each_by}
+use Rattle.run_laws.proofs.Turned.{leap_grows, leaves, turn_grows, turn_class}
+use Rattle.running_laws.specs.Running.{AreJobs, AreLow, FloorsKnow, IsGoing, IsMoved, IsBounded, IsRunning, IsWith, calls_made, entry_count, histories, made_so}
+use Rattle.running_laws.proofs.Invariant.{actor_told, all_known, calls_are_notes, free}
 use Rattle.running_laws.proofs.Known.{knows_more}
-use Rattle.running_laws.proofs.Lists.{entries_bare}
-use Rattle.running_laws.proofs.Rising.{EndsBy, ends_later, floors_low, jobs_low, time_kept}
+use Rattle.running_laws.proofs.Lists.{entries_unstamped}
+use Rattle.running_laws.proofs.Rising.{EndsBy, ends_later, floors_low, jobs_low, time_preserved}
 
 last_newest : (journal : List JournalEntry) → last_stamp journal ≡ newest_stamp journal
 last_newest [] = refl
@@ -62,7 +62,7 @@ pub raised : (m : Machine) (journal : List JournalEntry) (sources : List SourceS
 raised m journal sources jobs floors later tick pos low g = record {
   accepted = g.accepted;
   own = g.own;
-  held = g.held;
+  invariant = g.invariant;
   sources_are = g.sources_are;
   jobs_are = g.jobs_are;
   floors_know = record {
@@ -70,7 +70,7 @@ raised m journal sources jobs floors later tick pos low g = record {
     jumps = λ who. each_by (λ jump. knows (floors who) (jump ∷ []) ≡ true) (λ jump. knows (later who) (jump ∷ []) ≡ true) journal
         (λ jump. knows_more (floors who) (later who) (jump ∷ []) (tick who) (pos who)) (g.floors_know.jumps who);
   };
-  told = g.told;
+  shown = g.shown;
   low = record { newest = g.low.newest; of_each = g.low.of_each; of_jobs = g.low.of_jobs; of_actors = low };
   near = g.near;
 }
@@ -96,16 +96,16 @@ module _ (m : Machine) (journal : List JournalEntry) (sources : List SourceState
         by false is = ap₂ knows (w.others other is) (t.others_own other is) ∙ g.floors_know.own other
 
     -- the run goes on
-    goes_on : (jobs' : Actor → JobState) (floors' : Actor → Stamp) → FloorsKnow floors' (made_so (e ∷ journal) sources (with_entry e past).own) → AreJobs m (e ∷ journal) sources jobs' → is_told m e.entry ≡ true
-        → AreLow m (e ∷ journal) sources jobs' floors' → IsNear (e ∷ journal) sources → IsGoing m (e ∷ journal) sources jobs' floors'
-    goes_on jobs' floors' known are told low near = record {
+    goes_on : (jobs' : Actor → JobState) (floors' : Actor → Stamp) → FloorsKnow floors' (made_so (e ∷ journal) sources (with_entry e past).own) → AreJobs m (e ∷ journal) sources jobs' → is_ranged_entry m e.entry ≡ true
+        → AreLow m (e ∷ journal) sources jobs' floors' → IsBounded (e ∷ journal) sources → IsGoing m (e ∷ journal) sources jobs' floors'
+    goes_on jobs' floors' known are shown low near = record {
       accepted = g.accepted;
       own = (with_entry e past).own;
-      held = subst (Held m) is_so t.held;
+      invariant = subst (RunInvariant m) is_so t.invariant;
       sources_are = g.sources_are;
       jobs_are = are;
       floors_know = known;
-      told = (both (is_told m e.entry) (list_all (λ e. is_told m e.entry) journal) told g.told.0, g.told.1);
+      shown = (both (is_ranged_entry m e.entry) (list_all (λ e. is_ranged_entry m e.entry) journal) shown g.shown.0, g.shown.1);
       low = low;
       near = near;
     }
@@ -119,12 +119,12 @@ module _ (m : Machine) (journal : List JournalEntry) (sources : List SourceState
 
     may : MayTurn m past who (floors who) entry
     may = record {
-      held = g.held;
+      invariant = g.invariant;
       by = refl;
       timeless = timeless m who a;
       free = free m journal sources jobs g who;
-      all_made = sym (calls_are_notes m journal sources jobs g who) ∙ (made ∙ ap (calls_due m who) (entries_bare journal));
-      legal = subst (JournalPart m) (entries_bare (entry ∷ journal)) legal;
+      all_made = sym (calls_are_notes m journal sources jobs g who) ∙ (made ∙ ap (calls_due m who) (entries_unstamped journal));
+      legal = subst (JournalPart m) (entries_unstamped (entry ∷ journal)) legal;
       own = g.floors_know.own who;
       jumps = g.floors_know.jumps who;
       behind = record { tick = omega arith; pos = low };
@@ -135,8 +135,8 @@ module _ (m : Machine) (journal : List JournalEntry) (sources : List SourceState
     turned = turn_grows m past who (floors who) entry may
 
     -- it is no jump
-    part : part_of k ≡ OfJournal
-    part = turn_part m past (floors who) entry may
+    part : class_of k ≡ OfJournal
+    part = turn_class m past (floors who) entry may
 
     jumps_known : (floors' : Actor → Stamp) → IsMoved floors floors' who entry.stamp → (other : Actor) → EachJump (λ jump. knows (floors' other) (jump ∷ []) ≡ true) (entry ∷ journal)
     jumps_known floors' w other = (λ jump. absurd (let bad : true ≡ false = sym jump ∙ ap is_jump part in cc), by (is_same who other) refl)
@@ -174,10 +174,10 @@ module _ (m : Machine) (journal : List JournalEntry) (sources : List SourceState
     }
 
     -- the time is what it was
-    is_near : IsNear (entry ∷ journal) sources
-    is_near = record {
-      time = omega (arith, time_kept k (time_of (entries journal)), g.near.time);
-      expiries = λ s. subst (λ (t : ℕ). EndsBy (t + 86400000) (expiry (histories sources s))) (sym (time_kept k (time_of (entries journal)))) (g.near.expiries s);
+    is_bounded : IsBounded (entry ∷ journal) sources
+    is_bounded = record {
+      time = omega (arith, time_preserved k (time_of (entries journal)), g.near.time);
+      expiries = λ s. subst (λ (t : ℕ). EndsBy (t + 86400000) (expiry (histories sources s))) (sym (time_preserved k (time_of (entries journal)))) (g.near.expiries s);
     }
 
     -- after a turn of an actor that has made its calls the run goes on
@@ -188,7 +188,7 @@ module _ (m : Machine) (journal : List JournalEntry) (sources : List SourceState
         let here : IsMoved floors floors' who entry.stamp = subst (IsMoved floors floors' who) s moved in
         goes_on who entry turned jobs' floors' (record { own = own_known who entry turned floors' here; jumps = jumps_known floors' here }) (are_jobs jobs' stamp attempt begun w)
         (both _ _ (both _ _ timed (actor_told m who a)) ranged)
-        (are_low jobs' floors' attempt (subst (λ (x : Stamp). IsWith m jobs jobs' who (after_turn x k attempt (jobs who))) s w) here) is_near
+        (are_low jobs' floors' attempt (subst (λ (x : Stamp). IsWith m jobs jobs' who (after_turn x k attempt (jobs who))) s w) here) is_bounded
 
 -- ---- with one worker
 
@@ -236,11 +236,11 @@ module _ (m : Machine) (journal : List JournalEntry) (sources : List SourceState
 
     may_leap : MayLeap m (made_so journal sources r.own) floor jump
     may_leap = record {
-      held = r.held;
+      invariant = r.invariant;
       by = refl;
       leaps = refl;
-      step = subst (λ (xs : List Entry). JumpStep m xs (histories sources) word to) (entries_bare journal) step;
-      legal = subst (JournalPart m) (entries_bare (jump ∷ journal)) legal;
+      step = subst (λ (xs : List Entry). JumpStep m xs (histories sources) word to) (entries_unstamped journal) step;
+      legal = subst (JournalPart m) (entries_unstamped (jump ∷ journal)) legal;
       all = all_known m journal sources jobs r;
       own = r.floors_know.own actor.Time;
       behind = record { tick = omega arith; pos = low };
@@ -262,9 +262,9 @@ module _ (m : Machine) (journal : List JournalEntry) (sources : List SourceState
 
     -- the moment is at most a day ahead
     ahead : to ≤ time_of (entries journal) + 86400000
-    ahead = subst (λ (o : Option ℕ). EndsBy (time_of (entries journal) + 86400000) o) step.least (are_near m r.accepted (entries journal) (histories sources) legal.1 r.near.expiries)
+    ahead = subst (λ (o : Option ℕ). EndsBy (time_of (entries journal) + 86400000) o) step.least (are_bounded m r.accepted (entries journal) (histories sources) legal.1 r.near.expiries)
 
-    near : IsNear (jump ∷ journal) sources
+    near : IsBounded (jump ∷ journal) sources
     near = record {
       time = omega (arith, ahead, r.near.time);
       expiries = λ s. ends_later (time_of (entries journal) + 86400000) (to + 86400000) (expiry (histories sources s)) (omega (arith, legal.0.1)) (r.near.expiries s);

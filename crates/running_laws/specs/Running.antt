@@ -12,15 +12,15 @@ use Rattle.sleep_model.specs.Calls.{calls_of, made, note}
 use Rattle.sleep_model.specs.Merge.{of_source}
 use Rattle.sleep_model.specs.Numbers.{time_of}
 use Rattle.sleep_model.specs.Path.{is_same}
-use Rattle.sleep_state.specs.Places.{entries}
+use Rattle.sleep_state.specs.JournalRooms.{entries}
 use Rattle.sleep_core.specs.Cores.{IsActor}
 use Rattle.sleep_script.specs.Jobs.{IsJobOf, JobState}
 use Rattle.wakeup_source.specs.SourceStates.{IsSettled, SourceState}
-use Rattle.end_laws.specs.Moments.{ExpiriesAreNear}
-use Rattle.fit_laws.specs.Ranged.{is_told}
-use Rattle.run_laws.specs.Acts.{Made, bare}
+use Rattle.end_laws.specs.Moments.{ExpiriesAreBounded}
+use Rattle.fit_laws.specs.Ranged.{is_ranged_entry}
+use Rattle.run_laws.specs.Acts.{Made, unstamped}
 use Rattle.run_laws.specs.Called.{knows}
-use Rattle.run_laws.specs.Held.{AllOf, EachJump, Held}
+use Rattle.run_laws.specs.Invariant.{AllOf, EachJump, RunInvariant}
 use Rattle.run_laws.specs.Seated.{IsFresh}
 use Rattle.run_laws.specs.Turned.{newest_stamp}
 
@@ -34,7 +34,7 @@ of_sources (x ∷ sources) (suc s) = of_sources sources s
 
 -- the same without their stamps
 abbrev pub histories : List SourceState → ℕ → List Entry
-histories sources s = bare (of_sources sources s)
+histories sources s = unstamped (of_sources sources s)
 
 -- how many entries these sources have
 abbrev pub entries_in : List SourceState → ℕ
@@ -46,8 +46,8 @@ abbrev pub entry_count : List JournalEntry → List SourceState → ℕ
 entry_count journal sources = length journal + entries_in sources
 
 -- the history of each, the oldest entry first
-abbrev pub kept_histories : List SourceState → List (List SourceEntry)
-kept_histories sources = map (λ s. reverse s.past) sources
+abbrev pub journal_histories : List SourceState → List (List SourceEntry)
+journal_histories sources = map (λ s. reverse s.past) sources
 
 -- a source has its number, is between calls, and last knew the tick of its newest entry
 pub record IsSourceOf (s : ℕ) (source : SourceState) : Type 0 where
@@ -107,9 +107,9 @@ pub record AreLow
   pub of_actors : (who : Actor) → (floors who).tick ≤ entry_count journal sources
 
 -- time has come no further than a day for each entry of the journal, and each event in progress ends at most a day from now
-pub record IsNear (journal : List JournalEntry) (sources : List SourceState) : Type 0 where
+pub record IsBounded (journal : List JournalEntry) (sources : List SourceState) : Type 0 where
   pub time : time_of (entries journal) ≤ length journal * 86400000
-  pub expiries : ExpiriesAreNear (entries journal) (histories sources)
+  pub expiries : ExpiriesAreBounded (entries journal) (histories sources)
 
 -- what a run keeps, between turns: all that is known of what was made, sources that are between calls, jobs that stand where it has brought them, the last stamp of each actor, and how far ticks and time have come
 pub record IsGoing
@@ -117,13 +117,13 @@ pub record IsGoing
     (floors : Actor → Stamp) : Type 0 where
   pub accepted : IsAccepted m
   pub own : Actor → List JournalEntry
-  pub held : Held m (made_so journal sources own)
+  pub invariant : RunInvariant m (made_so journal sources own)
   pub sources_are : AreSources m sources
   pub jobs_are : AreJobs m journal sources jobs
   pub floors_know : FloorsKnow floors (made_so journal sources own)
-  pub told : AllOf (λ e. is_told m e.entry) (made_so journal sources own)
+  pub shown : AllOf (λ e. is_ranged_entry m e.entry) (made_so journal sources own)
   pub low : AreLow m journal sources jobs floors
-  pub near : IsNear journal sources
+  pub near : IsBounded journal sources
 
 -- with one worker all actors know one stamp, the last that anybody made
 abbrev pub IsRunning :

@@ -32,15 +32,15 @@ first_parted [] = refl
 first_parted (Calls n ∷ rest) = ap (λ xs. n ∷ xs) (first_parted rest ∙ ap (λ xs. calls_at rest 0 ++ xs) (sym (drop_one n (all_calls rest) (calls_before rest 0))))
 first_parted (Turns ∷ rest) = refl
 
--- from those ahead of a turn on: those right before it, then those behind it
-parted : (ps : List Piece) (k : ℕ) → drop (calls_ahead ps k) (all_calls ps) ≡ calls_at ps k ++ drop (calls_before ps k) (all_calls ps)
-parted ps zero = first_parted ps
-parted [] (suc k) = refl
-parted (Calls n ∷ rest) (suc k) =
+-- from those ahead of a turn on: those right before it, then those after it
+split : (ps : List Piece) (k : ℕ) → drop (calls_ahead ps k) (all_calls ps) ≡ calls_at ps k ++ drop (calls_before ps k) (all_calls ps)
+split ps zero = first_parted ps
+split [] (suc k) = refl
+split (Calls n ∷ rest) (suc k) =
     drop_one n (all_calls rest) (calls_before rest k)
-    ∙ (parted rest (suc k) ∙ ap (λ xs. calls_at rest (suc k) ++ xs) (sym (drop_one n (all_calls rest) (calls_before rest (suc k)))))
-parted (Turns ∷ rest) (suc zero) = first_parted rest
-parted (Turns ∷ rest) (suc (suc k)) = parted rest (suc k)
+    ∙ (split rest (suc k) ∙ ap (λ xs. calls_at rest (suc k) ++ xs) (sym (drop_one n (all_calls rest) (calls_before rest (suc k)))))
+split (Turns ∷ rest) (suc zero) = first_parted rest
+split (Turns ∷ rest) (suc (suc k)) = split rest (suc k)
 
 first_many : (ps : List Piece) → length (calls_at ps 0) ≡ calls_before ps 0
 first_many [] = refl
@@ -107,5 +107,5 @@ module _ (source : ℕ) (s : Script) (calls : List Report) (are : calls ≡ call
       ∙ (ap (take (to - from)) (sym (drop-map noted from calls))
       ∙ (ap (λ xs. take (to - from) (drop from xs)) all_are
       ∙ (ap (λ n. take (to - from) (drop n (all_calls ps))) is_from
-      ∙ (ap (take (to - from)) (parted ps k)
+      ∙ (ap (take (to - from)) (split ps k)
       ∙ take_at (calls_at ps k) (drop (calls_before ps k) (all_calls ps)) (to - from) long))))

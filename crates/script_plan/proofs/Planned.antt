@@ -9,7 +9,7 @@ use Rattle.sleep_model.specs.declared.machine.Script.{Script}
 use Rattle.sleep_model.specs.declared.machine.Step.{Step}
 use Rattle.sleep_model.specs.Scripts.{times_over, operations, makes_entry, entry_steps, pieces_of, pieces, autosleep_pieces}
 use Rattle.sleep_model.specs.Tasks.{is_mem, is_off}
-use Rattle.script_plan.specs.Plans.{round_from, expanded, op_at, ops_of, entry_places, one_or_two, turns_of_autosleep, turns_from, calls_after, count_or, calls_before}
+use Rattle.script_plan.specs.Plans.{round_from, expanded, op_at, ops_of, entry_indices, one_or_two, turns_of_autosleep, turns_from, calls_after, count_or, calls_before}
 
 -- ---- the operations
 
@@ -47,7 +47,7 @@ filter_map p f (x ∷ xs) = by_case (filter_map p f xs) (p (f x))
     by_case rest false = rest
 
 -- the operations that make entries stand at the kept places
-pub entry_steps_are : (s : Script) → entry_steps s ≡ map (op_at s.steps) (entry_places s.steps (expanded s))
+pub entry_steps_are : (s : Script) → entry_steps s ≡ map (op_at s.steps) (entry_indices s.steps (expanded s))
 entry_steps_are s = ap (filter makes_entry) (sym (ops_are s)) ∙ filter_map makes_entry (op_at s.steps) (expanded s)
 
 -- ---- the places
@@ -109,14 +109,14 @@ none_at : {A : Type 0} (xs ys : List A) (k : ℕ) → ys ≡ xs → length ys �
 none_at xs ys k same past = ap (λ zs. slice_get zs k) (sym same) ∙ slice_get_past ys k past
 
 -- the operation at a place that is read
-pub operation_at : (s : Script) (ys : List ℕ) (k at : ℕ) → ys ≡ entry_places s.steps (expanded s) → k < length ys → at ≡ slice_index_or ys k at → slice_get (entry_steps s) k ≡ Some (op_at s.steps at)
+pub operation_at : (s : Script) (ys : List ℕ) (k at : ℕ) → ys ≡ entry_indices s.steps (expanded s) → k < length ys → at ≡ slice_index_or ys k at → slice_get (entry_steps s) k ≡ Some (op_at s.steps at)
 operation_at s ys k at same within read =
-    ap (λ zs. slice_get zs k) (entry_steps_are s) ∙ (slice_get-map (op_at s.steps) (entry_places s.steps (expanded s)) k ∙ ap (option_map (op_at s.steps)) (some_at (entry_places s.steps (expanded s)) ys k at same within read))
+    ap (λ zs. slice_get zs k) (entry_steps_are s) ∙ (slice_get-map (op_at s.steps) (entry_indices s.steps (expanded s)) k ∙ ap (option_map (op_at s.steps)) (some_at (entry_indices s.steps (expanded s)) ys k at same within read))
 
--- behind the last there is none
-pub no_operation : (s : Script) (ys : List ℕ) (k : ℕ) → ys ≡ entry_places s.steps (expanded s) → length ys ≤ k → slice_get (entry_steps s) k ≡ None
+-- after the last there is none
+pub no_operation : (s : Script) (ys : List ℕ) (k : ℕ) → ys ≡ entry_indices s.steps (expanded s) → length ys ≤ k → slice_get (entry_steps s) k ≡ None
 no_operation s ys k same past =
-    ap (λ zs. slice_get zs k) (entry_steps_are s) ∙ (slice_get-map (op_at s.steps) (entry_places s.steps (expanded s)) k ∙ ap (option_map (op_at s.steps)) (none_at (entry_places s.steps (expanded s)) ys k same past))
+    ap (λ zs. slice_get zs k) (entry_steps_are s) ∙ (slice_get-map (op_at s.steps) (entry_indices s.steps (expanded s)) k ∙ ap (option_map (op_at s.steps)) (none_at (entry_indices s.steps (expanded s)) ys k same past))
 
 -- the calls before a turn, as they are counted
 pub counted_calls : (source : ℕ) (s : Script) (ys : List ℕ) (k n last : ℕ) → ys ≡ turns_from 0 (ops_of s.steps (expanded s)) → last ≡ calls_after 0 (ops_of s.steps (expanded s)) → n ≡ count_or (slice_get ys k) last → n ≡ calls_before (pieces source s) k

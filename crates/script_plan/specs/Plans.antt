@@ -19,17 +19,17 @@ abbrev pub expanded : Script → List ℕ
 expanded s = times_over s.repeat (round_from 0 s.steps)
 
 -- the operation of a step, and Read where there is none
-abbrev pub op_of : Option Step → Op
-op_of None = op.Read
-op_of (Some s) = s.op
+abbrev pub op_or_read : Option Step → Op
+op_or_read None = op.Read
+op_or_read (Some s) = s.op
 
 -- the operation at a place
 abbrev pub op_at : List Step → ℕ → Op
-op_at steps at = op_of (slice_get steps at)
+op_at steps at = op_or_read (slice_get steps at)
 
 -- the places whose operations make entries of the journal
-abbrev pub entry_places : List Step → List ℕ → List ℕ
-entry_places steps places = filter (λ at. makes_entry (op_at steps at)) places
+abbrev pub entry_indices : List Step → List ℕ → List ℕ
+entry_indices steps places = filter (λ at. makes_entry (op_at steps at)) places
 
 -- ---- calls
 

@@ -56,7 +56,7 @@ pub(crate) fn calls_of(
 }
 
 /// Those of the calls from one number up to another.
-pub(crate) fn part(calls: &[Report], from: usize, to: usize) -> &[Report]
+pub(crate) fn calls_between(calls: &[Report], from: usize, to: usize) -> &[Report]
     requires in_order { from ≤ to }
     requires within { to ≤ length calls.now }
     ensures { result.now ≡ slice_range calls.now from to }

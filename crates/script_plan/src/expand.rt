@@ -27,7 +27,7 @@ fn add_round(places: &mut Vec<usize>, steps: &[Step]) -> Result<(), Mem>
     Ok(())
 }
 
-/// All steps of a script, as often as it makes them. `Mem` where there is no memory.
+/// All steps of a script, as often as it makes them. `Mem` if there is no memory.
 pub(crate) fn expand(alloc: Global, script: &Script) -> Result<Vec<usize>, Mem>
     ensures { IfOk result (λ v. v.items ≡ expanded script.now) }
 {

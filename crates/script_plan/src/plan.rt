@@ -2,9 +2,9 @@ ghost use Rattle.std.specs.Prelude.{◌≡◌, ◌≤◌, ◌<◌, ◌+◌, ◌^
 ghost use Rattle.sleep_model.specs.Places.{all_operations};
 ghost use Rattle.sleep_model.specs.Scripts.{makes_entry};
 ghost use Rattle.script_plan.specs.CallPlans.{with_source};
-ghost use Rattle.script_plan.specs.Plans.{expanded, op_of, op_at, entry_places, calls_in, turns_in, turns_from, calls_after, ops_of};
+ghost use Rattle.script_plan.specs.Plans.{expanded, op_or_read, op_at, entry_indices, calls_in, turns_in, turns_from, calls_after, ops_of};
 
-use crate::calls::{calls_of, part};
+use crate::calls::{calls_between, calls_of};
 use crate::expand::expand;
 use crate::texts::is_autosleep_text;
 use sleep_base::Mem;
@@ -28,9 +28,9 @@ pub(crate) fn op_at(steps: &[Step], at: usize) -> &Op
 }
 
 /// The places whose operations make entries.
-fn entry_places(alloc: Global, steps: &[Step], places: &[usize]) -> Result<Vec<usize>, Mem>
+fn entry_indices(alloc: Global, steps: &[Step], places: &[usize]) -> Result<Vec<usize>, Mem>
     requires { All (λ at. at < length steps.now) places.now }
-    ensures { IfOk result (λ v. v.items ≡ entry_places steps.now places.now) }
+    ensures { IfOk result (λ v. v.items ≡ entry_indices steps.now places.now) }
 {
     let mut kept = Vec::new(alloc);
     for at in places {
@@ -71,16 +71,16 @@ fn push_turns(turns: &mut Vec<u32>, before: u32, op: &Op) -> Result<(), Mem>
 
 /// How many calls stand before each turn of a script, and how many it makes in all.
 #[derive(Drop)]
-pub(crate) struct Counts {
+pub(crate) struct CallCounts {
     before_turns: Vec<u32>,
     all: u32,
 }
 
-impl Counts {
+impl CallCounts {
     ghost use Rattle.std.specs.Prelude.{slice_get};
     ghost use Rattle.script_plan.specs.Plans.{count_or};
 
-    /// How many calls stand before the turn with that number, or before the end behind the last.
+    /// How many calls stand before the turn with that number, or before the end after the last.
     pub(crate) fn before_turn(&self, turn: usize) -> u32
         ensures { result ≡ count_or (slice_get self.now.before_turns.items turn) self.now.all }
     {
@@ -92,7 +92,11 @@ impl Counts {
 }
 
 /// The calls before each turn of the operations at these places.
-pub(crate) fn count_calls(alloc: Global, steps: &[Step], places: &[usize]) -> Result<Counts, Mem>
+pub(crate) fn count_calls(
+    alloc: Global,
+    steps: &[Step],
+    places: &[usize],
+) -> Result<CallCounts, Mem>
     requires few { length places.now < 2 ^ 30 }
     requires within { All (λ at. at < length steps.now) places.now }
     ensures turns { IfOk result (λ c. c.before_turns.items ≡ turns_from 0 (ops_of steps.now places.now)) }
@@ -105,7 +109,7 @@ pub(crate) fn count_calls(alloc: Global, steps: &[Step], places: &[usize]) -> Re
         push_turns(&mut before_turns, all, op)?;
         all += calls_in(op);
     }
-    Ok(Counts { before_turns, all })
+    Ok(CallCounts { before_turns, all })
 }
 
 /// A script whose steps are taken and counted once, so that each turn finds its own at once. Contracts see the script,
@@ -114,10 +118,10 @@ pub(crate) fn count_calls(alloc: Global, steps: &[Step], places: &[usize]) -> Re
 pub struct Plan<'m> {
     script: &'m Script,
     autosleep: u32,
-    entry_places: Vec<usize>,
+    entry_indices: Vec<usize>,
     /// The calls that the script's own steps make, in order.
     calls: Vec<Report>,
-    counts: Counts,
+    counts: CallCounts,
 }
 
 impl<'m> Model for Plan<'m> {
@@ -125,11 +129,11 @@ impl<'m> Model for Plan<'m> {
 
     ghost Value = { ScriptCalls };
 
-    ghost use Rattle.script_plan.specs.PlanFields.{planned, keeps};
+    ghost use Rattle.script_plan.specs.PlanFields.{planned, plan_invariant};
 
     ghost view = { planned };
 
-    ghost invariant = { keeps };
+    ghost invariant = { plan_invariant };
 }
 
 impl<'m> Plan<'m> {
@@ -139,7 +143,7 @@ impl<'m> Plan<'m> {
     ghost use Rattle.script_plan.specs.CallPlans.{noted, calls_ahead};
     ghost use Rattle.script_plan.specs.Plans.{calls_before};
 
-    /// The plan of a script, which makes at most 200,000 steps, where autosleep has that source. `Mem` where there is no
+    /// The plan of a script, which makes at most 200,000 steps, where autosleep has that source. `Mem` if there is no
     /// memory.
     pub fn new(alloc: Global, script: &'m Script, autosleep: u32) -> Result<Self, Mem>
         requires { length (operations script.now) ≤ 200000 }
@@ -150,17 +154,17 @@ impl<'m> Plan<'m> {
         Ok(Plan {
             script,
             autosleep,
-            entry_places: entry_places(alloc, steps, &places)?,
+            entry_indices: entry_indices(alloc, steps, &places)?,
             calls: calls_of(alloc, autosleep, steps, &places)?,
             counts: count_calls(alloc, steps, &places)?,
         })
     }
 
-    /// The operation that makes the script's entries with that number, from 0. None where it has none left.
+    /// The operation that makes the script's entries with that number, from 0. None if it has none left.
     pub fn operation(&self, number: usize) -> Option<&'m Op>
         ensures { option_copied result ≡ slice_get (entry_steps self.now.script) number }
     {
-        let at = *self.entry_places.get(number)?;
+        let at = *self.entry_indices.get(number)?;
         let steps: &'m [Step] = self.script.steps.as_slice();
         Some(op_at(steps, at))
     }
@@ -189,7 +193,7 @@ impl<'m> Plan<'m> {
     {
         let from = self.ahead(turn);
         let to = self.counts.before_turn(turn) as usize;
-        part(&self.calls, from, to)
+        calls_between(&self.calls, from, to)
     }
 }
 

@@ -4,7 +4,7 @@ use Rattle.std.specs.Io.KnownBytes.{Appends}
 use Rattle.sleep_base.specs.declared.outside.Failed.{Failed}
 use Rattle.sleep_base.specs.Whole.{WriteAll}
 
--- what was appended behind another piece
+-- what was appended after another piece
 pub appends_both : (old mid new : Option (List ℕ)) (one other : List ℕ) → Appends old mid one → Appends mid new other → Appends old new (one ++ other)
 appends_both None mid new one other h g = tt
 appends_both (Some xs) None new one other h g = absurd h

@@ -11,7 +11,7 @@ use Rattle.sleep_base.specs.Faults.{Rose}
 abbrev pub Took : Option (List ℕ) → Option (List ℕ) → (ℕ → Type 0) → Type 0
 Took old new P = (bs : List ℕ) × Consumes old new bs × P (length bs)
 
--- how `read_all` ends: with all bytes, at a fault, past the limit, or for want of memory
+-- how `read_all` ends: with all bytes, at a fault, past the limit, or if it is out of memory
 abbrev pub ReadAll : Option (List ℕ) → Option (List ℕ) → ℕ → ℕ → ℕ → Result (Vec ℕ Global) ReadStop → Type 0
 ReadAll old new before now limit (Ok v) = Consumes old new v.items × IsAtEnd new × (length v.items ≤ limit)
 ReadAll old new before now limit (Err Fault) = Took old new (λ n. n ≤ limit) × Rose before now

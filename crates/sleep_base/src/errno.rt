@@ -72,7 +72,7 @@ impl Errno {
         by_error!(named of bytes)
     }
 
-    /// The error of that name. None exactly where the text is no error's name.
+    /// The error of that name. None exactly if the text is no error's name.
     pub fn of_name(text: &str) -> Option<Errno>
         ensures error { result ≡ error_named text.now }
         ensures found { IfSome result (λ e. text.now ≡ name_of e) }
@@ -81,7 +81,7 @@ impl Errno {
         Errno::of_bytes(text.as_bytes())
     }
 
-    /// The error whose name these bytes are. None exactly where they are no error's name.
+    /// The error whose name these bytes are. None exactly if they are no error's name.
     #[tactic(auto, using(crate::proofs::Naming::none_named))]
     pub fn of_bytes(bytes: &[u8]) -> Option<Errno>
         ensures error { result ≡ error_named bytes.now }

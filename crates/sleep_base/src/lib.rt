@@ -1,4 +1,4 @@
-//! What every crate stands on and that is nothing of sleep: bytes in and out with counted faults, want of memory,
+//! What every crate stands on and that is nothing of sleep: bytes in and out with counted faults, out of memory,
 //! the error numbers of the kernel, decimal digits, and a wait for ever. Its tests are in `part_cases` and
 //! `row_trials`.
 //!

@@ -6,7 +6,7 @@ ghost use Rattle.sleep_base.specs.Faults.{HasCause};
 use std::alloc::{AllocError, AllocFailed};
 use thiserror::Error;
 
-/// Want of memory: an allocation was refused.
+/// Out of memory: an allocation was refused.
 #[derive(Clone, Copy, Debug, PartialEq, Eq, Error)]
 #[error("out of memory")]
 pub struct Mem;
@@ -27,7 +27,7 @@ impl<T: Drop> From<AllocFailed<T>> for Mem {
     }
 }
 
-/// Want of memory, where a value has to be let go of. Its type is a parameter, so that no proof of a caller follows the
+/// Out of memory, where a value has to be let go of. Its type is a parameter, so that no proof of a caller follows the
 /// value's parts, which would take minutes of some (`docs/PROOF_COSTS.md`).
 pub fn lost<A: Drop>(_value: A) -> Mem {
     Mem

@@ -41,7 +41,7 @@ impl From<AllocError> for ReadStop {
 
 /// All bytes that the source has left, of which there may be at most `limit`.
 /// `Fault` at the first read that fails, `TooLong` once more than `limit` bytes came, and `Mem` for
-/// want of memory. What was taken before an error is lost.
+/// out of memory. What was taken before an error is lost.
 pub fn read_all<S: ByteSource>(
     alloc: Global,
     source: &mut S,

@@ -13,7 +13,7 @@ use Rattle.sleep_commands.specs.Endings.{Ended}
 pub idle_sizes : (wakers events sessions workers : ℕ) → IsInRange (Idle wakers events sessions workers) → AreSizes (record { wakers = wakers; events = events; sessions = sessions })
 idle_sizes wakers events sessions workers is = record { wakers = is.0; events = is.1; sessions = is.2 }
 
--- want of memory before anything was done
+-- out of memory before anything was done
 pub undone : (command : Option Command) (now : Streams) → Ended command now now NoMemory
 undone None now = (tt, refl, refl)
 undone (Some (Run workers)) now = refl

@@ -1,4 +1,4 @@
--- Where nothing fails, an accepted machine gives its log.
+-- If nothing fails, an accepted machine gives its log.
 use Rattle.std.proofs.Common.{◌≡◌, ◌≤◌, ◌++◌, ◌∙◌, inl, inr, ℕ, Bool, true, false, List, length, Option, true≢false, Some, None, refl, sym, ap, subst, arith}
 use Rattle.std.proofs.lemmas.List.{length-append, append-nil}
 use Rattle.std.specs.Io.KnownBytes.{Consumes, IsAtEnd}
@@ -20,10 +20,10 @@ use Rattle.log_commands.specs.Input.{file_in, text_in}
 use Rattle.log_commands.specs.Judging.{IsJudged, RefusesCheck}
 use Rattle.log_commands.specs.Stats.{IsStatsOf, RefusesStats}
 use Rattle.log_commands.proofs.Fitting.{no_machine, none_refused, one_machine}
-use Rattle.log_commands.proofs.Judging.{machine_stands, told_bad, told_good}
+use Rattle.log_commands.proofs.Judging.{machine_stands, bad_log_text, good_log_text}
 use Rattle.log_commands.specs.Endings.{CheckEnded, StatsEnded, WroteVerdict}
 use Rattle.program_ending.specs.Streams.{RefusesInput, Stream, Streams}
-use Rattle.program_ending.specs.Telling.{TellEnded}
+use Rattle.program_ending.specs.CommandEndings.{CommandEnded}
 use Rattle.run_commands.specs.Endings.{GenEnded, RefusesRun, RunEnded, SoakEnded}
 use Rattle.idle_commands.specs.Endings.{IdleEnded}
 use Rattle.lock_commands.specs.Endings.{LocksEnded}
@@ -70,30 +70,30 @@ run_completes workers old new WriteFault h = λ bytes is m spells none faults. a
 run_completes workers old new NoMemory h = λ bytes is m spells none faults. inr (inr refl)
 
 -- a command that tells of an input which is not refused
-tell_completes : (most : ℕ) (long : Refusal) (Gives : List ℕ → List ℕ → Type 0) (Why : List ℕ → Refusal → Type 0) (old new : Streams) (ending : Ending) → TellEnded most long Gives Why old new ending
+command_completes : (most : ℕ) (long : Refusal) (Gives : List ℕ → List ℕ → Type 0) (Why : List ℕ → Refusal → Type 0) (old new : Streams) (ending : Ending) → CommandEnded most long Gives Why old new ending
     → (bytes : List ℕ) → IsInput most old bytes → ((refusal : Refusal) → Why bytes refusal → ⊥) → NoFaults old new → IsOneOf Done Done (status_of ending)
-tell_completes most long Gives Why old new Done h bytes is none faults = inl refl
-tell_completes most long Gives Why old new Stuck h bytes is none faults = absurd h
-tell_completes most long Gives Why old new Illegal h bytes is none faults = absurd h
-tell_completes most long Gives Why old new NoForm h bytes is none faults = absurd h
-tell_completes most long Gives Why old new (Refused refusal) h bytes is none faults = absurd (none refusal (refused_whole most long Why old new bytes refusal is h.0))
-tell_completes most long Gives Why old new ReadFault h bytes is none faults = absurd (rose_not old.input.faults new.input.faults h.0 faults.0)
-tell_completes most long Gives Why old new WriteFault h bytes is none faults = absurd (rose_not old.output.faults new.output.faults h.4.0 faults.1)
-tell_completes most long Gives Why old new NoMemory h bytes is none faults = inr (inr refl)
+command_completes most long Gives Why old new Done h bytes is none faults = inl refl
+command_completes most long Gives Why old new Stuck h bytes is none faults = absurd h
+command_completes most long Gives Why old new Illegal h bytes is none faults = absurd h
+command_completes most long Gives Why old new NoForm h bytes is none faults = absurd h
+command_completes most long Gives Why old new (Refused refusal) h bytes is none faults = absurd (none refusal (refused_whole most long Why old new bytes refusal is h.0))
+command_completes most long Gives Why old new ReadFault h bytes is none faults = absurd (rose_not old.input.faults new.input.faults h.0 faults.0)
+command_completes most long Gives Why old new WriteFault h bytes is none faults = absurd (rose_not old.output.faults new.output.faults h.4.0 faults.1)
+command_completes most long Gives Why old new NoMemory h bytes is none faults = inr (inr refl)
 
 -- lines that have an answer are not refused
-no_lock_refusal : (bytes said : List ℕ) → IsLocksOf bytes said → (refusal : Refusal) → RefusesLocks bytes refusal → ⊥
-no_lock_refusal bytes said is (BadLockLine n) h = absurd (cc)
-no_lock_refusal bytes said is (SourceFull name) h = absurd (cc)
-no_lock_refusal bytes said is refusal h = absurd h
+no_lock_refusal : (bytes shown_text : List ℕ) → IsLocksOf bytes shown_text → (refusal : Refusal) → RefusesLocks bytes refusal → ⊥
+no_lock_refusal bytes shown_text is (BadLockLine n) h = absurd (cc)
+no_lock_refusal bytes shown_text is (SourceFull name) h = absurd (cc)
+no_lock_refusal bytes shown_text is refusal h = absurd h
 
 locks_completes : (old new : Streams) (ending : Ending) → LocksEnded old new ending → Completes (Some Locks) old new (status_of ending)
-locks_completes old new ending h = λ bytes said is told faults.
-    tell_completes 16777216 LongLocks IsLocksOf RefusesLocks old new ending h bytes is (no_lock_refusal bytes said told) faults
+locks_completes old new ending h = λ bytes shown_text is outcome faults.
+    command_completes 16777216 LongLocks IsLocksOf RefusesLocks old new ending h bytes is (no_lock_refusal bytes shown_text outcome) faults
 
 stats_completes : (old new : Streams) (ending : Ending) → StatsEnded old new ending → Completes (Some Stats) old new (status_of ending)
 stats_completes old new ending h = λ bytes is m log read good faults.
-    tell_completes 268435456 LongInput IsStatsOf RefusesStats old new ending h bytes is (none_refused bytes m log read good) faults
+    command_completes 268435456 LongInput IsStatsOf RefusesStats old new ending h bytes is (none_refused bytes m log read good) faults
 
 -- the verdict that was written is on the bytes that the input is
 judged_as : (old new : Streams) (bytes : List ℕ) (ending : Ending) (good : Bool) → IsInput 268435456 old bytes → (h : WroteVerdict old new ending) → h.2 ≡ good → IsJudged bytes h.1 good
@@ -103,8 +103,8 @@ judged_as old new bytes ending good is h e =
 
 -- a machine with the text of a good log, or with another text
 check_completes : (old new : Streams) (ending : Ending) → CheckEnded old new ending → Completes (Some Check) old new (status_of ending)
-check_completes old new Done h = λ bytes is m few spells faults. (λ good. inl refl, λ bad. absurd (bad (told_good bytes h.1 m spells (judged_as old new bytes Done true is h h.5.0))))
-check_completes old new Illegal h = λ bytes is m few spells faults. (λ good. absurd (told_bad bytes h.1 m spells (judged_as old new bytes Illegal false is h h.5.0) good), λ bad. inl refl)
+check_completes old new Done h = λ bytes is m few spells faults. (λ good. inl refl, λ bad. absurd (bad (good_log_text bytes h.1 m spells (judged_as old new bytes Done true is h h.5.0))))
+check_completes old new Illegal h = λ bytes is m few spells faults. (λ good. absurd (bad_log_text bytes h.1 m spells (judged_as old new bytes Illegal false is h h.5.0) good), λ bad. inl refl)
 check_completes old new Stuck h = λ bytes is m few spells faults. absurd h
 check_completes old new NoForm h = λ bytes is m few spells faults. absurd h
 check_completes old new (Refused refusal) h = λ bytes is m few spells faults.

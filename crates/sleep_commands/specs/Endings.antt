@@ -47,7 +47,7 @@ NoFault before now = (now ≡ before) × (now < 2 ^ 64 - 1)
 abbrev pub FillsNone : Machine → Type 0
 FillsNone m = (s : ℕ) → ¬ (IsFull m s)
 
--- one of these statuses, or want of memory
+-- one of these statuses, or out of memory
 abbrev pub IsOneOf : Ending → Ending → ℕ → Type 0
 IsOneOf one other status = (status ≡ status_of one) ⊎ (status ≡ status_of other) ⊎ (status ≡ status_of NoMemory)
 
@@ -59,7 +59,7 @@ NoFaults old new = NoFault old.input.faults new.input.faults × NoFault old.outp
 abbrev pub IsInput : ℕ → Streams → List ℕ → Type 0
 IsInput most now bytes = (now.input.bytes ≡ Some bytes) × (length bytes ≤ most)
 
--- completeness, where no fault is counted: an input that spells a machine none of whose sources can be filled gives a log, of a run that is finished or stuck; gen writes its file, soak its line, idle the text of its log, check whether the text behind a machine is that of a log that is legal and finished, locks the answers to lines that are not refused, and stats the text for a machine and a log that fits it, no link of which is refused; or memory ran out
+-- completeness, where no fault is counted: an input that spells a machine none of whose sources can be filled gives a log, of a run that is finished or stuck; gen writes its file, soak its line, idle the text of its log, check whether the text after a machine is that of a log that is legal and finished, locks the answers to lines that are not refused, and stats the text for a machine and a log that fits it, no link of which is refused; or memory ran out
 abbrev pub Completes : Option Command → Streams → Streams → ℕ → Type 0
 Completes None old new status = IsOneOf NoForm NoForm status
 Completes (Some (Run workers)) old new status =
@@ -72,7 +72,7 @@ Completes (Some Check) old new status =
     (bytes : List ℕ) → IsInput most_input old bytes → (m : Machine) → length (file_in bytes) ≤ most_machine → machine_in (file_in bytes) ≡ Some m → NoFaults old new
     → (IsGoodText m (text_in bytes) → IsOneOf Done Done status) × ((IsGoodText m (text_in bytes) → ⊥) → IsOneOf Illegal Illegal status)
 Completes (Some Locks) old new status =
-    (bytes said : List ℕ) → IsInput most_locks old bytes → IsLocksOf bytes said → NoFaults old new → IsOneOf Done Done status
+    (bytes shown_text : List ℕ) → IsInput most_locks old bytes → IsLocksOf bytes shown_text → NoFaults old new → IsOneOf Done Done status
 Completes (Some Stats) old new status =
     (bytes : List ℕ) → IsInput most_input old bytes → (m : Machine) → (log : Log) → IsLogIn bytes m log
     → refusal_of (parents_of m.devices) m.links log.entries ≡ None → NoFaults old new → IsOneOf Done Done status

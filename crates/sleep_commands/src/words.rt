@@ -6,10 +6,10 @@ ghost use Rattle.program_ending.specs.Streams.{Says, stream, streams};
 ghost use Rattle.sleep_commands.specs.Endings.{Completes, Ended};
 
 use command_line::{Command, command_of};
-use idle_commands::tell_idle;
+use idle_commands::write_idle;
 use idle_loop::IdleSizes;
-use lock_commands::tell_locks;
-use log_commands::{tell_check, tell_stats};
+use lock_commands::write_locks;
+use log_commands::{write_check, write_stats};
 use program_ending::{Ending, say};
 use run_commands::{run_file, soak_generated, write_generated};
 use sleep_base::{ByteSink, ByteSource};
@@ -38,9 +38,9 @@ fn do_command<R: Threads + Wait + Sync, S: ByteSource, K: ByteSink, G: Gate + Sy
         Command::Run { workers } => run_file(rt, alloc, workers as u8, input, out, gate),
         Command::Gen { seed, devices } => write_generated(alloc, seed, devices, out),
         Command::Soak { seed, devices } => soak_generated(rt, alloc, seed, devices, out),
-        Command::Check => tell_check(alloc, input, out),
-        Command::Locks => tell_locks(rt, alloc, input, out),
-        Command::Stats => tell_stats(alloc, input, out),
+        Command::Check => write_check(alloc, input, out),
+        Command::Locks => write_locks(rt, alloc, input, out),
+        Command::Stats => write_stats(alloc, input, out),
         Command::Idle {
             wakers,
             events,
@@ -52,7 +52,7 @@ fn do_command<R: Threads + Wait + Sync, S: ByteSource, K: ByteSink, G: Gate + Sy
                 events,
                 sessions,
             };
-            tell_idle(rt, alloc, sizes, workers, out)
+            write_idle(rt, alloc, sizes, workers, out)
         }
     }
 }
@@ -78,18 +78,18 @@ fn do_words<R: Threads + Wait + Sync, S: ByteSource, K: ByteSink, G: Gate + Sync
     }
 }
 
-/// The whole program. The first word is its name, and those behind it say what it does:
+/// The whole program. The first word is its name, and those after it say what it does:
 ///
 /// - `run`, or `run --workers N`, also in one word as `--workers=N`: reads a machine file from `input`, runs the machine
 ///   by N workers, 1 to 64 and else 4, and writes its log to `out`; `gate` sees the workers' turns.
 /// - `gen SEED DEVICES`: writes the file of the generated machine of a seed of 64 bits with 1 to 1,000 devices.
 /// - `soak SEED DEVICES`: runs that machine, and writes the line of its log's numbers.
-/// - `check`: reads a machine file of one line and a log of it behind that, and writes whether the log is legal and finished,
+/// - `check`: reads a machine file of one line and a log of it after that, and writes whether the log is legal and finished,
 ///   else its first bad line and the number of the rule that this breaks.
 /// - `locks`: reads lines that lock and unlock names, and writes their answers and the statistics of each name.
-/// - `stats`: reads a machine file of one line and a log of it behind that, and writes what the log counts, its last
+/// - `stats`: reads a machine file of one line and a log of it after that, and writes what the log counts, its last
 ///   failures, the longest chain of devices at its end, and each device's level.
-/// - `idle WAKERS EVENTS SESSIONS`, with the option of `run` before these, between them or behind them: runs 1 to 16 wakers of 1 to
+/// - `idle WAKERS EVENTS SESSIONS`, with the option of `run` before these, between them or after them: runs 1 to 16 wakers of 1 to
 ///   1,000 events each against the idler of 1 to 1,000 sessions, and writes the log of suspend-to-idle.
 ///
 /// The answer is the status, and `err` says what it means:
@@ -105,7 +105,7 @@ fn do_words<R: Threads + Wait + Sync, S: ByteSource, K: ByteSink, G: Gate + Sync
 /// - 7: the history of a wakeup source has no place left for a call, in a run or by a line of `locks`.
 /// - 8: there was no memory.
 ///
-/// At 2, 3, 4, 7 and 8 nothing is written to `out`. Where no fault is counted, an input that spells a machine none
+/// At 2, 3, 4, 7 and 8 nothing is written to `out`. If no fault is counted, an input that spells a machine none
 /// of whose sources can be filled gives 0, 6 or 8, `gen` and `idle` give 0 or 8, `soak` 0, 6 or 8, `check` 0 or 8 of a machine and
 /// the text of a log that is legal and finished, and 1 or 8 of a machine and any other text, `locks` 0 or 8 of lines that are of a
 /// form and fill no source, and `stats` 0 or 8 of a machine and a log that fits it, no link of which is refused.

@@ -1,4 +1,4 @@
--- The board behind an entry.
+-- The board after an entry.
 use Rattle.std.proofs.Common.{◌≡◌, ℕ, List, ◌∷◌, Some, None, refl}
 use Rattle.sleep_model.specs.declared.entry.Actor.{Actor}
 use Rattle.sleep_model.specs.declared.entry.Entry.{Entry}
@@ -6,7 +6,7 @@ use Rattle.sleep_model.specs.declared.entry.Kind.{Kind}
 use Rattle.sleep_model.specs.declared.entry.Kind.TheVariants as kind
 use Rattle.sleep_model.specs.declared.machine.Machine.{Machine}
 use Rattle.sleep_model.specs.declared.word.EventNow.{EventNow}
-use Rattle.async_board.proofs.Told.{board_next}
+use Rattle.async_board.proofs.Agreement.{board_next}
 use Rattle.sleep_core.specs.Histories.{Settles, board_of, moved_board}
 
 -- an entry at that time, of that maker and kind

@@ -7,22 +7,22 @@ use Rattle.sleep_model.specs.declared.entry.Entry.{Entry}
 use Rattle.sleep_model.specs.declared.entry.Kind.{Kind}
 use Rattle.sleep_model.specs.declared.entry.Kind.TheVariants as kind
 use Rattle.sleep_model.specs.declared.machine.Machine.{Machine}
-use Rattle.sleep_model.specs.declared.place.Seat.{Seat}
+use Rattle.sleep_model.specs.declared.progress.ScriptPosition.{ScriptPosition}
 use Rattle.sleep_model.specs.Calls.{calls_at, calls_due, ends_turn, one_more, pieces_if, pieces_in, turns_ended}
 use Rattle.sleep_model.specs.Path.{is_same}
 use Rattle.sleep_model.specs.declared.machine.Script.{Script}
 use Rattle.sleep_model.specs.Scripts.{Piece, Calls, Turns, pieces}
-use Rattle.sleep_model.specs.Seats.{seat_at, seat_part, seat_after, seats_after, seats}
+use Rattle.sleep_model.specs.Positions.{position_at, position_effect, position_after, positions_after, positions}
 use Rattle.script_plan.specs.Plans.{calls_before}
 use Rattle.fit_laws.proofs.Planning.{calls_until, calls_counted}
 use Rattle.sleep_core.specs.Cores.{IsActor}
 use Rattle.sleep_core.specs.Reports.{reported_by, counts_of}
 use Rattle.sleep_core.proofs.Reporting.{reported_is}
-use Rattle.sleep_core.proofs.Seated.{seats_len, first_seats}
+use Rattle.sleep_core.proofs.Positioned.{positions_len, first_positions}
 
 -- ---- a script's place counts the turns that it has ended
 
-kind_turns : (k : Kind) (s : Seat) → (seat_after (seat_part k) s).turns ≡ one_more (ends_turn k) s.turns
+kind_turns : (k : Kind) (s : ScriptPosition) → (position_after (position_effect k) s).turns ≡ one_more (ends_turn k) s.turns
 kind_turns kind.ReadWait s = refl
 kind_turns (kind.SaveWait c) s = refl
 kind_turns kind.StateWait s = refl
@@ -46,7 +46,7 @@ kind_turns (kind.RuntimeAsk device to_suspended r) s = refl
 kind_turns kind.Exit s = refl
 kind_turns _ s = refl
 
-same_set : (ss : List Seat) (i : ℕ) (v : Seat) → i < length ss → seat_at (slice_set ss i v) i ≡ v
+same_set : (ss : List ScriptPosition) (i : ℕ) (v : ScriptPosition) → i < length ss → position_at (slice_set ss i v) i ≡ v
 same_set [] i v l = absurd (omega (arith, l))
 same_set (x ∷ xs) zero v l = refl
 same_set (x ∷ xs) (suc i) v l = same_set xs i v (omega (arith, l))
@@ -58,29 +58,29 @@ suc_false j i e = by_test (j == i) refl
     by_test false t = t
     by_test true t = absurd (let same : j ≡ i = grind (arith, nat_tests) in grind (arith, nat_tests))
 
-other_set : (ss : List Seat) (i j : ℕ) (v : Seat) → (j == i) ≡ false → seat_at (slice_set ss j v) i ≡ seat_at ss i
+other_set : (ss : List ScriptPosition) (i j : ℕ) (v : ScriptPosition) → (j == i) ≡ false → position_at (slice_set ss j v) i ≡ position_at ss i
 other_set [] i j v l = refl
 other_set (x ∷ xs) zero zero v l = absurd (grind (arith, nat_tests))
 other_set (x ∷ xs) (suc i) zero v l = refl
 other_set (x ∷ xs) zero (suc j) v l = refl
 other_set (x ∷ xs) (suc i) (suc j) v l = other_set xs i j v (suc_false j i l)
 
-script_turns : (i j : ℕ) (k : Kind) (ss : List Seat) → i < length ss → (b : Bool) → (j == i) ≡ b → (seat_at (seats_after (actor.Script j) (seat_part k) ss) i).turns ≡ one_more (b && ends_turn k) (seat_at ss i).turns
+script_turns : (i j : ℕ) (k : Kind) (ss : List ScriptPosition) → i < length ss → (b : Bool) → (j == i) ≡ b → (position_at (positions_after (actor.Script j) (position_effect k) ss) i).turns ≡ one_more (b && ends_turn k) (position_at ss i).turns
 script_turns i j k ss l true e =
     let same : j ≡ i = grind (arith, nat_tests) in
-    subst (λ n. (seat_at (slice_set ss n (seat_after (seat_part k) (seat_at ss n))) i).turns ≡ one_more (ends_turn k) (seat_at ss i).turns) (sym same)
-    (ap (λ (s : Seat). s.turns) (same_set ss i (seat_after (seat_part k) (seat_at ss i)) l) ∙ kind_turns k (seat_at ss i))
-script_turns i j k ss l false e = ap (λ (s : Seat). s.turns) (other_set ss i j (seat_after (seat_part k) (seat_at ss j)) e)
+    subst (λ n. (position_at (slice_set ss n (position_after (position_effect k) (position_at ss n))) i).turns ≡ one_more (ends_turn k) (position_at ss i).turns) (sym same)
+    (ap (λ (s : ScriptPosition). s.turns) (same_set ss i (position_after (position_effect k) (position_at ss i)) l) ∙ kind_turns k (position_at ss i))
+script_turns i j k ss l false e = ap (λ (s : ScriptPosition). s.turns) (other_set ss i j (position_after (position_effect k) (position_at ss j)) e)
 
-entry_turns : (i : ℕ) (who : Actor) (k : Kind) (ss : List Seat) → i < length ss → (seat_at (seats_after who (seat_part k) ss) i).turns ≡ one_more (is_same who (actor.Script i) && ends_turn k) (seat_at ss i).turns
+entry_turns : (i : ℕ) (who : Actor) (k : Kind) (ss : List ScriptPosition) → i < length ss → (position_at (positions_after who (position_effect k) ss) i).turns ≡ one_more (is_same who (actor.Script i) && ends_turn k) (position_at ss i).turns
 entry_turns i (actor.Script j) k ss l = script_turns i j k ss l (j == i) refl
 entry_turns i _ k ss l = refl
 
 -- a script's place has the number of turns that it has ended
-turns_are : (n i : ℕ) (past : List Entry) → i < n → (seat_at (seats n past) i).turns ≡ turns_ended (actor.Script i) past
-turns_are n i [] l = ap (λ (s : Seat). s.turns) (first_seats n i)
+turns_are : (n i : ℕ) (past : List Entry) → i < n → (position_at (positions n past) i).turns ≡ turns_ended (actor.Script i) past
+turns_are n i [] l = ap (λ (s : ScriptPosition). s.turns) (first_positions n i)
 turns_are n i (e ∷ past) l =
-    entry_turns i e.actor e.kind (seats n past) (omega (arith, l, seats_len n past))
+    entry_turns i e.actor e.kind (positions n past) (omega (arith, l, positions_len n past))
     ∙ ap (λ t. one_more (is_same e.actor (actor.Script i) && ends_turn e.kind) t) (turns_are n i past l)
 
 -- ---- calls before a turn
@@ -102,7 +102,7 @@ until_before ps (suc k) = length-append (calls_until ps k) (calls_at ps (suc k))
 
 -- a script has to have made the calls that stand before its turn, and what its callbacks have reported
 pub script_calls_due : (m : Machine) (i : ℕ) (past : List Entry) (calls reported : ℕ) → i < length m.actors
-    → calls ≡ calls_before (pieces_in m i) (seat_at (seats (length m.actors) past) i).turns → reported ≡ reported_by (actor.Script i) (counts_of m past) → calls + reported ≡ calls_due m (actor.Script i) past
+    → calls ≡ calls_before (pieces_in m i) (position_at (positions (length m.actors) past) i).turns → reported ≡ reported_by (actor.Script i) (counts_of m past) → calls + reported ≡ calls_due m (actor.Script i) past
 script_calls_due m i past calls reported l by_turn by_report =
     let turns = turns_ended (actor.Script i) past in
     let here : calls ≡ length (calls_until (pieces_in m i) turns) = by_turn ∙ (ap (calls_before (pieces_in m i)) (turns_are (length m.actors) i past l) ∙ sym (until_before (pieces_in m i) turns)) in
@@ -117,10 +117,10 @@ other_calls_due m past (actor.Timer s) reported is not by_report = absurd is
 other_calls_due m past actor.Time reported is not by_report = absurd is
 
 -- the calls before a turn, by the script's plan
-pub planned_calls : (m : Machine) (i : ℕ) (past : List Entry) (s : Script) (seat : Seat) (calls : ℕ) → slice_get m.actors i ≡ Some s
-    → ((source : ℕ) → calls ≡ calls_before (pieces source s) seat.turns) → seat ≡ seat_at (seats (length m.actors) past) i
-    → calls ≡ calls_before (pieces_in m i) (seat_at (seats (length m.actors) past) i).turns
-planned_calls m i past s seat calls at is here =
+pub planned_calls : (m : Machine) (i : ℕ) (past : List Entry) (s : Script) (position : ScriptPosition) (calls : ℕ) → slice_get m.actors i ≡ Some s
+    → ((source : ℕ) → calls ≡ calls_before (pieces source s) position.turns) → position ≡ position_at (positions (length m.actors) past) i
+    → calls ≡ calls_before (pieces_in m i) (position_at (positions (length m.actors) past) i).turns
+planned_calls m i past s position calls at is here =
     is (length m.sources)
-    ∙ (ap (λ (o : Option Script). calls_before (pieces_if (length m.sources) o) seat.turns) (sym at)
-    ∙ ap (λ (x : Seat). calls_before (pieces_in m i) x.turns) here)
+    ∙ (ap (λ (o : Option Script). calls_before (pieces_if (length m.sources) o) position.turns) (sym at)
+    ∙ ap (λ (x : ScriptPosition). calls_before (pieces_in m i) x.turns) here)

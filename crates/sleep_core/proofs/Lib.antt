@@ -8,8 +8,8 @@ mod Parting
 mod Passing
 mod Propers
 mod Reporting
-mod Seated
-pub mod Stilled
+mod Positioned
+pub mod Stopped
 mod Turning
 mod Walks
 mod Working

@@ -10,28 +10,28 @@ use Rattle.sleep_model.specs.declared.entry.Kind.TheVariants as kind
 use Rattle.sleep_model.specs.declared.machine.Link.{Link}
 use Rattle.sleep_model.specs.declared.machine.Machine.{Machine}
 use Rattle.sleep_model.specs.declared.machine.Op.{Op}
-use Rattle.sleep_model.specs.declared.place.Due.TheVariants.{Makes}
-use Rattle.sleep_model.specs.declared.place.Seat.{Seat}
-use Rattle.sleep_model.specs.declared.place.Stage.{Stage}
-use Rattle.sleep_model.specs.declared.place.Stand.{Stand}
-use Rattle.sleep_model.specs.declared.place.Stand.TheVariants as stand
-use Rattle.sleep_model.specs.declared.place.Work.{Work}
+use Rattle.sleep_model.specs.declared.progress.Due.TheVariants.{Makes}
+use Rattle.sleep_model.specs.declared.progress.ScriptPosition.{ScriptPosition}
+use Rattle.sleep_model.specs.declared.progress.Stage.{Stage}
+use Rattle.sleep_model.specs.declared.progress.PhaseState.{PhaseState}
+use Rattle.sleep_model.specs.declared.progress.PhaseState.TheVariants as state
+use Rattle.sleep_model.specs.declared.progress.Work.{Work}
 use Rattle.sleep_model.specs.declared.word.EventNow.{EventNow}
 use Rattle.sleep_model.specs.Accepted.{IsAccepted}
 use Rattle.sleep_model.specs.Due.{due}
-use Rattle.sleep_model.specs.Laws.{NoneStands}
+use Rattle.sleep_model.specs.Laws.{NoneIsInPhase}
 use Rattle.sleep_model.specs.Legal.{JournalPart}
 use Rattle.sleep_model.specs.Links.{is_linked, is_dependent}
 use Rattle.sleep_model.specs.Order.{links_after, links_at, parents_of}
 use Rattle.sleep_model.specs.Path.{maker}
 use Rattle.sleep_model.specs.Runtime.{is_async}
-use Rattle.sleep_model.specs.Stands.{stands}
-use Rattle.sleep_laws.proofs.DevicesStand.{none_stands}
-use Rattle.sleep_laws.proofs.Holding.{add_free, state_free, stage_none}
+use Rattle.sleep_model.specs.PhaseStates.{phase_states}
+use Rattle.sleep_laws.proofs.DeviceLaws.{none_stands}
+use Rattle.sleep_laws.proofs.LockHolding.{add_free, state_free, stage_none}
 use Rattle.sleep_laws.proofs.Made.{Made, StepMade, TaskMade, WorkMade, DeviceMade, EntryMade, ByMaker, ByTask, ByWork, ByDevice, ByTime, Down, InSuspend, InLate, InNoirq}
 use Rattle.sleep_laws.proofs.MakingOwn.{made}
-use Rattle.sleep_laws.proofs.Passing.{standing}
-use Rattle.sleep_laws.proofs.Standing.{Standing}
+use Rattle.sleep_laws.proofs.Passing.{device_phases}
+use Rattle.sleep_laws.proofs.DevicePhases.{DevicePhases}
 use Rattle.async_board.specs.Boards.{BoardState, first_board}
 use Rattle.sleep_core.specs.Histories.{Changes, Settles, board_of}
 
@@ -46,18 +46,18 @@ maker_unlinked m past now _ _ Made.Ends h = h
 maker_unlinked m past now _ _ _ h = h
 
 device_unlinked : (m : Machine) (past : List Entry) (now : EventNow) (d : ℕ) (k : Kind) → DeviceMade m past now d k → Changes k → ⊥
-device_unlinked m past now d _ (DeviceMade.OwnEnds p r down asynchronous work stands) h = h
+device_unlinked m past now d _ (DeviceMade.OwnEnds p r down asynchronous work phase_states) h = h
 device_unlinked m past now d _ _ h = h
 
 work_unlinked : (m : Machine) (past : List Entry) (now : EventNow) (w : Work) (k : Kind) → WorkMade m past now w k → Changes k → ⊥
 work_unlinked m past now _ _ WorkMade.Runs h = h
 work_unlinked m past now _ _ _ h = h
 
-step_closed : (m : Machine) (past : List Entry) (now : EventNow) (seat : Seat) (asked : Bool) (o : Option Op) (k : Kind) → StepMade m past now seat asked o k → Changes k → maker past ≡ None
-step_closed m past now seat asked _ _ (StepMade.AddsLink s c r e) h =
+step_closed : (m : Machine) (past : List Entry) (now : EventNow) (position : ScriptPosition) (asked : Bool) (o : Option Op) (k : Kind) → StepMade m past now position asked o k → Changes k → maker past ≡ None
+step_closed m past now position asked _ _ (StepMade.AddsLink s c r e) h =
     add_free (maker past) (is_linked (links_at m past) s c) (is_dependent (parents_of m.devices) (links_at m past) c s) (e ∙ h)
-step_closed m past now seat asked _ _ (StepMade.SetsLink s c active r e) h = state_free (maker past) (is_linked (links_at m past) s c) (e ∙ h)
-step_closed m past now seat asked _ _ _ h = absurd h
+step_closed m past now position asked _ _ (StepMade.SetsLink s c active r e) h = state_free (maker past) (is_linked (links_at m past) s c) (e ∙ h)
+step_closed m past now position asked _ _ _ h = absurd h
 
 entry_closed : (m : Machine) (past : List Entry) (now : EventNow) (who : Actor) (k : Kind) → EntryMade m past now who k → Changes k → maker past ≡ None
 entry_closed m past now who k (ByMaker _ here there _ maker at comes x) h = absurd (maker_unlinked m past now there k x h)
@@ -70,23 +70,23 @@ entry_closed m past now _ _ ByTime h = absurd h
 -- ---- the board
 
 -- where no attempt is open no device is prepared
-unprepared : (m : Machine) (past : List Entry) → JournalPart m past → maker past ≡ None → (p : Phase) → Down p → NoneStands m p past
-unprepared m past legal none p i = none_stands m past (subst (Standing m past) (stage_none m past legal none) (standing m past legal)).0 p i
+unprepared : (m : Machine) (past : List Entry) → JournalPart m past → maker past ≡ None → (p : Phase) → Down p → NoneIsInPhase m p past
+unprepared m past legal none p i = none_stands m past (subst (DevicePhases m past) (stage_none m past legal none) (device_phases m past legal)).0 p i
 
 board_linked : (m : Machine) (past : List Entry) → JournalPart m past → maker past ≡ None → (ls : List Link)
     → first_board (parents_of m.devices) ls (map is_async m.devices)
-    ≡ record { parents = parents_of m.devices; links = ls; asynchronous = map is_async m.devices; suspend = stands (length m.devices) phase.Suspend past; late = stands (length m.devices) phase.Late past; noirq = stands (length m.devices) phase.Noirq past }
+    ≡ record { parents = parents_of m.devices; links = ls; asynchronous = map is_async m.devices; suspend = phase_states (length m.devices) phase.Suspend past; late = phase_states (length m.devices) phase.Late past; noirq = phase_states (length m.devices) phase.Noirq past }
 board_linked m past legal none ls =
     let a = unprepared m past legal none phase.Suspend InSuspend in
     let b = unprepared m past legal none phase.Late InLate in
     let c = unprepared m past legal none phase.Noirq InNoirq in
     let n = length-map m.devices (λ x. x.parent) in
-    ap (λ (k : ℕ). with_stands (replicate k stand.Unprepared) (replicate k stand.Unprepared) (replicate k stand.Unprepared)) n
-    ∙ (ap (λ (ss : List Stand). with_stands ss (replicate (length m.devices) stand.Unprepared) (replicate (length m.devices) stand.Unprepared)) (sym a)
-    ∙ (ap (λ (ss : List Stand). with_stands (stands (length m.devices) phase.Suspend past) ss (replicate (length m.devices) stand.Unprepared)) (sym b)
-    ∙ ap (λ (ss : List Stand). with_stands (stands (length m.devices) phase.Suspend past) (stands (length m.devices) phase.Late past) ss) (sym c)))
+    ap (λ (k : ℕ). with_stands (replicate k state.Unprepared) (replicate k state.Unprepared) (replicate k state.Unprepared)) n
+    ∙ (ap (λ (ss : List PhaseState). with_stands ss (replicate (length m.devices) state.Unprepared) (replicate (length m.devices) state.Unprepared)) (sym a)
+    ∙ (ap (λ (ss : List PhaseState). with_stands (phase_states (length m.devices) phase.Suspend past) ss (replicate (length m.devices) state.Unprepared)) (sym b)
+    ∙ ap (λ (ss : List PhaseState). with_stands (phase_states (length m.devices) phase.Suspend past) (phase_states (length m.devices) phase.Late past) ss) (sym c)))
   where
-    with_stands : List Stand → List Stand → List Stand → BoardState
+    with_stands : List PhaseState → List PhaseState → List PhaseState → BoardState
     with_stands x y z = record { parents = parents_of m.devices; links = ls; asynchronous = map is_async m.devices; suspend = x; late = y; noirq = z }
 
 -- where an entry that is due changes links, no device is prepared

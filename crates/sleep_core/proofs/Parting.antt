@@ -7,12 +7,12 @@ use Rattle.sleep_model.specs.declared.entry.Kind.{Kind}
 use Rattle.sleep_model.specs.declared.entry.Kind.TheVariants as kind
 use Rattle.sleep_model.specs.declared.machine.Machine.{Machine}
 use Rattle.sleep_model.specs.declared.word.EventNow.{EventNow}
-use Rattle.sleep_model.specs.declared.place.Work.{Work}
+use Rattle.sleep_model.specs.declared.progress.Work.{Work}
 use Rattle.sleep_model.specs.Autosleep.{work_after}
 use Rattle.sleep_model.specs.Numbers.{time_of, time_after}
 use Rattle.autosleep_loop.specs.Autosleeps.{AutosleepState, autosleep_after}
-use Rattle.async_board.proofs.Told.{board_next}
-use Rattle.sleep_core.specs.Histories.{IsOfTask, guard_of, path_of, devices_of, board_of, tasks_of, freezer_of, autosleep_of, steps_of, parts_of}
+use Rattle.async_board.proofs.Agreement.{board_next}
+use Rattle.sleep_core.specs.Histories.{IsOfTask, guard_of, path_of, devices_of, board_of, tasks_of, freezer_of, autosleep_of, steps_of, syscore_of}
 use Rattle.sleep_core.proofs.Freezing.{freezer_moves}
 
 -- an entry at that time, of that maker and kind
@@ -27,7 +27,7 @@ pub record Stays (m : Machine) (past : List Entry) (e : Entry) : Type 0 where
   pub board : board_of m past ≡ board_of m (e ∷ past)
   pub freezer : freezer_of m past ≡ freezer_of m (e ∷ past)
   pub platform : steps_of m past ≡ steps_of m (e ∷ past)
-  pub syscore : parts_of m past ≡ parts_of m (e ∷ past)
+  pub syscore : syscore_of m past ≡ syscore_of m (e ∷ past)
 
 -- the time, too, where a task sleeps
 pub record Passes (m : Machine) (past : List Entry) (e : Entry) : Type 0 where

@@ -7,18 +7,18 @@ use Rattle.sleep_model.specs.declared.entry.Entry.{Entry}
 use Rattle.sleep_model.specs.declared.entry.Kind.{Kind}
 use Rattle.sleep_model.specs.declared.entry.Kind.TheVariants as kind
 use Rattle.sleep_model.specs.declared.machine.Machine.{Machine}
-use Rattle.sleep_model.specs.declared.place.Seat.{Seat}
-use Rattle.sleep_model.specs.declared.place.Work.{Work}
+use Rattle.sleep_model.specs.declared.progress.ScriptPosition.{ScriptPosition}
+use Rattle.sleep_model.specs.declared.progress.Work.{Work}
 use Rattle.sleep_model.specs.declared.word.EventNow.{EventNow}
 use Rattle.sleep_model.specs.Autosleep.{work, work_after, work_step, is_queued, runs}
 use Rattle.sleep_model.specs.Freezer.{freezings}
 use Rattle.sleep_model.specs.Lock.{holder, is_on}
 use Rattle.sleep_model.specs.Marks.{raised}
 use Rattle.sleep_model.specs.Numbers.{time_of}
-use Rattle.sleep_model.specs.Seats.{Stays, first_seat, seats, seats_after}
-use Rattle.async_board.proofs.Told.{board_next}
+use Rattle.sleep_model.specs.Positions.{Stays, first_position, positions, positions_after}
+use Rattle.async_board.proofs.Agreement.{board_next}
 use Rattle.async_board.specs.Boards.{board_after}
-use Rattle.sleep_core.specs.Histories.{IsOfDevice, board_of, path_of, tasks_of, freezer_of, autosleep_of, steps_of, parts_of, exits}
+use Rattle.sleep_core.specs.Histories.{IsOfDevice, board_of, path_of, tasks_of, freezer_of, autosleep_of, steps_of, syscore_of, exits}
 
 -- such an entry moves its device, and each of these parts stands as before
 pub record Passes (m : Machine) (past : List Entry) (e : Entry) : Type 0 where
@@ -29,27 +29,27 @@ pub record Passes (m : Machine) (past : List Entry) (e : Entry) : Type 0 where
   pub freezer : freezer_of m past ≡ freezer_of m (e ∷ past)
   pub autosleep : autosleep_of past ≡ autosleep_of (e ∷ past)
   pub platform : steps_of m past ≡ steps_of m (e ∷ past)
-  pub syscore : parts_of m past ≡ parts_of m (e ∷ past)
+  pub syscore : syscore_of m past ≡ syscore_of m (e ∷ past)
 
 -- an entry at that time, of that maker and kind
 abbrev entry_of : ℕ → EventNow → Actor → Kind → Entry
 entry_of time now who k = record { time = time; now = now; actor = who; kind = k }
 
 -- it leaves each script where it stands
-seats_stay : (who : Actor) (ss : List Seat) → seats_after who Stays ss ≡ ss
-seats_stay (actor.Script i) ss = set-get_or ss i first_seat
-seats_stay _ ss = refl
+positions_stay : (who : Actor) (ss : List ScriptPosition) → positions_after who Stays ss ≡ ss
+positions_stay (actor.Script i) ss = set-get_or ss i first_position
+positions_stay _ ss = refl
 
 -- and the work, whoever makes it
 work_stays : (who : Actor) (k : Kind) (before : Work) → work_step k before ≡ before → work_after who k before ≡ before
 work_stays actor.Auto k before e = e
 work_stays _ k before e = refl
 
-tasks_stay : (m : Machine) (past : List Entry) (who : Actor) → tasks_of m past ≡ record { seats = seats_after who Stays (seats (length m.actors) past); marks = raised (length m.marks) past }
-tasks_stay m past who = ap (λ (ss : List Seat). record { seats = ss; marks = raised (length m.marks) past }) (sym (seats_stay who (seats (length m.actors) past)))
+tasks_stay : (m : Machine) (past : List Entry) (who : Actor) → tasks_of m past ≡ record { positions = positions_after who Stays (positions (length m.actors) past); marks = raised (length m.marks) past }
+tasks_stay m past who = ap (λ (ss : List ScriptPosition). record { positions = ss; marks = raised (length m.marks) past }) (sym (positions_stay who (positions (length m.actors) past)))
 
-freezer_stays : (m : Machine) (past : List Entry) (who : Actor) → freezer_of m past ≡ record { scripts = m.actors; freezings = freezings m.actors past; gone = exits (seats_after who Stays (seats (length m.actors) past)) }
-freezer_stays m past who = ap (λ (ss : List Seat). record { scripts = m.actors; freezings = freezings m.actors past; gone = exits ss }) (sym (seats_stay who (seats (length m.actors) past)))
+freezer_stays : (m : Machine) (past : List Entry) (who : Actor) → freezer_of m past ≡ record { scripts = m.actors; freezings = freezings m.actors past; exited_flags = exits (positions_after who Stays (positions (length m.actors) past)) }
+freezer_stays m past who = ap (λ (ss : List ScriptPosition). record { scripts = m.actors; freezings = freezings m.actors past; exited_flags = exits ss }) (sym (positions_stay who (positions (length m.actors) past)))
 
 autosleep_stays : (past : List Entry) (who : Actor) (k : Kind) → work_step k (work past) ≡ work past
     → autosleep_of past ≡ record { holder = holder past; on = is_on past; work = work_after who k (work past); queued = is_queued past; runs = runs past }

@@ -8,9 +8,9 @@ use Rattle.sleep_model.specs.declared.entry.Group.TheVariants as group
 use Rattle.sleep_model.specs.declared.entry.Thaw.TheVariants as thaw
 use Rattle.sleep_model.specs.declared.machine.PlatDo.TheVariants as down
 use Rattle.sleep_model.specs.declared.machine.PlatUndo.TheVariants as undo
-use Rattle.sleep_model.specs.declared.place.Stage.{Stage}
-use Rattle.sleep_model.specs.declared.place.Stage.TheVariants as stage
-use Rattle.sleep_model.specs.Table.{stage_of, behind}
+use Rattle.sleep_model.specs.declared.progress.Stage.{Stage}
+use Rattle.sleep_model.specs.declared.progress.Stage.TheVariants as stage
+use Rattle.sleep_model.specs.Table.{stage_of, next_stage}
 use Rattle.sleep_laws.proofs.Made.{Down, InSuspend, InLate, InNoirq, Up, InResume, InEarly, InResumeNoirq}
 use Rattle.sleep_laws.proofs.Making.{Proper, ProperIf, stage_proper}
 use Rattle.sleep_core.specs.Stages.{IsProper}
@@ -34,25 +34,25 @@ proper_so _ h = tt
 pub proper_of : (past : List Entry) (here : Stage) → stage_of past ≡ Some here → IsProper here
 proper_of past here e = proper_so here (subst ProperIf e (stage_proper past))
 
--- so is the stage behind a proper one
-pub proper_behind : (s : Stage) → IsProper s → IsProper (behind s)
-proper_behind (stage.Freezes group.User) h = tt
-proper_behind (stage.Freezes group.Kernel) h = tt
-proper_behind (stage.PlatformDown down.Begin) h = tt
-proper_behind (stage.PlatformDown down.Prepare) h = refl
-proper_behind (stage.PlatformDown down.PrepareLate) h = tt
-proper_behind stage.Prepares h = refl
-proper_behind (stage.Downs phase.Late) h = refl
-proper_behind (stage.Downs _) h = tt
-proper_behind (stage.PlatformUp undo.Recover) h = refl
-proper_behind (stage.PlatformUp undo.Wake) h = refl
-proper_behind (stage.PlatformUp undo.Finish) h = refl
-proper_behind (stage.PlatformUp undo.End) h = tt
-proper_behind (stage.Ups phase.ResumeNoirq) h = refl
-proper_behind (stage.Ups _) h = tt
-proper_behind (stage.Thaws thaw.Kernel) h = tt
-proper_behind (stage.Thaws thaw.All) h = tt
-proper_behind _ h = tt
+-- so is the stage after a proper one
+pub proper_after : (s : Stage) → IsProper s → IsProper (next_stage s)
+proper_after (stage.Freezes group.User) h = tt
+proper_after (stage.Freezes group.Kernel) h = tt
+proper_after (stage.PlatformDown down.Begin) h = tt
+proper_after (stage.PlatformDown down.Prepare) h = refl
+proper_after (stage.PlatformDown down.PrepareLate) h = tt
+proper_after stage.Prepares h = refl
+proper_after (stage.Downs phase.Late) h = refl
+proper_after (stage.Downs _) h = tt
+proper_after (stage.PlatformUp undo.Recover) h = refl
+proper_after (stage.PlatformUp undo.Wake) h = refl
+proper_after (stage.PlatformUp undo.Finish) h = refl
+proper_after (stage.PlatformUp undo.End) h = tt
+proper_after (stage.Ups phase.ResumeNoirq) h = refl
+proper_after (stage.Ups _) h = tt
+proper_after (stage.Thaws thaw.Kernel) h = tt
+proper_after (stage.Thaws thaw.All) h = tt
+proper_after _ h = tt
 
 -- where there is one
 pub proper_if : (past : List Entry) (o : Option Stage) → o ≡ stage_of past → IfSome o IsProper

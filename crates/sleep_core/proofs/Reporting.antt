@@ -14,9 +14,9 @@ use Rattle.sleep_model.specs.Answers.{answer_for, answer_reports, own_or, is_thi
 use Rattle.sleep_model.specs.Calls.{calls_due, report_calls}
 use Rattle.sleep_model.specs.Path.{attempts, is_same}
 use Rattle.fit_laws.proofs.Planning.{reports_made, calls_counted}
-use Rattle.sleep_state.specs.Places.{entries}
+use Rattle.sleep_state.specs.JournalRooms.{entries}
 use Rattle.sleep_core.specs.Cores.{IsActor}
-use Rattle.sleep_core.specs.Histories.{Kept, after_entry}
+use Rattle.sleep_core.specs.Histories.{HistoryState, after_entry}
 use Rattle.sleep_core.specs.Reports.{ReportCounts, reported_by, grown_at, counts_after, counts_of}
 
 -- ---- a number that grows
@@ -131,8 +131,8 @@ reports_few m thing n are = few_or (answer_for thing (Some n) m.answers) (answer
 -- ---- the counts after an entry
 
 -- an entry that is appended adds the reports of the callback that it begins
-pub counts_more : (h reserved new : Kept) (j : JournalEntry) → reserved.machine ≡ h.machine → reserved.past ≡ h.past → new ≡ after_entry reserved j
+pub counts_more : (h reserved new : HistoryState) (j : JournalEntry) → reserved.machine ≡ h.machine → reserved.past ≡ h.past → new ≡ after_entry reserved j
     → counts_of new.machine (entries new.past) ≡ counts_after j.entry.actor (length (report_calls h.machine (attempts (entries h.past)) j.entry.kind)) (counts_of h.machine (entries h.past))
 counts_more h reserved new j machine past new_is =
-    ap (λ (k : Kept). counts_of k.machine (entries k.past)) new_is
+    ap (λ (k : HistoryState). counts_of k.machine (entries k.past)) new_is
     ∙ (ap (λ (m : Machine). counts_of m (entries (j ∷ reserved.past))) machine ∙ ap (λ (xs : List JournalEntry). counts_of h.machine (entries (j ∷ xs))) past)

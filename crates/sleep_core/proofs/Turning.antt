@@ -8,9 +8,9 @@ use Rattle.sleep_model.specs.declared.entry.JournalEntry.{JournalEntry}
 use Rattle.sleep_model.specs.declared.entry.Kind.{Kind}
 use Rattle.sleep_model.specs.declared.entry.Kind.TheVariants as kind
 use Rattle.sleep_model.specs.declared.machine.Machine.{Machine}
-use Rattle.sleep_model.specs.declared.place.Due.TheVariants.{Makes}
-use Rattle.sleep_model.specs.declared.place.Sleep.{Sleep}
-use Rattle.sleep_model.specs.declared.place.Stage.{Stage}
+use Rattle.sleep_model.specs.declared.progress.Due.TheVariants.{Makes}
+use Rattle.sleep_model.specs.declared.progress.Sleep.{Sleep}
+use Rattle.sleep_model.specs.declared.progress.Stage.{Stage}
 use Rattle.sleep_model.specs.declared.word.EventNow.{EventNow}
 use Rattle.sleep_model.specs.declared.word.Stamp.{Stamp}
 use Rattle.sleep_model.specs.Accepted.{IsAccepted}
@@ -19,46 +19,46 @@ use Rattle.sleep_model.specs.Devices.{is_device}
 use Rattle.sleep_model.specs.Due.{due}
 use Rattle.sleep_model.specs.Legal.{JournalStep, JournalPart}
 use Rattle.sleep_model.specs.Numbers.{time_of, time_after}
-use Rattle.sleep_model.specs.Parts.{OfJournal, part_of}
+use Rattle.sleep_model.specs.EntryClasses.{OfJournal, class_of}
 use Rattle.sleep_model.specs.Autosleep.{runs, runs_after}
 use Rattle.sleep_model.specs.Marks.{raised}
 use Rattle.sleep_model.specs.Path.{attempts, attempts_after, is_actor, maker}
 use Rattle.sleep_state.specs.TaskStates.{MarksAreSmall}
-use Rattle.sleep_core.proofs.Seated.{seat_small}
+use Rattle.sleep_core.proofs.Positioned.{position_small}
 use Rattle.sleep_model.specs.Word.{position}
 use Rattle.sleep_laws.proofs.Made.{Made, DeviceMade, StepMade, TaskMade, WorkMade, EntryMade, ByMaker, ByTask, ByWork, ByDevice, ByTime}
 use Rattle.sleep_laws.proofs.MakingOwn.{made}
 use Rattle.attempt_laws.specs.Room.{needed, enough, is_attempt}
 use Rattle.attempt_laws.proofs.Needing.{none_needed, due_own_spends, due_attempt_needs, due_needs_nothing, jump_needs_nothing}
-use Rattle.sleep_state.specs.Places.{entries}
+use Rattle.sleep_state.specs.JournalRooms.{entries}
 use Rattle.sleep_core.specs.CoreFields.{SleptEarly, FrozeEarly, IsCore}
 use Rattle.sleep_core.specs.Cores.{CoreState, IsActor}
-use Rattle.sleep_core.specs.Histories.{Kept, Admits, HasRoom, places_for, after_entry}
+use Rattle.sleep_core.specs.Histories.{HistoryState, Admits, HasRoom, room_for, after_entry}
 use Rattle.sleep_core.specs.Numbered.{Leaves, IsCounted}
 
 -- ---- what is due is of the journal
 
-made_part : (m : Machine) (past : List Entry) (now : EventNow) (here : Stage) (k : Kind) → Made m past now here k → part_of k ≡ OfJournal
+made_part : (m : Machine) (past : List Entry) (now : EventNow) (here : Stage) (k : Kind) → Made m past now here k → class_of k ≡ OfJournal
 made_part m past now _ _ Made.Ends = refl
 made_part m past now _ _ _ = refl
 
-step_part : (m : Machine) (past : List Entry) (now : EventNow) (seat : _) (asked : Bool) (o : _) (k : Kind) → StepMade m past now seat asked o k → part_of k ≡ OfJournal
-step_part m past now seat asked _ _ StepMade.Exits = refl
-step_part m past now seat asked _ _ _ = refl
+step_part : (m : Machine) (past : List Entry) (now : EventNow) (script_position : _) (asked : Bool) (o : _) (k : Kind) → StepMade m past now script_position asked o k → class_of k ≡ OfJournal
+step_part m past now script_position asked _ _ StepMade.Exits = refl
+step_part m past now script_position asked _ _ _ = refl
 
-task_part : (m : Machine) (past : List Entry) (now : EventNow) (i : ℕ) (k : Kind) → TaskMade m past now i k → part_of k ≡ OfJournal
+task_part : (m : Machine) (past : List Entry) (now : EventNow) (i : ℕ) (k : Kind) → TaskMade m past now i k → class_of k ≡ OfJournal
 task_part m past now i _ (TaskMade.Freezes s may asked) = refl
 task_part m past now i k (TaskMade.Steps s _ o may at x) = step_part m past now _ _ o k x
 
-work_part : (m : Machine) (past : List Entry) (now : EventNow) (w : _) (k : Kind) → WorkMade m past now w k → part_of k ≡ OfJournal
+work_part : (m : Machine) (past : List Entry) (now : EventNow) (w : _) (k : Kind) → WorkMade m past now w k → class_of k ≡ OfJournal
 work_part m past now _ _ WorkMade.Runs = refl
 work_part m past now _ _ _ = refl
 
-device_part : (m : Machine) (past : List Entry) (now : EventNow) (d : ℕ) (k : Kind) → DeviceMade m past now d k → part_of k ≡ OfJournal
-device_part m past now d _ (DeviceMade.OwnEnds p r down beside work stands) = refl
+device_part : (m : Machine) (past : List Entry) (now : EventNow) (d : ℕ) (k : Kind) → DeviceMade m past now d k → class_of k ≡ OfJournal
+device_part m past now d _ (DeviceMade.OwnEnds p r down beside work states) = refl
 device_part m past now d _ _ = refl
 
-entry_part : (m : Machine) (past : List Entry) (now : EventNow) (who : Actor) (k : Kind) → IsActor m who → EntryMade m past now who k → part_of k ≡ OfJournal
+entry_part : (m : Machine) (past : List Entry) (now : EventNow) (who : Actor) (k : Kind) → IsActor m who → EntryMade m past now who k → class_of k ≡ OfJournal
 entry_part m past now who k is (ByMaker _ here there _ maker at comes x) = made_part m past now there k x
 entry_part m past now _ k is (ByTask i _ not x) = task_part m past now i k x
 entry_part m past now _ k is (ByWork w _ not awake goes at x) = work_part m past now w k x
@@ -77,7 +77,7 @@ made_uncounted m past now _ _ Made.Ends h = h
 made_uncounted m past now _ _ _ h = h
 
 device_uncounted : (m : Machine) (past : List Entry) (now : EventNow) (d : ℕ) (k : Kind) → DeviceMade m past now d k → IsCounted k → ⊥
-device_uncounted m past now d _ (DeviceMade.OwnEnds p r down beside work stands) h = h
+device_uncounted m past now d _ (DeviceMade.OwnEnds p r down beside work states) h = h
 device_uncounted m past now d _ _ h = h
 
 entry_outside : (m : Machine) (past : List Entry) (now : EventNow) (who : Actor) (k : Kind) → EntryMade m past now who k → IsCounted k → (is_actor who (maker past) ≡ false) × (is_device who ≡ false)
@@ -116,16 +116,16 @@ time_early _ at before a b = b
 
 -- ---- room
 
-attempt_places : (m : Machine) (k : Kind) (who : Option Actor) (room : ℕ) → is_attempt k ≡ true → places_for m k who room ≡ enough m
-attempt_places m (kind.Attempt n guarded) who room is = refl
-attempt_places m _ who room is = absurd (false≢true is)
+attempt_room : (m : Machine) (k : Kind) (who : Option Actor) (room : ℕ) → is_attempt k ≡ true → room_for m k who room ≡ enough m
+attempt_room m (kind.Attempt n guarded) who room is = refl
+attempt_room m _ who room is = absurd (false≢true is)
 
-other_places : (m : Machine) (k : Kind) (who : Option Actor) (room places : ℕ) → is_attempt k ≡ false → places_for m k who room ≤ places → (who ≡ None → 1 ≤ places) × ((who ≡ None → ⊥) → room + 1 ≤ places)
+other_places : (m : Machine) (k : Kind) (who : Option Actor) (room places : ℕ) → is_attempt k ≡ false → room_for m k who room ≤ places → (who ≡ None → 1 ≤ places) × ((who ≡ None → ⊥) → room + 1 ≤ places)
 other_places m (kind.Attempt n guarded) who room places is fits = absurd (false≢true (sym is))
 other_places m k None room places is fits = (λ none. fits, λ some. absurd (some refl))
 other_places m k (Some w) room places is fits = (λ none. absurd (let e : Some w ≡ None = none in cc), λ some. fits)
 
--- the room that an entry wants, and that is left behind it
+-- the room that an entry wants, and that is left after it
 pub record Suffices (m : Machine) (past : List Entry) (e : Entry) (room : ℕ) : Type 0 where
   pub place : 0 < room
   pub rest : needed m (e ∷ past) + 1 ≤ room
@@ -139,10 +139,10 @@ by_maker m past legal e room places fits same (Some w) is more =
     let one : room + 1 ≤ places = more.1 (λ none. let e : Some w ≡ None = none in cc) in
     record { place = omega (arith, one); rest = omega (arith, same, fits, one) }
 
-other_room : (m : Machine) (past : List Entry) → JournalPart m past → (e : Entry) (room places : ℕ) → due m past e.actor e.now ≡ Makes e.kind → needed m past ≤ room → is_actor e.actor (maker past) ≡ false → is_device e.actor ≡ false → places_for m e.kind (maker past) room ≤ places → (b : Bool) → is_attempt e.kind ≡ b → Suffices m past e places
+other_room : (m : Machine) (past : List Entry) → JournalPart m past → (e : Entry) (room places : ℕ) → due m past e.actor e.now ≡ Makes e.kind → needed m past ≤ room → is_actor e.actor (maker past) ≡ false → is_device e.actor ≡ false → room_for m e.kind (maker past) room ≤ places → (b : Bool) → is_attempt e.kind ≡ b → Suffices m past e places
 other_room m past legal e room places makes fits not_maker not_device more true is =
     let spends : needed m (e ∷ past) + 1 ≤ enough m = due_attempt_needs m past legal e.time e.now e.actor e.kind makes is in
-    let all : places_for m e.kind (maker past) room ≡ enough m = attempt_places m e.kind (maker past) room is in
+    let all : room_for m e.kind (maker past) room ≡ enough m = attempt_room m e.kind (maker past) room is in
     record { place = omega (arith, spends, all, more); rest = omega (arith, spends, all, more) }
 other_room m past legal e room places makes fits not_maker not_device more false is =
     by_maker m past legal e room places fits (due_needs_nothing m past legal e.time e.now e.actor e.kind makes not_maker not_device is) (maker past) refl
@@ -153,7 +153,7 @@ either true b e = absurd (false≢true e)
 either false b e = (refl, sym e)
 
 -- the room that was made for an entry suffices
-pub room_suffices : (m : Machine) (past : List Entry) → JournalPart m past → IsAccepted m → (e : Entry) (room places : ℕ) → due m past e.actor e.now ≡ Makes e.kind → needed m past ≤ room → (own : Bool) → own ≡ (is_actor e.actor (maker past) || is_device e.actor) → (own ≡ true → places ≡ room) → (own ≡ false → places_for m e.kind (maker past) room ≤ places) → Suffices m past e places
+pub room_suffices : (m : Machine) (past : List Entry) → JournalPart m past → IsAccepted m → (e : Entry) (room places : ℕ) → due m past e.actor e.now ≡ Makes e.kind → needed m past ≤ room → (own : Bool) → own ≡ (is_actor e.actor (maker past) || is_device e.actor) → (own ≡ true → places ≡ room) → (own ≡ false → room_for m e.kind (maker past) room ≤ places) → Suffices m past e places
 room_suffices m past legal accepted e room places makes fits true is own other =
     let spends : needed m (e ∷ past) + 1 ≤ needed m past = due_own_spends m past legal e.time e.now accepted e.actor e.kind makes (sym is) in
     let same : places ≡ room = own refl in
@@ -163,8 +163,8 @@ room_suffices m past legal accepted e room places makes fits false is own other 
     other_room m past legal e room places makes fits none.0 none.1 (other refl) (is_attempt e.kind) refl
 
 -- a core with more room is one
-pub core_kept : (h reserved : Kept) → IsCore h → reserved.machine ≡ h.machine → reserved.past ≡ h.past → h.room ≤ reserved.room → IsCore reserved
-core_kept h reserved is machine past grows =
+pub core_preserved : (h reserved : HistoryState) → IsCore h → reserved.machine ≡ h.machine → reserved.past ≡ h.past → h.room ≤ reserved.room → IsCore reserved
+core_preserved h reserved is machine past grows =
     let there : IsCore (record h { room = reserved.room }) = record {
       accepted = is.accepted;
       legal = is.legal;
@@ -182,18 +182,18 @@ abbrev seen_core : Machine → List JournalEntry → CoreState
 seen_core m past = record { machine = m; past = past }
 
 -- contracts see no room
-pub core_seen : (h reserved new : Kept) → reserved.machine ≡ h.machine → reserved.past ≡ h.past → new ≡ reserved → seen_core new.machine new.past ≡ seen_core h.machine h.past
+pub core_seen : (h reserved new : HistoryState) → reserved.machine ≡ h.machine → reserved.past ≡ h.past → new ≡ reserved → seen_core new.machine new.past ≡ seen_core h.machine h.past
 core_seen h reserved new machine past same =
-    ap (λ (k : Kept). seen_core k.machine k.past) same ∙ (ap (λ m. seen_core m reserved.past) machine ∙ ap (seen_core h.machine) past)
+    ap (λ (k : HistoryState). seen_core k.machine k.past) same ∙ (ap (λ m. seen_core m reserved.past) machine ∙ ap (seen_core h.machine) past)
 
 -- the core after an entry that was due, in the room that was made for it
-pub core_more : (h reserved new : Kept) (j : JournalEntry) (own : Bool) → IsCore h → IsActor h.machine j.entry.actor → due h.machine (entries h.past) j.entry.actor j.entry.now ≡ Makes j.entry.kind → j.entry.time ≡ time_of (entries h.past) → Leaves h.machine j.entry.kind (entries h.past) → own ≡ (is_actor j.entry.actor (maker (entries h.past)) || is_device j.entry.actor) → HasRoom own j.entry.kind h reserved → new ≡ after_entry reserved j → IsCore new
+pub core_more : (h reserved new : HistoryState) (j : JournalEntry) (own : Bool) → IsCore h → IsActor h.machine j.entry.actor → due h.machine (entries h.past) j.entry.actor j.entry.now ≡ Makes j.entry.kind → j.entry.time ≡ time_of (entries h.past) → Leaves h.machine j.entry.kind (entries h.past) → own ≡ (is_actor j.entry.actor (maker (entries h.past)) || is_device j.entry.actor) → HasRoom own j.entry.kind h reserved → new ≡ after_entry reserved j → IsCore new
 core_more h reserved new j own core is makes at leaves own_is has new_is =
     let m = h.machine in
     let past = entries h.past in
     let suffices = room_suffices m past core.legal core.accepted j.entry h.room reserved.room makes core.room own own_is has.own_room has.other_room in
-    let kept : Kept = record { machine = m; past = j ∷ h.past; room = reserved.room - 1 } in
-    let here : new ≡ kept = new_is ∙ (ap (λ (x : Machine). record { machine = x; past = j ∷ reserved.past; room = reserved.room - 1 }) has.machine ∙ ap (λ (xs : List JournalEntry). record { machine = m; past = j ∷ xs; room = reserved.room - 1 }) has.past) in
+    let history_seen : HistoryState = record { machine = m; past = j ∷ h.past; room = reserved.room - 1 } in
+    let here : new ≡ history_seen = new_is ∙ (ap (λ (x : Machine). record { machine = x; past = j ∷ reserved.past; room = reserved.room - 1 }) has.machine ∙ ap (λ (xs : List JournalEntry). record { machine = m; past = j ∷ xs; room = reserved.room - 1 }) has.past) in
     let early : j.entry.time ≤ 2 ^ 63 = subst (λ t. t ≤ 2 ^ 63) (sym at) core.early in
     subst IsCore (sym here) (record {
       accepted = core.accepted;
@@ -206,7 +206,7 @@ core_more h reserved new j own core is makes at leaves own_is has new_is =
     })
 
 -- an entry that is due may be appended in that room
-pub admits_more : (h reserved : Kept) (e : Entry) (own : Bool) → IsCore h → due h.machine (entries h.past) e.actor e.now ≡ Makes e.kind → Leaves h.machine e.kind (entries h.past) → own ≡ (is_actor e.actor (maker (entries h.past)) || is_device e.actor) → HasRoom own e.kind h reserved → length reserved.past < 2 ^ 63 → Admits reserved e
+pub admits_more : (h reserved : HistoryState) (e : Entry) (own : Bool) → IsCore h → due h.machine (entries h.past) e.actor e.now ≡ Makes e.kind → Leaves h.machine e.kind (entries h.past) → own ≡ (is_actor e.actor (maker (entries h.past)) || is_device e.actor) → HasRoom own e.kind h reserved → length reserved.past < 2 ^ 63 → Admits reserved e
 admits_more h reserved e own core makes leaves own_is has short =
     let m = h.machine in
     let past = entries h.past in
@@ -216,7 +216,7 @@ admits_more h reserved e own core makes leaves own_is has short =
       room = suffices.place;
       attempts = subst (λ (xs : List JournalEntry). attempts_after e.kind (attempts (entries xs)) < 2 ^ 32) (sym has.past) (omega (arith, few));
       runs = subst (λ (xs : List JournalEntry). runs_after e.kind (runs (entries xs)) < 2 ^ 32) (sym has.past) leaves.runs;
-      seat = seat_small (length reserved.machine.actors) reserved.past e.actor short;
+      script_position = position_small (length reserved.machine.actors) reserved.past e.actor short;
       marks = subst (λ (xs : List JournalEntry). MarksAreSmall e.kind (raised (length reserved.machine.marks) (entries xs))) (sym has.past)
           (subst (λ (x : Machine). MarksAreSmall e.kind (raised (length x.marks) past)) (sym has.machine) leaves.marks);
     }
@@ -224,12 +224,12 @@ admits_more h reserved e own core makes leaves own_is has short =
 -- ---- jumps of time
 
 -- the core after a jump
-pub core_jumped : (h reserved new : Kept) (s : Stamp) (t : ℕ) (now : EventNow) → IsCore h → reserved.machine ≡ h.machine → reserved.past ≡ h.past → h.room + 1 ≤ reserved.room → time_of (entries h.past) < t → t ≤ 2 ^ 63
+pub core_jumped : (h reserved new : HistoryState) (s : Stamp) (t : ℕ) (now : EventNow) → IsCore h → reserved.machine ≡ h.machine → reserved.past ≡ h.past → h.room + 1 ≤ reserved.room → time_of (entries h.past) < t → t ≤ 2 ^ 63
     → new ≡ after_entry reserved (record { stamp = s; entry = record { time = t; now = now; actor = actor.Time; kind = kind.Jump } }) → IsCore new
 core_jumped h reserved new s t now core machine past room later small new_is =
     let j : JournalEntry = record { stamp = s; entry = record { time = t; now = now; actor = actor.Time; kind = kind.Jump } } in
-    let kept : Kept = record { machine = h.machine; past = j ∷ h.past; room = reserved.room - 1 } in
-    let here : new ≡ kept = new_is ∙ (ap (λ (x : Machine). record { machine = x; past = j ∷ reserved.past; room = reserved.room - 1 }) machine ∙ ap (λ (xs : List JournalEntry). record { machine = h.machine; past = j ∷ xs; room = reserved.room - 1 }) past) in
+    let history_seen : HistoryState = record { machine = h.machine; past = j ∷ h.past; room = reserved.room - 1 } in
+    let here : new ≡ history_seen = new_is ∙ (ap (λ (x : Machine). record { machine = x; past = j ∷ reserved.past; room = reserved.room - 1 }) machine ∙ ap (λ (xs : List JournalEntry). record { machine = h.machine; past = j ∷ xs; room = reserved.room - 1 }) past) in
     subst IsCore (sym here) (record {
       accepted = core.accepted;
       legal = ((refl, later), core.legal);

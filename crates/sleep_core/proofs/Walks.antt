@@ -6,12 +6,12 @@ use Rattle.phase_table.specs.Phases.{is_down, is_up}
 use Rattle.sleep_model.specs.declared.word.EventNow.{EventNow}
 use Rattle.sleep_model.specs.Devices.{phase_failed, own_error, asks_direct}
 use Rattle.sleep_model.specs.Runtime.{may_wake, statuses}
-use Rattle.async_board.specs.AtPlaces.{board_at}
+use Rattle.async_board.specs.AtPoints.{board_at}
 use Rattle.phase_suspend.specs.declared.down.Down.{Down}
 use Rattle.phase_suspend.specs.declared.down.DownEnv.{DownEnv}
-use Rattle.phase_suspend.specs.AtPlaces.{down_at}
+use Rattle.phase_suspend.specs.AtPoints.{down_at}
 use Rattle.phase_suspend.specs.Downs.{down_state}
-use Rattle.sleep_state.specs.Places.{entries}
+use Rattle.sleep_state.specs.JournalRooms.{entries}
 use Rattle.sleep_core.specs.Cores.{CoreState}
 use Rattle.sleep_core.specs.Seen.{AreSeen}
 

@@ -1,6 +1,6 @@
 -- What the core keeps: a legal journal, with room for what its open attempt needs.
 use Rattle.std.specs.Prelude.{◌≡◌, ◌≤◌, ◌<◌, ◌+◌, ◌^◌, ℕ, map, Option, Some, None}
-use Rattle.sleep_model.specs.declared.place.Sleep.{Sleep}
+use Rattle.sleep_model.specs.declared.progress.Sleep.{Sleep}
 use Rattle.sleep_model.specs.Accepted.{IsAccepted}
 use Rattle.sleep_model.specs.Attempt.{freeze_since, sleep_of}
 use Rattle.sleep_model.specs.Legal.{JournalPart}
@@ -8,10 +8,10 @@ use Rattle.sleep_model.specs.Numbers.{time_of}
 use Rattle.sleep_model.specs.Path.{attempts}
 use Rattle.sleep_model.specs.Runtime.{may_wake}
 use Rattle.attempt_laws.specs.Room.{needed}
-use Rattle.sleep_state.specs.Places.{entries}
+use Rattle.sleep_state.specs.JournalRooms.{entries}
 use Rattle.sleep_core.specs.declared.state.Core.TheInside.{Inside}
 use Rattle.sleep_core.specs.Cores.{CoreState}
-use Rattle.sleep_core.specs.Histories.{Kept}
+use Rattle.sleep_core.specs.Histories.{HistoryState}
 use Rattle.sleep_core.specs.Reports.{counts_of}
 
 -- a machine that sleeps does so since an early moment
@@ -25,7 +25,7 @@ FrozeEarly None = Unit {0}
 FrozeEarly (Some since) = since ≤ 2 ^ 63
 
 -- the history is a legal journal of an accepted machine, with room for what its open attempt needs, and its numbers stay small
-pub record IsCore (h : Kept) : Type 0 where
+pub record IsCore (h : HistoryState) : Type 0 where
   pub accepted : IsAccepted h.machine
   pub legal : JournalPart h.machine (entries h.past)
   pub room : needed h.machine (entries h.past) ≤ h.room
@@ -35,8 +35,8 @@ pub record IsCore (h : Kept) : Type 0 where
   pub froze : FrozeEarly (freeze_since (entries h.past))
 
 -- the core as contracts see it
-abbrev pub state : Inside → CoreState
-state c = record { machine = c.history.machine; past = c.history.past }
+abbrev pub seen_core : Inside → CoreState
+seen_core c = record { machine = c.history.machine; past = c.history.past }
 
 -- what holds of a core between calls: the plans are its machine's, it keeps its history, and counts the reports of callbacks
 pub record IsWhole (c : Inside) : Type 0 where
@@ -46,5 +46,5 @@ pub record IsWhole (c : Inside) : Type 0 where
   pub reports_are : c.reports ≡ counts_of c.history.machine (entries c.history.past)
 
 -- what holds of a core between calls
-abbrev pub keeps : Inside → Type 0
-keeps c = IsWhole c
+abbrev pub core_invariant : Inside → Type 0
+core_invariant c = IsWhole c

@@ -7,7 +7,7 @@ use Rattle.sleep_model.specs.declared.entry.Actor.{Actor}
 use Rattle.sleep_model.specs.declared.entry.Kind.{Kind}
 use Rattle.sleep_model.specs.declared.entry.Kind.TheVariants as kind
 use Rattle.sleep_model.specs.declared.machine.Machine.{Machine}
-use Rattle.sleep_model.specs.declared.place.Seat.{Seat}
+use Rattle.sleep_model.specs.declared.progress.ScriptPosition.{ScriptPosition}
 use Rattle.sleep_model.specs.declared.word.EventNow.{EventNow}
 use Rattle.sleep_model.specs.declared.word.Stamp.{Stamp}
 use Rattle.sleep_model.specs.Attempt.{failed, freeze_since, sleep_of}
@@ -17,13 +17,13 @@ use Rattle.sleep_model.specs.Freezer.{freezings}
 use Rattle.sleep_model.specs.Guard.{in_force, forgotten}
 use Rattle.sleep_model.specs.Lock.{holder, is_on}
 use Rattle.sleep_model.specs.Marks.{raised}
-use Rattle.sleep_model.specs.Notifiers.{call_order, told, cpus_off, stopped}
+use Rattle.sleep_model.specs.Notifiers.{call_order, notified_flags, cpus_off, stopped}
 use Rattle.sleep_model.specs.Numbers.{time_of}
 use Rattle.sleep_model.specs.Order.{links_added, links_after, links_at, links_set, parents_of}
 use Rattle.sleep_model.specs.Path.{attempts, attempts_after, maker}
 use Rattle.sleep_model.specs.Runtime.{is_async, statuses, disabled_by_direct, disabled_by_late}
-use Rattle.sleep_model.specs.Seats.{seats}
-use Rattle.sleep_model.specs.Stands.{stands}
+use Rattle.sleep_model.specs.Positions.{positions}
+use Rattle.sleep_model.specs.PhaseStates.{phase_states}
 use Rattle.sleep_model.specs.Table.{stage_of}
 use Rattle.attempt_laws.specs.Room.{enough}
 use Rattle.async_board.specs.Boards.{BoardState, board_after, first_board}
@@ -31,9 +31,9 @@ use Rattle.platform_steps.specs.Steps.{Steps}
 use Rattle.autosleep_loop.specs.Autosleeps.{AutosleepState}
 use Rattle.sleep_state.specs.DeviceStates.{DeviceState}
 use Rattle.sleep_state.specs.Paths.{PathState}
-use Rattle.sleep_state.specs.Places.{entries}
-use Rattle.sleep_state.specs.TaskStates.{TaskState, SeatIsSmall, MarksAreSmall}
-use Rattle.syscore_ops.specs.Parts.{Parts}
+use Rattle.sleep_state.specs.JournalRooms.{entries}
+use Rattle.sleep_state.specs.TaskStates.{TaskState, PositionIsSmall, MarksAreSmall}
+use Rattle.syscore_ops.specs.SyscoreStates.{SyscoreState}
 use Rattle.task_freezer.specs.Freezers.{FreezerState}
 use Rattle.wakeup_guard.specs.Guarded.{Guarded}
 
@@ -72,25 +72,25 @@ board_of m past = record {
   parents = parents_of m.devices;
   links = links_at m past;
   asynchronous = map is_async m.devices;
-  suspend = stands (length m.devices) phase.Suspend past;
-  late = stands (length m.devices) phase.Late past;
-  noirq = stands (length m.devices) phase.Noirq past;
+  suspend = phase_states (length m.devices) phase.Suspend past;
+  late = phase_states (length m.devices) phase.Late past;
+  noirq = phase_states (length m.devices) phase.Noirq past;
 }
 
 -- where each script stands
 abbrev pub tasks_of : Machine → List Entry → TaskState
-tasks_of m past = record { seats = seats (length m.actors) past; marks = raised (length m.marks) past }
+tasks_of m past = record { positions = positions (length m.actors) past; marks = raised (length m.marks) past }
 
 -- which of the scripts that stand so have exited
-abbrev pub exits : List Seat → List Bool
-exits seats = map (λ s. s.exited) seats
+abbrev pub exits : List ScriptPosition → List Bool
+exits positions = map (λ s. s.exited) positions
 
 -- what the freezer has come to with each script
 abbrev pub freezer_of : Machine → List Entry → FreezerState
 freezer_of m past = record {
   scripts = m.actors;
   freezings = freezings m.actors past;
-  gone = exits (seats (length m.actors) past);
+  exited_flags = exits (positions (length m.actors) past);
 }
 
 -- the autosleep lock, its setting, and the work
@@ -99,16 +99,16 @@ autosleep_of past = record { holder = holder past; on = is_on past; work = work 
 
 -- the notifiers and the other processors
 abbrev pub steps_of : Machine → List Entry → Steps
-steps_of m past = record { order = call_order m; told = told m past; cpus = m.cpus; off = cpus_off m.cpus past }
+steps_of m past = record { order = call_order m; notified_flags = notified_flags m past; cpus = m.cpus; off = cpus_off m.cpus past }
 
 -- the core's parts
-abbrev pub parts_of : Machine → List Entry → Parts
-parts_of m past = record { n = length m.syscore; flags = stopped (length m.syscore) past }
+abbrev pub syscore_of : Machine → List Entry → SyscoreState
+syscore_of m past = record { n = length m.syscore; flags = stopped (length m.syscore) past }
 
 -- ---- the history
 
 -- the machine, the entries so far, the newest first, and how many more have a place
-pub record Kept : Type 0 where
+pub record HistoryState : Type 0 where
   pub machine : Machine
   pub past : List JournalEntry
   pub room : ℕ
@@ -119,12 +119,12 @@ last_stamp [] = record { pos = 0; tick = 0 }
 last_stamp (j ∷ past) = j.stamp
 
 -- an entry may be appended: it has a place, and no number runs over
-pub record Admits (kept : Kept) (e : Entry) : Type 0 where
-  pub room : 0 < kept.room
-  pub attempts : attempts_after e.kind (attempts (entries kept.past)) < 2 ^ 32
-  pub runs : runs_after e.kind (runs (entries kept.past)) < 2 ^ 32
-  pub seat : SeatIsSmall e.actor (seats (length kept.machine.actors) (entries kept.past))
-  pub marks : MarksAreSmall e.kind (raised (length kept.machine.marks) (entries kept.past))
+pub record Admits (history_seen : HistoryState) (e : Entry) : Type 0 where
+  pub room : 0 < history_seen.room
+  pub attempts : attempts_after e.kind (attempts (entries history_seen.past)) < 2 ^ 32
+  pub runs : runs_after e.kind (runs (entries history_seen.past)) < 2 ^ 32
+  pub position : PositionIsSmall e.actor (positions (length history_seen.machine.actors) (entries history_seen.past))
+  pub marks : MarksAreSmall e.kind (raised (length history_seen.machine.marks) (entries history_seen.past))
 
 -- an entry of that kind adds a link, or sets the state of one (device_link_add)
 abbrev pub Changes : Kind → Type 0
@@ -140,7 +140,7 @@ moved_board (kind.LinkState supplier consumer active None) board =
     first_board board.parents (links_set supplier consumer active None board.links) board.asynchronous
 moved_board k board = board_after k board
 
--- no device is prepared where an entry changes links, so that the board begins anew behind it
+-- no device is prepared where an entry changes links, so that the board begins anew after it
 abbrev pub Settles : Machine → List Entry → Entry → Type 0
 Settles m past e =
     Changes e.kind → first_board (parents_of m.devices) (links_after e.kind (links_at m past)) (map is_async m.devices) ≡ board_of m (e ∷ past)
@@ -176,29 +176,29 @@ IsOfTask (kind.Got mark) = Unit {0}
 IsOfTask _ = ⊥
 
 -- the history after an entry
-abbrev pub after_entry : Kept → JournalEntry → Kept
-after_entry kept j = record kept { past = j ∷ kept.past; room = kept.room - 1 }
+abbrev pub after_entry : HistoryState → JournalEntry → HistoryState
+after_entry history_seen j = record history_seen { past = j ∷ history_seen.past; room = history_seen.room - 1 }
 
 -- the entry that an actor makes now, at the time of the last jump
-abbrev pub entry_now : Kept → EventNow → Actor → Kind → Entry
-entry_now kept now who k = record { time = time_of (entries kept.past); now = now; actor = who; kind = k }
+abbrev pub entry_now : HistoryState → EventNow → Actor → Kind → Entry
+entry_now history_seen now who k = record { time = time_of (entries history_seen.past); now = now; actor = who; kind = k }
 
 -- the history after that entry
-abbrev pub after_made : Kept → Stamp → EventNow → Actor → Kind → Kept
-after_made kept stamp now who k = after_entry kept (record { stamp = stamp; entry = entry_now kept now who k })
+abbrev pub after_made : HistoryState → Stamp → EventNow → Actor → Kind → HistoryState
+after_made history_seen stamp now who k = after_entry history_seen (record { stamp = stamp; entry = entry_now history_seen now who k })
 
 -- ---- room
 
 -- the places that are reserved before an entry that the open attempt, whose maker that is, does not make: a whole attempt's, one, or one beside those that are reserved
-abbrev pub places_for : Machine → Kind → Option Actor → ℕ → ℕ
-places_for m (kind.Attempt n guarded) maker room = enough m
-places_for m k None room = 1
-places_for m k (Some who) room = room + 1
+abbrev pub room_for : Machine → Kind → Option Actor → ℕ → ℕ
+room_for m (kind.Attempt n guarded) maker room = enough m
+room_for m k None room = 1
+room_for m k (Some who) room = room + 1
 
 -- an entry of the open attempt's own has the room that was reserved, another has more
-pub record HasRoom (own : Bool) (k : Kind) (old new : Kept) : Type 0 where
+pub record HasRoom (own : Bool) (k : Kind) (old new : HistoryState) : Type 0 where
   pub machine : new.machine ≡ old.machine
   pub past : new.past ≡ old.past
   pub grows : old.room ≤ new.room
   pub own_room : own ≡ true → new.room ≡ old.room
-  pub other_room : own ≡ false → places_for old.machine k (maker (entries old.past)) old.room ≤ new.room
+  pub other_room : own ≡ false → room_for old.machine k (maker (entries old.past)) old.room ≤ new.room

@@ -2,13 +2,13 @@
 use Rattle.std.specs.Prelude.{◌≡◌, ◌<◌, ◌^◌, length}
 use Rattle.sleep_model.specs.Numbers.{time_of}
 use Rattle.attempt_laws.specs.Room.{enough}
-use Rattle.sleep_state.specs.Places.{entries}
+use Rattle.sleep_state.specs.JournalRooms.{entries}
 use Rattle.sleep_core.specs.declared.history.History.TheInside.{Inside}
-use Rattle.sleep_core.specs.Histories.{Kept, last_stamp, guard_of, path_of, devices_of, board_of, tasks_of, freezer_of, autosleep_of, steps_of, parts_of}
+use Rattle.sleep_core.specs.Histories.{HistoryState, last_stamp, guard_of, path_of, devices_of, board_of, tasks_of, freezer_of, autosleep_of, steps_of, syscore_of}
 
 -- the history as contracts see it
-abbrev pub kept : Inside → Kept
-kept h = record { machine = h.machine.now; past = h.journal.past; room = h.journal.room }
+abbrev pub history_seen : Inside → HistoryState
+history_seen h = record { machine = h.machine.now; past = h.journal.past; room = h.journal.room }
 
 -- each field is what the definitions read from the entries
 pub record IsHistory (h : Inside) : Type 0 where
@@ -24,4 +24,4 @@ pub record IsHistory (h : Inside) : Type 0 where
   pub freezer_is : h.freezer ≡ freezer_of h.machine.now (entries h.journal.past)
   pub autosleep_is : h.autosleep ≡ autosleep_of (entries h.journal.past)
   pub platform_is : h.platform ≡ steps_of h.machine.now (entries h.journal.past)
-  pub syscore_is : h.syscore ≡ parts_of h.machine.now (entries h.journal.past)
+  pub syscore_is : h.syscore ≡ syscore_of h.machine.now (entries h.journal.past)

@@ -11,7 +11,7 @@ use Rattle.sleep_model.specs.declared.machine.Machine.{Machine}
 use Rattle.sleep_model.specs.Attempt.{sleeps_now}
 use Rattle.sleep_model.specs.Freezer.{freezing}
 use Rattle.sleep_model.specs.Legal.{pending_sleep}
-use Rattle.sleep_model.specs.Seats.{seats, seat_at}
+use Rattle.sleep_model.specs.Positions.{positions, position_at}
 use Rattle.sleep_model.specs.Guard.{in_force}
 use Rattle.sleep_model.specs.Path.{attempts}
 
@@ -32,4 +32,4 @@ IsKindOf (Some s) k = k ≡ s.kind
 -- the end of script i's sleep, where it is pending (own)
 abbrev pub sleep_end : Machine → List Entry → ℕ → Option ℕ
 sleep_end m past i =
-    pending_sleep (sleeps_now past) (freezing m i past) (slice_get m.actors i) (seat_at (seats (length m.actors) past) i)
+    pending_sleep (sleeps_now past) (freezing m i past) (slice_get m.actors i) (position_at (positions (length m.actors) past) i)

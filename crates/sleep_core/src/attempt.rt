@@ -1,21 +1,21 @@
 //! What the maker of the open attempt does next, stage by stage (`kernel/power/suspend.c`).
 
 ghost use Rattle.std.specs.Prelude.{◌≡◌, ◌≤◌, ◌^◌};
-ghost use Rattle.sleep_model.specs.declared.place.Due.TheVariants.{Makes};
+ghost use Rattle.sleep_model.specs.declared.progress.Due.TheVariants.{Makes};
 ghost use Rattle.sleep_model.specs.declared.entry.Kind.TheVariants as kind;
 ghost use Rattle.sleep_model.specs.declared.machine.What.TheVariants as what;
 ghost use Rattle.sleep_model.specs.Attempt.{answered, freeze_since, sleep_of, freeze_due, froze_due, wakes_due, enter_due, if_left, cpu_kind, busy_error, stage_due, stage_or_next, due_at, attempt_due};
 ghost use Rattle.sleep_model.specs.Freezer.{left};
 ghost use Rattle.sleep_model.specs.Guard.{pending};
 ghost use Rattle.sleep_model.specs.Notifiers.{next_called, next_posted, next_cpu_off, next_cpu_on, next_stopped, next_started};
-ghost use Rattle.sleep_model.specs.Table.{stage_of, behind};
-ghost use Rattle.sleep_state.specs.Places.{entries};
+ghost use Rattle.sleep_model.specs.Table.{stage_of, next_stage};
+ghost use Rattle.sleep_state.specs.JournalRooms.{entries};
 ghost use Rattle.sleep_core.specs.Stages.{IsProper};
 ghost use Rattle.sleep_core.specs.Steps.{woken_end};
 
 use crate::state::Core;
 use sleep_model::{Due, EventNow, FrozeEnd, Group, Kind, PlatDo, Sleep, Stage, What, Why, pos};
-use sleep_state::{busy_error, behind};
+use sleep_state::{busy_error, next_stage};
 use task_freezer::Round;
 
 impl<'m> Core<'m> {
@@ -25,7 +25,7 @@ impl<'m> Core<'m> {
             (next_called self.now.machine (entries self.now.past)) }
     {
         match self.next_called() {
-            None => Due::Gone,
+            None => Due::Exited,
             Some(x) => Due::Makes(Kind::NotifyPrepare(x, self.answered(What::Notifier(x)))),
         }
     }
@@ -87,7 +87,7 @@ impl<'m> Core<'m> {
         ensures { result ≡ if_left (cpu_kind (pending (entries self.now.past) now)) (next_cpu_off self.now.machine (entries self.now.past)) }
     {
         match self.history.platform().next_cpu_off() {
-            None => Due::Gone,
+            None => Due::Exited,
             Some(k) if self.pending(now) => Due::Makes(Kind::CpuBusy(k)),
             Some(k) => Due::Makes(Kind::CpuOff(k)),
         }
@@ -99,7 +99,7 @@ impl<'m> Core<'m> {
             (next_stopped self.now.machine (entries self.now.past)) }
     {
         match self.next_stopped() {
-            None => Due::Gone,
+            None => Due::Exited,
             Some(x) => Due::Makes(Kind::SyscoreSuspend(x, self.answered(What::Syscore(x)))),
         }
     }
@@ -118,7 +118,7 @@ impl<'m> Core<'m> {
         }
     }
 
-    /// The entering, and the sleep behind it.
+    /// The entering, and the sleep after it.
     fn enter_due(&self, now: EventNow) -> Due
         ensures { result ≡ enter_due self.now.machine (entries self.now.past) now (sleep_of (entries self.now.past)) }
     {
@@ -135,7 +135,7 @@ impl<'m> Core<'m> {
         ensures { result ≡ if_left kind.SyscoreResume (next_started self.now.machine (entries self.now.past)) }
     {
         match self.history.syscore().next_started() {
-            None => Due::Gone,
+            None => Due::Exited,
             Some(x) => Due::Makes(Kind::SyscoreResume(x)),
         }
     }
@@ -145,7 +145,7 @@ impl<'m> Core<'m> {
         ensures { result ≡ if_left kind.CpuOn (next_cpu_on self.now.machine (entries self.now.past)) }
     {
         match self.history.platform().next_cpu_on() {
-            None => Due::Gone,
+            None => Due::Exited,
             Some(k) => Due::Makes(Kind::CpuOn(k)),
         }
     }
@@ -155,7 +155,7 @@ impl<'m> Core<'m> {
         ensures { result ≡ if_left kind.NotifyPost (next_posted self.now.machine (entries self.now.past)) }
     {
         match self.history.platform().next_posted() {
-            None => Due::Gone,
+            None => Due::Exited,
             Some(x) => Due::Makes(Kind::NotifyPost(x)),
         }
     }
@@ -192,26 +192,26 @@ impl<'m> Core<'m> {
         }
     }
 
-    /// What is made at a stage, or else at the one behind it.
+    /// What is made at a stage, or else at the one after it.
     #[inline(never)]
     fn stage_or_next(&self, now: EventNow, stage: Stage) -> Due
         requires { IsProper stage }
         ensures { result ≡ stage_or_next self.now.machine (entries self.now.past) now stage }
     {
         match self.stage_due(now, stage) {
-            Due::Gone => self.stage_due(now, behind(stage)),
+            Due::Exited => self.stage_due(now, next_stage(stage)),
             due => due,
         }
     }
 
     /// What the maker of the open attempt makes next. A walk over devices always has something to do, or
-    /// waits, so that the stage behind it is not asked.
+    /// waits, so that the stage after it is not asked.
     #[inline(always)]
     pub(crate) fn attempt_due(&self, now: EventNow) -> Due
         ensures { result ≡ attempt_due self.now.machine (entries self.now.past) now }
     {
         match self.stage() {
-            None => Due::Gone,
+            None => Due::Exited,
             Some(Stage::Downs(p)) => self.down_due(now, p),
             Some(Stage::Ups(p)) => self.up_due(p),
             Some(Stage::Prepares) => self.prepare_due(),

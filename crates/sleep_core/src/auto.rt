@@ -4,7 +4,7 @@ ghost use Rattle.std.specs.Prelude.{◌≡◌};
 ghost use Rattle.sleep_model.specs.Attempt.{sleeps_now};
 ghost use Rattle.sleep_model.specs.Autosleep.{work, work_due, auto_due};
 ghost use Rattle.sleep_model.specs.Due.{is_over};
-ghost use Rattle.sleep_state.specs.Places.{entries};
+ghost use Rattle.sleep_state.specs.JournalRooms.{entries};
 
 use crate::state::Core;
 use sleep_model::{Due, EventNow, Why};

@@ -3,7 +3,7 @@
 ghost use Rattle.std.specs.Prelude.{◌≡◌};
 ghost use Rattle.sleep_model.specs.Due.{own_due, due};
 ghost use Rattle.sleep_model.specs.Path.{is_actor, maker};
-ghost use Rattle.sleep_state.specs.Places.{entries};
+ghost use Rattle.sleep_state.specs.JournalRooms.{entries};
 ghost use Rattle.sleep_core.specs.Cores.{IsActor};
 
 use crate::state::Core;
@@ -20,7 +20,7 @@ impl<'m> Core<'m> {
             Actor::Script(script) => self.script_due(script, now),
             Actor::Auto => self.auto_due(now),
             Actor::Dev(device) => self.device_due(now, device),
-            Actor::Timer(_) | Actor::Time => Due::Gone,
+            Actor::Timer(_) | Actor::Time => Due::Exited,
         }
     }
 

@@ -43,13 +43,13 @@ pub struct History<'m> {
 }
 
 impl<'m> Model for History<'m> {
-    ghost use Rattle.sleep_core.specs.Histories.{Kept};
+    ghost use Rattle.sleep_core.specs.Histories.{HistoryState};
 
-    ghost Value = { Kept };
+    ghost Value = { HistoryState };
 
-    ghost use Rattle.sleep_core.specs.HistoryFields.{kept, IsHistory};
+    ghost use Rattle.sleep_core.specs.HistoryFields.{history_seen, IsHistory};
 
-    ghost view = { kept };
+    ghost view = { history_seen };
 
     ghost invariant = { IsHistory };
 }
@@ -73,7 +73,7 @@ fn first_board(alloc: Global, devices: &[Device], links: Links) -> Result<Board,
     Board::wired(alloc, links, asynchronous)
 }
 
-/// An entry that is of no device moves the board where it changes links: it begins anew. `Mem` where there is
+/// An entry that is of no device moves the board where it changes links: it begins anew. `Mem` if there is
 /// no memory for a link more; nothing has changed then.
 fn move_links(board: &mut Board, kind: Kind) -> Result<(), Mem>
     requires { IsOfNone kind }
@@ -138,7 +138,7 @@ fn made_at(time: u64, stamp: Stamp, now: EventNow, actor: Actor, kind: Kind) -> 
 
 /// The parts that take memory, but for the board.
 #[derive(Drop)]
-struct Parts<'m> {
+struct Components<'m> {
     devices: Devices,
     tasks: Tasks,
     freezer: Freezer<'m>,
@@ -146,8 +146,8 @@ struct Parts<'m> {
     syscore: Syscore,
 }
 
-impl<'m> Parts<'m> {
-    /// The parts of a machine before any entry. `Mem` where there is no memory.
+impl<'m> Components<'m> {
+    /// The parts of a machine before any entry. `Mem` if there is no memory.
     fn new(alloc: Global, machine: &'m Machine) -> Result<Self, Mem>
         requires { IsAccepted machine.now }
         ensures { IfOk result (AreFirst machine.now) }
@@ -165,7 +165,7 @@ impl<'m> Parts<'m> {
         let Ok(devices) = Devices::new(alloc, machine.devices.as_slice()) else {
             return Err(lost((syscore, platform, freezer, tasks)));
         };
-        Ok(Parts {
+        Ok(Components {
             devices,
             tasks,
             freezer,
@@ -186,25 +186,30 @@ impl<'m> History<'m> {
     ghost use Rattle.sleep_model.specs.declared.entry.Kind.TheVariants as kind;
     ghost use Rattle.sleep_model.specs.Accepted.{IsAccepted};
     ghost use Rattle.sleep_model.specs.Order.{parents_of};
-    ghost use Rattle.sleep_state.specs.Places.{entries};
+    ghost use Rattle.sleep_state.specs.JournalRooms.{entries};
     ghost use Rattle.sleep_core.specs.Numbered.{IsCounted};
-    ghost use Rattle.sleep_core.specs.Histories.{Admits, Settles, IsOfDevice, IsOfNone, IsOfTask, after_entry, entry_now, after_made, places_for, HasRoom, last_stamp, guard_of, path_of, devices_of, board_of, tasks_of, freezer_of, autosleep_of, steps_of, parts_of};
+    ghost use Rattle.sleep_core.specs.Histories.{Admits, Settles, IsOfDevice, IsOfNone, IsOfTask, after_entry, entry_now, after_made, room_for, HasRoom, last_stamp, guard_of, path_of, devices_of, board_of, tasks_of, freezer_of, autosleep_of, steps_of, syscore_of};
 
     /// The empty journal of a machine, and its parts before any entry.
-    fn of_parts(machine: &'m Machine, journal: Journal, parts: Parts<'m>, board: Board) -> Self
+    fn of_components(
+        machine: &'m Machine,
+        journal: Journal,
+        components: Components<'m>,
+        board: Board,
+    ) -> Self
         requires accepted { IsAccepted machine.now }
         requires journal { journal ≡ record { past = []; room = 0 } }
-        requires parts { AreFirst machine.now parts }
+        requires components { AreFirst machine.now components }
         requires board { board ≡ first_board (parents_of machine.now.devices) (reverse machine.now.links) (map is_async machine.now.devices) }
         ensures { result ≡ record { machine = machine.now; past = []; room = 0 } }
     {
-        let Parts {
+        let Components {
             devices,
             tasks,
             freezer,
             platform,
             syscore,
-        } = parts;
+        } = components;
         History {
             machine,
             journal,
@@ -222,21 +227,21 @@ impl<'m> History<'m> {
         }
     }
 
-    /// The empty journal of a machine, whose links these are. `Mem` where there is no memory.
+    /// The empty journal of a machine, whose links these are. `Mem` if there is no memory.
     pub fn new(alloc: Global, machine: &'m Machine, links: Links) -> Result<Self, Mem>
         requires accepted { IsAccepted machine.now }
         requires links { links ≡ record { parents = parents_of machine.now.devices; links = reverse machine.now.links } }
         ensures { IfOk result (λ h. h ≡ record { machine = machine.now; past = []; room = 0 }) }
     {
         let board = first_board(alloc, machine.devices.as_slice(), links)?;
-        let Ok(parts) = Parts::new(alloc, machine) else {
+        let Ok(components) = Components::new(alloc, machine) else {
             return Err(lost(board));
         };
         let journal = Journal::new(alloc);
-        Ok(History::of_parts(machine, journal, parts, board))
+        Ok(History::of_components(machine, journal, components, board))
     }
 
-    /// Appends an entry in a reserved place. `Mem` where it adds a link, for which there is no memory; nothing
+    /// Appends an entry in a reserved place. `Mem` if it adds a link, for which there is no memory; nothing
     /// has changed then.
     #[inline(always)]
     pub fn append(
@@ -319,7 +324,7 @@ impl<'m> History<'m> {
             .put(made_at(to, stamp, seen, Actor::Time, Kind::Jump));
     }
 
-    /// Appends an entry that is of no device. `Mem` where it adds a link, for which there is no memory; nothing
+    /// Appends an entry that is of no device. `Mem` if it adds a link, for which there is no memory; nothing
     /// has changed then.
     #[inline(never)]
     fn append_other(
@@ -363,7 +368,7 @@ impl<'m> History<'m> {
     }
 
     /// The places that a whole attempt may need.
-    fn attempt_places(&self) -> usize
+    fn attempt_room(&self) -> usize
         ensures { result ≡ enough self.now.machine }
     {
         let _few = &self.last;
@@ -373,11 +378,11 @@ impl<'m> History<'m> {
     }
 
     /// How many places must be reserved before an entry that the open attempt does not make.
-    fn places_for(&self, kind: Kind) -> usize
-        ensures { result ≡ places_for self.now.machine kind (maker (entries self.now.past)) self.now.room }
+    fn room_for(&self, kind: Kind) -> usize
+        ensures { result ≡ room_for self.now.machine kind (maker (entries self.now.past)) self.now.room }
     {
         match kind {
-            Kind::Attempt { .. } => self.attempt_places(),
+            Kind::Attempt { .. } => self.attempt_room(),
             _ if self.path.maker().is_none() => 1,
             _ => self.journal.room() + 1,
         }
@@ -392,7 +397,7 @@ impl<'m> History<'m> {
         if own {
             return Ok(());
         }
-        let places = self.places_for(kind);
+        let places = self.room_for(kind);
         self.reserve(places)
     }
 
@@ -483,7 +488,7 @@ impl<'m> History<'m> {
 
     /// The core's parts.
     pub fn syscore(&self) -> &Syscore
-        ensures { result.now ≡ parts_of self.now.machine (entries self.now.past) }
+        ensures { result.now ≡ syscore_of self.now.machine (entries self.now.past) }
     {
         &self.syscore
     }

@@ -4,7 +4,7 @@
 //! not. That word is at or above its holder's floor. The journal stays legal. Out of memory comes neither for the
 //! open attempt's maker nor for a device. A script that is found by its sleep has slept, and none is found only if
 //! none has. By the clauses of `Core::turn`, `jump`, `due`, `calls_due`, `enabled`, `next_time`, `next_slept`,
-//! `whole`, `is_open`, `is_still`, `into_journal`.
+//! `whole`, `is_open`, `is_stopped`, `into_journal`.
 //!
 //! Begin reading in `src/turns.rt`, `src/due.rt`, `src/history.rt`.
 #![tactic(auto)]

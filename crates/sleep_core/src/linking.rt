@@ -3,7 +3,7 @@
 ghost use Rattle.std.specs.Prelude.{◌≡◌, ◌≤◌, length};
 ghost use Rattle.sleep_model.specs.Links.{link_add_due, link_state_due};
 ghost use Rattle.sleep_model.specs.Order.{links_at, parents_of};
-ghost use Rattle.sleep_state.specs.Places.{entries};
+ghost use Rattle.sleep_state.specs.JournalRooms.{entries};
 
 use crate::state::Core;
 use device_links::Links;

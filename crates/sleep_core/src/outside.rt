@@ -5,15 +5,15 @@ ghost use Rattle.std.specs.Bool.{OnTrue};
 ghost use Rattle.sleep_model.specs.Calls.{calls_due, pieces_in};
 ghost use Rattle.sleep_model.specs.Due.{due, is_over};
 ghost use Rattle.sleep_model.specs.Legal.{JournalPart, is_made};
-ghost use Rattle.sleep_model.specs.Links.{first_places};
+ghost use Rattle.sleep_model.specs.Links.{first_occurrences};
 ghost use Rattle.sleep_model.specs.Numbers.{time_of};
 ghost use Rattle.sleep_model.specs.Order.{above, below};
 ghost use Rattle.sleep_model.specs.Path.{maker};
-ghost use Rattle.sleep_model.specs.Seats.{seat_at, seats};
+ghost use Rattle.sleep_model.specs.Positions.{position_at, positions};
 ghost use Rattle.sleep_model.specs.Word.{position};
-ghost use Rattle.sleep_state.specs.Places.{entries};
-ghost use Rattle.sleep_state.specs.Sleepers.{AllStill, HasSlept, NoneSlept, is_still, sleeps_past};
-ghost use Rattle.async_board.specs.AtPlaces.{board_at};
+ghost use Rattle.sleep_state.specs.JournalRooms.{entries};
+ghost use Rattle.sleep_state.specs.Sleepers.{AreStopped, HasSlept, NoneSlept, is_stopped, sleeps_past};
+ghost use Rattle.async_board.specs.AtPoints.{board_at};
 ghost use Rattle.sleep_core.specs.Seen.{is_scheduled, is_rescheduled, is_ready_on};
 ghost use Rattle.script_plan.specs.Plans.{calls_before};
 ghost use Rattle.sleep_core.specs.Cores.{IsActor, with_entry, next_stamp, jump_entry};
@@ -21,20 +21,20 @@ ghost use Rattle.sleep_core.specs.Histories.{last_stamp};
 
 use crate::state::Core;
 use sleep_base::Mem;
-use sleep_model::{Actor, Due, EventNow, Journal, Phase, Stamp, Stand, pos};
+use sleep_model::{Actor, Due, EventNow, Journal, Phase, PhaseState, Stamp, pos};
 
 /// Whether a device that stands there was scheduled on the way down, and has not begun.
-fn is_scheduled(stand: Stand) -> bool
-    ensures { result ≡ is_scheduled stand }
+fn is_scheduled(state: PhaseState) -> bool
+    ensures { result ≡ is_scheduled state }
 {
-    matches!(stand, Stand::Scheduled)
+    matches!(state, PhaseState::Scheduled)
 }
 
 /// So on the way up.
-fn is_rescheduled(stand: Stand) -> bool
-    ensures { result ≡ is_rescheduled stand }
+fn is_rescheduled(state: PhaseState) -> bool
+    ensures { result ≡ is_rescheduled state }
 {
-    matches!(stand, Stand::Rescheduled)
+    matches!(state, PhaseState::Rescheduled)
 }
 
 /// Whether a sleep up to that moment goes on at that time.
@@ -49,7 +49,7 @@ fn sleeps_past(until: Option<u64>, time: u64) -> bool
 
 impl<'m> Core<'m> {
     /// Time jumps to `to` ms, later than now, as seen at a word that was looked at. That the moment is the
-    /// next pending one is for the caller to see to. `Mem` where there is no memory; nothing has changed then.
+    /// next pending one is for the caller to see to. `Mem` if there is no memory; nothing has changed then.
     pub fn jump(&mut self, seen: EventNow, to: u64, floor: Stamp) -> Result<Stamp, Mem>
         requires floor { floor.pos ≤ position seen }
         requires last { (last_stamp self.old.past).pos ≤ position seen }
@@ -76,10 +76,10 @@ impl<'m> Core<'m> {
     fn script_calls_due(&self, script: u32) -> u32
         requires { script < length self.now.machine.actors }
         ensures { result ≡ calls_before (pieces_in self.now.machine script)
-            (seat_at (seats (length self.now.machine.actors) (entries self.now.past)) script).turns }
+            (position_at (positions (length self.now.machine.actors) (entries self.now.past)) script).turns }
     {
-        let seat = self.history.tasks().seat(script);
-        self.plan(script).calls_before(seat.turns)
+        let position = self.history.tasks().position(script);
+        self.plan(script).calls_before(position.turns)
     }
 
     /// How many calls on sources an actor owes in all before it may append to the journal: those of
@@ -139,25 +139,25 @@ impl<'m> Core<'m> {
     }
 
     /// Whether each script has exited, or sleeps to a moment that has not come. It may be so where that is not told.
-    pub fn are_still(&self) -> bool
-        ensures { OnTrue result (AllStill (seats (length self.now.machine.actors) (entries self.now.past)) (time_of (entries self.now.past))) }
+    pub fn are_stopped(&self) -> bool
+        ensures { OnTrue result (AreStopped (positions (length self.now.machine.actors) (entries self.now.past)) (time_of (entries self.now.past))) }
     {
-        self.history.tasks().are_still(self.now())
+        self.history.tasks().are_stopped(self.now())
     }
 
     /// Whether a script has exited, or sleeps to a moment that has not come.
-    pub fn is_still(&self, script: u32) -> bool
-        ensures { result ≡ is_still (seat_at (seats (length self.now.machine.actors) (entries self.now.past)) script) (time_of (entries self.now.past)) }
+    pub fn is_stopped(&self, script: u32) -> bool
+        ensures { result ≡ is_stopped (position_at (positions (length self.now.machine.actors) (entries self.now.past)) script) (time_of (entries self.now.past)) }
     {
-        let seat = self.history.tasks().seat(script);
-        seat.exited || sleeps_past(seat.until, self.now())
+        let position = self.history.tasks().position(script);
+        position.exited || sleeps_past(position.until, self.now())
     }
 
-    /// The next script behind that one, or the first, whose sleep has come to its end, in an order of its own. Where none is
-    /// found behind none, no script's has.
+    /// The next script after that one, or the first, whose sleep has come to its end, in an order of its own. Where none is
+    /// found after none, no script's has.
     pub fn next_slept(&self, behind: Option<u32>) -> Option<u32>
-        ensures found { IfSome result (λ script. HasSlept (seats (length self.now.machine.actors) (entries self.now.past)) script (time_of (entries self.now.past))) }
-        ensures none { behind ≡ None → result ≡ None → NoneSlept (seats (length self.now.machine.actors) (entries self.now.past)) (time_of (entries self.now.past)) }
+        ensures found { IfSome result (λ script. HasSlept (positions (length self.now.machine.actors) (entries self.now.past)) script (time_of (entries self.now.past))) }
+        ensures none { behind ≡ None → result ≡ None → NoneSlept (positions (length self.now.machine.actors) (entries self.now.past)) (time_of (entries self.now.past)) }
     {
         // A machine has fewer than 2^32 scripts.
         let _scripts = self.scripts();
@@ -166,14 +166,14 @@ impl<'m> Core<'m> {
 
     /// The devices that depend directly on one: its children, then its consumers, each once.
     pub fn below(&self, device: u32) -> &[u32]
-        ensures { result.now ≡ first_places (below self.now.machine (entries self.now.past) device) }
+        ensures { result.now ≡ first_occurrences (below self.now.machine (entries self.now.past) device) }
     {
         self.history.board().links().below(device)
     }
 
     /// The devices that one depends on directly: its parent, then its suppliers, each once.
     pub fn above(&self, device: u32) -> &[u32]
-        ensures { result.now ≡ first_places (above self.now.machine (entries self.now.past) device) }
+        ensures { result.now ≡ first_occurrences (above self.now.machine (entries self.now.past) device) }
     {
         self.history.board().links().above(device)
     }
@@ -186,10 +186,10 @@ impl<'m> Core<'m> {
     {
         let board = self.board();
         if phase.is_down() {
-            is_scheduled(board.stand(phase, device)) && board.is_free_below(phase, device)
+            is_scheduled(board.state(phase, device)) && board.is_free_below(phase, device)
         } else {
             let down = phase.mirror();
-            is_rescheduled(board.stand(down, device)) && board.is_free_above(down, device)
+            is_rescheduled(board.state(down, device)) && board.is_free_above(down, device)
         }
     }
 

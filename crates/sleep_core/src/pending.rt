@@ -1,10 +1,10 @@
-//! Pending moments, by the journal alone.
+//! Pending moments, only by the journal.
 
 ghost use Rattle.std.specs.Prelude.{◌≡◌, ◌≤◌, ◌<◌, ◌^◌, length, slice_get};
 ghost use Rattle.sleep_model.specs.Attempt.{sleep_of, freeze_since};
 ghost use Rattle.sleep_model.specs.Autosleep.{naps_until, work};
 ghost use Rattle.sleep_model.specs.Legal.{alarm_at, deadline_at, pending_sleep, next_sleep, pending_nap, journal_time};
-ghost use Rattle.sleep_state.specs.Places.{entries};
+ghost use Rattle.sleep_state.specs.JournalRooms.{entries};
 ghost use Rattle.sleep_core.specs.Steps.{sleep_end};
 
 use crate::state::Core;
@@ -53,7 +53,7 @@ impl<'m> Core<'m> {
         if freezing.frozen || (self.is_asleep() && !is_line(self.kind_of(script))) {
             None
         } else {
-            self.history.tasks().seat(script).until
+            self.history.tasks().position(script).until
         }
     }
 
@@ -79,7 +79,7 @@ impl<'m> Core<'m> {
         next
     }
 
-    /// The least pending time in ms, the sources' expiries left out. None where none is pending.
+    /// The least pending time in ms, the sources' expiries left out. None if none is pending.
     pub fn next_time(&self) -> Option<u64>
         ensures { result ≡ journal_time self.now.machine (entries self.now.past) }
     {

@@ -4,8 +4,8 @@ ghost use Rattle.std.specs.Prelude.{◌≡◌, true, ◌⊎◌, None, IfSome};
 ghost use Rattle.phase_table.specs.Phases.{is_down, is_up};
 ghost use Rattle.sleep_model.specs.Devices.{callback, device_error, phase_failed, next_prepared, next_completed, down_due, up_due, prepare_due, complete_due, scheduled_due, device_due, async_work};
 ghost use Rattle.sleep_model.specs.Runtime.{runtime_due};
-ghost use Rattle.sleep_state.specs.Places.{entries};
-ghost use Rattle.phase_prepare.specs.AtPlaces.{prepare_number};
+ghost use Rattle.sleep_state.specs.JournalRooms.{entries};
+ghost use Rattle.phase_prepare.specs.AtPoints.{prepare_number};
 ghost use Rattle.sleep_core.specs.Seen.{AreSeen};
 
 use crate::state::Core;
@@ -91,7 +91,7 @@ impl<'m> Core<'m> {
         phase_prepare::prepare_due(board, self.phase_failed(), r)
     }
 
-    /// What the machine answers for the prepare of that device, and 0 where there is none.
+    /// What the machine answers for the prepare of that device, and 0 if there is none.
     fn prepare_number(&self, device: Option<u32>) -> i32
         ensures { IfSome device (λ d. result ≡ prepare_number self.now.machine (entries self.now.past) d) }
     {

@@ -43,7 +43,7 @@ impl Reports {
     ghost use Rattle.std.specs.Prelude.{◌≡◌, ◌<◌, ◌^◌, IfOk};
     ghost use Rattle.sleep_core.specs.Reports.{none_reported, reported_by, counts_after};
 
-    /// Nothing is reported yet, by these numbers of scripts and devices. `Mem` where there is no memory.
+    /// Nothing is reported yet, by these numbers of scripts and devices. `Mem` if there is no memory.
     pub(crate) fn new(alloc: Global, scripts: usize, devices: usize) -> Result<Self, Mem>
         ensures { IfOk result (λ r. r ≡ none_reported scripts devices) }
     {

@@ -3,7 +3,7 @@ use crate::reports::Reports;
 use async_board::Board;
 use autosleep_loop::is_actor;
 use device_rows::Flags;
-use machine_plans::{AnswerBook, MachinePlans};
+use machine_plans::{MachinePlans, PlannedAnswers};
 use script_plan::Plan;
 use sleep_base::Errno;
 use sleep_model::{Actor, Callback, EventNow, Group, Machine, Sleep, Stage, TaskKind, What};
@@ -28,11 +28,11 @@ impl<'m> Model for Core<'m> {
 
     ghost Value = { CoreState };
 
-    ghost use Rattle.sleep_core.specs.CoreFields.{state, keeps};
+    ghost use Rattle.sleep_core.specs.CoreFields.{seen_core, core_invariant};
 
-    ghost view = { state };
+    ghost view = { seen_core };
 
-    ghost invariant = { keeps };
+    ghost invariant = { core_invariant };
 }
 
 impl<'m> Core<'m> {
@@ -49,10 +49,10 @@ impl<'m> Core<'m> {
     ghost use Rattle.sleep_model.specs.Table.{stage_of};
     ghost use Rattle.task_freezer.specs.Freezers.{IsLeft, round_of};
     ghost use Rattle.sleep_core.specs.Stages.{IsProper};
-    ghost use Rattle.async_board.specs.AtPlaces.{board_at};
+    ghost use Rattle.async_board.specs.AtPoints.{board_at};
     ghost use Rattle.sleep_model.specs.Numbers.{time_of};
     ghost use Rattle.sleep_model.specs.Path.{attempts, is_actor, maker};
-    ghost use Rattle.sleep_state.specs.Places.{entries};
+    ghost use Rattle.sleep_state.specs.JournalRooms.{entries};
 
     /// The machine.
     pub(crate) fn machine(&self) -> &'m Machine
@@ -62,7 +62,7 @@ impl<'m> Core<'m> {
     }
 
     /// What its callbacks answer.
-    pub(crate) fn answers(&self) -> &AnswerBook<'m>
+    pub(crate) fn answers(&self) -> &PlannedAnswers<'m>
         ensures { result.now ≡ self.now.machine.answers }
     {
         self.plans.answers()

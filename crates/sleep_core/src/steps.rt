@@ -6,38 +6,38 @@ ghost use Rattle.sleep_model.specs.Tasks.{is_line, freezes_at};
 ghost use Rattle.sleep_model.specs.declared.entry.Kind.TheVariants.{Sleep, SleepD};
 
 use script_plan::is_autosleep_text;
-use sleep_model::{Due, Kind, Op, Seat, TaskKind, Why};
+use sleep_model::{Due, Kind, Op, ScriptPosition, TaskKind, Why};
 
 /// A sleep up to that time in ms, now.
 fn slept_due(until: Option<u64>, time: u64) -> Due
     ensures { result ≡ slept_due until time }
 {
     match until {
-        None => Due::Gone,
+        None => Due::Exited,
         Some(until) if until <= time => Due::Makes(Kind::Slept),
         Some(until) => Due::Waits(Why::Until(until)),
     }
 }
 
 /// A sleep that can be frozen, of `ms` ms, now (`schedule_timeout`).
-pub(crate) fn sleep_due(ms: u32, seat: Seat, time: u64) -> Due
+pub(crate) fn sleep_due(ms: u32, position: ScriptPosition, time: u64) -> Due
     requires { time ≤ 2 ^ 63 }
-    ensures { result ≡ sleep_due Sleep ms seat time }
+    ensures { result ≡ sleep_due Sleep ms position time }
 {
-    if seat.waits {
-        slept_due(seat.until, time)
+    if position.waits {
+        slept_due(position.until, time)
     } else {
         Due::Makes(Kind::Sleep(time + ms as u64))
     }
 }
 
 /// An uninterruptible sleep of `ms` ms, now (`schedule_timeout_uninterruptible`).
-pub(crate) fn sleep_d_due(ms: u32, seat: Seat, time: u64) -> Due
+pub(crate) fn sleep_d_due(ms: u32, position: ScriptPosition, time: u64) -> Due
     requires { time ≤ 2 ^ 63 }
-    ensures { result ≡ sleep_due SleepD ms seat time }
+    ensures { result ≡ sleep_due SleepD ms position time }
 {
-    if seat.waits {
-        slept_due(seat.until, time)
+    if position.waits {
+        slept_due(position.until, time)
     } else {
         Due::Makes(Kind::SleepD(time + ms as u64))
     }

@@ -4,14 +4,14 @@
 ghost use Rattle.std.specs.Prelude.{◌≡◌, ◌≤◌, ◌<◌, ◌^◌, length, slice_get, option_copied, Some};
 ghost use Rattle.sleep_model.specs.Due.{script_due};
 ghost use Rattle.sleep_model.specs.Steps.{step_due, task_due};
-ghost use Rattle.sleep_state.specs.Places.{entries};
+ghost use Rattle.sleep_state.specs.JournalRooms.{entries};
 ghost use Rattle.sleep_model.specs.declared.machine.Op.TheVariants as op;
 ghost use Rattle.sleep_core.specs.Steps.{next_attempt};
 
 use crate::state::Core;
 use crate::steps;
 use script_plan::{is_mem, is_off};
-use sleep_model::{Due, EventNow, Freezing, Kind, Op, Seat, TaskKind, Why};
+use sleep_model::{Due, EventNow, Freezing, Kind, Op, ScriptPosition, TaskKind, Why};
 use sleep_sysfs::{read_count, saved_number, write_autosleep, write_count, write_state};
 
 impl<'m> Core<'m> {
@@ -26,16 +26,16 @@ impl<'m> Core<'m> {
     }
 
     /// A write of that text to the state.
-    fn state_due(&self, seat: Seat, asked: bool, text: &[u8], if_saved: bool) -> Due
-        ensures { result ≡ step_due self.now.machine (entries self.now.past) (record { inpr = 0; count = 0; hard = 0 }) seat asked (Some (op.State text.now if_saved)) }
+    fn state_due(&self, position: ScriptPosition, asked: bool, text: &[u8], if_saved: bool) -> Due
+        ensures { result ≡ step_due self.now.machine (entries self.now.past) (record { inpr = 0; count = 0; hard = 0 }) position asked (Some (op.State text.now if_saved)) }
     {
-        if if_saved && !seat.saved {
+        if if_saved && !position.saved {
             return Due::Makes(Kind::StateUnsaved);
         }
         write_state(
             self.is_held(),
             self.is_on(),
-            seat.waits,
+            position.waits,
             asked,
             is_mem(text),
             self.attempt(),
@@ -43,25 +43,37 @@ impl<'m> Core<'m> {
     }
 
     /// The next entry of a script at an operation, or its exit.
-    fn step_due(&self, now: EventNow, seat: Seat, asked: bool, op: Option<&Op>) -> Due
-        ensures { result ≡ step_due self.now.machine (entries self.now.past) now seat asked (option_copied op.entry) }
+    fn step_due(&self, now: EventNow, position: ScriptPosition, asked: bool, op: Option<&Op>) -> Due
+        ensures { result ≡ step_due self.now.machine (entries self.now.past) now position asked (option_copied op.entry) }
     {
         let Some(op) = op else {
             return Due::Makes(Kind::Exit);
         };
         match op {
-            Op::Read => read_count(now, seat.waits, asked),
+            Op::Read => read_count(now, position.waits, asked),
             Op::Save { count } => {
-                let number = saved_number(*count, seat.last_read);
-                write_count(self.is_held(), self.is_on(), seat.waits, asked, now, number)
+                let number = saved_number(*count, position.last_read);
+                write_count(
+                    self.is_held(),
+                    self.is_on(),
+                    position.waits,
+                    asked,
+                    now,
+                    number,
+                )
             }
-            Op::State { text, if_saved } => self.state_due(seat, asked, text.as_slice(), *if_saved),
+            Op::State { text, if_saved } => self.state_due(
+                position,
+                asked,
+                text.as_slice(),
+                *if_saved,
+            ),
             Op::Autosleep { text } => {
                 let text = text.as_slice();
-                write_autosleep(self.is_held(), seat.waits, is_mem(text), is_off(text))
+                write_autosleep(self.is_held(), position.waits, is_mem(text), is_off(text))
             }
-            Op::Sleep { ms } => steps::sleep_due(*ms, seat, self.now()),
-            Op::SleepD { ms } => steps::sleep_d_due(*ms, seat, self.now()),
+            Op::Sleep { ms } => steps::sleep_due(*ms, position, self.now()),
+            Op::SleepD { ms } => steps::sleep_d_due(*ms, position, self.now()),
             Op::FreezePoint => Due::Makes(Kind::Pass),
             Op::Post { mark } => Due::Makes(Kind::Post(*mark)),
             Op::Wait { mark } => steps::mark_due(*mark, self.raised(*mark)),
@@ -88,7 +100,7 @@ impl<'m> Core<'m> {
                 active: *active,
                 r: self.link_state_due(*supplier, *consumer),
             }),
-            Op::Awake { .. } | Op::Relax { .. } | Op::Event { .. } => Due::Gone,
+            Op::Awake { .. } | Op::Relax { .. } | Op::Event { .. } => Due::Exited,
         }
     }
 
@@ -98,19 +110,19 @@ impl<'m> Core<'m> {
         now: EventNow,
         freezing: Freezing,
         kind: TaskKind,
-        seat: Seat,
+        position: ScriptPosition,
         op: Option<&Op>,
     ) -> Due
-        ensures { result ≡ task_due self.now.machine (entries self.now.past) now freezing kind seat (option_copied op.entry) }
+        ensures { result ≡ task_due self.now.machine (entries self.now.past) now freezing kind position (option_copied op.entry) }
     {
         if freezing.frozen {
             Due::Waits(Why::Frozen)
         } else if self.is_asleep() && !steps::is_line(kind) {
             Due::Waits(Why::Asleep)
-        } else if freezing.asked && steps::freezes_at(kind == TaskKind::User, seat.waits, op) {
+        } else if freezing.asked && steps::freezes_at(kind == TaskKind::User, position.waits, op) {
             Due::Makes(Kind::Frozen)
         } else {
-            self.step_due(now, seat, freezing.asked, op)
+            self.step_due(now, position, freezing.asked, op)
         }
     }
 
@@ -119,12 +131,12 @@ impl<'m> Core<'m> {
         requires { script < length self.now.machine.actors }
         ensures { result ≡ script_due self.now.machine (entries self.now.past) now script }
     {
-        let seat = self.history.tasks().seat(script);
-        if seat.exited {
-            return Due::Gone;
+        let position = self.history.tasks().position(script);
+        if position.exited {
+            return Due::Exited;
         }
         let freezing = self.history.freezer().freezing(script);
-        let op = self.plan(script).operation(seat.done);
-        self.task_due(now, freezing, self.kind_of(script), seat, op)
+        let op = self.plan(script).operation(position.done);
+        self.task_due(now, freezing, self.kind_of(script), position, op)
     }
 }

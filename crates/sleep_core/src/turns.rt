@@ -2,7 +2,7 @@
 
 ghost use Rattle.std.specs.Prelude.{◌≡◌, ◌≤◌, ◌<◌, ◌+◌, ◌^◌, false, length, max, OnOk, OnErr, ◌||◌};
 ghost use Rattle.std.specs.Bool.{OnTrue, OnFalse};
-ghost use Rattle.sleep_model.specs.declared.place.Due.TheVariants.{Makes};
+ghost use Rattle.sleep_model.specs.declared.progress.Due.TheVariants.{Makes};
 ghost use Rattle.sleep_model.specs.declared.word.EventNow.{EventNow};
 ghost use Rattle.sleep_model.specs.Calls.{calls_due, report_calls};
 ghost use Rattle.sleep_model.specs.Devices.{is_device};
@@ -14,10 +14,10 @@ ghost use Rattle.sleep_model.specs.Marks.{raised};
 ghost use Rattle.sleep_model.specs.Path.{attempts, attempts_after, is_actor, maker};
 ghost use Rattle.sleep_state.specs.TaskStates.{MarksAreSmall};
 ghost use Rattle.sleep_model.specs.Word.{position};
-ghost use Rattle.sleep_state.specs.Places.{entries};
+ghost use Rattle.sleep_state.specs.JournalRooms.{entries};
 ghost use Rattle.sleep_core.specs.Cores.{IsActor, with_entry, next_stamp, jump_entry};
 ghost use Rattle.sleep_core.specs.Histories.{last_stamp};
-ghost use Rattle.event_word.specs.Looks.{IsTold, GrewTo};
+ghost use Rattle.event_word.specs.Looks.{IsShown, GrewTo};
 ghost use Rattle.sleep_core.specs.Numbered.{Leaves, IsCounted};
 ghost use Rattle.sleep_core.specs.Turned.{AfterTurn};
 
@@ -53,7 +53,7 @@ pub enum CoreFault {
     Mem,
 }
 
-/// The tick behind these two; a tick that would pass its range waits for ever.
+/// The tick after these two; a tick that would pass its range waits for ever.
 fn next_tick<R: Wait>(rt: &R, one: u64, other: u64) -> u64
     ensures { result ≡ max one other + 1 }
 {
@@ -132,7 +132,7 @@ impl<'m> Core<'m> {
         }
     }
 
-    /// Makes the entry that is due. `Mem` where there is no memory for it, or no number; never for the maker
+    /// Makes the entry that is due. `Mem` if there is no memory for it, or no number; never for the maker
     /// of the open attempt, nor for a device.
     fn make(
         &mut self,
@@ -187,7 +187,7 @@ impl<'m> Core<'m> {
         let makes = self.is_maker(who);
         match self.due_of(makes, who, word) {
             Due::Waits(why) => Ok(CoreTurn::NotYet(why)),
-            Due::Gone => Ok(CoreTurn::Done),
+            Due::Exited => Ok(CoreTurn::Done),
             Due::Makes(kind) => {
                 let tick = next_tick(rt, floor.tick, self.history.last().tick);
                 let stamp = Stamp {
@@ -207,8 +207,8 @@ impl<'m> Core<'m> {
 
     /// One turn of an actor: looks at the word until it is at least the floor's, decides, and makes
     /// at most one entry. `calls` counts the actor's calls on sources so far, `now` is the
-    /// time in ms. `NotYet` exactly where the actor waits, `Done` exactly where nothing is due of it.
-    /// `Mem` where there is no memory, or no number for one more attempt, run or mark; never for the maker of
+    /// time in ms. `NotYet` exactly if the actor waits, `Done` exactly if nothing is due of it.
+    /// `Mem` if there is no memory, or no number for one more attempt, run or mark; never for the maker of
     /// the open attempt, nor for a device; nothing has changed then.
     pub fn turn<R: Wait, E: Events>(
         &mut self,
@@ -224,9 +224,9 @@ impl<'m> Core<'m> {
         requires now { now ≡ time_of (entries self.old.past) }
         requires floor { (last_stamp self.old.past).pos ≤ E.floor events.old }
         // There is one word that was seen, by which the answer and the journal are what the definitions say.
-        ensures turn { (word : EventNow) × IsTold (E.tells events.old) word × GrewTo word (E.looked events.old) (E.looked events.new)
+        ensures turn { (word : EventNow) × IsShown (E.shows events.old) word × GrewTo word (E.looked events.old) (E.looked events.new)
             × ((E.floor events.old ≤ position word) × (floor.pos ≤ position word)) × AfterTurn self.old self.new who word floor result }
-        ensures tells { E.tells events.new ≡ E.tells events.old }
+        ensures shows { E.shows events.new ≡ E.shows events.old }
         ensures made { E.made events.new ≡ E.made events.old }
         ensures can { E.can events.new ≡ E.can events.old }
         ensures root { E.root events.new ≡ E.root events.old }

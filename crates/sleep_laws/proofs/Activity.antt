@@ -8,7 +8,7 @@ use Rattle.sleep_model.specs.declared.machine.SourceCall.TheVariants as call
 use Rattle.sleep_model.specs.declared.word.WordKind.{WordKind}
 use Rattle.sleep_model.specs.declared.word.WordKind.TheVariants as step
 use Rattle.sleep_model.specs.Legal.{OwnStep}
-use Rattle.sleep_model.specs.Parts.{Part, OfJournal, Notes, Moves, OfTime, part_of}
+use Rattle.sleep_model.specs.EntryClasses.{EntryClass, OfJournal, Notes, Moves, OfTime, class_of}
 use Rattle.sleep_model.specs.Sources.{history, is_of, since, since_after, owed, owed_after, makes, IsNext}
 
 -- ---- the steps that a source owes
@@ -37,7 +37,7 @@ runs_made call.Expire None = tt
 runs_made call.Expire (Some t) = (refl, tt)
 
 -- a step of the word is the next that is owed
-abbrev pub NextIf : Part → List WordKind → Type 0
+abbrev pub NextIf : EntryClass → List WordKind → Type 0
 NextIf (Moves s step) steps = IsNext step steps
 NextIf _ steps = Unit {0}
 
@@ -46,7 +46,7 @@ runs_moved s time step.Start o steps h = h.1
 runs_moved s time step.Finish o steps h = h.1
 runs_moved s time step.Hard o steps h = subst (λ (b : Bool). Runs b steps) (sym h.0) h.1
 
-pub runs_after : (part : Part) (time : ℕ) (o : Option ℕ) (steps : List WordKind) → Runs (is_some o) steps → NextIf part steps → Runs (is_some (since_after part time o)) (owed_after part o steps)
+pub runs_after : (part : EntryClass) (time : ℕ) (o : Option ℕ) (steps : List WordKind) → Runs (is_some o) steps → NextIf part steps → Runs (is_some (since_after part time o)) (owed_after part o steps)
 runs_after OfJournal time o steps h n = h
 runs_after (Notes s made) time o steps h n = runs_made made o
 runs_after (Moves s step) time o [] h n = absurd n
@@ -57,17 +57,17 @@ runs_after OfTime time o steps h n = h
 abbrev pub AllRun : List Entry → Type 0
 AllRun past = (s : ℕ) → Runs (is_some (since (history s past))) (owed (history s past))
 
-pub next_own : (part : Part) (s : ℕ) (past : List Entry) (e : Entry) → OwnStep past e part → is_of s part ≡ true → NextIf part (owed (history s past))
+pub next_own : (part : EntryClass) (s : ℕ) (past : List Entry) (e : Entry) → OwnStep past e part → is_of s part ≡ true → NextIf part (owed (history s past))
 next_own OfJournal s past e own is = tt
 next_own (Notes t made) s past e own is = tt
 next_own (Moves t step) s past e own is = subst (λ (x : ℕ). IsNext step (owed (history x past))) (eqb-true t s is) own.0
 next_own OfTime s past e own is = tt
 
-pub runs_step : (e : Entry) (past : List Entry) → OwnStep past e (part_of e.kind) → AllRun past → AllRun (e ∷ past)
-runs_step e past own h s = by_own (is_of s (part_of e.kind)) refl
+pub runs_step : (e : Entry) (past : List Entry) → OwnStep past e (class_of e.kind) → AllRun past → AllRun (e ∷ past)
+runs_step e past own h s = by_own (is_of s (class_of e.kind)) refl
   where
-    by_own : (b : Bool) → is_of s (part_of e.kind) ≡ b → Runs (is_some (since (cond b (e ∷ history s past) (history s past)))) (owed (cond b (e ∷ history s past) (history s past)))
-    by_own true is = runs_after (part_of e.kind) e.time (since (history s past)) (owed (history s past)) (h s) (next_own (part_of e.kind) s past e own is)
+    by_own : (b : Bool) → is_of s (class_of e.kind) ≡ b → Runs (is_some (since (cond b (e ∷ history s past) (history s past)))) (owed (cond b (e ∷ history s past) (history s past)))
+    by_own true is = runs_after (class_of e.kind) e.time (since (history s past)) (owed (history s past)) (h s) (next_own (class_of e.kind) s past e own is)
     by_own false is = h s
 
 -- ---- how many events are in progress

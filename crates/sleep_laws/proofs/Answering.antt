@@ -8,23 +8,23 @@ use Rattle.sleep_model.specs.declared.entry.Entry.{Entry}
 use Rattle.sleep_model.specs.declared.entry.Kind.{Kind}
 use Rattle.sleep_model.specs.declared.entry.Kind.TheVariants as kind
 use Rattle.sleep_model.specs.declared.machine.Machine.{Machine}
-use Rattle.sleep_model.specs.declared.place.Sleep.{Sleep}
-use Rattle.sleep_model.specs.declared.place.Stage.{Stage}
-use Rattle.sleep_model.specs.declared.place.Stage.TheVariants as stage
+use Rattle.sleep_model.specs.declared.progress.Sleep.{Sleep}
+use Rattle.sleep_model.specs.declared.progress.Stage.{Stage}
+use Rattle.sleep_model.specs.declared.progress.Stage.TheVariants as stage
 use Rattle.sleep_model.specs.declared.word.EventNow.{EventNow}
 use Rattle.sleep_model.specs.Attempt.{failed, failed_after, sleep_of}
 use Rattle.sleep_model.specs.Devices.{is_device, phase_failed, phase_failed_after}
 use Rattle.sleep_model.specs.Guard.{pending}
-use Rattle.sleep_model.specs.Laws.{test_part, disturbed, disturbed_after, entered, UndisturbedEnters, AnswersFailure}
+use Rattle.sleep_model.specs.Laws.{test_effect, disturbed, disturbed_after, entered, UndisturbedEnters, AnswersFailure}
 use Rattle.sleep_model.specs.Legal.{JournalPart}
 use Rattle.sleep_model.specs.Table.{stage_after}
-use Rattle.sleep_laws.proofs.Holding.{Aside, Moved, Opens, Makes, Beside, Owns, Kept, at_made, entry_of, moved, IsMaker}
+use Rattle.sleep_laws.proofs.LockHolding.{Outside, Moved, Opens, Makes, Beside, Owns, StageInvariant, at_made, entry_of, moved, IsMaker}
 use Rattle.sleep_laws.proofs.Made.{InSuspend, InLate, InNoirq, InResume, InEarly, InResumeNoirq, Made, Comes, DeviceMade, EntryMade, AtOnce, PastNotifiers, PastCpus, PastParts, PastPartsUp, PastCpusUp, PastPosts}
 use Rattle.sleep_laws.proofs.Telling.{none≢some}
 
 -- ---- by the side of the table
 
--- going down nothing failed or entered yet, and the machine is awake; at the entering it sleeps where it has entered; coming up it has entered exactly where nothing failed
+-- going down nothing failed or entered yet, and the machine is awake; at the entering it sleeps where it has entered; coming up it has entered exactly if nothing failed
 abbrev pub SideAt : Option Stage → Option Errno → Bool → Option Sleep → Type 0
 SideAt None f n s = s ≡ None
 SideAt (Some stage.Notifies) f n s = (f ≡ None) × (n ≡ false) × (s ≡ None)
@@ -73,29 +73,29 @@ side_makes m past time now who _ _ a (Made.Wakes s b e) h = ((h.1 ∙ ap is_some
 side_makes m past time now who _ _ a Made.Ends h = h.1
 side_makes m past time now who _ _ a _ h = h
 
-side_beside : (m : Machine) (past : List Entry) (time : ℕ) (now : EventNow) (who : Actor) (k : Kind) (s : Option Stage) → EntryMade m past now who k → is_device who ≡ false → Aside s k → Side s past → Side s (entry_of time now who k ∷ past)
-side_beside m past time now who _ s x a Aside.Frozen h = h
+side_beside : (m : Machine) (past : List Entry) (time : ℕ) (now : EventNow) (who : Actor) (k : Kind) (s : Option Stage) → EntryMade m past now who k → is_device who ≡ false → Outside s k → Side s past → Side s (entry_of time now who k ∷ past)
+side_beside m past time now who _ s x a Outside.Frozen h = h
 side_beside m past time now who _ s x a _ h = h
 
 side_owns : (m : Machine) (past : List Entry) (time : ℕ) (now : EventNow) (d : ℕ) (k : Kind) (s : Option Stage) → DeviceMade m past now d k → Side s past → Side s (entry_of time now (actor.Dev d) k ∷ past)
 side_owns m past time now d _ s (DeviceMade.OwnFails p r w g f) h = h
 side_owns m past time now d _ s _ h = h
 
-pub side_kept : (m : Machine) → Kept m Side
-side_kept m = record { starts = refl; opens = λ past time now who n guarded h. (refl, refl, h); comes = side_comes m; makes = side_makes m; beside = side_beside m; owns = side_owns m }
+pub side_invariant : (m : Machine) → StageInvariant m Side
+side_invariant m = record { starts = refl; opens = λ past time now who n guarded h. (refl, refl, h); comes = side_comes m; makes = side_makes m; beside = side_beside m; owns = side_owns m }
 
 -- ---- what disturbs
 
 -- without a disturbance nothing has failed
-abbrev pub Calm : Bool → Option Errno → Option Errno → Type 0
-Calm d f p = d ≡ false → (f ≡ None) × (p ≡ None)
+abbrev pub Quiescent : Bool → Option Errno → Option Errno → Type 0
+Quiescent d f p = d ≡ false → (f ≡ None) × (p ≡ None)
 
 -- the same after an entry
-abbrev CalmAfter : List Entry → EventNow → Kind → Type 0
-CalmAfter past now k = Calm (disturbed_after (test_part k) (pending past now) (disturbed past)) (failed_after k (failed past)) (phase_failed_after k (phase_failed past))
+abbrev QuiescentAfter : List Entry → EventNow → Kind → Type 0
+QuiescentAfter past now k = Quiescent (disturbed_after (test_effect k) (pending past now) (disturbed past)) (failed_after k (failed past)) (phase_failed_after k (phase_failed past))
 
-abbrev IsCalm : List Entry → Type 0
-IsCalm past = Calm (disturbed past) (failed past) (phase_failed past)
+abbrev IsQuiescent : List Entry → Type 0
+IsQuiescent past = Quiescent (disturbed past) (failed past) (phase_failed past)
 
 -- a test that found a wakeup disturbs
 finds : (b c : Bool) → b ≡ true → (b || c) ≡ false → ⊥
@@ -107,98 +107,98 @@ or_second true c e = absurd (true≢false e)
 or_second false c e = e
 
 -- no error stands in the phase where nothing disturbs
-no_error : (past : List Entry) (r : Errno) → IsCalm past → disturbed past ≡ false → phase_failed past ≡ Some r → ⊥
+no_error : (past : List Entry) (r : Errno) → IsQuiescent past → disturbed past ≡ false → phase_failed past ≡ Some r → ⊥
 no_error past r h e f = none≢some r (sym (h e).1 ∙ f)
 
-calm_made : (m : Machine) (past : List Entry) (now : EventNow) (there : Stage) (k : Kind) → Made m past now there k → IsCalm past → CalmAfter past now k
-calm_made m past now _ _ (Made.NotifyFails x r e) h = λ d. absurd (true≢false d)
-calm_made m past now _ _ (Made.UserTimesOut s n x e) h = λ d. absurd (true≢false d)
-calm_made m past now _ _ (Made.KernelTimesOut s n x e) h = λ d. absurd (true≢false d)
-calm_made m past now _ _ (Made.UserWakes s n x e f) h = λ d. absurd (finds (pending past now) (disturbed past) f d)
-calm_made m past now _ _ (Made.KernelWakes s n x e f) h = λ d. absurd (finds (pending past now) (disturbed past) f d)
-calm_made m past now _ _ (Made.BeginFails r) h = λ d. absurd (true≢false d)
-calm_made m past now _ _ (Made.PrepareFails r) h = λ d. absurd (true≢false d)
-calm_made m past now _ _ (Made.PrepareLateFails r) h = λ d. absurd (true≢false d)
-calm_made m past now _ _ (Made.Prepares x (pos n) e f) h = h
-calm_made m past now _ _ (Made.Prepares x (negsuc n) e f) h = λ d. absurd (true≢false d)
-calm_made m past now _ _ (Made.PreparesNot r e) h = λ d. absurd (no_error past r h d e)
-calm_made m past now _ _ (Made.Prepared e f) h = λ d. ((h d).0, refl)
-calm_made m past now _ _ (Made.EndsDown p q x None w c) h = h
-calm_made m past now _ _ (Made.EndsDown _ q x (Some r) InSuspend c) h = λ d. absurd (true≢false d)
-calm_made m past now _ _ (Made.EndsDown _ q x (Some r) InLate c) h = λ d. absurd (true≢false d)
-calm_made m past now _ _ (Made.EndsDown _ q x (Some r) InNoirq c) h = λ d. absurd (true≢false d)
-calm_made m past now _ _ (Made.FindsDown _ x InSuspend at t f) h = λ d. absurd (finds (pending past now) (disturbed past) f d)
-calm_made m past now _ _ (Made.FindsDown _ x InLate at t f) h = λ d. absurd (finds (pending past now) (disturbed past) f d)
-calm_made m past now _ _ (Made.FindsDown _ x InNoirq at t f) h = absurd (true≢false (sym t))
-calm_made m past now _ _ (Made.LeavesDown _ x InSuspend at t f) h = λ d. h (or_second (pending past now) (disturbed past) d)
-calm_made m past now _ _ (Made.LeavesDown _ x InLate at t f) h = λ d. h (or_second (pending past now) (disturbed past) d)
-calm_made m past now _ _ (Made.LeavesDown _ x InNoirq at t f) h = h
-calm_made m past now _ _ (Made.BeginsDown _ x InSuspend at t f) h = λ d. h (or_second (pending past now) (disturbed past) d)
-calm_made m past now _ _ (Made.BeginsDown _ x InLate at t f) h = λ d. h (or_second (pending past now) (disturbed past) d)
-calm_made m past now _ _ (Made.BeginsDown _ x InNoirq at t f) h = h
-calm_made m past now _ _ (Made.SuspendFails r x) h = λ d. absurd (no_error past x.first h d x.fails)
-calm_made m past now _ _ (Made.LateFails r x) h = λ d. absurd (no_error past x.first h d x.fails)
-calm_made m past now _ _ (Made.NoirqFails r x) h = λ d. absurd (no_error past x.first h d x.fails)
-calm_made m past now _ _ (Made.SuspendEnds x) h = λ d. ((h d).0, refl)
-calm_made m past now _ _ (Made.LateEnds x) h = λ d. ((h d).0, refl)
-calm_made m past now _ _ (Made.NoirqEnds x) h = λ d. ((h d).0, refl)
-calm_made m past now _ _ (Made.StopsCpu k e f) h = λ d. h (or_second (pending past now) (disturbed past) d)
-calm_made m past now _ _ (Made.FindsCpu k e f) h = λ d. absurd (finds (pending past now) (disturbed past) f d)
-calm_made m past now _ _ (Made.Checks e) h = λ d. h (or_second (pending past now) (disturbed past) d)
-calm_made m past now _ _ (Made.FindsCheck e) h = λ d. absurd (finds (pending past now) (disturbed past) e d)
-calm_made m past now _ _ (Made.PartFails x r e) h = λ d. absurd (true≢false d)
-calm_made m past now _ _ (Made.Enters e f) h = λ d. h (or_second (pending past now) (disturbed past) d)
-calm_made m past now _ _ (Made.EntersNot e f) h = λ d. absurd (finds (pending past now) (disturbed past) f d)
-calm_made m past now _ _ (Made.EndsUp p q x None w c) h = h
-calm_made m past now _ _ (Made.EndsUp _ q x (Some r) InResume c) h = h
-calm_made m past now _ _ (Made.EndsUp _ q x (Some r) InEarly c) h = h
-calm_made m past now _ _ (Made.EndsUp _ q x (Some r) InResumeNoirq c) h = h
-calm_made m past now _ _ (Made.BeginsUp _ x InResume c g n w) h = h
-calm_made m past now _ _ (Made.BeginsUp _ x InEarly c g n w) h = h
-calm_made m past now _ _ (Made.BeginsUp _ x InResumeNoirq c g n w) h = h
-calm_made m past now _ _ (Made.ResumeNoirqEnds x) h = λ d. ((h d).0, refl)
-calm_made m past now _ _ (Made.EarlyEnds x) h = λ d. ((h d).0, refl)
-calm_made m past now _ _ (Made.ResumeEnds x) h = λ d. ((h d).0, refl)
-calm_made m past now _ _ (Made.Completed e) h = λ d. ((h d).0, refl)
-calm_made m past now _ _ _ h = h
+quiescent_made : (m : Machine) (past : List Entry) (now : EventNow) (there : Stage) (k : Kind) → Made m past now there k → IsQuiescent past → QuiescentAfter past now k
+quiescent_made m past now _ _ (Made.NotifyFails x r e) h = λ d. absurd (true≢false d)
+quiescent_made m past now _ _ (Made.UserTimesOut s n x e) h = λ d. absurd (true≢false d)
+quiescent_made m past now _ _ (Made.KernelTimesOut s n x e) h = λ d. absurd (true≢false d)
+quiescent_made m past now _ _ (Made.UserWakes s n x e f) h = λ d. absurd (finds (pending past now) (disturbed past) f d)
+quiescent_made m past now _ _ (Made.KernelWakes s n x e f) h = λ d. absurd (finds (pending past now) (disturbed past) f d)
+quiescent_made m past now _ _ (Made.BeginFails r) h = λ d. absurd (true≢false d)
+quiescent_made m past now _ _ (Made.PrepareFails r) h = λ d. absurd (true≢false d)
+quiescent_made m past now _ _ (Made.PrepareLateFails r) h = λ d. absurd (true≢false d)
+quiescent_made m past now _ _ (Made.Prepares x (pos n) e f) h = h
+quiescent_made m past now _ _ (Made.Prepares x (negsuc n) e f) h = λ d. absurd (true≢false d)
+quiescent_made m past now _ _ (Made.PreparesNot r e) h = λ d. absurd (no_error past r h d e)
+quiescent_made m past now _ _ (Made.Prepared e f) h = λ d. ((h d).0, refl)
+quiescent_made m past now _ _ (Made.EndsDown p q x None w c) h = h
+quiescent_made m past now _ _ (Made.EndsDown _ q x (Some r) InSuspend c) h = λ d. absurd (true≢false d)
+quiescent_made m past now _ _ (Made.EndsDown _ q x (Some r) InLate c) h = λ d. absurd (true≢false d)
+quiescent_made m past now _ _ (Made.EndsDown _ q x (Some r) InNoirq c) h = λ d. absurd (true≢false d)
+quiescent_made m past now _ _ (Made.FindsDown _ x InSuspend at t f) h = λ d. absurd (finds (pending past now) (disturbed past) f d)
+quiescent_made m past now _ _ (Made.FindsDown _ x InLate at t f) h = λ d. absurd (finds (pending past now) (disturbed past) f d)
+quiescent_made m past now _ _ (Made.FindsDown _ x InNoirq at t f) h = absurd (true≢false (sym t))
+quiescent_made m past now _ _ (Made.LeavesDown _ x InSuspend at t f) h = λ d. h (or_second (pending past now) (disturbed past) d)
+quiescent_made m past now _ _ (Made.LeavesDown _ x InLate at t f) h = λ d. h (or_second (pending past now) (disturbed past) d)
+quiescent_made m past now _ _ (Made.LeavesDown _ x InNoirq at t f) h = h
+quiescent_made m past now _ _ (Made.BeginsDown _ x InSuspend at t f) h = λ d. h (or_second (pending past now) (disturbed past) d)
+quiescent_made m past now _ _ (Made.BeginsDown _ x InLate at t f) h = λ d. h (or_second (pending past now) (disturbed past) d)
+quiescent_made m past now _ _ (Made.BeginsDown _ x InNoirq at t f) h = h
+quiescent_made m past now _ _ (Made.SuspendFails r x) h = λ d. absurd (no_error past x.first h d x.fails)
+quiescent_made m past now _ _ (Made.LateFails r x) h = λ d. absurd (no_error past x.first h d x.fails)
+quiescent_made m past now _ _ (Made.NoirqFails r x) h = λ d. absurd (no_error past x.first h d x.fails)
+quiescent_made m past now _ _ (Made.SuspendEnds x) h = λ d. ((h d).0, refl)
+quiescent_made m past now _ _ (Made.LateEnds x) h = λ d. ((h d).0, refl)
+quiescent_made m past now _ _ (Made.NoirqEnds x) h = λ d. ((h d).0, refl)
+quiescent_made m past now _ _ (Made.StopsCpu k e f) h = λ d. h (or_second (pending past now) (disturbed past) d)
+quiescent_made m past now _ _ (Made.FindsCpu k e f) h = λ d. absurd (finds (pending past now) (disturbed past) f d)
+quiescent_made m past now _ _ (Made.Checks e) h = λ d. h (or_second (pending past now) (disturbed past) d)
+quiescent_made m past now _ _ (Made.FindsCheck e) h = λ d. absurd (finds (pending past now) (disturbed past) e d)
+quiescent_made m past now _ _ (Made.PartFails x r e) h = λ d. absurd (true≢false d)
+quiescent_made m past now _ _ (Made.Enters e f) h = λ d. h (or_second (pending past now) (disturbed past) d)
+quiescent_made m past now _ _ (Made.EntersNot e f) h = λ d. absurd (finds (pending past now) (disturbed past) f d)
+quiescent_made m past now _ _ (Made.EndsUp p q x None w c) h = h
+quiescent_made m past now _ _ (Made.EndsUp _ q x (Some r) InResume c) h = h
+quiescent_made m past now _ _ (Made.EndsUp _ q x (Some r) InEarly c) h = h
+quiescent_made m past now _ _ (Made.EndsUp _ q x (Some r) InResumeNoirq c) h = h
+quiescent_made m past now _ _ (Made.BeginsUp _ x InResume c g n w) h = h
+quiescent_made m past now _ _ (Made.BeginsUp _ x InEarly c g n w) h = h
+quiescent_made m past now _ _ (Made.BeginsUp _ x InResumeNoirq c g n w) h = h
+quiescent_made m past now _ _ (Made.ResumeNoirqEnds x) h = λ d. ((h d).0, refl)
+quiescent_made m past now _ _ (Made.EarlyEnds x) h = λ d. ((h d).0, refl)
+quiescent_made m past now _ _ (Made.ResumeEnds x) h = λ d. ((h d).0, refl)
+quiescent_made m past now _ _ (Made.Completed e) h = λ d. ((h d).0, refl)
+quiescent_made m past now _ _ _ h = h
 
-calm_own : (m : Machine) (past : List Entry) (now : EventNow) (x : ℕ) (k : Kind) → DeviceMade m past now x k → IsCalm past → CalmAfter past now k
-calm_own m past now x _ (DeviceMade.OwnFails p r w g f) h = h
-calm_own m past now x _ (DeviceMade.OwnFinds _ InSuspend g f t e) h = λ d. absurd (finds (pending past now) (disturbed past) e d)
-calm_own m past now x _ (DeviceMade.OwnFinds _ InLate g f t e) h = λ d. absurd (finds (pending past now) (disturbed past) e d)
-calm_own m past now x _ (DeviceMade.OwnFinds _ InNoirq g f t e) h = absurd (true≢false (sym t))
-calm_own m past now x _ (DeviceMade.OwnLeaves _ InSuspend g f t e) h = λ d. h (or_second (pending past now) (disturbed past) d)
-calm_own m past now x _ (DeviceMade.OwnLeaves _ InLate g f t e) h = λ d. h (or_second (pending past now) (disturbed past) d)
-calm_own m past now x _ (DeviceMade.OwnLeaves _ InNoirq g f t e) h = h
-calm_own m past now x _ (DeviceMade.OwnBegins _ InSuspend g f t e) h = λ d. h (or_second (pending past now) (disturbed past) d)
-calm_own m past now x _ (DeviceMade.OwnBegins _ InLate g f t e) h = λ d. h (or_second (pending past now) (disturbed past) d)
-calm_own m past now x _ (DeviceMade.OwnBegins _ InNoirq g f t e) h = h
-calm_own m past now x _ (DeviceMade.OwnRises _ InResume b w s e) h = h
-calm_own m past now x _ (DeviceMade.OwnRises _ InEarly b w s e) h = h
-calm_own m past now x _ (DeviceMade.OwnRises _ InResumeNoirq b w s e) h = h
-calm_own m past now x _ (DeviceMade.OwnEnds p None w b a s) h = h
-calm_own m past now x _ (DeviceMade.OwnEnds _ (Some r) InSuspend b a s) h = λ d. absurd (true≢false d)
-calm_own m past now x _ (DeviceMade.OwnEnds _ (Some r) InLate b a s) h = λ d. absurd (true≢false d)
-calm_own m past now x _ (DeviceMade.OwnEnds _ (Some r) InNoirq b a s) h = λ d. absurd (true≢false d)
-calm_own m past now x _ (DeviceMade.OwnRose p None w b a s) h = h
-calm_own m past now x _ (DeviceMade.OwnRose _ (Some r) InResume b a s) h = h
-calm_own m past now x _ (DeviceMade.OwnRose _ (Some r) InEarly b a s) h = h
-calm_own m past now x _ (DeviceMade.OwnRose _ (Some r) InResumeNoirq b a s) h = h
+quiescent_own : (m : Machine) (past : List Entry) (now : EventNow) (x : ℕ) (k : Kind) → DeviceMade m past now x k → IsQuiescent past → QuiescentAfter past now k
+quiescent_own m past now x _ (DeviceMade.OwnFails p r w g f) h = h
+quiescent_own m past now x _ (DeviceMade.OwnFinds _ InSuspend g f t e) h = λ d. absurd (finds (pending past now) (disturbed past) e d)
+quiescent_own m past now x _ (DeviceMade.OwnFinds _ InLate g f t e) h = λ d. absurd (finds (pending past now) (disturbed past) e d)
+quiescent_own m past now x _ (DeviceMade.OwnFinds _ InNoirq g f t e) h = absurd (true≢false (sym t))
+quiescent_own m past now x _ (DeviceMade.OwnLeaves _ InSuspend g f t e) h = λ d. h (or_second (pending past now) (disturbed past) d)
+quiescent_own m past now x _ (DeviceMade.OwnLeaves _ InLate g f t e) h = λ d. h (or_second (pending past now) (disturbed past) d)
+quiescent_own m past now x _ (DeviceMade.OwnLeaves _ InNoirq g f t e) h = h
+quiescent_own m past now x _ (DeviceMade.OwnBegins _ InSuspend g f t e) h = λ d. h (or_second (pending past now) (disturbed past) d)
+quiescent_own m past now x _ (DeviceMade.OwnBegins _ InLate g f t e) h = λ d. h (or_second (pending past now) (disturbed past) d)
+quiescent_own m past now x _ (DeviceMade.OwnBegins _ InNoirq g f t e) h = h
+quiescent_own m past now x _ (DeviceMade.OwnRises _ InResume b w s e) h = h
+quiescent_own m past now x _ (DeviceMade.OwnRises _ InEarly b w s e) h = h
+quiescent_own m past now x _ (DeviceMade.OwnRises _ InResumeNoirq b w s e) h = h
+quiescent_own m past now x _ (DeviceMade.OwnEnds p None w b a s) h = h
+quiescent_own m past now x _ (DeviceMade.OwnEnds _ (Some r) InSuspend b a s) h = λ d. absurd (true≢false d)
+quiescent_own m past now x _ (DeviceMade.OwnEnds _ (Some r) InLate b a s) h = λ d. absurd (true≢false d)
+quiescent_own m past now x _ (DeviceMade.OwnEnds _ (Some r) InNoirq b a s) h = λ d. absurd (true≢false d)
+quiescent_own m past now x _ (DeviceMade.OwnRose p None w b a s) h = h
+quiescent_own m past now x _ (DeviceMade.OwnRose _ (Some r) InResume b a s) h = h
+quiescent_own m past now x _ (DeviceMade.OwnRose _ (Some r) InEarly b a s) h = h
+quiescent_own m past now x _ (DeviceMade.OwnRose _ (Some r) InResumeNoirq b a s) h = h
 
-calm_aside : (past : List Entry) (now : EventNow) (k : Kind) {s : Option Stage} → Aside s k → IsCalm past → CalmAfter past now k
-calm_aside past now _ Aside.Frozen h = h
-calm_aside past now _ _ h = h
+quiescent_aside : (past : List Entry) (now : EventNow) (k : Kind) {s : Option Stage} → Outside s k → IsQuiescent past → QuiescentAfter past now k
+quiescent_aside past now _ Outside.Frozen h = h
+quiescent_aside past now _ _ h = h
 
-calm_moved : (m : Machine) (past : List Entry) (now : EventNow) (who : Actor) (k : Kind) → Moved m past now who k → IsCalm past → CalmAfter past now k
-calm_moved m past now who _ (Opens _ n guarded f e) h = λ d. (refl, refl)
-calm_moved m past now who k (Makes _ here there _ a e c d) h = calm_made m past now there k d h
-calm_moved m past now who k (Beside _ _ a d) h = calm_aside past now k d h
-calm_moved m past now _ k (Owns x _ d) h = calm_own m past now x k d h
+quiescent_moved : (m : Machine) (past : List Entry) (now : EventNow) (who : Actor) (k : Kind) → Moved m past now who k → IsQuiescent past → QuiescentAfter past now k
+quiescent_moved m past now who _ (Opens _ n guarded f e) h = λ d. (refl, refl)
+quiescent_moved m past now who k (Makes _ here there _ a e c d) h = quiescent_made m past now there k d h
+quiescent_moved m past now who k (Beside _ _ a d) h = quiescent_aside past now k d h
+quiescent_moved m past now _ k (Owns x _ d) h = quiescent_own m past now x k d h
 
 -- an attempt that nothing disturbed has not failed
-pub calm : (m : Machine) (past : List Entry) → JournalPart m past → disturbed past ≡ false → (failed past ≡ None) × (phase_failed past ≡ None)
-calm m [] h = λ d. (refl, refl)
-calm m (e ∷ past) h = calm_moved m past e.now e.actor e.kind (moved m past e h) (calm m past h.1)
+pub quiescent : (m : Machine) (past : List Entry) → JournalPart m past → disturbed past ≡ false → (failed past ≡ None) × (phase_failed past ≡ None)
+quiescent m [] h = λ d. (refl, refl)
+quiescent m (e ∷ past) h = quiescent_moved m past e.now e.actor e.kind (moved m past e h) (quiescent m past h.1)
 
 -- ---- the laws at the end of an attempt
 
@@ -207,9 +207,9 @@ answers_made m past now _ _ Made.Ends h = (refl, h.0)
 answers_made m past now _ _ (Made.Notifies x e) h = tt
 answers_made m past now _ _ _ h = tt
 
-answers_aside : (past : List Entry) (k : Kind) {s : Option Stage} → Aside s k → AnswersFailure past k
-answers_aside past _ Aside.Frozen = tt
-answers_aside past _ _ = tt
+answers_outside : (past : List Entry) (k : Kind) {s : Option Stage} → Outside s k → AnswersFailure past k
+answers_outside past _ Outside.Frozen = tt
+answers_outside past _ _ = tt
 
 answers_own : (m : Machine) (past : List Entry) (now : EventNow) (d : ℕ) (k : Kind) → DeviceMade m past now d k → AnswersFailure past k
 answers_own m past now d _ (DeviceMade.OwnFails p r w g f) = tt
@@ -217,17 +217,17 @@ answers_own m past now d _ _ = tt
 
 answers_moved : (m : Machine) (past : List Entry) (now : EventNow) (who : Actor) (k : Kind) → JournalPart m past → Moved m past now who k → AnswersFailure past k
 answers_moved m past now who _ h (Opens _ n guarded f e) = tt
-answers_moved m past now who k h (Makes _ here there _ a e c d) = answers_made m past now there k d (at_made m Side (side_kept m) past h here there e c)
-answers_moved m past now who k h (Beside _ _ a d) = answers_aside past k d
+answers_moved m past now who k h (Makes _ here there _ a e c d) = answers_made m past now there k d (at_made m Side (side_invariant m) past h here there e c)
+answers_moved m past now who k h (Beside _ _ a d) = answers_outside past k d
 answers_moved m past now _ k h (Owns x _ d) = answers_own m past now x k d
 
--- an attempt answers the error of the step that failed, and 0 exactly where it has entered
+-- an attempt answers the error of the step that failed, and 0 exactly if it has entered
 pub answers_failure : (m : Machine) (past : List Entry) (e : Entry) → JournalPart m (e ∷ past) → AnswersFailure past e.kind
 answers_failure m past e h = answers_moved m past e.now e.actor e.kind h.1 (moved m past e h)
 
 undisturbed : (m : Machine) (past : List Entry) (k : Kind) → JournalPart m past → AnswersFailure past k → UndisturbedEnters past k
 undisturbed m past (kind.Over n r) h x = λ d.
-    let well : failed past ≡ None = (calm m past h d).0 in
+    let well : failed past ≡ None = (quiescent m past h d).0 in
     (x.1 ∙ ap is_none (x.0 ∙ well), x.0 ∙ well)
 undisturbed m past _ h x = tt
 

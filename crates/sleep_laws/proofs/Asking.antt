@@ -10,16 +10,16 @@ use Rattle.sleep_model.specs.declared.entry.Kind.{Kind}
 use Rattle.sleep_model.specs.declared.machine.Machine.{Machine}
 use Rattle.sleep_model.specs.declared.machine.Script.{Script}
 use Rattle.sleep_model.specs.declared.machine.TaskKind.{TaskKind}
-use Rattle.sleep_model.specs.declared.place.Freezing.{Freezing}
-use Rattle.sleep_model.specs.declared.place.Stage.{Stage}
-use Rattle.sleep_model.specs.declared.place.Stage.TheVariants as stage
+use Rattle.sleep_model.specs.declared.progress.Freezing.{Freezing}
+use Rattle.sleep_model.specs.declared.progress.Stage.{Stage}
+use Rattle.sleep_model.specs.declared.progress.Stage.TheVariants as stage
 use Rattle.sleep_model.specs.declared.word.EventNow.{EventNow}
 use Rattle.sleep_model.specs.Attempt.{freeze_since}
 use Rattle.sleep_model.specs.Devices.{is_device}
 use Rattle.sleep_model.specs.Freezer.{is_in, is_task, freezings, freezing_at, asked_by, all_asked, put_frozen}
 use Rattle.sleep_model.specs.Path.{maker, is_actor}
 use Rattle.sleep_model.specs.Table.{stage_after}
-use Rattle.sleep_laws.proofs.Holding.{Aside, Kept, IsMaker, entry_of}
+use Rattle.sleep_laws.proofs.LockHolding.{Outside, StageInvariant, IsMaker, entry_of}
 use Rattle.sleep_laws.proofs.Made.{Made, Comes, DeviceMade, EntryMade, AtOnce, PastNotifiers, PastCpus, PastParts, PastPartsUp, PastCpusUp, PastPosts}
 use Rattle.sleep_laws.proofs.Reaching.{IfSo, if_same, same_then, user_at, kernel_at}
 use Rattle.sleep_laws.proofs.Turning.{never}
@@ -177,8 +177,8 @@ asked_makes m past time now who there k a x h = (
   same_then (AllAsked group.Kernel m (maker past) (freezings m.actors past)) (asks_kernel (Some there) (freeze_since past)) (asks_kernel (stage_after k (Some there)) (freeze_since past)) refl h.2,
 )
 
-asked_beside : (m : Machine) (past : List Entry) (time : ℕ) (now : EventNow) (who : Actor) (k : Kind) (s : Option Stage) → EntryMade m past now who k → is_device who ≡ false → Aside s k → IsAsked m s past → IsAsked m s (entry_of time now who k ∷ past)
-asked_beside m past time now who _ s x a Aside.Frozen h =
+asked_beside : (m : Machine) (past : List Entry) (time : ℕ) (now : EventNow) (who : Actor) (k : Kind) (s : Option Stage) → EntryMade m past now who k → is_device who ≡ false → Outside s k → IsAsked m s past → IsAsked m s (entry_of time now who k ∷ past)
+asked_beside m past time now who _ s x a Outside.Frozen h =
     let fs : List Freezing = freezings m.actors past in (
       h.0,
       if_same (AllAsked group.User m (maker past) fs) (AllAsked group.User m (maker past) (put_frozen who fs)) (asks_user s (freeze_since past)) (put_stay group.User (maker past) m.actors fs who) h.1,
@@ -190,5 +190,5 @@ asked_owns : (m : Machine) (past : List Entry) (time : ℕ) (now : EventNow) (d 
 asked_owns m past time now d _ s (DeviceMade.OwnFails p r w g f) h = h
 asked_owns m past time now d _ s _ h = h
 
-pub asked_kept : (m : Machine) → Kept m (IsAsked m)
-asked_kept m = record { starts = (refl, tt, tt); opens = λ past time now who n guarded h. (h.0, tt, tt); comes = asked_comes m; makes = asked_makes m; beside = asked_beside m; owns = asked_owns m }
+pub asked_invariant : (m : Machine) → StageInvariant m (IsAsked m)
+asked_invariant m = record { starts = (refl, tt, tt); opens = λ past time now who n guarded h. (h.0, tt, tt); comes = asked_comes m; makes = asked_makes m; beside = asked_beside m; owns = asked_owns m }

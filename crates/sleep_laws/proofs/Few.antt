@@ -11,7 +11,7 @@ use Rattle.sleep_model.specs.declared.machine.Machine.{Machine}
 use Rattle.sleep_model.specs.declared.word.EventNow.{EventNow}
 use Rattle.sleep_model.specs.Legal.{IsLegal, HistoriesFit, is_there, is_short}
 use Rattle.sleep_model.specs.Numbers.{numbers}
-use Rattle.sleep_model.specs.Parts.{part_of}
+use Rattle.sleep_model.specs.EntryClasses.{class_of}
 use Rattle.sleep_model.specs.Sources.{history, is_of, most_entries}
 
 -- registered events are never forgotten
@@ -32,16 +32,16 @@ places (suc n) past = length (history n past) + places n past
 -- an entry takes a place in its source's history at most
 pub places_rise : (n : ℕ) (e : Entry) (past : List Entry) → places n past ≤ places n (e ∷ past)
 places_rise zero e past = omega arith
-places_rise (suc n) e past = omega (arith, places_rise n e past, longer (is_of n (part_of e.kind)))
+places_rise (suc n) e past = omega (arith, places_rise n e past, longer (is_of n (class_of e.kind)))
   where
     longer : (b : Bool) → length (history n past) ≤ length (cond b (e ∷ history n past) (history n past))
     longer true = omega arith
     longer false = omega arith
 
 -- a step of the word takes one
-pub place_taken : (n s : ℕ) → s < n → (e : Entry) (past : List Entry) → ((t : ℕ) → is_of t (part_of e.kind) ≡ (s == t)) → places n past + 1 ≤ places n (e ∷ past)
+pub place_taken : (n s : ℕ) → s < n → (e : Entry) (past : List Entry) → ((t : ℕ) → is_of t (class_of e.kind) ≡ (s == t)) → places n past + 1 ≤ places n (e ∷ past)
 place_taken zero s l e past own = absurd (omega arith)
-place_taken (suc n) s l e past own = by_last (s == n) (is_of n (part_of e.kind)) (own n) refl (λ k. place_taken n s k e past own)
+place_taken (suc n) s l e past own = by_last (s == n) (is_of n (class_of e.kind)) (own n) refl (λ k. place_taken n s k e past own)
   where
     by_last : (b c : Bool) → c ≡ (s == n) → (s == n) ≡ b → (s < n → places n past + 1 ≤ places n (e ∷ past)) → places (suc n) past + 1 ≤ length (cond c (e ∷ history n past) (history n past)) + places n (e ∷ past)
     by_last true true x y before = omega (arith, places_rise n e past)
@@ -50,11 +50,11 @@ place_taken (suc n) s l e past own = by_last (s == n) (is_of n (part_of e.kind))
     by_last false false x y before = let within : s < n = grind (arith, nat_tests) in omega (arith, before within)
 
 -- each step of the word is an entry of a source of the machine
-moves_placed : (m : Machine) (past : List Entry) → list_all (λ e. is_there m (part_of e.kind)) past ≡ true → (numbers past).inpr + (numbers past).count + (numbers past).hard ≤ places (length m.sources + 1) past
+moves_placed : (m : Machine) (past : List Entry) → list_all (λ e. is_there m (class_of e.kind)) past ≡ true → (numbers past).inpr + (numbers past).count + (numbers past).hard ≤ places (length m.sources + 1) past
 moves_placed m [] there = omega arith
 moves_placed m (e ∷ past) there = by_kind e.time e.now e.actor e.kind there (λ h. moves_placed m past h)
   where
-    rest : (b : Bool) → (b && list_all (λ x. is_there m (part_of x.kind)) past) ≡ true → list_all (λ x. is_there m (part_of x.kind)) past ≡ true
+    rest : (b : Bool) → (b && list_all (λ x. is_there m (class_of x.kind)) past) ≡ true → list_all (λ x. is_there m (class_of x.kind)) past ≡ true
     rest true h = h
     rest false h = absurd (cc)
 
@@ -65,20 +65,20 @@ moves_placed m (e ∷ past) there = by_kind e.time e.now e.actor e.kind there (�
     within : (s : ℕ) → nat_le s (length m.sources) ≡ true → s < length m.sources + 1
     within s h = grind (arith, nat_tests)
 
-    by_kind : (time : ℕ) (now : EventNow) (a : Actor) (k : Kind) → list_all (λ x. is_there m (part_of x.kind)) (record { time = time; now = now; actor = a; kind = k } ∷ past) ≡ true
-        → (list_all (λ x. is_there m (part_of x.kind)) past ≡ true → (numbers past).inpr + (numbers past).count + (numbers past).hard ≤ places (length m.sources + 1) past)
+    by_kind : (time : ℕ) (now : EventNow) (a : Actor) (k : Kind) → list_all (λ x. is_there m (class_of x.kind)) (record { time = time; now = now; actor = a; kind = k } ∷ past) ≡ true
+        → (list_all (λ x. is_there m (class_of x.kind)) past ≡ true → (numbers past).inpr + (numbers past).count + (numbers past).hard ≤ places (length m.sources + 1) past)
         → (numbers (record { time = time; now = now; actor = a; kind = k } ∷ past)).inpr + (numbers (record { time = time; now = now; actor = a; kind = k } ∷ past)).count + (numbers (record { time = time; now = now; actor = a; kind = k } ∷ past)).hard
         ≤ places (length m.sources + 1) (record { time = time; now = now; actor = a; kind = k } ∷ past)
     by_kind time now a (kind.Finish s) h before =
-        let own : s < length m.sources + 1 = within s (first (nat_le s (length m.sources)) (list_all (λ x. is_there m (part_of x.kind)) past) h) in
+        let own : s < length m.sources + 1 = within s (first (nat_le s (length m.sources)) (list_all (λ x. is_there m (class_of x.kind)) past) h) in
         omega (arith, before (rest (nat_le s (length m.sources)) h), place_taken (length m.sources + 1) s own (record { time = time; now = now; actor = a; kind = kind.Finish s }) past (λ t. refl))
     by_kind time now a (kind.Start s) h before =
-        let own : s < length m.sources + 1 = within s (first (nat_le s (length m.sources)) (list_all (λ x. is_there m (part_of x.kind)) past) h) in
+        let own : s < length m.sources + 1 = within s (first (nat_le s (length m.sources)) (list_all (λ x. is_there m (class_of x.kind)) past) h) in
         omega (arith, before (rest (nat_le s (length m.sources)) h), place_taken (length m.sources + 1) s own (record { time = time; now = now; actor = a; kind = kind.Start s }) past (λ t. refl))
     by_kind time now a (kind.Hard s) h before =
-        let own : s < length m.sources + 1 = within s (first (nat_le s (length m.sources)) (list_all (λ x. is_there m (part_of x.kind)) past) h) in
+        let own : s < length m.sources + 1 = within s (first (nat_le s (length m.sources)) (list_all (λ x. is_there m (class_of x.kind)) past) h) in
         omega (arith, before (rest (nat_le s (length m.sources)) h), place_taken (length m.sources + 1) s own (record { time = time; now = now; actor = a; kind = kind.Hard s }) past (λ t. refl))
-    by_kind time now a k h before = omega (arith, before (rest (is_there m (part_of k)) h), places_rise (length m.sources + 1) (record { time = time; now = now; actor = a; kind = k }) past)
+    by_kind time now a k h before = omega (arith, before (rest (is_there m (class_of k)) h), places_rise (length m.sources + 1) (record { time = time; now = now; actor = a; kind = k }) past)
 
 -- short histories have few places together
 few_places : (past : List Entry) (n : ℕ) → ((s : ℕ) → s < n → length (history s past) ≤ most_entries) → places n past ≤ n * 60000

@@ -10,7 +10,7 @@ use Rattle.sleep_model.specs.declared.entry.Kind.{Kind}
 use Rattle.sleep_model.specs.declared.entry.Kind.TheVariants as kind
 use Rattle.sleep_model.specs.declared.machine.Machine.{Machine}
 use Rattle.sleep_model.specs.declared.machine.Notifier.{Notifier}
-use Rattle.sleep_model.specs.Notifiers.{Ranked, put_ranked, ranked_from, numbers_of, call_order, set_unless, notified, notified_after, told, cpus_off, cpus_off_after, stopped, stopped_after, next_posted, next_cpu_on, next_started, other_cpus, syscore_parts}
+use Rattle.sleep_model.specs.Notifiers.{Ranked, put_ranked, ranked_from, numbers_of, call_order, set_unless, notified, notified_after, notified_flags, cpus_off, cpus_off_after, stopped, stopped_after, next_posted, next_cpu_on, next_started, other_cpus, syscore_steps}
 use Rattle.sleep_model.specs.Order.{is_among}
 use Rattle.sleep_model.specs.Walk.{is_so, first_where, last_where, or_else}
 use Rattle.sleep_laws.proofs.Telling.{some≢none, none≢some, some_is}
@@ -153,9 +153,9 @@ notified_length (kind.NotifyPrepare x r) flags = length_unless r x flags
 notified_length (kind.NotifyPost x) flags = length-set flags x false
 notified_length _ flags = refl
 
-pub told_length : (n : ℕ) (past : List Entry) → length (notified n past) ≡ n
-told_length n [] = length_replicate n
-told_length n (e ∷ past) = notified_length e.kind (notified n past) ∙ told_length n past
+pub notified_flags_length : (n : ℕ) (past : List Entry) → length (notified n past) ≡ n
+notified_flags_length n [] = length_replicate n
+notified_flags_length n (e ∷ past) = notified_length e.kind (notified n past) ∙ notified_flags_length n past
 
 cpus_length : (k : Kind) (flags : List Bool) → length (cpus_off_after k flags) ≡ length flags
 cpus_length (kind.CpuOff x) flags = length-set flags x true
@@ -180,19 +180,19 @@ not_true true e = absurd (true≢false (sym e))
 not_true false e = refl
 
 -- where no notifier is owed its post, none is
-pub none_told : (m : Machine) (past : List Entry) → next_posted m past ≡ None → told m past ≡ replicate (length m.notifiers) false
-none_told m past e =
-    let all : list_all (λ x. not (is_so (told m past) x)) (call_order m) ≡ true = first_none (is_so (told m past)) (call_order m) e in
-    cleared (told m past) (length m.notifiers) (told_length (length m.notifiers) past)
-    (λ k l. not_true (is_so (told m past) k) (all_at (λ x. not (is_so (told m past) x)) (call_order m) k all (ranked_all 0 m.notifiers k (omega arith) (omega arith))))
+pub none_notified : (m : Machine) (past : List Entry) → next_posted m past ≡ None → notified_flags m past ≡ replicate (length m.notifiers) false
+none_notified m past e =
+    let all : list_all (λ x. not (is_so (notified_flags m past) x)) (call_order m) ≡ true = first_none (is_so (notified_flags m past)) (call_order m) e in
+    cleared (notified_flags m past) (length m.notifiers) (notified_flags_length (length m.notifiers) past)
+    (λ k l. not_true (is_so (notified_flags m past) k) (all_at (λ x. not (is_so (notified_flags m past) x)) (call_order m) k all (ranked_all 0 m.notifiers k (omega arith) (omega arith))))
 
 -- where no part of the core is to be resumed, none is suspended
 pub none_stopped : (m : Machine) (past : List Entry) → next_started m past ≡ None → stopped (length m.syscore) past ≡ replicate (length m.syscore) false
 none_stopped m past e =
     let flags : List Bool = stopped (length m.syscore) past in
-    let all : list_all (λ x. not (is_so flags x)) (syscore_parts m) ≡ true = first_none (is_so flags) (syscore_parts m) e in
+    let all : list_all (λ x. not (is_so flags x)) (syscore_steps m) ≡ true = first_none (is_so flags) (syscore_steps m) e in
     cleared flags (length m.syscore) (stopped_length (length m.syscore) past)
-    (λ k l. not_true (is_so flags k) (all_at (λ x. not (is_so flags x)) (syscore_parts m) k all (in_run 0 (length m.syscore) k (omega arith) (omega arith))))
+    (λ k l. not_true (is_so flags k) (all_at (λ x. not (is_so flags x)) (syscore_steps m) k all (in_run 0 (length m.syscore) k (omega arith) (omega arith))))
 
 all_but_first : (flags : List Bool) (n : ℕ) → list_all (λ x. not (is_so flags x)) (range_with_len 1 (n - 1)) ≡ true → is_so flags 0 ≡ false → (k : ℕ) → k < n → is_so flags k ≡ false
 all_but_first flags n all z zero l = z

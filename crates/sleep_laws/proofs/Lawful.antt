@@ -4,9 +4,9 @@ use Rattle.sleep_model.specs.declared.entry.Entry.{Entry}
 use Rattle.sleep_model.specs.declared.machine.Machine.{Machine}
 use Rattle.sleep_model.specs.Laws.{LawsAt, Laws}
 use Rattle.sleep_model.specs.Legal.{JournalPart, IsLegal}
-use Rattle.sleep_model.specs.Parts.{journal}
+use Rattle.sleep_model.specs.EntryClasses.{journal}
 use Rattle.sleep_laws.proofs.Answering.{answers_failure, undisturbed_enters}
-use Rattle.sleep_laws.proofs.DevicesStand.{dependents_first, suppliers_first, all_restored, all_owed, all_down}
+use Rattle.sleep_laws.proofs.DeviceLaws.{dependents_first, suppliers_first, all_restored, all_owed, all_down}
 use Rattle.sleep_laws.proofs.Once.{taken_once, not_owed_already}
 use Rattle.sleep_laws.proofs.Owing.{found_pending}
 use Rattle.sleep_laws.proofs.Stepping.{in_order}

@@ -7,14 +7,14 @@ use Rattle.sleep_model.specs.declared.entry.Kind.{Kind}
 use Rattle.sleep_model.specs.declared.machine.Machine.{Machine}
 use Rattle.sleep_model.specs.declared.machine.PlatDo.TheVariants as down
 use Rattle.sleep_model.specs.declared.machine.PlatUndo.TheVariants as undo
-use Rattle.sleep_model.specs.declared.place.Stage.{Stage}
-use Rattle.sleep_model.specs.declared.place.Stage.TheVariants as stage
+use Rattle.sleep_model.specs.declared.progress.Stage.{Stage}
+use Rattle.sleep_model.specs.declared.progress.Stage.TheVariants as stage
 use Rattle.sleep_model.specs.declared.word.EventNow.{EventNow}
 use Rattle.phase_table.specs.declared.phase.Phase.TheVariants as phase
 use Rattle.sleep_model.specs.Devices.{is_device}
 use Rattle.sleep_model.specs.Notifiers.{irqs_off, owes_platform}
 use Rattle.sleep_model.specs.Table.{stage_after}
-use Rattle.sleep_laws.proofs.Holding.{Aside, Kept, entry_of, IsMaker}
+use Rattle.sleep_laws.proofs.LockHolding.{Outside, StageInvariant, entry_of, IsMaker}
 use Rattle.sleep_laws.proofs.Made.{Made, Comes, DeviceMade, EntryMade, PastNotifiers}
 
 -- interrupts are off at that stage (arch_suspend_disable_irqs)
@@ -92,13 +92,13 @@ exact_makes m past time now who _ _ a Made.PlatformFinishes h = (h.0, h.1, refl,
 exact_makes m past time now who _ _ a Made.PlatformEnds h = (h.0, refl, h.2, h.3)
 exact_makes m past time now who _ _ a _ h = h
 
-exact_beside : (m : Machine) (past : List Entry) (time : ℕ) (now : EventNow) (who : Actor) (k : Kind) (s : Option Stage) → EntryMade m past now who k → is_device who ≡ false → Aside s k → Exact s past → Exact s (entry_of time now who k ∷ past)
-exact_beside m past time now who _ s x a Aside.Frozen h = h
+exact_beside : (m : Machine) (past : List Entry) (time : ℕ) (now : EventNow) (who : Actor) (k : Kind) (s : Option Stage) → EntryMade m past now who k → is_device who ≡ false → Outside s k → Exact s past → Exact s (entry_of time now who k ∷ past)
+exact_beside m past time now who _ s x a Outside.Frozen h = h
 exact_beside m past time now who _ s x a _ h = h
 
 exact_owns : (m : Machine) (past : List Entry) (time : ℕ) (now : EventNow) (d : ℕ) (k : Kind) (s : Option Stage) → DeviceMade m past now d k → Exact s past → Exact s (entry_of time now (actor.Dev d) k ∷ past)
 exact_owns m past time now d _ s (DeviceMade.OwnFails p r w g f) h = h
 exact_owns m past time now d _ s _ h = h
 
-pub exact_kept : (m : Machine) → Kept m Exact
-exact_kept m = record { starts = (refl, refl, refl, refl); opens = λ past time now who n guarded h. h; comes = exact_comes m; makes = exact_makes m; beside = exact_beside m; owns = exact_owns m }
+pub exact_invariant : (m : Machine) → StageInvariant m Exact
+exact_invariant m = record { starts = (refl, refl, refl, refl); opens = λ past time now who n guarded h. h; comes = exact_comes m; makes = exact_makes m; beside = exact_beside m; owns = exact_owns m }

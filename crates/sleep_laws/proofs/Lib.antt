@@ -3,14 +3,14 @@ pub mod Answering
 pub mod Asking
 pub mod Boards
 pub mod Closing
-pub mod DevicesStand
+pub mod DeviceLaws
 pub mod Ending
 pub mod Entering
 pub mod Few
 pub mod Flags
 pub mod Guarding
-pub mod Held
-pub mod Holding
+pub mod GuardInForce
+pub mod LockHolding
 pub mod Lawful
 pub mod Levels
 pub mod Linking
@@ -27,7 +27,7 @@ pub mod Ranks
 pub mod Reaching
 pub mod Resting
 pub mod Restoring
-pub mod Standing
+pub mod DevicePhases
 pub mod Staying
 pub mod Stepping
 pub mod Telling

@@ -11,9 +11,9 @@ use Rattle.sleep_model.specs.declared.machine.Link.{Link}
 use Rattle.sleep_model.specs.declared.machine.Machine.{Machine}
 use Rattle.sleep_model.specs.declared.machine.Op.{Op}
 use Rattle.sleep_model.specs.declared.machine.Op.TheVariants as op
-use Rattle.sleep_model.specs.declared.place.Seat.{Seat}
-use Rattle.sleep_model.specs.declared.place.Stage.{Stage}
-use Rattle.sleep_model.specs.declared.place.Work.{Work}
+use Rattle.sleep_model.specs.declared.progress.ScriptPosition.{ScriptPosition}
+use Rattle.sleep_model.specs.declared.progress.Stage.{Stage}
+use Rattle.sleep_model.specs.declared.progress.Work.{Work}
 use Rattle.sleep_model.specs.declared.word.EventNow.{EventNow}
 use Rattle.sleep_model.specs.Accepted.{IsOp, AreScripts}
 use Rattle.sleep_model.specs.Legal.{JournalPart}
@@ -45,27 +45,27 @@ count_parents : (m : Machine) → length (parents_of m.devices) ≡ length m.dev
 count_parents m = length-map m.devices (λ x. x.parent)
 
 -- an answer of 0 says that the link is new and closes no cycle
-add_told : (a linked dependent : Bool) → add_answer a linked dependent ≡ None → (linked ≡ false) × (dependent ≡ false)
-add_told true linked dependent e = absurd (some≢none EBUSY e)
-add_told false true dependent e = absurd (some≢none EINVAL e)
-add_told false false true e = absurd (some≢none EINVAL e)
-add_told false false false e = (refl, refl)
+add_answered : (a linked dependent : Bool) → add_answer a linked dependent ≡ None → (linked ≡ false) × (dependent ≡ false)
+add_answered true linked dependent e = absurd (some≢none EBUSY e)
+add_answered false true dependent e = absurd (some≢none EINVAL e)
+add_answered false false true e = absurd (some≢none EINVAL e)
+add_answered false false false e = (refl, refl)
 
 module _ (m : Machine) (past : List Entry) (h : AreLinks (parents_of m.devices) (links_at m past)) where
   added_links : (supplier consumer : ℕ) (r : Option Errno) → link_add_due m past supplier consumer ≡ r → IsOp m (op.Link supplier consumer) → AreLinks (parents_of m.devices) (links_after (kind.LinkAdd supplier consumer r) (links_at m past))
   added_links supplier consumer (Some r) e i = h
   added_links supplier consumer None e i =
-      let told = add_told _ (is_linked (links_at m past) supplier consumer) (is_dependent (parents_of m.devices) (links_at m past) consumer supplier) e in
-      (subst (λ (n : ℕ). supplier < n) (sym (count_parents m)) i.0, subst (λ (n : ℕ). consumer < n) (sym (count_parents m)) i.1, told.0, told.1, h)
+      let notified_flags = add_answered _ (is_linked (links_at m past) supplier consumer) (is_dependent (parents_of m.devices) (links_at m past) consumer supplier) e in
+      (subst (λ (n : ℕ). supplier < n) (sym (count_parents m)) i.0, subst (λ (n : ℕ). consumer < n) (sym (count_parents m)) i.1, notified_flags.0, notified_flags.1, h)
 
   set_links : (supplier consumer : ℕ) (active : Bool) (r : Option Errno) → AreLinks (parents_of m.devices) (links_after (kind.LinkState supplier consumer active r) (links_at m past))
   set_links supplier consumer active (Some r) = h
   set_links supplier consumer active None = links_kept (with_state supplier consumer active) (same_supplier supplier consumer active) (same_consumer supplier consumer active) (parents_of m.devices) (links_at m past) h
 
-  step_links : (now : EventNow) (seat : Seat) (asked : Bool) (o : Option Op) (k : Kind) → StepMade m past now seat asked o k → ((op : Op) → o ≡ Some op → IsOp m op) → AreLinks (parents_of m.devices) (links_after k (links_at m past))
-  step_links now seat asked _ _ (StepMade.AddsLink s c r e) named = added_links s c r e (named (op.Link s c) refl)
-  step_links now seat asked _ _ (StepMade.SetsLink s c active r e) named = set_links s c active r
-  step_links now seat asked _ _ _ named = h
+  step_links : (now : EventNow) (position : ScriptPosition) (asked : Bool) (o : Option Op) (k : Kind) → StepMade m past now position asked o k → ((op : Op) → o ≡ Some op → IsOp m op) → AreLinks (parents_of m.devices) (links_after k (links_at m past))
+  step_links now position asked _ _ (StepMade.AddsLink s c r e) named = added_links s c r e (named (op.Link s c) refl)
+  step_links now position asked _ _ (StepMade.SetsLink s c active r e) named = set_links s c active r
+  step_links now position asked _ _ _ named = h
 
   entry_links : AreScripts m m.actors → (now : EventNow) (who : Actor) (k : Kind) → EntryMade m past now who k → AreLinks (parents_of m.devices) (links_after k (links_at m past))
   entry_links scripts now who k (ByMaker _ here there _ a e c d) = subst (AreLinks (parents_of m.devices)) (sym (maker_links m past now there k d (links_at m past))) h

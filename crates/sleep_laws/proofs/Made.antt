@@ -18,21 +18,21 @@ use Rattle.sleep_model.specs.declared.machine.Op.TheVariants as op
 use Rattle.sleep_model.specs.declared.machine.PlatDo.TheVariants as down
 use Rattle.sleep_model.specs.declared.machine.PlatUndo.TheVariants as undo
 use Rattle.sleep_model.specs.declared.machine.Script.{Script}
-use Rattle.sleep_model.specs.declared.place.Seat.{Seat}
-use Rattle.sleep_model.specs.declared.place.Stage.{Stage}
-use Rattle.sleep_model.specs.declared.place.Stage.TheVariants as stage
-use Rattle.sleep_model.specs.declared.place.Stand.TheVariants as stand
-use Rattle.sleep_model.specs.declared.place.Sleep.{Sleep}
-use Rattle.sleep_model.specs.declared.place.Work.{Work}
-use Rattle.sleep_model.specs.declared.place.Work.TheVariants.{Resting, Reading, Saving, Attempting, Looking, Napping, Closing}
-use Rattle.sleep_model.specs.declared.place.AsyncWork.TheVariants.{Scheduled, Inside}
+use Rattle.sleep_model.specs.declared.progress.ScriptPosition.{ScriptPosition}
+use Rattle.sleep_model.specs.declared.progress.Stage.{Stage}
+use Rattle.sleep_model.specs.declared.progress.Stage.TheVariants as stage
+use Rattle.sleep_model.specs.declared.progress.PhaseState.TheVariants as phase_state
+use Rattle.sleep_model.specs.declared.progress.Sleep.{Sleep}
+use Rattle.sleep_model.specs.declared.progress.Work.{Work}
+use Rattle.sleep_model.specs.declared.progress.Work.TheVariants.{Resting, Reading, Saving, Attempting, Looking, Napping, Closing}
+use Rattle.sleep_model.specs.declared.progress.AsyncWork.TheVariants.{Scheduled, Inside}
 use Rattle.sleep_model.specs.declared.word.EventNow.{EventNow}
 use Rattle.phase_table.specs.declared.phase.Phase.{Phase}
 use Rattle.phase_table.specs.declared.phase.Phase.TheVariants as phase
 use Rattle.phase_table.specs.Phases.{mirror, tests_wakeup}
 use Rattle.sleep_model.specs.Attempt.{failed, freeze_since, sleep_of, sleeps_now}
 use Rattle.sleep_model.specs.Autosleep.{work, seen_count}
-use Rattle.sleep_model.specs.Devices.{callback, phase_failed, phase_error, is_direct, is_async_device, stand_in, waits_below, waits_above, waits_down, waits_up, next_down, next_to_schedule, next_up, next_prepared, next_completed, async_work}
+use Rattle.sleep_model.specs.Devices.{callback, phase_failed, phase_error, is_direct, is_async_device, state_in, waits_below, waits_above, waits_down, waits_up, next_down, next_to_schedule, next_up, next_prepared, next_completed, async_work}
 use Rattle.sleep_model.specs.Due.{is_over}
 use Rattle.sleep_model.specs.Freezer.{freezing, left}
 use Rattle.sleep_model.specs.Guard.{in_force, pending}
@@ -43,7 +43,7 @@ use Rattle.sleep_model.specs.Numbers.{time_of}
 use Rattle.sleep_model.specs.Path.{attempts, maker, is_actor}
 use Rattle.sleep_model.specs.Runtime.{runtime_due}
 use Rattle.sleep_model.specs.Scripts.{entry_steps}
-use Rattle.sleep_model.specs.Seats.{seats, seat_at}
+use Rattle.sleep_model.specs.Positions.{positions, position_at}
 use Rattle.sleep_model.specs.Table.{stage_of}
 use Rattle.sleep_model.specs.Tasks.{is_line}
 use Rattle.sleep_model.specs.Word.{visible}
@@ -157,7 +157,7 @@ pub data Made (m : Machine) (past : List Entry) (now : EventNow) : Stage → Kin
   Posts : (x : ℕ) → next_posted m past ≡ Some x → Made m past now stage.Posts (kind.NotifyPost x)
   Ends : Made m past now stage.Ends (kind.Over (attempts past) (failed past))
 
--- the stage that the maker comes to: the one under way, or the one behind it where that has nothing left
+-- the stage that the maker comes to: the one under way, or the one after it where that has nothing left
 pub data Comes (m : Machine) (past : List Entry) : Stage → Stage → Type 0 where
   AtOnce : (here : Stage) → Comes m past here here
   PastNotifiers : next_called m past ≡ None → Comes m past stage.Notifies (stage.Freezes group.User)
@@ -170,51 +170,51 @@ pub data Comes (m : Machine) (past : List Entry) : Stage → Stage → Type 0 wh
 -- ---- tasks
 
 -- what a task, asked to freeze or not, makes at an operation
-pub data StepMade (m : Machine) (past : List Entry) (now : EventNow) (seat : Seat) (asked : Bool) : Option Op → Kind → Type 0 where
-  Exits : StepMade m past now seat asked None kind.Exit
-  Reads : (now.inpr == 0) ≡ true → StepMade m past now seat asked (Some op.Read) (kind.Read (visible now))
-  ReadWaits : (now.inpr == 0) ≡ false → seat.waits ≡ false → StepMade m past now seat asked (Some op.Read) kind.ReadWait
-  ReadStops : (now.inpr == 0) ≡ false → seat.waits ≡ true → asked ≡ true → StepMade m past now seat asked (Some op.Read) kind.ReadIntr
-  SaveWaits : (c : ℕ) (count : Option ℕ) → seat.waits ≡ false → StepMade m past now seat asked (Some (op.Save count)) (kind.SaveWait c)
-  SaveStops : (c : ℕ) (count : Option ℕ) → seat.waits ≡ true → asked ≡ true → StepMade m past now seat asked (Some (op.Save count)) (kind.SaveErr c EINTR)
-  SaveBusy : (c : ℕ) (count : Option ℕ) → holder past ≡ None → is_on past ≡ true → StepMade m past now seat asked (Some (op.Save count)) (kind.SaveErr c EBUSY)
-  Saves : (c : ℕ) (count : Option ℕ) → holder past ≡ None → is_on past ≡ false → (visible now == c) ≡ true → (now.inpr == 0) ≡ true → StepMade m past now seat asked (Some (op.Save count)) (kind.Saved c)
-  SavesNot : (c : ℕ) (count : Option ℕ) → holder past ≡ None → is_on past ≡ false → ((visible now == c) && (now.inpr == 0)) ≡ false → StepMade m past now seat asked (Some (op.Save count)) (kind.SaveErr c EINVAL)
-  Unsaved : (text : List ℕ) (if_saved : Bool) → seat.saved ≡ false → StepMade m past now seat asked (Some (op.State text if_saved)) kind.StateUnsaved
-  StateWaits : (text : List ℕ) (if_saved : Bool) → seat.waits ≡ false → StepMade m past now seat asked (Some (op.State text if_saved)) kind.StateWait
-  StateStops : (text : List ℕ) (if_saved : Bool) → seat.waits ≡ true → asked ≡ true → StepMade m past now seat asked (Some (op.State text if_saved)) (kind.StateErr EINTR)
-  StateBusy : (text : List ℕ) (if_saved : Bool) → holder past ≡ None → is_on past ≡ true → StepMade m past now seat asked (Some (op.State text if_saved)) (kind.StateErr EBUSY)
-  StateBad : (text : List ℕ) (if_saved : Bool) → holder past ≡ None → is_on past ≡ false → StepMade m past now seat asked (Some (op.State text if_saved)) (kind.StateErr EINVAL)
-  Attempts : (text : List ℕ) (if_saved : Bool) → holder past ≡ None → is_on past ≡ false → StepMade m past now seat asked (Some (op.State text if_saved)) (kind.Attempt (attempts past + 1) (in_force past))
-  AutoBad : (text : List ℕ) → StepMade m past now seat asked (Some (op.Autosleep text)) kind.AutoBad
-  AutoEnds : (text : List ℕ) → seat.waits ≡ true → StepMade m past now seat asked (Some (op.Autosleep text)) kind.AutoDone
-  AutoSets : (text : List ℕ) (state : State) → seat.waits ≡ false → holder past ≡ None → StepMade m past now seat asked (Some (op.Autosleep text)) (kind.AutoSet state)
-  Sleeps : (ms until : ℕ) → seat.waits ≡ false → StepMade m past now seat asked (Some (op.Sleep ms)) (kind.Sleep until)
-  Slept : (ms until : ℕ) → seat.waits ≡ true → seat.until ≡ Some until → StepMade m past now seat asked (Some (op.Sleep ms)) kind.Slept
-  SleepsD : (ms until : ℕ) → seat.waits ≡ false → StepMade m past now seat asked (Some (op.SleepD ms)) (kind.SleepD until)
-  SleptD : (ms until : ℕ) → seat.waits ≡ true → seat.until ≡ Some until → StepMade m past now seat asked (Some (op.SleepD ms)) kind.Slept
-  Passes : StepMade m past now seat asked (Some op.FreezePoint) kind.Pass
-  Posts : (mark : ℕ) → StepMade m past now seat asked (Some (op.Post mark)) (kind.Post mark)
-  Gets : (mark : ℕ) → StepMade m past now seat asked (Some (op.Wait mark)) (kind.Got mark)
-  AddsLink : (supplier consumer : ℕ) (r : Option Errno) → link_add_due m past supplier consumer ≡ r → StepMade m past now seat asked (Some (op.Link supplier consumer)) (kind.LinkAdd supplier consumer r)
-  SetsLink : (supplier consumer : ℕ) (active : Bool) (r : Option Errno) → link_state_due m past supplier consumer ≡ r → StepMade m past now seat asked (Some (op.LinkState supplier consumer active)) (kind.LinkState supplier consumer active r)
-  AsksRuntime : (d : ℕ) (to_suspended : Bool) → StepMade m past now seat asked (Some (op.Runtime d to_suspended)) (kind.RuntimeAsk d to_suspended (runtime_due m d to_suspended past))
+pub data StepMade (m : Machine) (past : List Entry) (now : EventNow) (position : ScriptPosition) (asked : Bool) : Option Op → Kind → Type 0 where
+  Exits : StepMade m past now position asked None kind.Exit
+  Reads : (now.inpr == 0) ≡ true → StepMade m past now position asked (Some op.Read) (kind.Read (visible now))
+  ReadWaits : (now.inpr == 0) ≡ false → position.waits ≡ false → StepMade m past now position asked (Some op.Read) kind.ReadWait
+  ReadStops : (now.inpr == 0) ≡ false → position.waits ≡ true → asked ≡ true → StepMade m past now position asked (Some op.Read) kind.ReadIntr
+  SaveWaits : (c : ℕ) (count : Option ℕ) → position.waits ≡ false → StepMade m past now position asked (Some (op.Save count)) (kind.SaveWait c)
+  SaveStops : (c : ℕ) (count : Option ℕ) → position.waits ≡ true → asked ≡ true → StepMade m past now position asked (Some (op.Save count)) (kind.SaveErr c EINTR)
+  SaveBusy : (c : ℕ) (count : Option ℕ) → holder past ≡ None → is_on past ≡ true → StepMade m past now position asked (Some (op.Save count)) (kind.SaveErr c EBUSY)
+  Saves : (c : ℕ) (count : Option ℕ) → holder past ≡ None → is_on past ≡ false → (visible now == c) ≡ true → (now.inpr == 0) ≡ true → StepMade m past now position asked (Some (op.Save count)) (kind.Saved c)
+  SavesNot : (c : ℕ) (count : Option ℕ) → holder past ≡ None → is_on past ≡ false → ((visible now == c) && (now.inpr == 0)) ≡ false → StepMade m past now position asked (Some (op.Save count)) (kind.SaveErr c EINVAL)
+  Unsaved : (text : List ℕ) (if_saved : Bool) → position.saved ≡ false → StepMade m past now position asked (Some (op.State text if_saved)) kind.StateUnsaved
+  StateWaits : (text : List ℕ) (if_saved : Bool) → position.waits ≡ false → StepMade m past now position asked (Some (op.State text if_saved)) kind.StateWait
+  StateStops : (text : List ℕ) (if_saved : Bool) → position.waits ≡ true → asked ≡ true → StepMade m past now position asked (Some (op.State text if_saved)) (kind.StateErr EINTR)
+  StateBusy : (text : List ℕ) (if_saved : Bool) → holder past ≡ None → is_on past ≡ true → StepMade m past now position asked (Some (op.State text if_saved)) (kind.StateErr EBUSY)
+  StateBad : (text : List ℕ) (if_saved : Bool) → holder past ≡ None → is_on past ≡ false → StepMade m past now position asked (Some (op.State text if_saved)) (kind.StateErr EINVAL)
+  Attempts : (text : List ℕ) (if_saved : Bool) → holder past ≡ None → is_on past ≡ false → StepMade m past now position asked (Some (op.State text if_saved)) (kind.Attempt (attempts past + 1) (in_force past))
+  AutoBad : (text : List ℕ) → StepMade m past now position asked (Some (op.Autosleep text)) kind.AutoBad
+  AutoEnds : (text : List ℕ) → position.waits ≡ true → StepMade m past now position asked (Some (op.Autosleep text)) kind.AutoDone
+  AutoSets : (text : List ℕ) (state : State) → position.waits ≡ false → holder past ≡ None → StepMade m past now position asked (Some (op.Autosleep text)) (kind.AutoSet state)
+  Sleeps : (ms until : ℕ) → position.waits ≡ false → StepMade m past now position asked (Some (op.Sleep ms)) (kind.Sleep until)
+  Slept : (ms until : ℕ) → position.waits ≡ true → position.until ≡ Some until → StepMade m past now position asked (Some (op.Sleep ms)) kind.Slept
+  SleepsD : (ms until : ℕ) → position.waits ≡ false → StepMade m past now position asked (Some (op.SleepD ms)) (kind.SleepD until)
+  SleptD : (ms until : ℕ) → position.waits ≡ true → position.until ≡ Some until → StepMade m past now position asked (Some (op.SleepD ms)) kind.Slept
+  Passes : StepMade m past now position asked (Some op.FreezePoint) kind.Pass
+  Posts : (mark : ℕ) → StepMade m past now position asked (Some (op.Post mark)) (kind.Post mark)
+  Gets : (mark : ℕ) → StepMade m past now position asked (Some (op.Wait mark)) (kind.Got mark)
+  AddsLink : (supplier consumer : ℕ) (r : Option Errno) → link_add_due m past supplier consumer ≡ r → StepMade m past now position asked (Some (op.Link supplier consumer)) (kind.LinkAdd supplier consumer r)
+  SetsLink : (supplier consumer : ℕ) (active : Bool) (r : Option Errno) → link_state_due m past supplier consumer ≡ r → StepMade m past now position asked (Some (op.LinkState supplier consumer active)) (kind.LinkState supplier consumer active r)
+  AsksRuntime : (d : ℕ) (to_suspended : Bool) → StepMade m past now position asked (Some (op.Runtime d to_suspended)) (kind.RuntimeAsk d to_suspended (runtime_due m d to_suspended past))
 
 -- where script i stands (own)
-abbrev pub seat_of : Machine → List Entry → ℕ → Seat
-seat_of m past i = seat_at (seats (length m.actors) past) i
+abbrev pub position_of : Machine → List Entry → ℕ → ScriptPosition
+position_of m past i = position_at (positions (length m.actors) past) i
 
 -- a task that may go on: it has not exited, is not frozen, and the machine does not sleep, unless it is an interrupt line
 pub record MayGo (m : Machine) (past : List Entry) (i : ℕ) (s : Script) : Type 0 where
   pub script : slice_get m.actors i ≡ Some s
-  pub there : (seat_of m past i).exited ≡ false
+  pub there : (position_of m past i).exited ≡ false
   pub thawed : (freezing m i past).frozen ≡ false
   pub awake : (sleeps_now past && not (is_line s.kind)) ≡ false
 
 -- what script i makes outside attempts of its own
 pub data TaskMade (m : Machine) (past : List Entry) (now : EventNow) (i : ℕ) : Kind → Type 0 where
   Freezes : (s : Script) → MayGo m past i s → (freezing m i past).asked ≡ true → TaskMade m past now i kind.Frozen
-  Steps : (s : Script) (k : Kind) (o : Option Op) → MayGo m past i s → slice_get (entry_steps s) (seat_of m past i).done ≡ o → StepMade m past now (seat_of m past i) (freezing m i past).asked o k → TaskMade m past now i k
+  Steps : (s : Script) (k : Kind) (o : Option Op) → MayGo m past i s → slice_get (entry_steps s) (position_of m past i).done ≡ o → StepMade m past now (position_of m past i) (freezing m i past).asked o k → TaskMade m past now i k
 
 -- ---- the autosleep work
 
@@ -238,7 +238,7 @@ pub data WorkMade (m : Machine) (past : List Entry) (now : EventNow) : Work → 
 pub record ScheduledAt (m : Machine) (past : List Entry) (p : Phase) (d : ℕ) : Type 0 where
   pub beside : is_async_device m d ≡ true
   pub work : async_work m past d ≡ Scheduled p
-  pub stands : stand_in m past p d ≡ stand.Scheduled
+  pub states : state_in m past p d ≡ phase_state.Scheduled
   pub waits : waits_below m past p d ≡ None
 
 -- what device d makes of its own
@@ -247,13 +247,13 @@ pub data DeviceMade (m : Machine) (past : List Entry) (now : EventNow) (d : ℕ)
   OwnFinds : (p : Phase) → Down p → ScheduledAt m past p d → phase_failed past ≡ None → tests_wakeup p ≡ true → pending past now ≡ true → DeviceMade m past now d (kind.Skip p d skip.Pending)
   OwnLeaves : (p : Phase) → Down p → ScheduledAt m past p d → phase_failed past ≡ None → (tests_wakeup p && pending past now) ≡ false → is_direct m past p d ≡ true → DeviceMade m past now d (kind.Skip p d skip.Direct)
   OwnBegins : (p : Phase) → Down p → ScheduledAt m past p d → phase_failed past ≡ None → (tests_wakeup p && pending past now) ≡ false → is_direct m past p d ≡ false → DeviceMade m past now d (kind.Begin p d)
-  OwnRises : (p : Phase) → Up p → is_async_device m d ≡ true → async_work m past d ≡ Scheduled p → stand_in m past (mirror p) d ≡ stand.Rescheduled → waits_above m past (mirror p) d ≡ None → DeviceMade m past now d (kind.Begin p d)
-  OwnEnds : (p : Phase) (r : Option Errno) → Down p → is_async_device m d ≡ true → async_work m past d ≡ Inside p → stand_in m past p d ≡ stand.Suspending → DeviceMade m past now d (kind.End p d r)
-  OwnRose : (p : Phase) (r : Option Errno) → Up p → is_async_device m d ≡ true → async_work m past d ≡ Inside p → stand_in m past (mirror p) d ≡ stand.Resuming → DeviceMade m past now d (kind.End p d r)
+  OwnRises : (p : Phase) → Up p → is_async_device m d ≡ true → async_work m past d ≡ Scheduled p → state_in m past (mirror p) d ≡ phase_state.Rescheduled → waits_above m past (mirror p) d ≡ None → DeviceMade m past now d (kind.Begin p d)
+  OwnEnds : (p : Phase) (r : Option Errno) → Down p → is_async_device m d ≡ true → async_work m past d ≡ Inside p → state_in m past p d ≡ phase_state.Suspending → DeviceMade m past now d (kind.End p d r)
+  OwnRose : (p : Phase) (r : Option Errno) → Up p → is_async_device m d ≡ true → async_work m past d ≡ Inside p → state_in m past (mirror p) d ≡ phase_state.Resuming → DeviceMade m past now d (kind.End p d r)
 
 -- ---- all
 
--- an entry of that actor and kind stands rightly behind these: by the open attempt's maker, by a task, by the work, by a device, or a jump
+-- an entry of that actor and kind stands rightly after these: by the open attempt's maker, by a task, by the work, by a device, or a jump
 pub data EntryMade (m : Machine) (past : List Entry) (now : EventNow) : Actor → Kind → Type 0 where
   ByMaker : (who : Actor) (here there : Stage) (k : Kind) → is_actor who (maker past) ≡ true → stage_of past ≡ Some here → Comes m past here there → Made m past now there k → EntryMade m past now who k
   ByTask : (i : ℕ) (k : Kind) → is_actor (actor.Script i) (maker past) ≡ false → TaskMade m past now i k → EntryMade m past now (actor.Script i) k

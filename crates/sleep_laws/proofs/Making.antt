@@ -19,12 +19,12 @@ use Rattle.sleep_model.specs.declared.machine.PlatDo.TheVariants as down
 use Rattle.sleep_model.specs.declared.machine.PlatUndo.{PlatUndo}
 use Rattle.sleep_model.specs.declared.machine.PlatUndo.TheVariants as undo
 use Rattle.sleep_model.specs.declared.machine.What.TheVariants as what
-use Rattle.sleep_model.specs.declared.place.Due.{Due}
-use Rattle.sleep_model.specs.declared.place.Due.TheVariants.{Makes, Waits, Gone}
-use Rattle.sleep_model.specs.declared.place.Stage.{Stage}
-use Rattle.sleep_model.specs.declared.place.Stage.TheVariants as stage
-use Rattle.sleep_model.specs.declared.place.Sleep.{Sleep}
-use Rattle.sleep_model.specs.declared.place.Callback.{Callback}
+use Rattle.sleep_model.specs.declared.progress.Due.{Due}
+use Rattle.sleep_model.specs.declared.progress.Due.TheVariants.{Makes, Waits, Exited}
+use Rattle.sleep_model.specs.declared.progress.Stage.{Stage}
+use Rattle.sleep_model.specs.declared.progress.Stage.TheVariants as stage
+use Rattle.sleep_model.specs.declared.progress.Sleep.{Sleep}
+use Rattle.sleep_model.specs.declared.progress.Callback.{Callback}
 use Rattle.sleep_model.specs.declared.word.EventNow.{EventNow}
 use Rattle.phase_table.specs.declared.phase.Phase.{Phase}
 use Rattle.phase_table.specs.declared.phase.Phase.TheVariants as phase
@@ -37,7 +37,7 @@ use Rattle.sleep_model.specs.Guard.{pending}
 use Rattle.sleep_model.specs.Notifiers.{next_called, next_posted, next_cpu_off, next_cpu_on, next_stopped, next_started}
 use Rattle.sleep_model.specs.Numbers.{time_of}
 use Rattle.sleep_model.specs.Path.{attempts, maker, is_actor}
-use Rattle.sleep_model.specs.Table.{stage_of, stage_after, behind, by_error, by_froze, by_case, behind_down, behind_platform_down, failed_platform_down, failed_freeze, failed_phase, behind_freeze, behind_platform_up, after_done}
+use Rattle.sleep_model.specs.Table.{stage_of, stage_after, next_stage, by_error, by_froze, by_case, stage_after_down, stage_after_platform_down, failed_platform_down, failed_freeze, failed_phase, stage_after_freeze, stage_after_platform_up, after_done}
 use Rattle.sleep_model.specs.Walk.{or_else}
 use Rattle.sleep_model.specs.Word.{position}
 use Rattle.sleep_laws.proofs.Made.{Down, InSuspend, InLate, InNoirq, Up, InResume, InEarly, InResumeNoirq, AtTurn, Breaks, Settles, Rises, Made, Comes, AtOnce, PastNotifiers, PastCpus, PastParts, PastPartsUp, PastCpusUp, PastPosts, EntryMade, ByMaker}
@@ -48,7 +48,7 @@ use Rattle.sleep_laws.proofs.Made.{Down, InSuspend, InLate, InNoirq, Up, InResum
 abbrev pub OnDue : (Kind → Type 0) → Type 0 → Due → Type 0
 OnDue P none (Makes k) = P k
 OnDue P none (Waits w) = Unit {0}
-OnDue P none Gone = none
+OnDue P none Exited = none
 
 on_if : (P : Kind → Type 0) (none : Type 0) (b : Bool) (x y : Due) → (b ≡ true → OnDue P none x) → (b ≡ false → OnDue P none y) → OnDue P none (cond b x y)
 on_if P none true x y f g = f refl
@@ -83,35 +83,35 @@ by_case_proper : (b : Bool) (here there : Stage) → Proper here → Proper ther
 by_case_proper true here there h t = h
 by_case_proper false here there h t = t
 
-behind_freeze_proper : (g : Group) → Proper (behind_freeze g)
-behind_freeze_proper group.User = tt
-behind_freeze_proper group.Kernel = tt
+after_freeze_proper : (g : Group) → Proper (stage_after_freeze g)
+after_freeze_proper group.User = tt
+after_freeze_proper group.Kernel = tt
 
 failed_freeze_proper : (g : Group) → Proper (failed_freeze g)
 failed_freeze_proper group.User = tt
 failed_freeze_proper group.Kernel = tt
 
-behind_platform_down_proper : (a : PlatDo) → Proper (behind_platform_down a)
-behind_platform_down_proper down.Begin = tt
-behind_platform_down_proper down.Prepare = InLate
-behind_platform_down_proper down.PrepareLate = tt
+after_platform_down_proper : (a : PlatDo) → Proper (stage_after_platform_down a)
+after_platform_down_proper down.Begin = tt
+after_platform_down_proper down.Prepare = InLate
+after_platform_down_proper down.PrepareLate = tt
 
 failed_platform_down_proper : (a : PlatDo) → Proper (failed_platform_down a)
 failed_platform_down_proper down.Begin = tt
 failed_platform_down_proper down.Prepare = tt
 failed_platform_down_proper down.PrepareLate = tt
 
-behind_platform_up_proper : (a : PlatUndo) → Proper (behind_platform_up a)
-behind_platform_up_proper undo.Recover = InResume
-behind_platform_up_proper undo.Wake = InResumeNoirq
-behind_platform_up_proper undo.Finish = InResume
-behind_platform_up_proper undo.End = tt
+after_platform_up_proper : (a : PlatUndo) → Proper (stage_after_platform_up a)
+after_platform_up_proper undo.Recover = InResume
+after_platform_up_proper undo.Wake = InResumeNoirq
+after_platform_up_proper undo.Finish = InResume
+after_platform_up_proper undo.End = tt
 
 done_proper : (p : Phase) (r : Option Errno) → Proper (after_done p r)
 done_proper phase.Prepare r = by_error_proper r (stage.Downs phase.Suspend) (failed_phase phase.Prepare) InSuspend tt
-done_proper phase.Suspend r = by_error_proper r (behind_down phase.Suspend) (failed_phase phase.Suspend) tt tt
-done_proper phase.Late r = by_error_proper r (behind_down phase.Late) (failed_phase phase.Late) InNoirq InEarly
-done_proper phase.Noirq r = by_error_proper r (behind_down phase.Noirq) (failed_phase phase.Noirq) tt InResumeNoirq
+done_proper phase.Suspend r = by_error_proper r (stage_after_down phase.Suspend) (failed_phase phase.Suspend) tt tt
+done_proper phase.Late r = by_error_proper r (stage_after_down phase.Late) (failed_phase phase.Late) InNoirq InEarly
+done_proper phase.Noirq r = by_error_proper r (stage_after_down phase.Noirq) (failed_phase phase.Noirq) tt InResumeNoirq
 done_proper phase.Syscore r = tt
 done_proper phase.SyscoreResume r = tt
 done_proper phase.ResumeNoirq r = InEarly
@@ -121,14 +121,14 @@ done_proper phase.Complete r = tt
 
 after_proper : (k : Kind) (before : Option Stage) → ProperIf before → ProperIf (stage_after k before)
 after_proper (kind.NotifyPrepare x r) before h = by_error_proper r stage.Notifies stage.Posts tt tt
-after_proper (kind.Froze g end) before h = by_froze_proper end (behind_freeze g) (failed_freeze g) (behind_freeze_proper g) (failed_freeze_proper g)
-after_proper (kind.PlatformDo step r) before h = by_error_proper r (behind_platform_down step) (failed_platform_down step) (behind_platform_down_proper step) (failed_platform_down_proper step)
+after_proper (kind.Froze g end) before h = by_froze_proper end (stage_after_freeze g) (failed_freeze g) (after_freeze_proper g) (failed_freeze_proper g)
+after_proper (kind.PlatformDo step r) before h = by_error_proper r (stage_after_platform_down step) (failed_platform_down step) (after_platform_down_proper step) (failed_platform_down_proper step)
 after_proper (kind.Done p r) before h = done_proper p r
 after_proper (kind.Irqs on) before h = by_case_proper on stage.StartsCpus stage.Checks tt tt
 after_proper (kind.SyscoreCheck r) before h = by_error_proper r stage.StopsSyscore stage.StartsIrqs tt tt
 after_proper (kind.SyscoreSuspend x r) before h = by_error_proper r stage.StopsSyscore stage.StartsSyscore tt tt
 after_proper (kind.Enter busy) before h = by_case_proper busy stage.StartsSyscore stage.Enters tt tt
-after_proper (kind.PlatformUndo step) before h = behind_platform_up_proper step
+after_proper (kind.PlatformUndo step) before h = after_platform_up_proper step
 after_proper (kind.Thaw thaw.Kernel) before h = tt
 after_proper (kind.Thaw thaw.All) before h = tt
 after_proper (kind.Attempt n guarded) before h = tt
@@ -194,15 +194,15 @@ prepare_made m past now none None None e f = Made.Prepared e f
 -- ---- a phase on the way down
 
 -- no error is a callback's own where none stands in the phase
-own_after : (k : Kind) (own : Bool) (mine all : Option Errno) → (all ≡ None → mine ≡ None) → phase_failed_after k all ≡ None → own_error_after k own mine ≡ None
-own_after (kind.Attempt n guarded) own mine all h e = refl
-own_after (kind.Done p r) own mine all h e = refl
-own_after (kind.Prepare d r) own mine all h e = h (rest (error_of_number r) all e)
+own_none_after : (k : Kind) (own : Bool) (mine all : Option Errno) → (all ≡ None → mine ≡ None) → phase_failed_after k all ≡ None → own_error_after k own mine ≡ None
+own_none_after (kind.Attempt n guarded) own mine all h e = refl
+own_none_after (kind.Done p r) own mine all h e = refl
+own_none_after (kind.Prepare d r) own mine all h e = h (rest (error_of_number r) all e)
   where
     rest : (a b : Option Errno) → or_else a b ≡ None → b ≡ None
     rest None b e = e
     rest (Some x) b e = absurd (some≢none x e)
-own_after (kind.End p d r) own mine all h e = by_own own r e
+own_none_after (kind.End p d r) own mine all h e = by_own own r e
   where
     by_error_in : (down : Bool) (x : Errno) → cond down (Some x) all ≡ None → cond down (Some x) mine ≡ None
     by_error_in true x e = absurd (some≢none x e)
@@ -217,15 +217,15 @@ own_after (kind.End p d r) own mine all h e = by_own own r e
     by_own true (Some x) e = before_error (is_down p) x e
     by_own false None e = h e
     by_own false (Some x) e = by_error_in (is_down p) x e
-own_after (kind.Skip p d skip.Pending) own mine all h e = absurd (some≢none EBUSY e)
-own_after (kind.Skip p d skip.Error) own mine all h e = h e
-own_after (kind.Skip p d skip.Direct) own mine all h e = h e
-own_after _ own mine all h e = h e
+own_none_after (kind.Skip p d skip.Pending) own mine all h e = absurd (some≢none EBUSY e)
+own_none_after (kind.Skip p d skip.Error) own mine all h e = h e
+own_none_after (kind.Skip p d skip.Direct) own mine all h e = h e
+own_none_after _ own mine all h e = h e
 
 -- where no error stands in the phase none is a synchronous callback's
 pub no_own_error : (past : List Entry) → phase_failed past ≡ None → own_error past ≡ None
 no_own_error [] e = refl
-no_own_error (e ∷ past) f = own_after e.kind (is_device e.actor) (own_error past) (phase_failed past) (no_own_error past) f
+no_own_error (e ∷ past) f = own_none_after e.kind (is_device e.actor) (own_error past) (phase_failed past) (no_own_error past) f
 
 well_answers : (past : List Entry) → phase_failed past ≡ None → phase_error past ≡ None
 well_answers past e = rw (no_own_error past e) e
@@ -335,7 +335,7 @@ post_made m past now None e = PastPosts e
 post_made m past now (Some x) e = Made.Posts x e
 
 -- what is made at a stage, or that it has nothing left
-stage_made : (m : Machine) (past : List Entry) (now : EventNow) (here : Stage) → Proper here → OnDue (Made m past now here) (Comes m past here (behind here)) (stage_due m past now here)
+stage_made : (m : Machine) (past : List Entry) (now : EventNow) (here : Stage) → Proper here → OnDue (Made m past now here) (Comes m past here (next_stage here)) (stage_due m past now here)
 stage_made m past now stage.Notifies h = notify_made m past now (next_called m past) refl
 stage_made m past now (stage.Freezes group.User) h = freeze_user_made m past now _ (freeze_since past) refl
 stage_made m past now (stage.Freezes group.Kernel) h = freeze_kernel_made m past now _ (freeze_since past) refl
@@ -364,30 +364,30 @@ stage_made m past now stage.Ends h = Made.Ends
 
 -- ---- the stage that the maker comes to
 
--- what is made at a stage, or at the one behind it
+-- what is made at a stage, or at the one after it
 pub data AtStage (m : Machine) (past : List Entry) (now : EventNow) (here : Stage) (k : Kind) : Type 0 where
   Come : (there : Stage) → Comes m past here there → Made m past now there k → AtStage m past now here k
 
-behind_proper : (m : Machine) (past : List Entry) (here there : Stage) → Comes m past here there → Proper here → Proper there
-behind_proper m past _ _ (AtOnce s) h = h
-behind_proper m past _ _ (PastNotifiers e) h = tt
-behind_proper m past _ _ (PastCpus e) h = tt
-behind_proper m past _ _ (PastParts e) h = tt
-behind_proper m past _ _ (PastPartsUp e) h = tt
-behind_proper m past _ _ (PastCpusUp e) h = tt
-behind_proper m past _ _ (PastPosts e) h = tt
+next_proper : (m : Machine) (past : List Entry) (here there : Stage) → Comes m past here there → Proper here → Proper there
+next_proper m past _ _ (AtOnce s) h = h
+next_proper m past _ _ (PastNotifiers e) h = tt
+next_proper m past _ _ (PastCpus e) h = tt
+next_proper m past _ _ (PastParts e) h = tt
+next_proper m past _ _ (PastPartsUp e) h = tt
+next_proper m past _ _ (PastCpusUp e) h = tt
+next_proper m past _ _ (PastPosts e) h = tt
 
 or_next_made : (m : Machine) (past : List Entry) (now : EventNow) (here there : Stage) (none : Type 0) (x y : Due) → OnDue (Made m past now here) (Comes m past here there) x → (Comes m past here there → OnDue (Made m past now there) none y) → OnDue (AtStage m past now here) none (or_next x y)
 or_next_made m past now here there none (Makes k) y h f = Come here (AtOnce here) h
 or_next_made m past now here there none (Waits w) y h f = tt
-or_next_made m past now here there none Gone (Makes k) h f = Come there h (f h)
-or_next_made m past now here there none Gone (Waits w) h f = tt
-or_next_made m past now here there none Gone Gone h f = f h
+or_next_made m past now here there none Exited (Makes k) h f = Come there h (f h)
+or_next_made m past now here there none Exited (Waits w) h f = tt
+or_next_made m past now here there none Exited Exited h f = f h
 
-at_made : (m : Machine) (past : List Entry) (now : EventNow) (here : Stage) → Proper here → OnDue (AtStage m past now here) (Comes m past (behind here) (behind (behind here))) (stage_or_next m past now here)
+at_made : (m : Machine) (past : List Entry) (now : EventNow) (here : Stage) → Proper here → OnDue (AtStage m past now here) (Comes m past (next_stage here) (next_stage (next_stage here))) (stage_or_next m past now here)
 at_made m past now here h =
-    or_next_made m past now here (behind here) _ (stage_due m past now here) (stage_due m past now (behind here)) (stage_made m past now here h)
-    (λ c. stage_made m past now (behind here) (behind_proper m past here (behind here) c h))
+    or_next_made m past now here (next_stage here) _ (stage_due m past now here) (stage_due m past now (next_stage here)) (stage_made m past now here h)
+    (λ c. stage_made m past now (next_stage here) (next_proper m past here (next_stage here) c h))
 
 abbrev pub OnlyMade : (Kind → Type 0) → Due → Type 0
 OnlyMade P (Makes k) = P k
@@ -397,7 +397,7 @@ pub maker_made : (m : Machine) (past : List Entry) (now : EventNow) (who : Actor
 maker_made m past now who a None e h = tt
 maker_made m past now who a (Some here) e h = by_due (stage_or_next m past now here) (at_made m past now here h)
   where
-    by_due : (x : Due) → OnDue (AtStage m past now here) (Comes m past (behind here) (behind (behind here))) x → OnlyMade (EntryMade m past now who) x
+    by_due : (x : Due) → OnDue (AtStage m past now here) (Comes m past (next_stage here) (next_stage (next_stage here))) x → OnlyMade (EntryMade m past now who) x
     by_due (Makes k) (Come there c d) = ByMaker who here there k a e c d
     by_due (Waits w) h = tt
-    by_due Gone h = tt
+    by_due Exited h = tt

@@ -3,13 +3,13 @@ use Rattle.std.proofs.Common.{◌≡◌, Bool, true, false, Option, Some, None, 
 use Rattle.std.proofs.lemmas.Bool.{true≢false}
 use Rattle.sleep_model.specs.declared.machine.PlatDo.TheVariants as down
 use Rattle.sleep_model.specs.declared.machine.PlatUndo.TheVariants as undo
-use Rattle.sleep_model.specs.declared.place.Stage.{Stage}
-use Rattle.sleep_model.specs.declared.place.Stage.TheVariants as stage
-use Rattle.sleep_model.specs.declared.place.Stand.{Stand}
-use Rattle.sleep_model.specs.declared.place.Stand.TheVariants as stand
+use Rattle.sleep_model.specs.declared.progress.Stage.{Stage}
+use Rattle.sleep_model.specs.declared.progress.Stage.TheVariants as stage
+use Rattle.sleep_model.specs.declared.progress.PhaseState.{PhaseState}
+use Rattle.sleep_model.specs.declared.progress.PhaseState.TheVariants as state
 use Rattle.phase_table.specs.declared.phase.Phase.{Phase}
 use Rattle.phase_table.specs.declared.phase.Phase.TheVariants as phase
-use Rattle.sleep_model.specs.Stands.{is_ready, is_going_down, is_prepared, is_not_up}
+use Rattle.sleep_model.specs.PhaseStates.{is_ready, is_going_down, is_prepared, is_not_up}
 
 -- what the devices have come to in a pair of phases: none is prepared, none is taken, they go down, they are down, a failure has stopped them, they come up, they are up
 pub data Mood : Type 0 where
@@ -21,7 +21,7 @@ pub data Mood : Type 0 where
   Coming : Mood
   Risen : Mood
 
--- in a phase on the way down: settled before it, fresh behind it
+-- in a phase on the way down: settled before it, fresh after it
 abbrev pub in_down : Phase → Phase → Mood
 in_down phase.Suspend phase.Suspend = Going
 in_down phase.Suspend q = Fresh
@@ -33,7 +33,7 @@ in_down phase.Noirq phase.Late = Settled
 in_down phase.Noirq q = Going
 in_down p q = Empty
 
--- in a phase on the way up: risen before it, settled behind it
+-- in a phase on the way up: risen before it, settled after it
 abbrev pub in_up : Phase → Phase → Mood
 in_up phase.ResumeNoirq phase.Suspend = Settled
 in_up phase.ResumeNoirq phase.Late = Settled
@@ -81,54 +81,54 @@ mood_if (Some s) q = mood s q
 
 -- ---- what a mood allows
 
-abbrev pub when_empty : Stand → Bool
-when_empty stand.Unprepared = true
+abbrev pub when_empty : PhaseState → Bool
+when_empty state.Unprepared = true
 when_empty _ = false
 
-abbrev pub when_fresh : Stand → Bool
-when_fresh stand.Unprepared = true
-when_fresh stand.Prepared = true
+abbrev pub when_fresh : PhaseState → Bool
+when_fresh state.Unprepared = true
+when_fresh state.Prepared = true
 when_fresh _ = false
 
-abbrev pub when_going : Bool → Stand → Bool
-when_going error stand.Unprepared = true
-when_going error stand.Prepared = true
-when_going error stand.Scheduled = true
-when_going error stand.Suspending = true
-when_going error stand.Direct = true
-when_going error stand.Suspended = true
-when_going error stand.Failed = error
+abbrev pub when_going : Bool → PhaseState → Bool
+when_going error state.Unprepared = true
+when_going error state.Prepared = true
+when_going error state.Scheduled = true
+when_going error state.Suspending = true
+when_going error state.Direct = true
+when_going error state.Suspended = true
+when_going error state.Failed = error
 when_going error _ = false
 
-abbrev pub when_settled : Stand → Bool
-when_settled stand.Unprepared = true
-when_settled stand.Direct = true
-when_settled stand.Suspended = true
+abbrev pub when_settled : PhaseState → Bool
+when_settled state.Unprepared = true
+when_settled state.Direct = true
+when_settled state.Suspended = true
 when_settled _ = false
 
-abbrev pub when_halted : Stand → Bool
-when_halted stand.Unprepared = true
-when_halted stand.Prepared = true
-when_halted stand.Failed = true
-when_halted stand.Direct = true
-when_halted stand.Suspended = true
+abbrev pub when_halted : PhaseState → Bool
+when_halted state.Unprepared = true
+when_halted state.Prepared = true
+when_halted state.Failed = true
+when_halted state.Direct = true
+when_halted state.Suspended = true
 when_halted _ = false
 
-abbrev pub when_coming : Stand → Bool
-when_coming stand.Scheduled = false
-when_coming stand.Suspending = false
+abbrev pub when_coming : PhaseState → Bool
+when_coming state.Scheduled = false
+when_coming state.Suspending = false
 when_coming _ = true
 
-abbrev pub when_risen : Stand → Bool
-when_risen stand.Unprepared = true
-when_risen stand.Prepared = true
-when_risen stand.Failed = true
-when_risen stand.Direct = true
-when_risen stand.Resumed = true
+abbrev pub when_risen : PhaseState → Bool
+when_risen state.Unprepared = true
+when_risen state.Prepared = true
+when_risen state.Failed = true
+when_risen state.Direct = true
+when_risen state.Resumed = true
 when_risen _ = false
 
 -- where a device may stand, by what the devices have come to; a failed one stands in a phase on the way down only beside an error
-abbrev pub allows : Mood → Bool → Stand → Bool
+abbrev pub allows : Mood → Bool → PhaseState → Bool
 allows Empty error s = when_empty s
 allows Fresh error s = when_fresh s
 allows Going error s = when_going error s
@@ -139,87 +139,87 @@ allows Risen error s = when_risen s
 
 -- ---- from one mood to another
 
-pub empty_fresh : (s : Stand) → when_empty s ≡ true → when_fresh s ≡ true
-empty_fresh stand.Unprepared h = refl
+pub empty_fresh : (s : PhaseState) → when_empty s ≡ true → when_fresh s ≡ true
+empty_fresh state.Unprepared h = refl
 empty_fresh _ h = absurd (true≢false (sym h))
 
-pub fresh_going : (e : Bool) (s : Stand) → when_fresh s ≡ true → when_going e s ≡ true
-fresh_going e stand.Unprepared h = refl
-fresh_going e stand.Prepared h = refl
+pub fresh_going : (e : Bool) (s : PhaseState) → when_fresh s ≡ true → when_going e s ≡ true
+fresh_going e state.Unprepared h = refl
+fresh_going e state.Prepared h = refl
 fresh_going e _ h = absurd (true≢false (sym h))
 
-pub fresh_halted : (s : Stand) → when_fresh s ≡ true → when_halted s ≡ true
-fresh_halted stand.Unprepared h = refl
-fresh_halted stand.Prepared h = refl
+pub fresh_halted : (s : PhaseState) → when_fresh s ≡ true → when_halted s ≡ true
+fresh_halted state.Unprepared h = refl
+fresh_halted state.Prepared h = refl
 fresh_halted _ h = absurd (true≢false (sym h))
 
-pub fresh_risen : (s : Stand) → when_fresh s ≡ true → when_risen s ≡ true
-fresh_risen stand.Unprepared h = refl
-fresh_risen stand.Prepared h = refl
+pub fresh_risen : (s : PhaseState) → when_fresh s ≡ true → when_risen s ≡ true
+fresh_risen state.Unprepared h = refl
+fresh_risen state.Prepared h = refl
 fresh_risen _ h = absurd (true≢false (sym h))
 
-pub settled_coming : (s : Stand) → when_settled s ≡ true → when_coming s ≡ true
-settled_coming stand.Unprepared h = refl
-settled_coming stand.Direct h = refl
-settled_coming stand.Suspended h = refl
+pub settled_coming : (s : PhaseState) → when_settled s ≡ true → when_coming s ≡ true
+settled_coming state.Unprepared h = refl
+settled_coming state.Direct h = refl
+settled_coming state.Suspended h = refl
 settled_coming _ h = absurd (true≢false (sym h))
 
-pub halted_coming : (s : Stand) → when_halted s ≡ true → when_coming s ≡ true
-halted_coming stand.Unprepared h = refl
-halted_coming stand.Prepared h = refl
-halted_coming stand.Failed h = refl
-halted_coming stand.Direct h = refl
-halted_coming stand.Suspended h = refl
+pub halted_coming : (s : PhaseState) → when_halted s ≡ true → when_coming s ≡ true
+halted_coming state.Unprepared h = refl
+halted_coming state.Prepared h = refl
+halted_coming state.Failed h = refl
+halted_coming state.Direct h = refl
+halted_coming state.Suspended h = refl
 halted_coming _ h = absurd (true≢false (sym h))
 
-pub going_halted : (e : Bool) (s : Stand) → when_going e s ≡ true → is_going_down s ≡ false → when_halted s ≡ true
-going_halted e stand.Unprepared h b = refl
-going_halted e stand.Prepared h b = refl
-going_halted e stand.Failed h b = refl
-going_halted e stand.Direct h b = refl
-going_halted e stand.Suspended h b = refl
-going_halted e stand.Scheduled h b = absurd (true≢false b)
-going_halted e stand.Suspending h b = absurd (true≢false b)
+pub going_halted : (e : Bool) (s : PhaseState) → when_going e s ≡ true → is_going_down s ≡ false → when_halted s ≡ true
+going_halted e state.Unprepared h b = refl
+going_halted e state.Prepared h b = refl
+going_halted e state.Failed h b = refl
+going_halted e state.Direct h b = refl
+going_halted e state.Suspended h b = refl
+going_halted e state.Scheduled h b = absurd (true≢false b)
+going_halted e state.Suspending h b = absurd (true≢false b)
 going_halted e _ h b = absurd (true≢false (sym h))
 
-pub going_settled : (s : Stand) → when_going false s ≡ true → is_ready s ≡ false → is_going_down s ≡ false → when_settled s ≡ true
-going_settled stand.Unprepared h r b = refl
-going_settled stand.Prepared h r b = absurd (true≢false r)
-going_settled stand.Direct h r b = refl
-going_settled stand.Suspended h r b = refl
-going_settled stand.Scheduled h r b = absurd (true≢false b)
-going_settled stand.Suspending h r b = absurd (true≢false b)
+pub going_settled : (s : PhaseState) → when_going false s ≡ true → is_ready s ≡ false → is_going_down s ≡ false → when_settled s ≡ true
+going_settled state.Unprepared h r b = refl
+going_settled state.Prepared h r b = absurd (true≢false r)
+going_settled state.Direct h r b = refl
+going_settled state.Suspended h r b = refl
+going_settled state.Scheduled h r b = absurd (true≢false b)
+going_settled state.Suspending h r b = absurd (true≢false b)
 going_settled _ h r b = absurd (true≢false (sym h))
 
-pub coming_risen : (s : Stand) → when_coming s ≡ true → is_not_up s ≡ false → when_risen s ≡ true
-coming_risen stand.Unprepared h l = refl
-coming_risen stand.Prepared h l = refl
-coming_risen stand.Failed h l = refl
-coming_risen stand.Direct h l = refl
-coming_risen stand.Resumed h l = refl
-coming_risen stand.Suspended h l = absurd (true≢false l)
-coming_risen stand.Rescheduled h l = absurd (true≢false l)
-coming_risen stand.Resuming h l = absurd (true≢false l)
+pub coming_risen : (s : PhaseState) → when_coming s ≡ true → is_not_up s ≡ false → when_risen s ≡ true
+coming_risen state.Unprepared h l = refl
+coming_risen state.Prepared h l = refl
+coming_risen state.Failed h l = refl
+coming_risen state.Direct h l = refl
+coming_risen state.Resumed h l = refl
+coming_risen state.Suspended h l = absurd (true≢false l)
+coming_risen state.Rescheduled h l = absurd (true≢false l)
+coming_risen state.Resuming h l = absurd (true≢false l)
 coming_risen _ h l = absurd (true≢false (sym h))
 
-pub unprepared_is : (s : Stand) → is_prepared s ≡ false → s ≡ stand.Unprepared
-unprepared_is stand.Unprepared h = refl
+pub unprepared_is : (s : PhaseState) → is_prepared s ≡ false → s ≡ state.Unprepared
+unprepared_is state.Unprepared h = refl
 unprepared_is _ h = absurd (true≢false h)
 
 -- an error that comes forbids no stand
-pub allows_more : (a : Mood) (e f : Bool) (s : Stand) → (e ≡ true → f ≡ true) → allows a e s ≡ true → allows a f s ≡ true
-allows_more Going e f stand.Failed l h = l h
-allows_more Going e f stand.Unprepared l h = h
-allows_more Going e f stand.Prepared l h = h
-allows_more Going e f stand.Scheduled l h = h
-allows_more Going e f stand.Suspending l h = h
-allows_more Going e f stand.Direct l h = h
-allows_more Going e f stand.Suspended l h = h
+pub allows_more : (a : Mood) (e f : Bool) (s : PhaseState) → (e ≡ true → f ≡ true) → allows a e s ≡ true → allows a f s ≡ true
+allows_more Going e f state.Failed l h = l h
+allows_more Going e f state.Unprepared l h = h
+allows_more Going e f state.Prepared l h = h
+allows_more Going e f state.Scheduled l h = h
+allows_more Going e f state.Suspending l h = h
+allows_more Going e f state.Direct l h = h
+allows_more Going e f state.Suspended l h = h
 allows_more Going e f _ l h = h
 allows_more _ e f s l h = h
 
 -- an unprepared device may stand anywhere
-pub allows_unprepared : (a : Mood) (e : Bool) → allows a e stand.Unprepared ≡ true
+pub allows_unprepared : (a : Mood) (e : Bool) → allows a e state.Unprepared ≡ true
 allows_unprepared Empty e = refl
 allows_unprepared Fresh e = refl
 allows_unprepared Going e = refl

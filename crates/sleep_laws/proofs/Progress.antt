@@ -8,7 +8,7 @@ use Rattle.sleep_model.specs.declared.word.EventNow.{EventNow}
 use Rattle.sleep_model.specs.declared.word.WordKind.TheVariants as step
 use Rattle.sleep_model.specs.Legal.{SourcePart, OwnStep}
 use Rattle.sleep_model.specs.Numbers.{numbers}
-use Rattle.sleep_model.specs.Parts.{part_of}
+use Rattle.sleep_model.specs.EntryClasses.{class_of}
 use Rattle.sleep_model.specs.Sources.{history, since, since_after, owed}
 use Rattle.sleep_laws.proofs.Activity.{AllRun, runs_step, active, active_same, active_more, active_some, active_less}
 use Rattle.sleep_laws.proofs.Guarding.{since_of, finish_runs, since_same, moves_other, moves_own}
@@ -18,7 +18,7 @@ pub record IsCounted (past : List Entry) : Type 0 where
   pub runs : AllRun past
   pub counts : (n : ℕ) → active n (since_of past) ≤ (numbers past).inpr
 
-kept : (past : List Entry) (e : Entry) → IsCounted past → OwnStep past e (part_of e.kind) → ((o : Option ℕ) → since_after (part_of e.kind) e.time o ≡ o) → (numbers (e ∷ past)).inpr ≡ (numbers past).inpr → IsCounted (e ∷ past)
+kept : (past : List Entry) (e : Entry) → IsCounted past → OwnStep past e (class_of e.kind) → ((o : Option ℕ) → since_after (class_of e.kind) e.time o ≡ o) → (numbers (e ∷ past)).inpr ≡ (numbers past).inpr → IsCounted (e ∷ past)
 kept past e h own keeps same = record {
   runs = runs_step e past own h.runs;
   counts = λ n. omega (arith, h.counts n, active_same n (since_of past) (since_of (e ∷ past)) (since_same e past keeps), same);
@@ -33,7 +33,7 @@ counted [] own = record { runs = λ s. tt; counts = λ n. omega (arith, none_act
     none_active (suc n) = omega (arith, none_active n)
 counted (e ∷ past) own = by_kind e.time e.now e.actor e.kind own.0 (counted past own.1)
   where
-    by_kind : (time : ℕ) (now : EventNow) (a : Actor) (k : Kind) → OwnStep past (record { time = time; now = now; actor = a; kind = k }) (part_of k) → IsCounted past → IsCounted (record { time = time; now = now; actor = a; kind = k } ∷ past)
+    by_kind : (time : ℕ) (now : EventNow) (a : Actor) (k : Kind) → OwnStep past (record { time = time; now = now; actor = a; kind = k }) (class_of k) → IsCounted past → IsCounted (record { time = time; now = now; actor = a; kind = k } ∷ past)
     by_kind time now a (kind.Start s) o h =
         let x : Entry = record { time = time; now = now; actor = a; kind = kind.Start s } in
         record { runs = runs_step x past o h.runs; counts = λ n. omega (arith, h.counts n, active_more n s (since_of past) (since_of (x ∷ past)) (moves_other x past s step.Start refl)) }

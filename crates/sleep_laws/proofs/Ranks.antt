@@ -1,4 +1,4 @@
--- Which devices stand behind which in the order, and what a search finds there.
+-- Which devices stand after which in the order, and what a search finds there.
 use Rattle.std.proofs.Common.{◌≡◌, ◌≤◌, ◌<◌, ◌+◌, ◌∙◌, ℕ, Bool, true, false, ◌==◌, nat_lt, List, [], ◌∷◌, ◌⊎◌, inl, inr, length, slice_get, get_or, Option, Some, None, refl, sym, ap, subst, cond, arith}
 use Rattle.std.proofs.lemmas.Bool.{eqb-true, true≢false, or_cases, or_left, or_right}
 use Rattle.std.proofs.lemmas.Bool.Decides.{nat_tests}
@@ -11,32 +11,32 @@ use Rattle.sleep_model.specs.Order.{is_among, is_parent, dependents, below, abov
 use Rattle.sleep_model.specs.Walk.{first_where, last_where, or_else}
 use Rattle.sleep_model.proofs.Acyclic.{order_ranked}
 use Rattle.sleep_model.proofs.Changing.{active_dependents, fewer_order}
-use Rattle.sleep_model.proofs.FirstPlaces.{suppliers_linked, consumers_linked, among_children, among_parent}
+use Rattle.sleep_model.proofs.FirstOccurrences.{suppliers_linked, consumers_linked, among_children, among_parent}
 use Rattle.sleep_model.proofs.Dependents.{among_app, among_first, among_rest, within_of}
 use Rattle.sleep_model.proofs.Walks.{AllDifferent}
 use Rattle.sleep_laws.proofs.Boards.{last_found, first_none, last_none}
 
--- e stands behind d
-abbrev pub Behind : List ℕ → ℕ → ℕ → Type 0
-Behind [] d e = ⊥
-Behind (x ∷ xs) d e = ((x ≡ d) × (is_among xs e ≡ true)) ⊎ Behind xs d e
+-- e stands after d
+abbrev pub After : List ℕ → ℕ → ℕ → Type 0
+After [] d e = ⊥
+After (x ∷ xs) d e = ((x ≡ d) × (is_among xs e ≡ true)) ⊎ After xs d e
 
-pub behind_first : (xs : List ℕ) (d e : ℕ) → Behind xs d e → is_among xs d ≡ true
-behind_first [] d e h = absurd h
-behind_first (x ∷ xs) d e (inl h) = subst (λ (y : ℕ). is_among (x ∷ xs) y ≡ true) h.0 (among_first x xs)
-behind_first (x ∷ xs) d e (inr h) = among_rest x xs d (behind_first xs d e h)
+pub steps_after_first : (xs : List ℕ) (d e : ℕ) → After xs d e → is_among xs d ≡ true
+steps_after_first [] d e h = absurd h
+steps_after_first (x ∷ xs) d e (inl h) = subst (λ (y : ℕ). is_among (x ∷ xs) y ≡ true) h.0 (among_first x xs)
+steps_after_first (x ∷ xs) d e (inr h) = among_rest x xs d (steps_after_first xs d e h)
 
-pub behind_last : (xs : List ℕ) (d e : ℕ) → Behind xs d e → is_among xs e ≡ true
-behind_last [] d e h = absurd h
-behind_last (x ∷ xs) d e (inl h) = among_rest x xs e h.1
-behind_last (x ∷ xs) d e (inr h) = among_rest x xs e (behind_last xs d e h)
+pub after_last_word : (xs : List ℕ) (d e : ℕ) → After xs d e → is_among xs e ≡ true
+after_last_word [] d e h = absurd h
+after_last_word (x ∷ xs) d e (inl h) = among_rest x xs e h.1
+after_last_word (x ∷ xs) d e (inr h) = among_rest x xs e (after_last_word xs d e h)
 
--- what hangs right below a device of an order stands behind it
-pub order_behind : (dependents_of : ℕ → List ℕ) (xs : List ℕ) → IsOrder dependents_of xs → (d e : ℕ) → is_among xs d ≡ true → is_among (dependents_of d) e ≡ true → Behind xs d e
-order_behind dependents_of [] h d e m b = absurd (true≢false (sym m))
-order_behind dependents_of (x ∷ xs) h d e m b = by_place (or_cases (x == d) (is_among xs d) m) (λ k. order_behind dependents_of xs h.2 d e k b)
+-- what hangs right below a device of an order stands after it
+pub order_after : (dependents_of : ℕ → List ℕ) (xs : List ℕ) → IsOrder dependents_of xs → (d e : ℕ) → is_among xs d ≡ true → is_among (dependents_of d) e ≡ true → After xs d e
+order_after dependents_of [] h d e m b = absurd (true≢false (sym m))
+order_after dependents_of (x ∷ xs) h d e m b = by_place (or_cases (x == d) (is_among xs d) m) (λ k. order_after dependents_of xs h.2 d e k b)
   where
-    by_place : ((x == d) ≡ true) ⊎ (is_among xs d ≡ true) → (is_among xs d ≡ true → Behind xs d e) → Behind (x ∷ xs) d e
+    by_place : ((x == d) ≡ true) ⊎ (is_among xs d ≡ true) → (is_among xs d ≡ true → After xs d e) → After (x ∷ xs) d e
     by_place (inl s) rest = let same : x ≡ d = eqb-true x d s in inl (same, within_of xs (dependents_of x) h.1 e (subst (λ (y : ℕ). is_among (dependents_of y) e ≡ true) (sym same) b))
     by_place (inr k) rest = inr (rest k)
 
@@ -46,42 +46,42 @@ order_apart dependents_of (x ∷ xs) h = (h.0, order_apart dependents_of xs h.2)
 
 -- ---- searches
 
--- none behind the last that passes passes
-pub last_behind : (test : ℕ → Bool) (xs : List ℕ) → AllDifferent xs → (d e : ℕ) → last_where test xs ≡ Some d → Behind xs d e → test e ≡ false
-last_behind test [] h d e l b = absurd b
-last_behind test (x ∷ xs) h d e l b = by_rest (last_where test xs) refl (test x) l b (λ k c. last_behind test xs h.1 d e k c)
+-- none after the last that passes passes
+pub last_after : (test : ℕ → Bool) (xs : List ℕ) → AllDifferent xs → (d e : ℕ) → last_where test xs ≡ Some d → After xs d e → test e ≡ false
+last_after test [] h d e l b = absurd b
+last_after test (x ∷ xs) h d e l b = by_rest (last_where test xs) refl (test x) l b (λ k c. last_after test xs h.1 d e k c)
   where
     in_rest : is_among xs d ≡ true → (x ≡ d) → ⊥
     in_rest m same = true≢false (sym m ∙ (ap (is_among xs) (sym same) ∙ h.0))
 
-    by_rest : (o : Option ℕ) → last_where test xs ≡ o → (t : Bool) → or_else o (cond t (Some x) None) ≡ Some d → ((x ≡ d) × (is_among xs e ≡ true)) ⊎ Behind xs d e → (last_where test xs ≡ Some d → Behind xs d e → test e ≡ false) → test e ≡ false
+    by_rest : (o : Option ℕ) → last_where test xs ≡ o → (t : Bool) → or_else o (cond t (Some x) None) ≡ Some d → ((x ≡ d) × (is_among xs e ≡ true)) ⊎ After xs d e → (last_where test xs ≡ Some d → After xs d e → test e ≡ false) → test e ≡ false
     by_rest (Some y) f t g (inl c) rest = absurd (in_rest (last_found test xs d (f ∙ g)).among c.0)
     by_rest (Some y) f t g (inr c) rest = rest (f ∙ g) c
     by_rest None f true g (inl c) rest = last_none test xs f e c.1
-    by_rest None f true g (inr c) rest = let same : x ≡ d = cc in absurd (in_rest (behind_first xs d e c) same)
+    by_rest None f true g (inr c) rest = let same : x ≡ d = cc in absurd (in_rest (steps_after_first xs d e c) same)
     by_rest None f false g c rest = absurd (cc)
 
 -- none before the first that passes passes
-pub first_before : (test : ℕ → Bool) (xs : List ℕ) → AllDifferent xs → (d e : ℕ) → first_where test xs ≡ Some d → Behind xs e d → test e ≡ false
+pub first_before : (test : ℕ → Bool) (xs : List ℕ) → AllDifferent xs → (d e : ℕ) → first_where test xs ≡ Some d → After xs e d → test e ≡ false
 first_before test [] h d e l b = absurd b
 first_before test (x ∷ xs) h d e l b = by_test (test x) refl l b (λ k c. first_before test xs h.1 d e k c)
   where
-    by_test : (t : Bool) → test x ≡ t → cond t (Some x) (first_where test xs) ≡ Some d → ((x ≡ e) × (is_among xs d ≡ true)) ⊎ Behind xs e d → (first_where test xs ≡ Some d → Behind xs e d → test e ≡ false) → test e ≡ false
+    by_test : (t : Bool) → test x ≡ t → cond t (Some x) (first_where test xs) ≡ Some d → ((x ≡ e) × (is_among xs d ≡ true)) ⊎ After xs e d → (first_where test xs ≡ Some d → After xs e d → test e ≡ false) → test e ≡ false
     by_test true f g (inl c) rest = let same : x ≡ d = cc in absurd (true≢false (sym c.1 ∙ (ap (is_among xs) (sym same) ∙ h.0)))
-    by_test true f g (inr c) rest = let same : x ≡ d = cc in absurd (true≢false (sym (behind_last xs e d c) ∙ (ap (is_among xs) (sym same) ∙ h.0)))
+    by_test true f g (inr c) rest = let same : x ≡ d = cc in absurd (true≢false (sym (after_last_word xs e d c) ∙ (ap (is_among xs) (sym same) ∙ h.0)))
     by_test false f g (inl c) rest = subst (λ (y : ℕ). test y ≡ false) c.0 f
     by_test false f g (inr c) rest = rest g c
 
--- one that passes is the first that does, or stands behind it
-pub first_or_behind : (test : ℕ → Bool) (xs : List ℕ) (d e : ℕ) → first_where test xs ≡ Some d → test e ≡ true → is_among xs e ≡ true → (d ≡ e) ⊎ Behind xs d e
-first_or_behind test [] d e l p m = absurd (true≢false (sym m))
-first_or_behind test (x ∷ xs) d e l p m = by_test (test x) refl l (or_cases (x == e) (is_among xs e) m) (λ k n. first_or_behind test xs d e k p n)
+-- one that passes is the first that does, or stands after it
+pub first_or_after : (test : ℕ → Bool) (xs : List ℕ) (d e : ℕ) → first_where test xs ≡ Some d → test e ≡ true → is_among xs e ≡ true → (d ≡ e) ⊎ After xs d e
+first_or_after test [] d e l p m = absurd (true≢false (sym m))
+first_or_after test (x ∷ xs) d e l p m = by_test (test x) refl l (or_cases (x == e) (is_among xs e) m) (λ k n. first_or_after test xs d e k p n)
   where
-    wrap : (d ≡ e) ⊎ Behind xs d e → (d ≡ e) ⊎ Behind (x ∷ xs) d e
+    wrap : (d ≡ e) ⊎ After xs d e → (d ≡ e) ⊎ After (x ∷ xs) d e
     wrap (inl s) = inl s
     wrap (inr b) = inr (inr b)
 
-    by_test : (t : Bool) → test x ≡ t → cond t (Some x) (first_where test xs) ≡ Some d → ((x == e) ≡ true) ⊎ (is_among xs e ≡ true) → (first_where test xs ≡ Some d → is_among xs e ≡ true → (d ≡ e) ⊎ Behind xs d e) → (d ≡ e) ⊎ Behind (x ∷ xs) d e
+    by_test : (t : Bool) → test x ≡ t → cond t (Some x) (first_where test xs) ≡ Some d → ((x == e) ≡ true) ⊎ (is_among xs e ≡ true) → (first_where test xs ≡ Some d → is_among xs e ≡ true → (d ≡ e) ⊎ After xs d e) → (d ≡ e) ⊎ After (x ∷ xs) d e
     by_test true f g (inl s) rest = let same : x ≡ d = cc in inl (sym same ∙ eqb-true x e s)
     by_test true f g (inr n) rest = let same : x ≡ d = cc in inr (inl (same, n))
     by_test false f g (inl s) rest = absurd (true≢false (sym p ∙ (ap test (sym (eqb-true x e s)) ∙ f)))

@@ -5,7 +5,7 @@ use Rattle.sleep_model.specs.declared.word.EventNow.{EventNow}
 use Rattle.sleep_model.specs.declared.word.WordKind.{WordKind}
 use Rattle.sleep_model.specs.declared.word.WordKind.TheVariants as step
 use Rattle.sleep_model.specs.Guard.{count_pending, force_after, has_changed, Finds}
-use Rattle.sleep_model.specs.Laws.{Answered, later_answer, with_step, rests_on}
+use Rattle.sleep_model.specs.Laws.{Answered, later_answer, with_step, steps_since_read}
 use Rattle.sleep_model.specs.Numbers.{after_step}
 use Rattle.sleep_model.specs.Word.{visible}
 
@@ -72,7 +72,7 @@ force_found (Some c) steps now seen h = by_test (count_pending (Some c) seen)
     by_test false = h
 
 -- a good save rests on the read that gave its count, or on itself
-pub save_rests : (c : ℕ) (now : EventNow) (a : Option Answered) → visible now ≡ c → now.inpr ≡ 0 → AnswerRests a now → Rests c (rests_on c a) now
+pub save_rests : (c : ℕ) (now : EventNow) (a : Option Answered) → visible now ≡ c → now.inpr ≡ 0 → AnswerRests a now → Rests c (steps_since_read c a) now
 save_rests c now None e q h = record { word = now; seen = e; quiet = q; since = refl; sound = tt }
 save_rests c now (Some a) e q h = by_count (a.count == c) refl
   where
@@ -118,11 +118,11 @@ not_changed now c e = by_tests (visible now == c) (nat_lt 0 now.inpr) refl refl 
     by_tests true true x y z = absurd (cc)
     by_tests false b x y z = absurd (cc)
 
--- the steps that a count in force saw, and the events in progress: none, where no test finds it changed
+-- the steps that a count in force saw, and the events in progress: none if no test finds it changed
 abbrev pub Unseen : Option ℕ → List WordKind → EventNow → Type 0
 Unseen None steps now = Unit {0}
 Unseen (Some c) steps now = (steps ≡ []) × (now.inpr ≡ 0)
 
 pub unseen : (f : Option ℕ) (steps : List WordKind) (now : EventNow) → ForceRests f steps now → count_pending f now ≡ false → now.count < 16777216 → Unseen f steps now
-unseen None steps now h calm few = tt
-unseen (Some c) steps now h calm few = let s = not_changed now c calm in (nothing_since c steps now h s.0 s.1 few, s.1)
+unseen None steps now h quiescent few = tt
+unseen (Some c) steps now h quiescent few = let s = not_changed now c quiescent in (nothing_since c steps now h s.0 s.1 few, s.1)

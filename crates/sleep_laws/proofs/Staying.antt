@@ -8,7 +8,7 @@ use Rattle.sleep_model.specs.declared.entry.Kind.{Kind}
 use Rattle.sleep_model.specs.declared.entry.Kind.TheVariants as kind
 use Rattle.sleep_model.specs.declared.machine.Machine.{Machine}
 use Rattle.sleep_model.specs.declared.machine.Op.{Op}
-use Rattle.sleep_model.specs.declared.place.Seat.{Seat}
+use Rattle.sleep_model.specs.declared.progress.ScriptPosition.{ScriptPosition}
 use Rattle.sleep_model.specs.declared.word.EventNow.{EventNow}
 use Rattle.sleep_model.specs.Legal.{JournalPart}
 use Rattle.sleep_model.specs.Links.{IsOrder, is_linked, is_dependent, link_add_due, link_state_due}
@@ -17,7 +17,7 @@ use Rattle.sleep_model.specs.Path.{maker}
 use Rattle.sleep_model.proofs.Acyclic.{order_ranked}
 use Rattle.sleep_laws.specs.Ends.{IsOrdered}
 use Rattle.sleep_laws.specs.Linked.{LinksStay}
-use Rattle.sleep_laws.proofs.Holding.{add_free, state_free}
+use Rattle.sleep_laws.proofs.LockHolding.{add_free, state_free}
 use Rattle.sleep_laws.proofs.Linking.{links_stand, maker_links, work_links, own_links}
 use Rattle.sleep_laws.proofs.Made.{StepMade, TaskMade, EntryMade, ByMaker, ByTask, ByWork, ByDevice, ByTime}
 use Rattle.sleep_laws.proofs.MakingOwn.{entry_made}
@@ -35,10 +35,10 @@ module _ (m : Machine) (past : List Entry) (underway : is_some (maker past) ≡ 
   set_stay supplier consumer active (Some r) e = refl
   set_stay supplier consumer active None e = absurd (not_open (maker past) (state_free (maker past) (is_linked (links_at m past) supplier consumer) e) underway)
 
-  step_stays : (now : EventNow) (seat : Seat) (asked : Bool) (o : Option Op) (k : Kind) → StepMade m past now seat asked o k → links_after k (links_at m past) ≡ links_at m past
-  step_stays now seat asked _ _ (StepMade.AddsLink s c r e) = added_stay s c r e
-  step_stays now seat asked _ _ (StepMade.SetsLink s c active r e) = set_stay s c active r e
-  step_stays now seat asked _ _ _ = refl
+  step_stays : (now : EventNow) (position : ScriptPosition) (asked : Bool) (o : Option Op) (k : Kind) → StepMade m past now position asked o k → links_after k (links_at m past) ≡ links_at m past
+  step_stays now position asked _ _ (StepMade.AddsLink s c r e) = added_stay s c r e
+  step_stays now position asked _ _ (StepMade.SetsLink s c active r e) = set_stay s c active r e
+  step_stays now position asked _ _ _ = refl
 
   entry_stays : (now : EventNow) (who : Actor) (k : Kind) → EntryMade m past now who k → links_after k (links_at m past) ≡ links_at m past
   entry_stays now who k (ByMaker _ here there _ a e c d) = maker_links m past now there k d (links_at m past)

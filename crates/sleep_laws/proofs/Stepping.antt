@@ -11,9 +11,9 @@ use Rattle.sleep_model.specs.declared.entry.Kind.TheVariants as kind
 use Rattle.sleep_model.specs.declared.entry.SkipCause.TheVariants as skip
 use Rattle.sleep_model.specs.declared.machine.Machine.{Machine}
 use Rattle.sleep_model.specs.declared.machine.Op.{Op}
-use Rattle.sleep_model.specs.declared.place.Seat.{Seat}
-use Rattle.sleep_model.specs.declared.place.Stage.{Stage}
-use Rattle.sleep_model.specs.declared.place.Work.{Work}
+use Rattle.sleep_model.specs.declared.progress.ScriptPosition.{ScriptPosition}
+use Rattle.sleep_model.specs.declared.progress.Stage.{Stage}
+use Rattle.sleep_model.specs.declared.progress.Work.{Work}
 use Rattle.sleep_model.specs.declared.word.EventNow.{EventNow}
 use Rattle.phase_table.specs.declared.phase.Phase.{Phase}
 use Rattle.phase_table.specs.Phases.{is_phase}
@@ -21,7 +21,7 @@ use Rattle.sleep_model.specs.Devices.{async_work}
 use Rattle.sleep_model.specs.Laws.{InOrder, is_in_order, is_of_op, is_work_entry, is_device_entry, is_frozen_entry, steps_of}
 use Rattle.sleep_model.specs.Legal.{JournalPart}
 use Rattle.sleep_model.specs.Path.{maker, is_actor}
-use Rattle.sleep_laws.proofs.Made.{Down, InSuspend, InLate, InNoirq, Up, InResume, InEarly, InResumeNoirq, Made, StepMade, TaskMade, WorkMade, DeviceMade, EntryMade, ByMaker, ByTask, ByWork, ByDevice, ByTime, seat_of}
+use Rattle.sleep_laws.proofs.Made.{Down, InSuspend, InLate, InNoirq, Up, InResume, InEarly, InResumeNoirq, Made, StepMade, TaskMade, WorkMade, DeviceMade, EntryMade, ByMaker, ByTask, ByWork, ByDevice, ByTime, position_of}
 use Rattle.sleep_laws.proofs.MakingOwn.{entry_made}
 
 same : (x : ℕ) → (x == x) ≡ true
@@ -41,24 +41,24 @@ both a b e f = rw (e, f) refl
 
 -- ---- a task
 
-step_of_op : (m : Machine) (past : List Entry) (now : EventNow) (seat : Seat) (asked : Bool) (o : Option Op) (k : Kind) → StepMade m past now seat asked o k → (is_of_op o k ≡ true) × (is_jump k ≡ false)
-step_of_op m past now seat asked _ _ (StepMade.Posts mark) = (same mark, refl)
-step_of_op m past now seat asked _ _ (StepMade.Gets mark) = (same mark, refl)
-step_of_op m past now seat asked _ _ (StepMade.AsksRuntime d s) = (same d, refl)
-step_of_op m past now seat asked _ _ (StepMade.AddsLink s c r e) = (both (s == s) (c == c) (same s) (same c), refl)
-step_of_op m past now seat asked _ _ (StepMade.SetsLink s c active r e) = (both (s == s) (c == c) (same s) (same c), refl)
-step_of_op m past now seat asked _ _ _ = (refl, refl)
+step_of_op : (m : Machine) (past : List Entry) (now : EventNow) (position : ScriptPosition) (asked : Bool) (o : Option Op) (k : Kind) → StepMade m past now position asked o k → (is_of_op o k ≡ true) × (is_jump k ≡ false)
+step_of_op m past now position asked _ _ (StepMade.Posts mark) = (same mark, refl)
+step_of_op m past now position asked _ _ (StepMade.Gets mark) = (same mark, refl)
+step_of_op m past now position asked _ _ (StepMade.AsksRuntime d s) = (same d, refl)
+step_of_op m past now position asked _ _ (StepMade.AddsLink s c r e) = (both (s == s) (c == c) (same s) (same c), refl)
+step_of_op m past now position asked _ _ (StepMade.SetsLink s c active r e) = (both (s == s) (c == c) (same s) (same c), refl)
+step_of_op m past now position asked _ _ _ = (refl, refl)
 
 step_is_entry : (there of frozen : Bool) → there ≡ false → (of || frozen) ≡ true → (not there && (of || frozen)) ≡ true
 step_is_entry there of frozen e f = rw (e, f) refl
 
 task_order : (m : Machine) (past : List Entry) (now : EventNow) (i : ℕ) (k : Kind) → TaskMade m past now i k → (is_in_order m past (actor.Script i) k ≡ true) × (is_jump k ≡ false)
-task_order m past now i _ (TaskMade.Freezes s go f) = (step_is_entry (seat_of m past i).exited (is_of_op (slice_get (steps_of (slice_get m.actors i)) (seat_of m past i).done) kind.Frozen) true go.there (or-true _), refl)
+task_order m past now i _ (TaskMade.Freezes s go f) = (step_is_entry (position_of m past i).exited (is_of_op (slice_get (steps_of (slice_get m.actors i)) (position_of m past i).done) kind.Frozen) true go.there (or-true _), refl)
 task_order m past now i _ (TaskMade.Steps s k o go e st) =
-    let x : (is_of_op o k ≡ true) × (is_jump k ≡ false) = step_of_op m past now (seat_of m past i) _ o k st in
-    let op : slice_get (steps_of (slice_get m.actors i)) (seat_of m past i).done ≡ o = ap (λ z. slice_get (steps_of z) (seat_of m past i).done) go.script ∙ e in
-    let of : is_of_op (slice_get (steps_of (slice_get m.actors i)) (seat_of m past i).done) k ≡ true = ap (λ z. is_of_op z k) op ∙ x.0 in
-    (step_is_entry (seat_of m past i).exited (is_of_op (slice_get (steps_of (slice_get m.actors i)) (seat_of m past i).done) k) (is_frozen_entry k) go.there (ap (λ b. b || is_frozen_entry k) of), x.1)
+    let x : (is_of_op o k ≡ true) × (is_jump k ≡ false) = step_of_op m past now (position_of m past i) _ o k st in
+    let op : slice_get (steps_of (slice_get m.actors i)) (position_of m past i).done ≡ o = ap (λ z. slice_get (steps_of z) (position_of m past i).done) go.script ∙ e in
+    let of : is_of_op (slice_get (steps_of (slice_get m.actors i)) (position_of m past i).done) k ≡ true = ap (λ z. is_of_op z k) op ∙ x.0 in
+    (step_is_entry (position_of m past i).exited (is_of_op (slice_get (steps_of (slice_get m.actors i)) (position_of m past i).done) k) (is_frozen_entry k) go.there (ap (λ b. b || is_frozen_entry k) of), x.1)
 
 -- ---- the work
 

@@ -8,7 +8,7 @@ use Rattle.sleep_model.specs.Legal.{IsLegal, IsLegalLog, IsFinishedLog, IsStuckL
 use Rattle.sleep_model.specs.Links.{AreLinks}
 use Rattle.sleep_model.specs.Numbers.{numbers}
 use Rattle.sleep_model.specs.Order.{EachAfterParent, parents_of}
-use Rattle.sleep_model.specs.Parts.{journal}
+use Rattle.sleep_model.specs.EntryClasses.{journal}
 use Rattle.sleep_model.specs.Path.{maker}
 use Rattle.sleep_model.specs.Sources.{history}
 
@@ -19,14 +19,14 @@ pub record IsOrdered (m : Machine) : Type 0 where
   pub scripts : AreScripts m m.actors
 
 -- where nobody can make anything and no moment is pending no attempt is open (system_transition_mutex)
-abbrev pub RestsClosed : Machine → List Entry → Type 0
-RestsClosed m past =
+abbrev pub IsClosedIfIdle : Machine → List Entry → Type 0
+IsClosedIfIdle m past =
     is_idle m (journal past) (λ s. history s past) (numbers past) ≡ true → next_time m (journal past) (λ s. history s past) ≡ None
     → maker (journal past) ≡ None
 
 -- so in each legal list of entries of such a machine
-abbrev pub AllRestClosed : Type 0
-AllRestClosed = (m : Machine) → IsOrdered m → (past : List Entry) → IsLegal m past → RestsClosed m past
+abbrev pub IdleMeansClosed : Type 0
+IdleMeansClosed = (m : Machine) → IsOrdered m → (past : List Entry) → IsLegal m past → IsClosedIfIdle m past
 
 -- and in each legal log of an accepted machine that is finished, or that goes no further
 abbrev pub AllEndClosed : Type 0

@@ -3,21 +3,21 @@
 //! whatever the wakeup sources did meanwhile.
 
 ghost use Rattle.sleep_laws.specs.Laws.{HoldsAtEntries, HoldsOfAll, HoldsOfJournals};
-ghost use Rattle.sleep_model.specs.Guard.{count_part};
+ghost use Rattle.sleep_model.specs.Guard.{count_effect};
 ghost use Rattle.sleep_model.specs.Laws.{DependentsFirst, SuppliersFirst, Restored, Owed, TakenOnce, NotOwedAlready, EntersDown, UndisturbedEnters, AnswersFailure, FoundPending, InOrder, Laws};
-ghost use Rattle.sleep_model.specs.Parts.{journal};
+ghost use Rattle.sleep_model.specs.EntryClasses.{journal};
 
-/// A device begins to go down in a phase only where all below it, its children and its consumers, are
+/// A device begins to go down in a phase only if all below it, its children and its consumers, are
 /// down in that phase or were direct-complete (`drivers/base/power/main.c`, `dpm_wait_for_subordinate`).
-#[tactic(auto, using(crate::proofs::DevicesStand::dependents_first))]
+#[tactic(auto, using(crate::proofs::DeviceLaws::dependents_first))]
 pub fn dependents_first()
     ensures { HoldsAtEntries (λ m past e. DependentsFirst m past e.kind) }
 {}
 
-/// A device begins to come up in a phase only where none above it, its parent and its suppliers, is
+/// A device begins to come up in a phase only if none above it, its parent and its suppliers, is
 /// still down in that phase or inside a callback (`drivers/base/power/main.c`,
 /// `dpm_wait_for_superior`).
-#[tactic(auto, using(crate::proofs::DevicesStand::suppliers_first))]
+#[tactic(auto, using(crate::proofs::DeviceLaws::suppliers_first))]
 pub fn suppliers_first()
     ensures { HoldsAtEntries (λ m past e. SuppliersFirst m past e.kind) }
 {}
@@ -26,7 +26,7 @@ pub fn suppliers_first()
 /// device, processor, interrupt, part of the core nor step of the platform is left as the attempt put
 /// it, and the machine is awake (`kernel/power/suspend.c`, `suspend_devices_and_enter`,
 /// `suspend_finish`).
-#[tactic(auto, using(crate::proofs::DevicesStand::all_restored))]
+#[tactic(auto, using(crate::proofs::DeviceLaws::all_restored))]
 pub fn restored()
     ensures { HoldsAtEntries (λ m past e. Restored m past e.kind) }
 {}
@@ -38,7 +38,7 @@ pub fn restored()
 /// step of the platform are undone only if they were done; the machine wakes only if it sleeps
 /// (`drivers/base/power/main.c`, `dpm_resume`, `device_resume`, `device_complete`;
 /// `kernel/power/suspend.c`, `suspend_enter`, `suspend_finish`).
-#[tactic(auto, using(crate::proofs::DevicesStand::all_owed))]
+#[tactic(auto, using(crate::proofs::DeviceLaws::all_owed))]
 pub fn undo_only_what_is_owed()
     ensures { HoldsAtEntries (λ m past e. Owed m past e.kind) }
 {}
@@ -60,12 +60,12 @@ pub fn nothing_is_owed_twice()
     ensures { HoldsAtEntries (λ m past e. NotOwedAlready m past e.kind) }
 {}
 
-/// The machine enters sleep only where all is down that sleep wants down: each device down in suspend, in
+/// The machine enters sleep only if all is down that sleep wants down: each device down in suspend, in
 /// late and in noirq, or direct-complete; each user task and each kernel thread, but who makes the
 /// attempt, frozen or gone; the platform told of its three steps; the other processors and interrupts
 /// off, each part of the core suspended (`kernel/power/suspend.c`, `suspend_enter`;
 /// `kernel/power/process.c`, `freeze_processes`, `freeze_kernel_threads`).
-#[tactic(auto, using(crate::proofs::DevicesStand::all_down))]
+#[tactic(auto, using(crate::proofs::DeviceLaws::all_down))]
 pub fn enters_only_with_all_down()
     ensures { HoldsAtEntries (λ m past e. EntersDown m past e.kind) }
 {}
@@ -77,22 +77,22 @@ pub fn undisturbed_attempts_enter()
     ensures { HoldsAtEntries (λ m past e. UndisturbedEnters past e.kind) }
 {}
 
-/// An attempt answers the error of the step that failed, and 0 exactly where it has entered
+/// An attempt answers the error of the step that failed, and 0 exactly if it has entered
 /// (`kernel/power/suspend.c`, `enter_state`).
 #[tactic(auto, using(crate::proofs::Answering::answers_failure))]
 pub fn attempts_answer_their_failure()
     ensures { HoldsAtEntries (λ m past e. AnswersFailure past e.kind) }
 {}
 
-/// A test that found a wakeup stands only where one is pending at the word that it saw
+/// A test that found a wakeup stands only if one is pending at the word that it saw
 /// (`drivers/base/power/wakeup.c`, `pm_wakeup_pending`).
 #[tactic(auto, using(crate::proofs::Owing::found_pending))]
 pub fn found_tests_are_true()
-    ensures { HoldsAtEntries (λ m past e. FoundPending past e.now (count_part e.kind)) }
+    ensures { HoldsAtEntries (λ m past e. FoundPending past e.now (count_effect e.kind)) }
 {}
 
 /// Each actor's entries outside attempts of its own are its own steps, once and in order: a script's
-/// are of its operation under way and none comes behind its exit, the autosleep work's follow its
+/// are of its operation under way and none comes after its exit, the autosleep work's follow its
 /// course, an asynchronous device's are of the phase that it was scheduled in (`kernel/power/main.c`,
 /// `kernel/power/autosleep.c`, `drivers/base/power/main.c`, `dpm_async_fn`); jumps are made by time.
 #[tactic(auto, using(crate::proofs::Stepping::in_order))]

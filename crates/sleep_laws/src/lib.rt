@@ -14,7 +14,7 @@ mod guarded;
 mod laws;
 mod links;
 
-pub use ends::{attempts_end_closed, attempts_rest_closed};
+pub use ends::{attempts_end_closed, idle_means_closed};
 pub use guarded::guarded_sleep;
 pub use laws::{
     all_laws, all_laws_of_logs, attempts_answer_their_failure, dependents_first,
@@ -22,4 +22,4 @@ pub use laws::{
     restored, steps_once_and_in_order, suppliers_first, undisturbed_attempts_enter,
     undo_only_what_is_owed,
 };
-pub use links::{links_stay_through_attempts, order_keeps_dependents_behind};
+pub use links::{links_stay_through_attempts, order_keeps_dependents_after};

@@ -16,7 +16,7 @@ use std::env;
 use std::io::ErrorKind;
 use std::process::ExitCode;
 
-/// The words of the command line. Words that are no text count as none; an error is want of memory.
+/// The words of the command line. Words that are no text count as none; an error is out of memory.
 fn words_of(rt: &HostRuntime, alloc: Global) -> Result<Vec<String>, AllocError> {
     match env::args(rt) {
         Ok(args) => args.collect(alloc),

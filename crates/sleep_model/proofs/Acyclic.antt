@@ -7,10 +7,10 @@ use Rattle.std.proofs.lemmas.Bool.Decides.{nat_tests}
 use Rattle.std.proofs.Math.Bool.{or-false}
 use Rattle.sleep_model.specs.declared.machine.Link.{Link}
 use Rattle.sleep_model.specs.Links.{AllAmong}
-use Rattle.sleep_model.specs.Order.{is_among, children_from, consumers_of, dependents, EachAfterParent, last_places, moved, order_by}
+use Rattle.sleep_model.specs.Order.{is_among, children_from, consumers_of, dependents, EachAfterParent, last_occurrences, moved, order_by}
 use Rattle.sleep_model.specs.Links.{IsOrder, AreLinks}
 use Rattle.sleep_model.proofs.Walks.{AllDifferent, below_run}
-use Rattle.sleep_model.proofs.Ordering.{not_in_filter, kept_passes, different_filter, order_by_different}
+use Rattle.sleep_model.proofs.Ordering.{not_in_filter, preserved_passes, different_filter, order_by_different}
 use Rattle.sleep_model.proofs.Children.{children_none, children_within, children_after}
 use Rattle.sleep_model.proofs.Dependents.{among_app, among_first, among_rest, Within, within_of, all_of, put, onto, onto_app, among_onto, last_onto, Descends, among_flat}
 
@@ -21,9 +21,9 @@ flat_same f g [] h = refl
 flat_same f g (c ∷ cs) h = ap (λ ys. ys ++ flat_map f cs) (h c (among_first c cs)) ∙ ap (λ ys. g c ++ ys) (flat_same f g cs (λ x m. h x (among_rest c cs x m)))
 
 -- what passes is kept
-pub kept_among : (p : ℕ → Bool) (xs : List ℕ) (d : ℕ) → p d ≡ true → is_among xs d ≡ true → is_among (filter p xs) d ≡ true
-kept_among p [] d h m = absurd (false≢true m)
-kept_among p (x ∷ xs) d h m = by_place (kept_among p xs d h) (or_cases (x == d) (is_among xs d) m)
+pub preserved_among : (p : ℕ → Bool) (xs : List ℕ) (d : ℕ) → p d ≡ true → is_among xs d ≡ true → is_among (filter p xs) d ≡ true
+preserved_among p [] d h m = absurd (false≢true m)
+preserved_among p (x ∷ xs) d h m = by_place (preserved_among p xs d h) (or_cases (x == d) (is_among xs d) m)
   where
     later : (b : Bool) → is_among (filter p xs) d ≡ true → is_among (cond b (x ∷ filter p xs) (filter p xs)) d ≡ true
     later true n = among_rest x (filter p xs) d n
@@ -53,16 +53,16 @@ keeps_others : (k : ℕ) (xs : List ℕ) → AllDifferent xs → length xs ≤ s
 keeps_others k [] h = omega arith
 keeps_others k (x ∷ xs) h = by_test (keeps_others k xs h.1) (x == k) refl
   where
-    all_kept : (ys : List ℕ) → is_among ys k ≡ false → length (filter (λ d. not (d == k)) ys) ≡ length ys
-    all_kept [] n = refl
-    all_kept (y ∷ ys) n =
+    all_preserved : (ys : List ℕ) → is_among ys k ≡ false → length (filter (λ d. not (d == k)) ys) ≡ length ys
+    all_preserved [] n = refl
+    all_preserved (y ∷ ys) n =
         let parts = or_parts (y == k) (is_among ys k) n in
-        ap (λ b. length (cond (not b) (y ∷ filter (λ d. not (d == k)) ys) (filter (λ d. not (d == k)) ys))) parts.0 ∙ ap suc (all_kept ys parts.1)
+        ap (λ b. length (cond (not b) (y ∷ filter (λ d. not (d == k)) ys) (filter (λ d. not (d == k)) ys))) parts.0 ∙ ap suc (all_preserved ys parts.1)
 
     by_test : length xs ≤ suc (length (filter (λ d. not (d == k)) xs)) → (b : Bool) → (x == k) ≡ b → suc (length xs) ≤ suc (length (cond (not b) (x ∷ filter (λ d. not (d == k)) xs) (filter (λ d. not (d == k)) xs)))
     by_test rest true e =
         let gone : is_among xs k ≡ false = subst (λ (y : ℕ). is_among xs y ≡ false) (eqb-true x k e) h.0 in
-        let n = all_kept xs gone in
+        let n = all_preserved xs gone in
         omega (arith, n)
     by_test rest false e = omega arith
 
@@ -76,7 +76,7 @@ few (suc n) xs h f =
     omega (arith, keeps_others n xs h, rest)
   where
     less : (d : ℕ) → d < suc n → (b : Bool) → (d == n) ≡ b → is_among (filter (λ d'. not (d' == n)) xs) d ≡ true → d < n
-    less d l true e m = absurd (true≢false (sym m ∙ kept_passes (λ d'. not (d' == n)) xs d (ap not e)))
+    less d l true e m = absurd (true≢false (sym m ∙ preserved_passes (λ d'. not (d' == n)) xs d (ap not e)))
     less d l false e m = let other : d ≡ n → ⊥ = eqb-false d n e in omega arith
 
 -- a list that has a number keeps fewer others
@@ -86,11 +86,11 @@ drops_one k (x ∷ xs) m = by_test (drops_one k xs) (x == k) refl m
   where
     at_most : (ys : List ℕ) → length (filter (λ d. not (d == k)) ys) ≤ length ys
     at_most [] = omega arith
-    at_most (y ∷ ys) = by_kept (at_most ys) (y == k)
+    at_most (y ∷ ys) = by_preserved (at_most ys) (y == k)
       where
-        by_kept : length (filter (λ d. not (d == k)) ys) ≤ length ys → (b : Bool) → length (cond (not b) (y ∷ filter (λ d. not (d == k)) ys) (filter (λ d. not (d == k)) ys)) ≤ suc (length ys)
-        by_kept rest true = omega arith
-        by_kept rest false = omega arith
+        by_preserved : length (filter (λ d. not (d == k)) ys) ≤ length ys → (b : Bool) → length (cond (not b) (y ∷ filter (λ d. not (d == k)) ys) (filter (λ d. not (d == k)) ys)) ≤ suc (length ys)
+        by_preserved rest true = omega arith
+        by_preserved rest false = omega arith
 
     by_test : (is_among xs k ≡ true → suc (length (filter (λ d. not (d == k)) xs)) ≤ length xs) → (b : Bool) → (x == k) ≡ b → (b || is_among xs k) ≡ true → suc (length (cond (not b) (x ∷ filter (λ d. not (d == k)) xs) (filter (λ d. not (d == k)) xs))) ≤ suc (length xs)
     by_test rest true e n = let l = at_most xs in omega arith
@@ -100,7 +100,7 @@ drops_one k (x ∷ xs) m = by_test (drops_one k xs) (x == k) refl m
 pub many : (n : ℕ) (xs : List ℕ) → ((d : ℕ) → d < n → is_among xs d ≡ true) → n ≤ length xs
 many zero xs f = omega arith
 many (suc n) xs f =
-    let rest : n ≤ length (filter (λ d. not (d == n)) xs) = many n (filter (λ d. not (d == n)) xs) (λ d l. kept_among (λ d'. not (d' == n)) xs d (ap not (ne_eqb d n (λ e. omega arith))) (f d (omega arith))) in
+    let rest : n ≤ length (filter (λ d. not (d == n)) xs) = many n (filter (λ d. not (d == n)) xs) (λ d l. preserved_among (λ d'. not (d' == n)) xs d (ap not (ne_eqb d n (λ e. omega arith))) (f d (omega arith))) in
     omega (arith, rest, drops_one n xs (f n (omega arith)))
 
 -- a run of numbers has each number within
@@ -137,7 +137,7 @@ module _ (dependents_of : ℕ → List ℕ) where
 
   -- as many levels as devices are enough
   pub descends : (order : List ℕ) → IsOrder dependents_of order → ((d : ℕ) → is_among order d ≡ false → dependents_of d ≡ []) → (n : ℕ) → length order ≤ n → Descends dependents_of (moved n dependents_of)
-  descends order h bare n l d = by_test (is_among order d) refl
+  descends order h unstamped n l d = by_test (is_among order d) refl
     where
       empty : (k : ℕ) → dependents_of d ≡ [] → moved k dependents_of d ≡ d ∷ flat_map (moved k dependents_of) (dependents_of d)
       empty zero e = ap (λ cs. d ∷ flat_map (moved zero dependents_of) cs) (sym e)
@@ -145,7 +145,7 @@ module _ (dependents_of : ℕ → List ℕ) where
 
       by_test : (b : Bool) → is_among order d ≡ b → moved n dependents_of d ≡ d ∷ flat_map (moved n dependents_of) (dependents_of d)
       by_test true e = deep order h n l d e
-      by_test false e = empty n (bare d e)
+      by_test false e = empty n (unstamped d e)
 
   -- ---- a walk leaves an order
 
@@ -171,7 +171,7 @@ module _ (dependents_of : ℕ → List ℕ) where
         (put_order (onto cs out) d (flat_order k (walk_order k) out h (dependents_of d) (omega (arith, ap length (fix d))))
         (λ c m. among_onto cs out c ∙ ap (λ b. b || is_among out c) (among_flat dependents_of W fix c (dependents_of d) c m (ap (λ ys. is_among ys c) (fix c) ∙ among_first c (flat_map W (dependents_of c))))))
 
-    pub last_order : (d : ℕ) → IsOrder dependents_of (last_places (W d))
+    pub last_order : (d : ℕ) → IsOrder dependents_of (last_occurrences (W d))
     last_order d = subst (IsOrder dependents_of) (sym (last_onto (W d))) (walk_order (length (W d)) [] tt d (omega arith))
 
 -- an order by what hangs below its devices alone
@@ -183,26 +183,26 @@ same_order dependents_of dependents_of' (x ∷ xs) h e = (
   same_order dependents_of dependents_of' xs h.2 (λ d m. e d (among_rest x xs d m)),
 )
 
--- what was moved stands behind the others
+-- what was moved stands after the others
 moved_order : (dependents_of dependents_of' : ℕ → List ℕ) (M back : List ℕ) → IsOrder dependents_of' back → ((d : ℕ) → is_among back d ≡ is_among M d)
     → ((d y : ℕ) → is_among M d ≡ false → is_among (dependents_of' d) y ≡ true → (is_among M y ≡ true) ⊎ (is_among (dependents_of d) y ≡ true))
     → (xs : List ℕ) → IsOrder dependents_of xs → IsOrder dependents_of' (filter (λ d. not (is_among M d)) xs ++ back)
 moved_order dependents_of dependents_of' M back b same step [] h = b
 moved_order dependents_of dependents_of' M back b same step (x ∷ xs) h = by_test (moved_order dependents_of dependents_of' M back b same step xs h.2) (is_among M x) refl
   where
-    stands : (y : ℕ) → (is_among M y ≡ true) ⊎ (is_among (dependents_of x) y ≡ true) → is_among (filter (λ d. not (is_among M d)) xs ++ back) y ≡ true
-    stands y (inl m) = among_app (filter (λ d. not (is_among M d)) xs) back y ∙ or_right (is_among (filter (λ d. not (is_among M d)) xs) y) (is_among back y) (same y ∙ m)
-    stands y (inr m) = among_app (filter (λ d. not (is_among M d)) xs) back y ∙ by_moved (is_among M y) refl
+    states : (y : ℕ) → (is_among M y ≡ true) ⊎ (is_among (dependents_of x) y ≡ true) → is_among (filter (λ d. not (is_among M d)) xs ++ back) y ≡ true
+    states y (inl m) = among_app (filter (λ d. not (is_among M d)) xs) back y ∙ or_right (is_among (filter (λ d. not (is_among M d)) xs) y) (is_among back y) (same y ∙ m)
+    states y (inr m) = among_app (filter (λ d. not (is_among M d)) xs) back y ∙ by_moved (is_among M y) refl
       where
         by_moved : (c : Bool) → is_among M y ≡ c → (is_among (filter (λ d. not (is_among M d)) xs) y || is_among back y) ≡ true
         by_moved true e = or_right (is_among (filter (λ d. not (is_among M d)) xs) y) (is_among back y) (same y ∙ e)
-        by_moved false e = or_left (is_among (filter (λ d. not (is_among M d)) xs) y) (is_among back y) (kept_among (λ d. not (is_among M d)) xs y (ap not e) (within_of xs (dependents_of x) h.1 y m))
+        by_moved false e = or_left (is_among (filter (λ d. not (is_among M d)) xs) y) (is_among back y) (preserved_among (λ d. not (is_among M d)) xs y (ap not e) (within_of xs (dependents_of x) h.1 y m))
 
     by_test : IsOrder dependents_of' (filter (λ d. not (is_among M d)) xs ++ back) → (c : Bool) → is_among M x ≡ c → IsOrder dependents_of' (cond (not c) (x ∷ filter (λ d. not (is_among M d)) xs) (filter (λ d. not (is_among M d)) xs) ++ back)
     by_test rest true e = rest
     by_test rest false e = (
       among_app (filter (λ d. not (is_among M d)) xs) back x ∙ or_from (is_among (filter (λ d. not (is_among M d)) xs) x) (is_among back x) (not_in_filter (λ d. not (is_among M d)) xs x h.0) (same x ∙ e),
-      all_of (filter (λ d. not (is_among M d)) xs ++ back) (dependents_of' x) (λ y m. stands y (step x y e m)),
+      all_of (filter (λ d. not (is_among M d)) xs ++ back) (dependents_of' x) (λ y m. states y (step x y e m)),
       rest,
     )
 
@@ -275,32 +275,32 @@ module _ (ps : List (Option ℕ)) (after : EachAfterParent 0 ps) where
       by_place g (inl e) = let same : d ≡ x = eqb-true d x e in omega arith
       by_place g (inr e) = each (dependents_of d) g e
 
-  pub among_last : (xs : List ℕ) (d : ℕ) → is_among (last_places xs) d ≡ is_among xs d
+  pub among_last : (xs : List ℕ) (d : ℕ) → is_among (last_occurrences xs) d ≡ is_among xs d
   among_last xs d = ap (λ ys. is_among ys d) (last_onto xs) ∙ (among_onto xs [] d ∙ or-false (is_among xs d))
 
   -- the order has registered devices
   pub order_within : (ls : List Link) → AreLinks ps ls → (d : ℕ) → is_among (order_by ps ls) d ≡ true → d < length ps
   order_within [] h d m = let r = within_run 0 (length ps) d m in omega arith
-  order_within (l ∷ ls) h d m = by_place (order_within ls h.4 d) (or_cases (is_among (filter (λ x. not (is_among M x)) (order_by ps ls)) d) (is_among (last_places M) d) (sym (among_app (filter (λ x. not (is_among M x)) (order_by ps ls)) (last_places M) d) ∙ m))
+  order_within (l ∷ ls) h d m = by_place (order_within ls h.4 d) (or_cases (is_among (filter (λ x. not (is_among M x)) (order_by ps ls)) d) (is_among (last_occurrences M) d) (sym (among_app (filter (λ x. not (is_among M x)) (order_by ps ls)) (last_occurrences M) d) ∙ m))
     where
       M : List ℕ
       M = moved (length ps) (dependents ps (l ∷ ls)) l.consumer
 
-      by_place : (is_among (order_by ps ls) d ≡ true → d < length ps) → (is_among (filter (λ x. not (is_among M x)) (order_by ps ls)) d ≡ true) ⊎ (is_among (last_places M) d ≡ true) → d < length ps
+      by_place : (is_among (order_by ps ls) d ≡ true → d < length ps) → (is_among (filter (λ x. not (is_among M x)) (order_by ps ls)) d ≡ true) ⊎ (is_among (last_occurrences M) d ≡ true) → d < length ps
       by_place rest (inl n) = rest (among_filter (λ x. not (is_among M x)) (order_by ps ls) d n)
       by_place rest (inr n) = moved_within (dependents ps (l ∷ ls)) (dependents_within (l ∷ ls) h) (length ps) l.consumer h.1 d (sym (among_last M d) ∙ n)
 
   -- and all of them
   pub order_covers : (ls : List Link) → (d : ℕ) → d < length ps → is_among (order_by ps ls) d ≡ true
   order_covers [] d l = among_run 0 (length ps) d (omega arith) (omega arith)
-  order_covers (l ∷ ls) d i = among_app (filter (λ x. not (is_among M x)) (order_by ps ls)) (last_places M) d ∙ by_test (order_covers ls d i) (is_among M d) refl
+  order_covers (l ∷ ls) d i = among_app (filter (λ x. not (is_among M x)) (order_by ps ls)) (last_occurrences M) d ∙ by_test (order_covers ls d i) (is_among M d) refl
     where
       M : List ℕ
       M = moved (length ps) (dependents ps (l ∷ ls)) l.consumer
 
-      by_test : is_among (order_by ps ls) d ≡ true → (b : Bool) → is_among M d ≡ b → (is_among (filter (λ x. not (is_among M x)) (order_by ps ls)) d || is_among (last_places M) d) ≡ true
-      by_test rest true e = or_right (is_among (filter (λ x. not (is_among M x)) (order_by ps ls)) d) (is_among (last_places M) d) (among_last M d ∙ e)
-      by_test rest false e = or_left (is_among (filter (λ x. not (is_among M x)) (order_by ps ls)) d) (is_among (last_places M) d) (kept_among (λ x. not (is_among M x)) (order_by ps ls) d (ap not e) rest)
+      by_test : is_among (order_by ps ls) d ≡ true → (b : Bool) → is_among M d ≡ b → (is_among (filter (λ x. not (is_among M x)) (order_by ps ls)) d || is_among (last_occurrences M) d) ≡ true
+      by_test rest true e = or_right (is_among (filter (λ x. not (is_among M x)) (order_by ps ls)) d) (is_among (last_occurrences M) d) (among_last M d ∙ e)
+      by_test rest false e = or_left (is_among (filter (λ x. not (is_among M x)) (order_by ps ls)) d) (is_among (last_occurrences M) d) (preserved_among (λ x. not (is_among M x)) (order_by ps ls) d (ap not e) rest)
 
   -- each of them once
   pub order_length : (ls : List Link) → AreLinks ps ls → length (order_by ps ls) ≡ length ps
@@ -369,10 +369,10 @@ module _ (ps : List (Option ℕ)) (after : EachAfterParent 0 ps) where
           by_child (inl e) = old (or_left (is_among (children_from d 0 ps) y) (is_among (consumers_of d ls) y) e)
           by_child (inr e) = by_consumer (or_cases (is_among (consumers_of d ls) y) (is_among (cond (l.supplier == d) (l.consumer ∷ []) []) y) (sym (among_app (consumers_of d ls) (cond (l.supplier == d) (l.consumer ∷ []) []) y) ∙ e))
 
-      with_link : IsOrder (dependents ps ls) (order_by ps ls) → IsOrder (dependents ps (l ∷ ls)) (filter (λ x. not (is_among M x)) (order_by ps ls) ++ last_places M)
+      with_link : IsOrder (dependents ps ls) (order_by ps ls) → IsOrder (dependents ps (l ∷ ls)) (filter (λ x. not (is_among M x)) (order_by ps ls) ++ last_occurrences M)
       with_link o =
-          moved_order (dependents ps ls) (dependents ps (l ∷ ls)) M (last_places M)
-          (same_order (dependents ps ls) (dependents ps (l ∷ ls)) (last_places M)
-          (subst (λ (ys : List ℕ). IsOrder (dependents ps ls) (last_places ys)) (sym same) (last_order (dependents ps ls) (moved (length ps) (dependents ps ls)) (links_descend ls h.4 o) l.consumer))
+          moved_order (dependents ps ls) (dependents ps (l ∷ ls)) M (last_occurrences M)
+          (same_order (dependents ps ls) (dependents ps (l ∷ ls)) (last_occurrences M)
+          (subst (λ (ys : List ℕ). IsOrder (dependents ps ls) (last_occurrences ys)) (sym same) (last_order (dependents ps ls) (moved (length ps) (dependents ps ls)) (links_descend ls h.4 o) l.consumer))
           (λ d m. others_same l ls d (not_supplier d (sym (among_last M d) ∙ m))))
           (among_last M) step (order_by ps ls) o

@@ -4,7 +4,7 @@ use Rattle.std.proofs.lemmas.Bool.{true≢false, or_cases, or_left, or_right}
 use Rattle.sleep_model.specs.declared.machine.Link.{Link}
 use Rattle.sleep_model.specs.Links.{AllAmong, IsOrder, AreLinks, is_linked}
 use Rattle.sleep_model.specs.Order.{is_among, is_link, with_state, active_of, children_from, consumers_of, suppliers_of, dependents, moved, moved_last, order_by}
-use Rattle.sleep_model.proofs.FirstPlaces.{consumers_linked}
+use Rattle.sleep_model.proofs.FirstOccurrences.{consumers_linked}
 use Rattle.sleep_model.proofs.Dependents.{among_app, among_first, among_rest, within_of, all_of}
 
 -- ---- a state alone changes
@@ -25,43 +25,43 @@ same_consumer supplier consumer active l = by_test (is_link supplier consumer l)
 
 -- what leaves the ends of links alone leaves who hangs below whom, and the order
 module _ (f : Link → Link) (s : (l : Link) → (f l).supplier ≡ l.supplier) (c : (l : Link) → (f l).consumer ≡ l.consumer) where
-  pub consumers_kept : (d : ℕ) (ls : List Link) → consumers_of d (map f ls) ≡ consumers_of d ls
-  consumers_kept d [] = refl
-  consumers_kept d (l ∷ ls) =
-      ap (λ xs. xs ++ cond ((f l).supplier == d) ((f l).consumer ∷ []) []) (consumers_kept d ls)
+  pub consumers_preserved : (d : ℕ) (ls : List Link) → consumers_of d (map f ls) ≡ consumers_of d ls
+  consumers_preserved d [] = refl
+  consumers_preserved d (l ∷ ls) =
+      ap (λ xs. xs ++ cond ((f l).supplier == d) ((f l).consumer ∷ []) []) (consumers_preserved d ls)
       ∙ ap₂ (λ x y. consumers_of d ls ++ cond (x == d) (y ∷ []) []) (s l) (c l)
 
-  pub suppliers_kept : (d : ℕ) (ls : List Link) → suppliers_of d (map f ls) ≡ suppliers_of d ls
-  suppliers_kept d [] = refl
-  suppliers_kept d (l ∷ ls) =
-      ap (λ xs. xs ++ cond ((f l).consumer == d) ((f l).supplier ∷ []) []) (suppliers_kept d ls)
+  pub suppliers_preserved : (d : ℕ) (ls : List Link) → suppliers_of d (map f ls) ≡ suppliers_of d ls
+  suppliers_preserved d [] = refl
+  suppliers_preserved d (l ∷ ls) =
+      ap (λ xs. xs ++ cond ((f l).consumer == d) ((f l).supplier ∷ []) []) (suppliers_preserved d ls)
       ∙ ap₂ (λ x y. suppliers_of d ls ++ cond (x == d) (y ∷ []) []) (c l) (s l)
 
-  pub linked_kept : (ls : List Link) (x y : ℕ) → is_linked (map f ls) x y ≡ is_linked ls x y
-  linked_kept [] x y = refl
-  linked_kept (l ∷ ls) x y =
-      ap (λ b. (((f l).supplier == x) && ((f l).consumer == y)) || b) (linked_kept ls x y)
+  pub linked_preserved : (ls : List Link) (x y : ℕ) → is_linked (map f ls) x y ≡ is_linked ls x y
+  linked_preserved [] x y = refl
+  linked_preserved (l ∷ ls) x y =
+      ap (λ b. (((f l).supplier == x) && ((f l).consumer == y)) || b) (linked_preserved ls x y)
       ∙ ap₂ (λ a b. ((a == x) && (b == y)) || is_linked ls x y) (s l) (c l)
 
-  pub dependents_kept : (ps : List (Option ℕ)) (ls : List Link) → dependents ps (map f ls) ≡ dependents ps ls
-  dependents_kept ps ls = λ i d. ap (λ xs. children_from d 0 ps ++ xs) (consumers_kept d ls) i
+  pub dependents_preserved : (ps : List (Option ℕ)) (ls : List Link) → dependents ps (map f ls) ≡ dependents ps ls
+  dependents_preserved ps ls = λ i d. ap (λ xs. children_from d 0 ps ++ xs) (consumers_preserved d ls) i
 
   pub links_kept : (ps : List (Option ℕ)) (ls : List Link) → AreLinks ps ls → AreLinks ps (map f ls)
   links_kept ps [] h = tt
   links_kept ps (l ∷ ls) h = (
     subst (λ (x : ℕ). x < length ps) (sym (s l)) h.0,
     subst (λ (x : ℕ). x < length ps) (sym (c l)) h.1,
-    linked_kept ls (f l).supplier (f l).consumer ∙ (ap₂ (is_linked ls) (s l) (c l) ∙ h.2),
-    ap (λ (dependents_of : ℕ → List ℕ). is_among (moved (length ps) dependents_of (f l).consumer) (f l).supplier) (dependents_kept ps ls)
+    linked_preserved ls (f l).supplier (f l).consumer ∙ (ap₂ (is_linked ls) (s l) (c l) ∙ h.2),
+    ap (λ (dependents_of : ℕ → List ℕ). is_among (moved (length ps) dependents_of (f l).consumer) (f l).supplier) (dependents_preserved ps ls)
         ∙ (ap₂ (λ x y. is_among (moved (length ps) (dependents ps ls) x) y) (c l) (s l) ∙ h.3),
     links_kept ps ls h.4,
   )
 
-  pub order_kept : (ps : List (Option ℕ)) (ls : List Link) → order_by ps (map f ls) ≡ order_by ps ls
-  order_kept ps [] = refl
-  order_kept ps (l ∷ ls) =
-      ap (λ xs. moved_last (moved (length ps) (dependents ps (map f (l ∷ ls))) (f l).consumer) xs) (order_kept ps ls)
-      ∙ (ap (λ (dependents_of : ℕ → List ℕ). moved_last (moved (length ps) dependents_of (f l).consumer) (order_by ps ls)) (dependents_kept ps (l ∷ ls))
+  pub order_preserved : (ps : List (Option ℕ)) (ls : List Link) → order_by ps (map f ls) ≡ order_by ps ls
+  order_preserved ps [] = refl
+  order_preserved ps (l ∷ ls) =
+      ap (λ xs. moved_last (moved (length ps) (dependents ps (map f (l ∷ ls))) (f l).consumer) xs) (order_preserved ps ls)
+      ∙ (ap (λ (dependents_of : ℕ → List ℕ). moved_last (moved (length ps) dependents_of (f l).consumer) (order_by ps ls)) (dependents_preserved ps (l ∷ ls))
       ∙ ap (λ x. moved_last (moved (length ps) (dependents ps (l ∷ ls)) x) (order_by ps ls)) (c l))
 
 -- ---- the active ones

@@ -4,7 +4,7 @@ use Rattle.std.specs.List.{flat_map}
 use Rattle.std.proofs.lemmas.Bool.{false≢true, eqb-true, or_cases, or_right, false_from_ne_true}
 use Rattle.std.proofs.Math.Bool.{or_assoc, or-false}
 use Rattle.sleep_model.specs.Links.{AllAmong}
-use Rattle.sleep_model.specs.Order.{is_among, last_places}
+use Rattle.sleep_model.specs.Order.{is_among, last_occurrences}
 use Rattle.sleep_model.specs.Links.{LeadsTo}
 use Rattle.sleep_model.proofs.Walks.{same_eq}
 
@@ -65,7 +65,7 @@ among_onto [] out d = refl
 among_onto (x ∷ xs) out d = among_put (onto xs out) x d ∙ (ap (λ b. (x == d) || b) (among_onto xs out d) ∙ sym (or_assoc (x == d) (is_among xs d) (is_among out d)))
 
 -- keeping each last place is putting them in front of nothing
-pub last_onto : (xs : List ℕ) → last_places xs ≡ onto xs []
+pub last_onto : (xs : List ℕ) → last_occurrences xs ≡ onto xs []
 last_onto [] = refl
 last_onto (x ∷ xs) = ap (λ o. cond (is_among xs x) o (x ∷ o)) (last_onto xs) ∙ ap (λ b. cond b (onto xs []) (x ∷ onto xs [])) (sym (among_onto xs [] x ∙ or-false (is_among xs x)))
 

@@ -2,7 +2,7 @@
 use Rattle.std.proofs.Common.{◌≡◌, ◌≤◌, ◌<◌, ◌+◌, ◌^◌, ◌++◌, ◌∙◌, ℕ, zero, suc, List, [], ◌∷◌, get_or, length, map, reverse, length-append, refl, sym, ap, ap₂, subst, arith}
 use Rattle.std.proofs.lemmas.List.{map-append, length-map, length-reverse, reverse-append}
 use Rattle.sleep_model.specs.declared.entry.JournalEntry.{JournalEntry}
-use Rattle.sleep_model.specs.declared.journal.Made.{Made}
+use Rattle.sleep_model.specs.declared.journal.Recorded.{Recorded}
 use Rattle.sleep_model.specs.declared.journal.Moment.{Moment}
 use Rattle.sleep_model.specs.Journals.{entry_of, moment_at, items_of, IsOf, AreOf, IsShared, IsFound}
 
@@ -17,7 +17,7 @@ last_moment : (moments : List Moment) (x : Moment) → moment_at (moments ++ x �
 last_moment [] x = refl
 last_moment (m ∷ ms) x = last_moment ms x
 
-of_more : (moments : List Moment) (x : Moment) (made : List Made) → AreOf moments made → AreOf (moments ++ x ∷ []) made × (items_of (moments ++ x ∷ []) made ≡ items_of moments made)
+of_more : (moments : List Moment) (x : Moment) (made : List Recorded) → AreOf moments made → AreOf (moments ++ x ∷ []) made × (items_of (moments ++ x ∷ []) made ≡ items_of moments made)
 of_more moments x [] h = (tt, refl)
 of_more moments x (e ∷ made) h =
     let same : moment_at (moments ++ x ∷ []) e.moment ≡ moment_at moments e.moment = same_moment moments x e.moment h.0.0 in
@@ -45,22 +45,22 @@ entry_is moment e ticks n h =
     ap₂ (λ (p t : ℕ). record { stamp = record { pos = p; tick = t }; entry = record { time = moment.time; now = moment.now; actor = e.entry.actor; kind = e.entry.kind } }) h.pos h.tick
     ∙ ap₂ (λ t w. record { stamp = e.stamp; entry = record { time = t; now = w; actor = e.entry.actor; kind = e.entry.kind } }) h.time h.now
 
-of_put : (moments : List Moment) (made : List Made) (x : Made) → AreOf moments made → IsOf moments x → AreOf moments (made ++ x ∷ [])
+of_put : (moments : List Moment) (made : List Recorded) (x : Recorded) → AreOf moments made → IsOf moments x → AreOf moments (made ++ x ∷ [])
 of_put moments [] x h here = (here, tt)
 of_put moments (e ∷ made) x h here = (h.0, of_put moments made x h.1 here)
 
--- an entry that was found its moment is put behind all
-pub put_more : (old new : List Moment) (made : List Made) (e : JournalEntry) (x : Made) → AreOf old made → IsFound e old new x.moment x.ticks → e.stamp.tick < 2 ^ 64
+-- an entry that was found its moment is put after all
+pub put_more : (old new : List Moment) (made : List Recorded) (e : JournalEntry) (x : Recorded) → AreOf old made → IsFound e old new x.moment x.ticks → e.stamp.tick < 2 ^ 64
     → x ≡ record { moment = x.moment; ticks = x.ticks; actor = e.entry.actor; kind = e.entry.kind }
     → AreOf new (made ++ x ∷ []) × (reverse (items_of new (made ++ x ∷ [])) ≡ e ∷ reverse (items_of old made))
 put_more old new made e x h found small is =
     let kept = found.others made h in
     let entry : entry_of (moment_at new x.moment) x ≡ e = ap (entry_of (moment_at new x.moment)) is ∙ entry_is (moment_at new x.moment) e x.ticks x.moment found.shared in (
       of_put new made x kept.0 (found.within, omega (arith, found.shared.tick, small)),
-      ap reverse (map-append (λ (y : Made). entry_of (moment_at new y.moment) y) made (x ∷ []) ∙ ap₂ (λ (xs : List JournalEntry) (y : JournalEntry). xs ++ y ∷ []) kept.1 entry)
+      ap reverse (map-append (λ (y : Recorded). entry_of (moment_at new y.moment) y) made (x ∷ []) ∙ ap₂ (λ (xs : List JournalEntry) (y : JournalEntry). xs ++ y ∷ []) kept.1 entry)
           ∙ reverse-append (items_of old made) (e ∷ []),
     )
 
 -- as many entries as were made
-pub items_count : (moments : List Moment) (made : List Made) → length (reverse (items_of moments made)) ≡ length made
-items_count moments made = length-reverse (items_of moments made) ∙ length-map made (λ (e : Made). entry_of (moment_at moments e.moment) e)
+pub items_count : (moments : List Moment) (made : List Recorded) → length (reverse (items_of moments made)) ≡ length made
+items_count moments made = length-reverse (items_of moments made) ∙ length-map made (λ (e : Recorded). entry_of (moment_at moments e.moment) e)

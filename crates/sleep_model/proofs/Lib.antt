@@ -1,7 +1,7 @@
 pub mod Acyclic
 pub mod Changing
 pub mod Children
-pub mod FirstPlaces
+pub mod FirstOccurrences
 pub mod Dependents
 pub mod Journals
 pub mod Ordering
@@ -9,4 +9,4 @@ pub mod Padding
 pub mod Paths
 pub mod Searches
 pub mod Walks
-pub mod Weaving
+pub mod Interleaving

@@ -6,7 +6,7 @@ use Rattle.std.proofs.lemmas.Bool.Decides.{nat_tests}
 use Rattle.sleep_model.specs.declared.entry.Entry.{Entry}
 use Rattle.sleep_model.specs.declared.machine.Machine.{Machine}
 use Rattle.sleep_model.specs.declared.machine.Link.{Link}
-use Rattle.sleep_model.specs.Order.{is_among, parents_of, dependents, last_places, moved, order_by, order, links_at}
+use Rattle.sleep_model.specs.Order.{is_among, parents_of, dependents, last_occurrences, moved, order_by, order, links_at}
 use Rattle.sleep_model.proofs.Walks.{AllDifferent, same_eq, run_different}
 
 -- what is not in a list is not in a part of it
@@ -28,9 +28,9 @@ different_filter p (x ∷ xs) h = by_test (different_filter p xs h.1) (p x)
     by_test rest false = rest
 
 -- what the filter keeps passes
-pub kept_passes : (p : ℕ → Bool) (xs : List ℕ) (d : ℕ) → p d ≡ false → is_among (filter p xs) d ≡ false
-kept_passes p [] d h = refl
-kept_passes p (x ∷ xs) d h = by_test (kept_passes p xs d h) (p x) refl (x == d) refl
+pub preserved_passes : (p : ℕ → Bool) (xs : List ℕ) (d : ℕ) → p d ≡ false → is_among (filter p xs) d ≡ false
+preserved_passes p [] d h = refl
+preserved_passes p (x ∷ xs) d h = by_test (preserved_passes p xs d h) (p x) refl (x == d) refl
   where
     by_test : is_among (filter p xs) d ≡ false → (c : Bool) → p x ≡ c → (b : Bool) → (x == d) ≡ b → is_among (cond c (x ∷ filter p xs) (filter p xs)) d ≡ false
     by_test rest true e true f = let same : x ≡ d = grind (arith, nat_tests) in absurd (true≢false (sym e ∙ (ap p same ∙ h)))
@@ -38,20 +38,20 @@ kept_passes p (x ∷ xs) d h = by_test (kept_passes p xs d h) (p x) refl (x == d
     by_test rest false e b f = rest
 
 -- the last places have the same devices
-pub last_among : (xs : List ℕ) (d : ℕ) → is_among xs d ≡ false → is_among (last_places xs) d ≡ false
+pub last_among : (xs : List ℕ) (d : ℕ) → is_among xs d ≡ false → is_among (last_occurrences xs) d ≡ false
 last_among [] d h = refl
 last_among (x ∷ xs) d h = by_test (x == d) (is_among xs d) refl refl h (last_among xs d) (is_among xs x)
   where
-    by_test : (a b : Bool) → (x == d) ≡ a → is_among xs d ≡ b → (a || b) ≡ false → (is_among xs d ≡ false → is_among (last_places xs) d ≡ false) → (c : Bool) → is_among (cond c (last_places xs) (x ∷ last_places xs)) d ≡ false
+    by_test : (a b : Bool) → (x == d) ≡ a → is_among xs d ≡ b → (a || b) ≡ false → (is_among xs d ≡ false → is_among (last_occurrences xs) d ≡ false) → (c : Bool) → is_among (cond c (last_occurrences xs) (x ∷ last_occurrences xs)) d ≡ false
     by_test true b e f g rest c = absurd (true≢false g)
     by_test false b e f g rest true = rest (f ∙ g)
-    by_test false b e f g rest false = ap (λ y. y || is_among (last_places xs) d) e ∙ rest (f ∙ g)
+    by_test false b e f g rest false = ap (λ y. y || is_among (last_occurrences xs) d) e ∙ rest (f ∙ g)
 
-pub different_last : (xs : List ℕ) → AllDifferent (last_places xs)
+pub different_last : (xs : List ℕ) → AllDifferent (last_occurrences xs)
 different_last [] = tt
 different_last (x ∷ xs) = by_test (different_last xs) (is_among xs x) refl
   where
-    by_test : AllDifferent (last_places xs) → (c : Bool) → is_among xs x ≡ c → AllDifferent (cond c (last_places xs) (x ∷ last_places xs))
+    by_test : AllDifferent (last_occurrences xs) → (c : Bool) → is_among xs x ≡ c → AllDifferent (cond c (last_occurrences xs) (x ∷ last_occurrences xs))
     by_test rest true e = rest
     by_test rest false e = (last_among xs x e, rest)
 
@@ -75,11 +75,11 @@ pub order_by_different : (ds : List (Option ℕ)) (ls : List Link) → AllDiffer
 order_by_different ds [] = run_different 0 (length ds)
 order_by_different ds (l ∷ ls) =
     let ms = moved (length ds) (dependents ds (l ∷ ls)) l.consumer in
-    different_append (filter (λ d. not (is_among ms d)) (order_by ds ls)) (last_places ms) (different_filter (λ d. not (is_among ms d)) (order_by ds ls) (order_by_different ds ls)) (different_last ms)
+    different_append (filter (λ d. not (is_among ms d)) (order_by ds ls)) (last_occurrences ms) (different_filter (λ d. not (is_among ms d)) (order_by ds ls) (order_by_different ds ls)) (different_last ms)
     (λ d m. apart ms d (is_among ms d) refl m)
   where
-    apart : (ms : List ℕ) (d : ℕ) (b : Bool) → is_among ms d ≡ b → is_among (filter (λ x. not (is_among ms x)) (order_by ds ls)) d ≡ true → is_among (last_places ms) d ≡ false
-    apart ms d true e m = absurd (true≢false (sym m ∙ kept_passes (λ x. not (is_among ms x)) (order_by ds ls) d (ap not e)))
+    apart : (ms : List ℕ) (d : ℕ) (b : Bool) → is_among ms d ≡ b → is_among (filter (λ x. not (is_among ms x)) (order_by ds ls)) d ≡ true → is_among (last_occurrences ms) d ≡ false
+    apart ms d true e m = absurd (true≢false (sym m ∙ preserved_passes (λ x. not (is_among ms x)) (order_by ds ls) d (ap not e)))
     apart ms d false e m = last_among ms d e
 
 -- the devices of the order are different

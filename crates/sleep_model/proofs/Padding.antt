@@ -1,4 +1,4 @@
--- Zeros behind a name fill its bytes.
+-- Zeros after a name fill its bytes.
 use Rattle.std.proofs.Common.{◌≡◌, ◌≤◌, ◌-◌, ◌++◌, ℕ, List, length, drop, replicate, arith}
 use Rattle.std.proofs.Math.Seq.{take-append_seam}
 use Rattle.std.proofs.lemmas.List.{drop-replicate, length-replicate, length-append}

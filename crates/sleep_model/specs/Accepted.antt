@@ -53,7 +53,7 @@ abbrev pub is_one_allowed : What → Bool
 is_one_allowed (what.Device d phase.Prepare) = true
 is_one_allowed _ = false
 
--- the thing may answer so: 0, an error, or 1 where that is allowed
+-- the thing may answer so: 0, an error, or 1 if that is allowed
 abbrev pub is_ret_of : What → ℤ → Bool
 is_ret_of thing (pos n) = n == 0 || (n == 1 && is_one_allowed thing)
 is_ret_of thing (negsuc n) = is_some (errno_with (suc n) errors)

@@ -13,11 +13,11 @@ use Rattle.sleep_model.specs.declared.log.Why.TheVariants as why
 use Rattle.sleep_model.specs.declared.machine.Machine.{Machine}
 use Rattle.sleep_model.specs.declared.machine.What.{What}
 use Rattle.sleep_model.specs.declared.machine.What.TheVariants as what
-use Rattle.sleep_model.specs.declared.place.Due.{Due}
-use Rattle.sleep_model.specs.declared.place.Due.TheVariants.{Makes, Waits, Gone}
-pub use Rattle.sleep_model.specs.declared.place.Sleep.{Sleep}
-use Rattle.sleep_model.specs.declared.place.Stage.{Stage}
-use Rattle.sleep_model.specs.declared.place.Stage.TheVariants as stage
+use Rattle.sleep_model.specs.declared.progress.Due.{Due}
+use Rattle.sleep_model.specs.declared.progress.Due.TheVariants.{Makes, Waits, Exited}
+pub use Rattle.sleep_model.specs.declared.progress.Sleep.{Sleep}
+use Rattle.sleep_model.specs.declared.progress.Stage.{Stage}
+use Rattle.sleep_model.specs.declared.progress.Stage.TheVariants as stage
 use Rattle.sleep_model.specs.Answers.{answer, answer_error}
 use Rattle.sleep_model.specs.Devices.{callback, phase_failed, down_due, up_due, prepare_due, next_prepared, complete_due, next_completed}
 use Rattle.sleep_model.specs.Freezer.{left}
@@ -25,7 +25,7 @@ use Rattle.sleep_model.specs.Guard.{pending}
 use Rattle.sleep_model.specs.Notifiers.{next_called, next_posted, next_cpu_off, next_cpu_on, next_stopped, next_started}
 use Rattle.sleep_model.specs.Numbers.{time_of}
 use Rattle.sleep_model.specs.Path.{attempts}
-use Rattle.sleep_model.specs.Table.{stage_of, behind}
+use Rattle.sleep_model.specs.Table.{stage_of, next_stage}
 use Rattle.sleep_model.specs.Walk.{or_else}
 use Rattle.sleep_model.specs.Word.{position}
 
@@ -130,7 +130,7 @@ failed (e ∷ past) = failed_after e.kind (failed past)
 
 -- something that may be left to do (own)
 abbrev pub if_left : (ℕ → Kind) → Option ℕ → Due
-if_left k None = Gone
+if_left k None = Exited
 if_left k (Some x) = Makes (k x)
 
 -- the next processor is stopped, unless a wakeup is pending (freeze_secondary_cpus)
@@ -165,16 +165,16 @@ stage_due m past now stage.Ends = Makes (kind.Over (attempts past) (failed past)
 
 -- the first that has anything (own)
 abbrev pub or_next : Due → Due → Due
-or_next Gone next = next
+or_next Exited next = next
 or_next due next = due
 
--- what is made at a stage, or else at the one behind it: of two in a row one always has something (suspend_enter)
+-- what is made at a stage, or else at the one after it: of two in a row one always has something (suspend_enter)
 abbrev pub stage_or_next : Machine → List Entry → EventNow → Stage → Due
-stage_or_next m past now here = or_next (stage_due m past now here) (stage_due m past now (behind here))
+stage_or_next m past now here = or_next (stage_due m past now here) (stage_due m past now (next_stage here))
 
 -- what is made at the stage of the open attempt, if one is open (suspend_enter)
 abbrev pub due_at : Machine → List Entry → EventNow → Option Stage → Due
-due_at m past now None = Gone
+due_at m past now None = Exited
 due_at m past now (Some here) = stage_or_next m past now here
 
 -- what the open attempt's maker makes next (enter_state)

@@ -8,10 +8,10 @@ use Rattle.sleep_model.specs.declared.entry.Kind.{Kind}
 use Rattle.sleep_model.specs.declared.entry.Kind.TheVariants as kind
 use Rattle.sleep_model.specs.declared.log.Why.TheVariants as why
 use Rattle.sleep_model.specs.declared.machine.Machine.{Machine}
-use Rattle.sleep_model.specs.declared.place.Due.{Due}
-pub use Rattle.sleep_model.specs.declared.place.Work.{Work}
-pub use Rattle.sleep_model.specs.declared.place.Work.TheVariants.{Resting, Reading, Saving, Attempting, Looking, Napping, Closing}
-use Rattle.sleep_model.specs.declared.place.Due.TheVariants.{Makes, Waits}
+use Rattle.sleep_model.specs.declared.progress.Due.{Due}
+pub use Rattle.sleep_model.specs.declared.progress.Work.{Work}
+pub use Rattle.sleep_model.specs.declared.progress.Work.TheVariants.{Resting, Reading, Saving, Attempting, Looking, Napping, Closing}
+use Rattle.sleep_model.specs.declared.progress.Due.TheVariants.{Makes, Waits}
 use Rattle.sleep_model.specs.Guard.{in_force}
 use Rattle.sleep_model.specs.Lock.{holder, is_on}
 use Rattle.sleep_model.specs.Numbers.{time_of}

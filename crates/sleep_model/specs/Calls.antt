@@ -1,4 +1,4 @@
--- Which calls on sources each actor makes, by the journal alone, and how many of them it has made.
+-- Which calls on sources each actor makes, only by the journal, and how many of them it has made.
 use Rattle.std.specs.Prelude.{ℕ, zero, suc, ◌+◌, Bool, true, false, ◌&&◌, ◌||◌, List, [], ◌∷◌, ◌++◌, length, map, if◌then◌else◌, Option, Some, None, slice_get}
 use Rattle.sleep_model.specs.declared.entry.Actor.{Actor}
 use Rattle.sleep_model.specs.declared.entry.Actor.TheVariants as actor
@@ -12,15 +12,15 @@ use Rattle.sleep_model.specs.declared.machine.SourceCall.TheVariants as call
 use Rattle.sleep_model.specs.declared.machine.What.TheVariants as what
 use Rattle.sleep_model.specs.declared.word.WordKind.{WordKind}
 use Rattle.sleep_model.specs.Answers.{answer, answer_reports}
-use Rattle.sleep_model.specs.Parts.{Part, Notes, part_of}
+use Rattle.sleep_model.specs.EntryClasses.{EntryClass, Notes, class_of}
 use Rattle.sleep_model.specs.Path.{attempts, is_same, is_actor}
 use Rattle.sleep_model.specs.Scripts.{Piece, Calls, Turns, pieces}
-use Rattle.sleep_model.specs.Seats.{SeatPart, Reads, Saves, Steps, seat_part}
+use Rattle.sleep_model.specs.Positions.{PositionEffect, Reads, Saves, Steps, position_effect}
 use Rattle.sleep_model.specs.Sources.{owed, caller}
 
 -- ---- the calls of a script's own steps
 
--- the calls that stand right before the turn with number k, from 0, or before the end behind the last (own)
+-- the calls that stand right before the turn with number k, from 0, or before the end after the last (own)
 abbrev pub calls_at : List Piece → ℕ → List Kind
 calls_at [] k = []
 calls_at (Calls note ∷ rest) zero = note ∷ calls_at rest zero
@@ -38,7 +38,7 @@ abbrev pub pieces_in : Machine → ℕ → List Piece
 pieces_in m i = pieces_if (length m.sources) (slice_get m.actors i)
 
 -- an entry with this effect on a script's place ends a step (own)
-abbrev pub ends_step : SeatPart → Bool
+abbrev pub ends_step : PositionEffect → Bool
 ends_step (Reads c) = true
 ends_step (Saves ok) = true
 ends_step Steps = true
@@ -51,7 +51,7 @@ is_setting _ = false
 
 -- an entry ends a turn of a script's own steps: a step, or the setting of autosleep (own)
 abbrev pub ends_turn : Kind → Bool
-ends_turn k = is_setting k || ends_step (seat_part k)
+ends_turn k = is_setting k || ends_step (position_effect k)
 
 -- one more, where it is so (own)
 abbrev pub one_more : Bool → ℕ → ℕ
@@ -68,10 +68,10 @@ abbrev pub calls_of_turn : Machine → Actor → ℕ → List Kind
 calls_of_turn m (actor.Script i) k = calls_at (pieces_in m i) k
 calls_of_turn m who k = []
 
--- the calls right behind a turn that such an entry ends or does not, as the next turn has that number (own)
-abbrev pub calls_behind : Machine → Actor → Bool → ℕ → List Kind
-calls_behind m who true k = calls_of_turn m who k
-calls_behind m who false k = []
+-- the calls right after a turn that such an entry ends or does not, as the next turn has that number (own)
+abbrev pub calls_after_turn : Machine → Actor → Bool → ℕ → List Kind
+calls_after_turn m who true k = calls_of_turn m who k
+calls_after_turn m who false k = []
 
 -- ---- the reports of a callback
 
@@ -89,13 +89,13 @@ report_calls m n _ = []
 
 -- ---- the calls of an actor
 
--- the calls that an actor owes in all before it may append to the journal, in order: those before its first turn, and behind each entry of its own the reports of the callback that it begins, and the calls of its steps up to the next turn; the entries are the journal's (own)
+-- the calls that an actor owes in all before it may append to the journal, in order: those before its first turn, and after each entry of its own the reports of the callback that it begins, and the calls of its steps up to the next turn; the entries are the journal's (own)
 abbrev pub calls_of : Machine → Actor → List Entry → List Kind
 calls_of m who [] = calls_of_turn m who 0
 calls_of m who (e ∷ past) =
     if is_same e.actor who
     then calls_of m who past ++ report_calls m (attempts past) e.kind
-    ++ calls_behind m who (ends_turn e.kind) (turns_ended who past + 1)
+    ++ calls_after_turn m who (ends_turn e.kind) (turns_ended who past + 1)
     else calls_of m who past
 
 -- how many calls an actor owes in all before it may append to the journal (own)
@@ -105,14 +105,14 @@ calls_due m who past = length (calls_of m who past)
 -- ---- the calls that were made
 
 -- an entry is a note of that actor (own)
-abbrev pub is_note_of : Actor → Entry → Part → Bool
+abbrev pub is_note_of : Actor → Entry → EntryClass → Bool
 is_note_of who e (Notes s made) = is_same e.actor who
 is_note_of who e part = false
 
 -- how many notes of that actor are among these (own)
 abbrev pub notes_of : Actor → List Entry → ℕ
 notes_of who [] = 0
-notes_of who (e ∷ past) = one_more (is_note_of who e (part_of e.kind)) (notes_of who past)
+notes_of who (e ∷ past) = one_more (is_note_of who e (class_of e.kind)) (notes_of who past)
 
 -- how many calls that actor has made on the first n sources, whose histories these are (own)
 abbrev pub made : ℕ → (ℕ → List Entry) → Actor → ℕ

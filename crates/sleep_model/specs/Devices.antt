@@ -16,20 +16,20 @@ use Rattle.sleep_model.specs.declared.machine.Machine.{Machine}
 use Rattle.sleep_model.specs.declared.machine.What.TheVariants as what
 use Rattle.phase_table.specs.declared.phase.Phase.{Phase}
 use Rattle.phase_table.specs.declared.phase.Phase.TheVariants as phase
-pub use Rattle.sleep_model.specs.declared.place.AsyncWork.{AsyncWork}
-pub use Rattle.sleep_model.specs.declared.place.AsyncWork.TheVariants.{Idle, Scheduled, Inside}
-pub use Rattle.sleep_model.specs.declared.place.Callback.{Callback}
-use Rattle.sleep_model.specs.declared.place.Due.{Due}
-use Rattle.sleep_model.specs.declared.place.Due.TheVariants.{Makes, Waits}
-use Rattle.sleep_model.specs.declared.place.Stand.{Stand}
-use Rattle.sleep_model.specs.declared.place.Stand.TheVariants as stand
+pub use Rattle.sleep_model.specs.declared.progress.AsyncWork.{AsyncWork}
+pub use Rattle.sleep_model.specs.declared.progress.AsyncWork.TheVariants.{Idle, Scheduled, Inside}
+pub use Rattle.sleep_model.specs.declared.progress.Callback.{Callback}
+use Rattle.sleep_model.specs.declared.progress.Due.{Due}
+use Rattle.sleep_model.specs.declared.progress.Due.TheVariants.{Makes, Waits}
+use Rattle.sleep_model.specs.declared.progress.PhaseState.{PhaseState}
+use Rattle.sleep_model.specs.declared.progress.PhaseState.TheVariants as state
 use Rattle.sleep_model.specs.Answers.{answer, answer_error, answer_number, error_of_number}
 use Rattle.sleep_model.specs.Guard.{pending}
 use Rattle.sleep_model.specs.Order.{order, below, above}
 use Rattle.sleep_model.specs.Path.{attempts}
 use Rattle.phase_table.specs.Phases.{is_down, mirror, tests_wakeup}
 use Rattle.sleep_model.specs.Runtime.{is_async, may_wake, statuses}
-use Rattle.sleep_model.specs.Stands.{stands, stand_at, is_unprepared, is_prepared, is_ready, is_not_down, is_going_down, is_down_in, is_direct_complete, is_not_up}
+use Rattle.sleep_model.specs.PhaseStates.{phase_states, state_at, is_unprepared, is_prepared, is_ready, is_not_down, is_going_down, is_down_in, is_direct_complete, is_not_up}
 use Rattle.sleep_model.specs.Walk.{is_so, first_where, last_where, or_else}
 
 -- ---- callbacks
@@ -127,19 +127,19 @@ abbrev pub may_wake_device : Machine → ℕ → Bool
 may_wake_device m d = is_so (map may_wake m.devices) d
 
 -- where device d stands in phase p and its mirror (struct dev_pm_info)
-abbrev pub stand_in : Machine → List Entry → Phase → ℕ → Stand
-stand_in m past p d = stand_at (stands (length m.devices) p past) d
+abbrev pub state_in : Machine → List Entry → Phase → ℕ → PhaseState
+state_in m past p d = state_at (phase_states (length m.devices) p past) d
 
 -- d is direct-complete: it asked for direct-complete, is runtime suspended, may not wake the machine, and all below it are direct-complete (__device_suspend, direct_complete)
 abbrev pub is_direct_now : Machine → List Entry → ℕ → Bool
 is_direct_now m past d =
     is_so (asks_direct (length m.devices) past) d && is_so (statuses m.devices past) d && not (may_wake_device m d)
-    && list_all (λ e. is_direct_complete (stand_in m past phase.Suspend e)) (below m past d)
+    && list_all (λ e. is_direct_complete (state_in m past phase.Suspend e)) (below m past d)
 
 -- phase p leaves d alone: suspend by what is so now, late and noirq where suspend did (__device_suspend, __device_suspend_late, direct_complete)
 abbrev pub is_direct : Machine → List Entry → Phase → ℕ → Bool
 is_direct m past phase.Suspend d = is_direct_now m past d
-is_direct m past p d = is_direct_complete (stand_in m past phase.Suspend d)
+is_direct m past p d = is_direct_complete (state_in m past phase.Suspend d)
 
 -- ---- the way down
 
@@ -156,15 +156,15 @@ after_device (Some d) next = Waits (why.Device d)
 
 -- the first device below d that is not through with phase p (dpm_wait_for_subordinate)
 abbrev pub waits_below : Machine → List Entry → Phase → ℕ → Option ℕ
-waits_below m past p d = first_where (λ e. is_not_down (stand_in m past p e)) (below m past d)
+waits_below m past p d = first_where (λ e. is_not_down (state_in m past p e)) (below m past d)
 
 -- the first device that is scheduled and not through with phase p (async_synchronize_full)
 abbrev pub waits_down : Machine → List Entry → Phase → Option ℕ
-waits_down m past p = first_where (λ d. is_going_down (stand_in m past p d)) (order m past)
+waits_down m past p = first_where (λ d. is_going_down (state_in m past p d)) (order m past)
 
 -- the device that the walk down takes next: the last that the phase has not taken (dpm_suspend)
 abbrev pub next_down : Machine → List Entry → Phase → Option ℕ
-next_down m past p = last_where (λ d. is_ready (stand_in m past p d)) (order m past)
+next_down m past p = last_where (λ d. is_ready (state_in m past p d)) (order m past)
 
 -- the walk down at that device: an asynchronous one is scheduled, another waits for all below it (__device_suspend, dpm_async_fn)
 abbrev pub take_down : Machine → List Entry → EventNow → Phase → ℕ → Due
@@ -195,19 +195,19 @@ unless_failed (Some r) p d next = kind.Skip p d skip.Error
 
 -- the first device above d that is not yet up (dpm_wait_for_superior)
 abbrev pub waits_above : Machine → List Entry → Phase → ℕ → Option ℕ
-waits_above m past p d = first_where (λ e. is_not_up (stand_in m past p e)) (above m past d)
+waits_above m past p d = first_where (λ e. is_not_up (state_in m past p e)) (above m past d)
 
 -- the first asynchronous device that is down and not yet scheduled (dpm_resume, dpm_async_fn)
 abbrev pub next_to_schedule : Machine → List Entry → Phase → Option ℕ
-next_to_schedule m past p = first_where (λ d. is_down_in (stand_in m past p d) && is_async_device m d) (order m past)
+next_to_schedule m past p = first_where (λ d. is_down_in (state_in m past p d) && is_async_device m d) (order m past)
 
 -- the first synchronous device that is down (dpm_resume)
 abbrev pub next_up : Machine → List Entry → Phase → Option ℕ
-next_up m past p = first_where (λ d. is_down_in (stand_in m past p d) && not (is_async_device m d)) (order m past)
+next_up m past p = first_where (λ d. is_down_in (state_in m past p d) && not (is_async_device m d)) (order m past)
 
 -- the first device that is not yet up (async_synchronize_full)
 abbrev pub waits_up : Machine → List Entry → Phase → Option ℕ
-waits_up m past p = first_where (λ d. is_not_up (stand_in m past p d)) (order m past)
+waits_up m past p = first_where (λ d. is_not_up (state_in m past p d)) (order m past)
 
 -- the walk up between callbacks: first it schedules, then each synchronous device waits for all above it (dpm_resume)
 abbrev pub walk_up : Machine → List Entry → Phase → Option ℕ → Option ℕ → Due
@@ -224,7 +224,7 @@ up_due m past p None = walk_up m past p (next_to_schedule m past (mirror p)) (ne
 
 -- the device that is prepared next (dpm_prepare)
 abbrev pub next_prepared : Machine → List Entry → Option ℕ
-next_prepared m past = first_where (λ d. is_unprepared (stand_in m past phase.Suspend d)) (order m past)
+next_prepared m past = first_where (λ d. is_unprepared (state_in m past phase.Suspend d)) (order m past)
 
 -- prepare goes forward, and an error ends it (dpm_prepare)
 abbrev pub prepare_due : Machine → List Entry → Option Errno → Option ℕ → Due
@@ -234,7 +234,7 @@ prepare_due m past error next = Makes (kind.Done phase.Prepare error)
 
 -- the device that is completed next (dpm_complete)
 abbrev pub next_completed : Machine → List Entry → Option ℕ
-next_completed m past = last_where (λ d. is_prepared (stand_in m past phase.Suspend d)) (order m past)
+next_completed m past = last_where (λ d. is_prepared (state_in m past phase.Suspend d)) (order m past)
 
 -- complete goes backward over the prepared devices (dpm_complete)
 abbrev pub complete_due : Option ℕ → Due
@@ -244,22 +244,22 @@ complete_due (Some d) = Makes (kind.Complete d)
 -- ---- an asynchronous device
 
 -- the work in phase p or its mirror of a device that stands so there, else the other (async_schedule_dev, dpm_run_callback)
-abbrev pub work_in : Phase → Stand → AsyncWork → AsyncWork
-work_in p stand.Scheduled other = Scheduled p
-work_in p stand.Suspending other = Inside p
-work_in p stand.Rescheduled other = Scheduled (mirror p)
-work_in p stand.Resuming other = Inside (mirror p)
+abbrev pub work_in : Phase → PhaseState → AsyncWork → AsyncWork
+work_in p state.Scheduled other = Scheduled p
+work_in p state.Suspending other = Inside p
+work_in p state.Rescheduled other = Scheduled (mirror p)
+work_in p state.Resuming other = Inside (mirror p)
 work_in p _ other = other
 
 -- the work of a device by where it stands in the three pairs of phases (async_schedule_dev)
-abbrev pub work_by : Stand → Stand → Stand → AsyncWork
+abbrev pub work_by : PhaseState → PhaseState → PhaseState → AsyncWork
 work_by suspend late noirq = work_in phase.Suspend suspend (work_in phase.Late late (work_in phase.Noirq noirq Idle))
 
 -- the work of device d: a synchronous one has none of its own (async_schedule_dev)
 abbrev pub async_work : Machine → List Entry → ℕ → AsyncWork
 async_work m past d =
     if is_async_device m d
-    then work_by (stand_in m past phase.Suspend d) (stand_in m past phase.Late d) (stand_in m past phase.Noirq d)
+    then work_by (state_in m past phase.Suspend d) (state_in m past phase.Late d) (state_in m past phase.Noirq d)
     else Idle
 
 -- a device that is scheduled, at its turn: it waits as its phase wants (async_suspend, async_resume)

@@ -13,9 +13,9 @@ use Rattle.sleep_model.specs.declared.machine.Machine.{Machine}
 use Rattle.sleep_model.specs.declared.machine.Script.{Script}
 use Rattle.sleep_model.specs.declared.machine.TaskKind.{TaskKind}
 use Rattle.sleep_model.specs.declared.machine.TaskKind.TheVariants.{User, Kthread}
-use Rattle.sleep_model.specs.declared.place.Freezing.{Freezing}
-use Rattle.sleep_model.specs.declared.place.Seat.{Seat}
-use Rattle.sleep_model.specs.Seats.{seats}
+use Rattle.sleep_model.specs.declared.progress.Freezing.{Freezing}
+use Rattle.sleep_model.specs.declared.progress.ScriptPosition.{ScriptPosition}
+use Rattle.sleep_model.specs.Positions.{positions}
 
 -- a task of that kind is of the group that a freeze asks (freeze_processes, freeze_kernel_threads)
 abbrev pub is_in : Group → TaskKind → Bool
@@ -75,18 +75,18 @@ freezings scripts [] = map (λ s. unasked) scripts
 freezings scripts (e ∷ past) = freezings_after scripts e.actor e.kind (freezings scripts past)
 
 -- a task keeps the freeze of its group waiting: it is asked, not frozen, and there still (try_to_freeze_tasks)
-abbrev pub keeps_waiting : Group → TaskKind → Freezing → Seat → Bool
-keeps_waiting g kind f seat = is_in g kind && f.asked && not f.frozen && not seat.exited
+abbrev pub keeps_waiting : Group → TaskKind → Freezing → ScriptPosition → Bool
+keeps_waiting g kind f position = is_in g kind && f.asked && not f.frozen && not position.exited
 
 -- the tasks, from number i on, that keep the freeze of a group waiting
-abbrev pub left_from : Group → ℕ → List Script → List Freezing → List Seat → List ℕ
-left_from g i (s ∷ ss) (f ∷ fs) (seat ∷ seats) =
-    if keeps_waiting g s.kind f seat then i ∷ left_from g (suc i) ss fs seats else left_from g (suc i) ss fs seats
+abbrev pub left_from : Group → ℕ → List Script → List Freezing → List ScriptPosition → List ℕ
+left_from g i (s ∷ ss) (f ∷ fs) (position ∷ positions) =
+    if keeps_waiting g s.kind f position then i ∷ left_from g (suc i) ss fs positions else left_from g (suc i) ss fs positions
 left_from g i _ _ _ = []
 
 -- the tasks that a freeze of the group still waits for, in the order of the file (try_to_freeze_tasks, todo)
 abbrev pub left : Machine → Group → List Entry → List ℕ
-left m g past = left_from g 0 m.actors (freezings m.actors past) (seats (length m.actors) past)
+left m g past = left_from g 0 m.actors (freezings m.actors past) (positions (length m.actors) past)
 
 -- what the freezer has come to with script i (freezing, frozen)
 abbrev pub freezing : Machine → ℕ → List Entry → Freezing

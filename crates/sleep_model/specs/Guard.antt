@@ -11,25 +11,25 @@ use Rattle.sleep_model.specs.declared.entry.Group.TheVariants.{User}
 use Rattle.sleep_model.specs.Word.{visible}
 
 -- what an entry does to the saved count (saved_count, events_check_enabled)
-pub data CountPart : Type 0 where
-  Stores : (c : ℕ) → CountPart
-  Drops : CountPart
-  Finds : CountPart
-  Keeps : CountPart
+pub data CountEffect : Type 0 where
+  Stores : (c : ℕ) → CountEffect
+  Drops : CountEffect
+  Finds : CountEffect
+  Keeps : CountEffect
 
 -- a save that succeeds stores; one that fails, and clear, drop; a test that found a wakeup drops what it found changed (pm_save_wakeup_count, pm_wakeup_pending)
-abbrev pub count_part : Kind → CountPart
-count_part (Saved c) = Stores c
-count_part (AutoSaved c) = Stores c
-count_part (SaveErr c EINVAL) = Drops
-count_part (AutoUnsaved c) = Drops
-count_part Clear = Drops
-count_part (Froze g (Wakeup left first)) = Finds
-count_part (Skip p d Pending) = Finds
-count_part (CpuBusy k) = Finds
-count_part (SyscoreCheck (Some EBUSY)) = Finds
-count_part (Enter true) = Finds
-count_part _ = Keeps
+abbrev pub count_effect : Kind → CountEffect
+count_effect (Saved c) = Stores c
+count_effect (AutoSaved c) = Stores c
+count_effect (SaveErr c EINVAL) = Drops
+count_effect (AutoUnsaved c) = Drops
+count_effect Clear = Drops
+count_effect (Froze g (Wakeup left first)) = Finds
+count_effect (Skip p d Pending) = Finds
+count_effect (CpuBusy k) = Finds
+count_effect (SyscoreCheck (Some EBUSY)) = Finds
+count_effect (Enter true) = Finds
+count_effect _ = Keeps
 
 -- an event was registered since c was read, or one is in progress (pm_wakeup_pending)
 abbrev pub has_changed : EventNow → ℕ → Bool
@@ -41,7 +41,7 @@ count_pending None now = false
 count_pending (Some c) now = has_changed now c
 
 -- the count in force after an entry that saw this word (pm_save_wakeup_count, pm_wakeup_pending)
-abbrev pub force_after : CountPart → EventNow → Option ℕ → Option ℕ
+abbrev pub force_after : CountEffect → EventNow → Option ℕ → Option ℕ
 force_after (Stores c) now force = Some c
 force_after Drops now force = None
 force_after Finds now force = if count_pending force now then None else force
@@ -50,7 +50,7 @@ force_after Keeps now force = force
 -- the count in force (events_check_enabled, saved_count)
 abbrev pub in_force : List Entry → Option ℕ
 in_force [] = None
-in_force (e ∷ past) = force_after (count_part e.kind) e.now (in_force past)
+in_force (e ∷ past) = force_after (count_effect e.kind) e.now (in_force past)
 
 -- the hard events that a freeze of user tasks forgets (pm_wakeup_clear)
 abbrev pub forgotten_after : Kind → EventNow → ℕ → ℕ

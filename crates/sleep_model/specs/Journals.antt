@@ -1,16 +1,16 @@
 -- A journal as contracts see it, and how its entries are kept (own: Linux keeps no such journal).
 use Rattle.std.specs.Prelude.{◌≡◌, ◌<◌, ◌≤◌, ◌+◌, ◌^◌, ℕ, List, [], ◌∷◌, ◌++◌, get_or, length, map}
 use Rattle.sleep_model.specs.declared.entry.JournalEntry.{JournalEntry}
-use Rattle.sleep_model.specs.declared.journal.Made.{Made}
+use Rattle.sleep_model.specs.declared.journal.Recorded.{Recorded}
 use Rattle.sleep_model.specs.declared.journal.Moment.{Moment}
 
 -- the entries so far, the newest first, and how many more have a reserved place
-pub record Places : Type 0 where
+pub record JournalRoom : Type 0 where
   pub past : List JournalEntry
   pub room : ℕ
 
 -- the entry of a moment that was made so
-abbrev pub entry_of : Moment → Made → JournalEntry
+abbrev pub entry_of : Moment → Recorded → JournalEntry
 entry_of moment made = record {
   stamp = record { pos = moment.stamp.pos; tick = moment.stamp.tick + made.ticks };
   entry = record { time = moment.time; now = moment.now; actor = made.actor; kind = made.kind };
@@ -22,19 +22,19 @@ moment_at moments n =
     get_or moments n (record { time = 0; now = record { inpr = 0; count = 0; hard = 0 }; stamp = record { pos = 0; tick = 0 } })
 
 -- the entries that were made so, the oldest first
-abbrev pub items_of : List Moment → List Made → List JournalEntry
+abbrev pub items_of : List Moment → List Recorded → List JournalEntry
 items_of moments made = map (λ e. entry_of (moment_at moments e.moment) e) made
 
 -- the entry has a moment, and its tick fits
-abbrev pub IsOf : List Moment → Made → Type 0
+abbrev pub IsOf : List Moment → Recorded → Type 0
 IsOf moments e = (e.moment < length moments) × ((moment_at moments e.moment).stamp.tick + e.ticks < 2 ^ 64)
 
 -- so have all
-abbrev pub AreOf : List Moment → List Made → Type 0
+abbrev pub AreOf : List Moment → List Recorded → Type 0
 AreOf moments [] = Unit {0}
 AreOf moments (e ∷ made) = IsOf moments e × AreOf moments made
 
--- the entry is of that moment, n ticks behind its first
+-- the entry is of that moment, n ticks after its first
 pub record IsShared (moment : Moment) (e : JournalEntry) (ticks : ℕ) : Type 0 where
   pub time : moment.time ≡ e.entry.time
   pub now : moment.now ≡ e.entry.now
@@ -46,4 +46,4 @@ pub record IsFound (e : JournalEntry) (old new : List Moment) (moment ticks : �
   pub within : moment < length new
   pub few : length new ≤ length old + 1
   pub shared : IsShared (moment_at new moment) e ticks
-  pub others : (made : List Made) → AreOf old made → AreOf new made × (items_of new made ≡ items_of old made)
+  pub others : (made : List Recorded) → AreOf old made → AreOf new made × (items_of new made ≡ items_of old made)

@@ -24,54 +24,54 @@ use Rattle.sleep_model.specs.declared.machine.PlatUndo.TheVariants as undo
 use Rattle.sleep_model.specs.declared.machine.Script.{Script}
 use Rattle.phase_table.specs.declared.phase.Phase.{Phase}
 use Rattle.phase_table.specs.declared.phase.Phase.TheVariants as phase
-use Rattle.sleep_model.specs.declared.place.Seat.{Seat}
-use Rattle.sleep_model.specs.declared.place.Stand.{Stand}
-use Rattle.sleep_model.specs.declared.place.Stand.TheVariants as stand
+use Rattle.sleep_model.specs.declared.progress.ScriptPosition.{ScriptPosition}
+use Rattle.sleep_model.specs.declared.progress.PhaseState.{PhaseState}
+use Rattle.sleep_model.specs.declared.progress.PhaseState.TheVariants as phase_state
 use Rattle.sleep_model.specs.Attempt.{failed, sleeps_now}
 use Rattle.sleep_model.specs.Autosleep.{Work, Resting, Reading, Saving, Attempting, Looking, Napping, Closing, work}
-use Rattle.sleep_model.specs.Devices.{AsyncWork, Idle, Scheduled, Inside, callback, stand_in, async_work}
+use Rattle.sleep_model.specs.Devices.{AsyncWork, Idle, Scheduled, Inside, callback, state_in, async_work}
 use Rattle.sleep_model.specs.Freezer.{unasked, freezing, freezings, is_in}
-use Rattle.sleep_model.specs.Guard.{CountPart, Finds, count_part, pending}
-use Rattle.sleep_model.specs.Notifiers.{told, owes_platform, cpus_off, other_cpus, irqs_off, stopped, syscore_parts}
+use Rattle.sleep_model.specs.Guard.{CountEffect, Finds, count_effect, pending}
+use Rattle.sleep_model.specs.Notifiers.{notified_flags, owes_platform, cpus_off, other_cpus, irqs_off, stopped, syscore_steps}
 use Rattle.sleep_model.specs.Numbers.{numbers, word_step}
 use Rattle.sleep_model.specs.Order.{order, below, above}
 use Rattle.sleep_model.specs.Path.{maker, is_same, is_actor}
 use Rattle.phase_table.specs.Phases.{is_phase, is_down, is_up, mirror, tests_wakeup}
 use Rattle.sleep_model.specs.Scripts.{entry_steps}
-use Rattle.sleep_model.specs.Seats.{seats, seat_at}
+use Rattle.sleep_model.specs.Positions.{positions, position_at}
 use Rattle.sleep_model.specs.Walk.{is_so}
-use Rattle.sleep_model.specs.Stands.{stands, is_unprepared, is_ready, is_down_in, is_direct_complete, is_down_or_direct, is_not_up}
+use Rattle.sleep_model.specs.PhaseStates.{phase_states, is_unprepared, is_ready, is_down_in, is_direct_complete, is_down_or_direct, is_not_up}
 
 -- ---- devices
 
--- a device begins to go down only where all below it are down in that phase, or were direct-complete (dpm_wait_for_subordinate)
+-- a device begins to go down only if all below it are down in that phase, or were direct-complete (dpm_wait_for_subordinate)
 abbrev pub DependentsFirst : Machine → List Entry → Kind → Type 0
 DependentsFirst m past (kind.Begin p d) =
-    is_down p ≡ true → list_all (λ e. is_down_or_direct (stand_in m past p e)) (below m past d) ≡ true
+    is_down p ≡ true → list_all (λ e. is_down_or_direct (state_in m past p e)) (below m past d) ≡ true
 DependentsFirst m past _ = Unit {0}
 
--- a device begins to come up only where none above it is still down in that phase, or inside a callback (dpm_wait_for_superior)
+-- a device begins to come up only if none above it is still down in that phase, or inside a callback (dpm_wait_for_superior)
 abbrev pub SuppliersFirst : Machine → List Entry → Kind → Type 0
 SuppliersFirst m past (kind.Begin p d) =
-    is_up p ≡ true → list_all (λ e. not (is_not_up (stand_in m past (mirror p) e))) (above m past d) ≡ true
+    is_up p ≡ true → list_all (λ e. not (is_not_up (state_in m past (mirror p) e))) (above m past d) ≡ true
 SuppliersFirst m past _ = Unit {0}
 
 -- ---- what is owed
 
 -- the devices stand in no phase: none is prepared (dpm_complete)
-abbrev pub NoneStands : Machine → Phase → List Entry → Type 0
-NoneStands m p past = stands (length m.devices) p past ≡ replicate (length m.devices) stand.Unprepared
+abbrev pub NoneIsInPhase : Machine → Phase → List Entry → Type 0
+NoneIsInPhase m p past = phase_states (length m.devices) p past ≡ replicate (length m.devices) phase_state.Unprepared
 
 -- all that an attempt did is undone (suspend_devices_and_enter, suspend_finish)
 pub record NothingOwed (m : Machine) (past : List Entry) : Type 0 where
-  pub notifiers : told m past ≡ replicate (length m.notifiers) false
+  pub notifiers : notified_flags m past ≡ replicate (length m.notifiers) false
   pub tasks : freezings m.actors past ≡ map (λ s. unasked) m.actors
   pub begun : owes_platform down.Begin past ≡ false
   pub prepared : owes_platform down.Prepare past ≡ false
   pub prepared_late : owes_platform down.PrepareLate past ≡ false
-  pub suspend : NoneStands m phase.Suspend past
-  pub late : NoneStands m phase.Late past
-  pub noirq : NoneStands m phase.Noirq past
+  pub suspend : NoneIsInPhase m phase.Suspend past
+  pub late : NoneIsInPhase m phase.Late past
+  pub noirq : NoneIsInPhase m phase.Noirq past
   pub callbacks : callback past ≡ None
   pub cpus : cpus_off m.cpus past ≡ replicate m.cpus false
   pub irqs : irqs_off past ≡ false
@@ -84,29 +84,29 @@ Restored m past (kind.Over n r) = NothingOwed m past
 Restored m past _ = Unit {0}
 
 -- a device that may come up: it is down, or down and scheduled (power.is_suspended)
-abbrev pub may_come_up : Stand → Bool
-may_come_up stand.Suspended = true
-may_come_up stand.Rescheduled = true
+abbrev pub may_come_up : PhaseState → Bool
+may_come_up phase_state.Suspended = true
+may_come_up phase_state.Rescheduled = true
 may_come_up _ = false
 
 -- inside its callback on the way up (dpm_run_callback)
-abbrev pub is_resuming : Stand → Bool
-is_resuming stand.Resuming = true
+abbrev pub is_resuming : PhaseState → Bool
+is_resuming phase_state.Resuming = true
 is_resuming _ = false
 
 -- prepared, and neither down nor on its way down or up: in a pair of phases nothing is owed to the device (power.is_suspended)
-abbrev pub is_back : Stand → Bool
-is_back stand.Prepared = true
-is_back stand.Failed = true
-is_back stand.Direct = true
-is_back stand.Resumed = true
+abbrev pub is_back : PhaseState → Bool
+is_back phase_state.Prepared = true
+is_back phase_state.Failed = true
+is_back phase_state.Direct = true
+is_back phase_state.Resumed = true
 is_back _ = false
 
 -- device d is back in suspend, in late and in noirq: nothing is owed to it but its completion (device_complete)
 abbrev pub is_back_in_all : Machine → List Entry → ℕ → Bool
 is_back_in_all m past d =
-    is_back (stand_in m past phase.Suspend d) && is_back (stand_in m past phase.Late d)
-    && is_back (stand_in m past phase.Noirq d)
+    is_back (state_in m past phase.Suspend d) && is_back (state_in m past phase.Late d)
+    && is_back (state_in m past phase.Noirq d)
 
 -- a step of the platform on the way up is owed: the end, the finish and the wake for the step that they undo (platform_resume_end, platform_resume_finish, platform_resume_noirq)
 abbrev pub is_owed_by : List Entry → PlatUndo → Bool
@@ -115,13 +115,13 @@ is_owed_by past undo.End = owes_platform down.Begin past
 is_owed_by past undo.Finish = owes_platform down.Prepare past
 is_owed_by past undo.Wake = owes_platform down.PrepareLate past
 
--- only what is owed is undone, so each stands once, and a device is completed only where no other is owed to it (dpm_resume, device_resume, device_complete, suspend_finish)
+-- only what is owed is undone, so each stands once, and a device is completed only if no other is owed to it (dpm_resume, device_resume, device_complete, suspend_finish)
 abbrev pub Owed : Machine → List Entry → Kind → Type 0
-Owed m past (kind.Schedule p d) = is_up p ≡ true → is_down_in (stand_in m past (mirror p) d) ≡ true
-Owed m past (kind.Begin p d) = is_up p ≡ true → may_come_up (stand_in m past (mirror p) d) ≡ true
-Owed m past (kind.End p d r) = is_up p ≡ true → is_resuming (stand_in m past (mirror p) d) ≡ true
+Owed m past (kind.Schedule p d) = is_up p ≡ true → is_down_in (state_in m past (mirror p) d) ≡ true
+Owed m past (kind.Begin p d) = is_up p ≡ true → may_come_up (state_in m past (mirror p) d) ≡ true
+Owed m past (kind.End p d r) = is_up p ≡ true → is_resuming (state_in m past (mirror p) d) ≡ true
 Owed m past (kind.Complete d) = is_back_in_all m past d ≡ true
-Owed m past (kind.NotifyPost x) = is_so (told m past) x ≡ true
+Owed m past (kind.NotifyPost x) = is_so (notified_flags m past) x ≡ true
 Owed m past (kind.SyscoreResume x) = is_so (stopped (length m.syscore) past) x ≡ true
 Owed m past (kind.CpuOn k) = is_so (cpus_off m.cpus past) k ≡ true
 Owed m past (kind.Irqs on) = on ≡ true → irqs_off past ≡ true
@@ -132,28 +132,28 @@ Owed m past _ = Unit {0}
 -- ---- what is done once
 
 -- a phase on the way down may take the device: it is prepared, or scheduled (__device_suspend)
-abbrev pub may_go_down : Stand → Bool
-may_go_down stand.Prepared = true
-may_go_down stand.Scheduled = true
+abbrev pub may_go_down : PhaseState → Bool
+may_go_down phase_state.Prepared = true
+may_go_down phase_state.Scheduled = true
 may_go_down _ = false
 
 -- inside its callback on the way down (dpm_run_callback)
-abbrev pub is_suspending : Stand → Bool
-is_suspending stand.Suspending = true
+abbrev pub is_suspending : PhaseState → Bool
+is_suspending phase_state.Suspending = true
 is_suspending _ = false
 
 -- a device is prepared once, and each phase on the way down schedules it, begins or skips it, and ends it once, in that order (dpm_prepare, dpm_suspend, __device_suspend)
 abbrev pub TakenOnce : Machine → List Entry → Kind → Type 0
-TakenOnce m past (kind.Prepare d r) = is_unprepared (stand_in m past phase.Suspend d) ≡ true
-TakenOnce m past (kind.Schedule p d) = is_down p ≡ true → is_ready (stand_in m past p d) ≡ true
-TakenOnce m past (kind.Begin p d) = is_down p ≡ true → may_go_down (stand_in m past p d) ≡ true
-TakenOnce m past (kind.Skip p d cause) = is_down p ≡ true → may_go_down (stand_in m past p d) ≡ true
-TakenOnce m past (kind.End p d r) = is_down p ≡ true → is_suspending (stand_in m past p d) ≡ true
+TakenOnce m past (kind.Prepare d r) = is_unprepared (state_in m past phase.Suspend d) ≡ true
+TakenOnce m past (kind.Schedule p d) = is_down p ≡ true → is_ready (state_in m past p d) ≡ true
+TakenOnce m past (kind.Begin p d) = is_down p ≡ true → may_go_down (state_in m past p d) ≡ true
+TakenOnce m past (kind.Skip p d cause) = is_down p ≡ true → may_go_down (state_in m past p d) ≡ true
+TakenOnce m past (kind.End p d r) = is_down p ≡ true → is_suspending (state_in m past p d) ≡ true
 TakenOnce m past _ = Unit {0}
 
--- a notifier, the platform, a processor, interrupts and the core are taken down, and sleep is entered, only where no undo of that is owed already (pm_notifier_call_chain_robust, platform_suspend_begin, freeze_secondary_cpus, arch_suspend_disable_irqs, syscore_suspend, suspend_enter)
+-- a notifier, the platform, a processor, interrupts and the core are taken down, and sleep is entered, only if no undo of that is owed already (pm_notifier_call_chain_robust, platform_suspend_begin, freeze_secondary_cpus, arch_suspend_disable_irqs, syscore_suspend, suspend_enter)
 abbrev pub NotOwedAlready : Machine → List Entry → Kind → Type 0
-NotOwedAlready m past (kind.NotifyPrepare x r) = is_so (told m past) x ≡ false
+NotOwedAlready m past (kind.NotifyPrepare x r) = is_so (notified_flags m past) x ≡ false
 NotOwedAlready m past (kind.PlatformDo step r) = owes_platform step past ≡ false
 NotOwedAlready m past (kind.CpuOff k) = is_so (cpus_off m.cpus past) k ≡ false
 NotOwedAlready m past (kind.CpuBusy k) = is_so (cpus_off m.cpus past) k ≡ false
@@ -167,16 +167,16 @@ NotOwedAlready m past _ = Unit {0}
 -- d is down in suspend, in late and in noirq (power.is_suspended, power.is_late_suspended, power.is_noirq_suspended)
 abbrev pub is_down_in_all : Machine → List Entry → ℕ → Bool
 is_down_in_all m past d =
-    is_down_in (stand_in m past phase.Suspend d) && is_down_in (stand_in m past phase.Late d)
-    && is_down_in (stand_in m past phase.Noirq d)
+    is_down_in (state_in m past phase.Suspend d) && is_down_in (state_in m past phase.Late d)
+    && is_down_in (state_in m past phase.Noirq d)
 
 -- d is down through noirq, or was direct-complete (power.is_noirq_suspended, direct_complete)
 abbrev pub is_asleep : Machine → List Entry → ℕ → Bool
-is_asleep m past d = is_down_in_all m past d || is_direct_complete (stand_in m past phase.Suspend d)
+is_asleep m past d = is_down_in_all m past d || is_direct_complete (state_in m past phase.Suspend d)
 
 -- task i does nothing more: it is frozen, or has exited (frozen, __refrigerator)
-abbrev pub is_at_rest : Machine → List Entry → ℕ → Bool
-is_at_rest m past i = (freezing m i past).frozen || (seat_at (seats (length m.actors) past) i).exited
+abbrev pub is_inactive : Machine → List Entry → ℕ → Bool
+is_inactive m past i = (freezing m i past).frozen || (position_at (positions (length m.actors) past) i).exited
 
 -- the tasks of a group, from number i on, but the attempt's maker (freeze_processes, freeze_kernel_threads)
 abbrev pub others_of : Group → Option Actor → ℕ → List Script → List ℕ
@@ -187,21 +187,21 @@ others_of g who i (s ∷ ss) =
 -- all is down that sleep wants down, and the platform has taken its three steps (suspend_enter)
 pub record AllDown (m : Machine) (past : List Entry) : Type 0 where
   pub devices : list_all (is_asleep m past) (order m past) ≡ true
-  pub user_tasks : list_all (is_at_rest m past) (others_of group.User (maker past) 0 m.actors) ≡ true
-  pub kernel_tasks : list_all (is_at_rest m past) (others_of group.Kernel (maker past) 0 m.actors) ≡ true
+  pub user_tasks : list_all (is_inactive m past) (others_of group.User (maker past) 0 m.actors) ≡ true
+  pub kernel_tasks : list_all (is_inactive m past) (others_of group.Kernel (maker past) 0 m.actors) ≡ true
   pub begun : owes_platform down.Begin past ≡ true
   pub prepared : owes_platform down.Prepare past ≡ true
   pub prepared_late : owes_platform down.PrepareLate past ≡ true
   pub cpus : list_all (is_so (cpus_off m.cpus past)) (other_cpus m) ≡ true
   pub irqs : irqs_off past ≡ true
-  pub syscore : list_all (is_so (stopped (length m.syscore) past)) (syscore_parts m) ≡ true
+  pub syscore : list_all (is_so (stopped (length m.syscore) past)) (syscore_steps m) ≡ true
 
 -- where that is not busy
 abbrev pub UnlessBusy : Bool → Type 0 → Type 0
 UnlessBusy true what = Unit {0}
 UnlessBusy false what = what
 
--- the machine enters only where all is down (suspend_enter)
+-- the machine enters only if all is down (suspend_enter)
 abbrev pub EntersDown : Machine → List Entry → Kind → Type 0
 EntersDown m past (kind.Enter busy) = UnlessBusy busy (AllDown m past)
 EntersDown m past _ = Unit {0}
@@ -209,61 +209,61 @@ EntersDown m past _ = Unit {0}
 -- ---- what disturbs an attempt
 
 -- what an entry is to the question whether an attempt was disturbed
-pub data TestPart : Type 0 where
-  Opens : TestPart
-  Tests : TestPart
-  Fails : TestPart
-  Else : TestPart
+pub data TestEffect : Type 0 where
+  Opens : TestEffect
+  Tests : TestEffect
+  Fails : TestEffect
+  Else : TestEffect
 
 -- a test, where that phase has one (__device_suspend)
-abbrev pub test_of : Phase → TestPart
+abbrev pub test_of : Phase → TestEffect
 test_of p = if tests_wakeup p then Tests else Else
 
 -- a callback that answers an error on the way down fails the attempt (dpm_run_callback)
-abbrev pub fail_of : Phase → Option Errno → TestPart
+abbrev pub fail_of : Phase → Option Errno → TestEffect
 fail_of p None = Else
 fail_of p (Some r) = if is_down p then Fails else Else
 
 -- an error fails the attempt (enter_state)
-abbrev pub fails_with : Option Errno → TestPart
+abbrev pub fails_with : Option Errno → TestEffect
 fails_with None = Else
 fails_with (Some r) = Fails
 
 -- a freeze that left tasks fails the attempt by its time, else its test found a wakeup (try_to_freeze_tasks)
-abbrev pub test_by : FrozeEnd → TestPart
+abbrev pub test_by : FrozeEnd → TestEffect
 test_by froze.AllFrozen = Else
 test_by (froze.Timeout left first) = Fails
 test_by (froze.Wakeup left first) = Tests
 
 -- a device that is skipped by an error makes no test, another does where its phase has one (__device_suspend)
-abbrev pub test_unless : SkipCause → Phase → TestPart
+abbrev pub test_unless : SkipCause → Phase → TestEffect
 test_unless skip.Error p = Else
 test_unless cause p = test_of p
 
 -- an answer below 0 fails the attempt (device_prepare)
-abbrev pub fails_by : ℤ → TestPart
+abbrev pub fails_by : ℤ → TestEffect
 fails_by (pos n) = Else
 fails_by (negsuc n) = Fails
 
 -- a test stands at the end of a freeze by a wakeup, before each callback of suspend and late, before each processor, at the core's check and at the entering; an error of a callback or of a freeze fails the attempt (pm_wakeup_pending)
-abbrev pub test_part : Kind → TestPart
-test_part (kind.Attempt n guarded) = Opens
-test_part (kind.NotifyPrepare x r) = fails_with r
-test_part (kind.Froze g end) = test_by end
-test_part (kind.PlatformDo step r) = fails_with r
-test_part (kind.Prepare d r) = fails_by r
-test_part (kind.Begin p d) = test_of p
-test_part (kind.End p d r) = fail_of p r
-test_part (kind.Skip p d cause) = test_unless cause p
-test_part (kind.CpuOff k) = Tests
-test_part (kind.CpuBusy k) = Tests
-test_part (kind.SyscoreCheck r) = Tests
-test_part (kind.SyscoreSuspend x r) = fails_with r
-test_part (kind.Enter busy) = Tests
-test_part _ = Else
+abbrev pub test_effect : Kind → TestEffect
+test_effect (kind.Attempt n guarded) = Opens
+test_effect (kind.NotifyPrepare x r) = fails_with r
+test_effect (kind.Froze g end) = test_by end
+test_effect (kind.PlatformDo step r) = fails_with r
+test_effect (kind.Prepare d r) = fails_by r
+test_effect (kind.Begin p d) = test_of p
+test_effect (kind.End p d r) = fail_of p r
+test_effect (kind.Skip p d cause) = test_unless cause p
+test_effect (kind.CpuOff k) = Tests
+test_effect (kind.CpuBusy k) = Tests
+test_effect (kind.SyscoreCheck r) = Tests
+test_effect (kind.SyscoreSuspend x r) = fails_with r
+test_effect (kind.Enter busy) = Tests
+test_effect _ = Else
 
 -- whether the open attempt was disturbed, after an entry whose test found that
-abbrev pub disturbed_after : TestPart → Bool → Bool → Bool
+abbrev pub disturbed_after : TestEffect → Bool → Bool → Bool
 disturbed_after Opens busy before = false
 disturbed_after Tests busy before = busy || before
 disturbed_after Fails busy before = true
@@ -272,7 +272,7 @@ disturbed_after Else busy before = before
 -- a wakeup was pending where a test of the open attempt stands, or a step of it failed
 abbrev pub disturbed : List Entry → Bool
 disturbed [] = false
-disturbed (e ∷ past) = disturbed_after (test_part e.kind) (pending past e.now) (disturbed past)
+disturbed (e ∷ past) = disturbed_after (test_effect e.kind) (pending past e.now) (disturbed past)
 
 -- whether the open attempt has entered, after an entry
 abbrev pub entered_after : Kind → Bool → Bool
@@ -290,13 +290,13 @@ abbrev pub UndisturbedEnters : List Entry → Kind → Type 0
 UndisturbedEnters past (kind.Over n r) = disturbed past ≡ false → (entered past ≡ true) × (r ≡ None)
 UndisturbedEnters past _ = Unit {0}
 
--- an attempt answers the error of the step that failed, and 0 exactly where it has entered (enter_state)
+-- an attempt answers the error of the step that failed, and 0 exactly if it has entered (enter_state)
 abbrev pub AnswersFailure : List Entry → Kind → Type 0
 AnswersFailure past (kind.Over n r) = (r ≡ failed past) × (entered past ≡ is_none r)
 AnswersFailure past _ = Unit {0}
 
--- a test that found a wakeup stands only where one is pending at the word that it saw (pm_wakeup_pending)
-abbrev pub FoundPending : List Entry → EventNow → CountPart → Type 0
+-- a test that found a wakeup stands only if one is pending at the word that it saw (pm_wakeup_pending)
+abbrev pub FoundPending : List Entry → EventNow → CountEffect → Type 0
 FoundPending past now Finds = pending past now ≡ true
 FoundPending past now _ = Unit {0}
 
@@ -379,7 +379,7 @@ abbrev pub is_exit : Kind → Bool
 is_exit kind.Exit = true
 is_exit _ = false
 
--- an entry of that operation, or of the exit behind the last
+-- an entry of that operation, or of the exit after the last
 abbrev pub is_of_op : Option Op → Kind → Bool
 is_of_op None k = is_exit k
 is_of_op (Some op.Read) k = is_of_read k
@@ -407,8 +407,8 @@ steps_of None = []
 steps_of (Some s) = entry_steps s
 
 -- an entry of a script outside its attempts, whose place this is: it has not exited, and the entry is of the operation under way, or says that it freezes (own)
-abbrev pub is_step_entry : List Op → Seat → Kind → Bool
-is_step_entry ops seat k = not seat.exited && (is_of_op (slice_get ops seat.done) k || is_frozen_entry k)
+abbrev pub is_step_entry : List Op → ScriptPosition → Kind → Bool
+is_step_entry ops position k = not position.exited && (is_of_op (slice_get ops position.done) k || is_frozen_entry k)
 
 -- an entry of the autosleep work, where it stands so (try_to_suspend)
 abbrev pub is_work_entry : Work → Kind → Bool
@@ -445,7 +445,7 @@ is_device_entry d (Inside p) k = is_of_inside d p k
 -- an entry of an actor outside attempts of its own is of its own steps, once and in order (own)
 abbrev pub is_in_order : Machine → List Entry → Actor → Kind → Bool
 is_in_order m past (actor.Script i) k =
-    is_step_entry (steps_of (slice_get m.actors i)) (seat_at (seats (length m.actors) past) i) k
+    is_step_entry (steps_of (slice_get m.actors i)) (position_at (positions (length m.actors) past) i) k
 is_in_order m past actor.Auto k = is_work_entry (work past) k
 is_in_order m past (actor.Dev d) k = is_device_entry d (async_work m past d) k
 is_in_order m past _ k = false
@@ -468,7 +468,7 @@ pub record LawsAt (m : Machine) (past : List Entry) (e : Entry) : Type 0 where
   pub enters_down : EntersDown m past e.kind
   pub undisturbed_enters : UndisturbedEnters past e.kind
   pub answers_failure : AnswersFailure past e.kind
-  pub found_pending : FoundPending past e.now (count_part e.kind)
+  pub found_pending : FoundPending past e.now (count_effect e.kind)
   pub in_order : InOrder m past e.actor e.kind
 
 -- the laws at each of the journal's entries, the newest first
@@ -514,14 +514,14 @@ answer_of who [] = None
 answer_of who (e ∷ past) = answer_after e.kind (is_same e.actor who) (answer_of who past)
 
 -- the steps since the read that a save of c rests on, where that read answered c; else none, as it rests on itself (pm_save_wakeup_count)
-abbrev pub rests_on : ℕ → Option Answered → List WordKind
-rests_on c None = []
-rests_on c (Some a) = if a.count == c then a.steps else []
+abbrev pub steps_since_read : ℕ → Option Answered → List WordKind
+steps_since_read c None = []
+steps_since_read c (Some a) = if a.count == c then a.steps else []
 
--- the steps since the read behind the last save, after an entry
+-- the steps since the read after the last save, after an entry
 abbrev pub steps_after : Kind → Option Answered → List WordKind → List WordKind
-steps_after (kind.Saved c) answered before = rests_on c answered
-steps_after (kind.AutoSaved c) answered before = rests_on c answered
+steps_after (kind.Saved c) answered before = steps_since_read c answered
+steps_after (kind.AutoSaved c) answered before = steps_since_read c answered
 steps_after k answered before = with_step (word_step k) before
 
 -- the steps of the word since the read that the last good save rests on, the newest first (saved_count)
@@ -534,7 +534,7 @@ abbrev pub SawNothing : List Entry → Option ℕ → Type 0
 SawNothing past None = Unit {0}
 SawNothing past (Some c) = (steps_since past ≡ []) × ((numbers past).inpr ≡ 0)
 
--- an attempt under a saved count enters only where nothing came since (pm_save_wakeup_count, pm_wakeup_pending)
+-- an attempt under a saved count enters only if nothing came since (pm_save_wakeup_count, pm_wakeup_pending)
 abbrev pub EntersUnseen : List Entry → Kind → Type 0
 EntersUnseen past (kind.Enter busy) = UnlessBusy busy (SawNothing past (guard_of past))
 EntersUnseen past _ = Unit {0}

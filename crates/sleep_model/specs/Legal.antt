@@ -13,26 +13,26 @@ use Rattle.sleep_model.specs.declared.log.Stats.{Stats}
 use Rattle.sleep_model.specs.declared.log.Waiting.{Waiting}
 use Rattle.sleep_model.specs.declared.machine.Machine.{Machine}
 use Rattle.sleep_model.specs.declared.machine.Script.{Script}
-use Rattle.sleep_model.specs.declared.place.Freezing.{Freezing}
-use Rattle.sleep_model.specs.declared.place.Seat.{Seat}
-use Rattle.sleep_model.specs.declared.place.Due.{Due}
-use Rattle.sleep_model.specs.declared.place.Due.TheVariants.{Makes, Waits}
+use Rattle.sleep_model.specs.declared.progress.Freezing.{Freezing}
+use Rattle.sleep_model.specs.declared.progress.ScriptPosition.{ScriptPosition}
+use Rattle.sleep_model.specs.declared.progress.Due.{Due}
+use Rattle.sleep_model.specs.declared.progress.Due.TheVariants.{Makes, Waits}
 use Rattle.sleep_model.specs.Attempt.{Sleep, sleep_of, sleeps_now, freeze_since, gives_up_at}
 use Rattle.sleep_model.specs.Autosleep.{naps_until, work}
 use Rattle.sleep_model.specs.Calls.{calls_of, calls_due, made, is_calling}
-use Rattle.sleep_model.specs.Due.{due, all_gone}
+use Rattle.sleep_model.specs.Due.{due, have_all_exited}
 use Rattle.sleep_model.specs.Freezer.{freezing}
 use Rattle.sleep_model.specs.Numbers.{numbers, time_of}
-use Rattle.sleep_model.specs.Parts.{Part, OfJournal, Notes, Moves, OfTime, part_of, journal}
+use Rattle.sleep_model.specs.EntryClasses.{EntryClass, OfJournal, Notes, Moves, OfTime, class_of, journal}
 use Rattle.sleep_model.specs.Path.{maker, is_same}
-use Rattle.sleep_model.specs.Seats.{seats, seat_at}
+use Rattle.sleep_model.specs.Positions.{positions, position_at}
 use Rattle.sleep_model.specs.Sources.{is_of, history, most_entries, expiry, has_expired, SourceStep, stats_at}
 use Rattle.sleep_model.specs.Tasks.{is_line}
 
 -- ---- the journal part
 
 -- an entry of the journal is what is due of its actor at the word that it carries, now; a jump is made by time, and raises it
-abbrev pub JournalStep : Machine → List Entry → Entry → Part → Type 0
+abbrev pub JournalStep : Machine → List Entry → Entry → EntryClass → Type 0
 JournalStep m past e OfJournal = (due m past e.actor e.now ≡ Makes e.kind) × (e.time ≡ time_of past)
 JournalStep m past e OfTime = (e.actor ≡ actor.Time) × (time_of past < e.time)
 JournalStep m past e _ = ⊥
@@ -40,12 +40,12 @@ JournalStep m past e _ = ⊥
 -- each of the journal's entries, the newest first, is legal where it stands
 abbrev pub JournalPart : Machine → List Entry → Type 0
 JournalPart m [] = Unit {0}
-JournalPart m (e ∷ past) = JournalStep m past e (part_of e.kind) × JournalPart m past
+JournalPart m (e ∷ past) = JournalStep m past e (class_of e.kind) × JournalPart m past
 
 -- ---- the source part
 
 -- an entry of a source is legal in the history of that source
-abbrev pub OwnStep : List Entry → Entry → Part → Type 0
+abbrev pub OwnStep : List Entry → Entry → EntryClass → Type 0
 OwnStep past e (Notes s call) = SourceStep (history s past) e.time e.actor (Notes s call)
 OwnStep past e (Moves s step) = SourceStep (history s past) e.time e.actor (Moves s step)
 OwnStep past e _ = Unit {0}
@@ -53,10 +53,10 @@ OwnStep past e _ = Unit {0}
 -- each source's entries, the newest first, are legal where they stand
 abbrev pub SourcePart : List Entry → Type 0
 SourcePart [] = Unit {0}
-SourcePart (e ∷ past) = OwnStep past e (part_of e.kind) × SourcePart past
+SourcePart (e ∷ past) = OwnStep past e (class_of e.kind) × SourcePart past
 
 -- the entry is of a source of the machine, if it is a source's (wakeup_sources)
-abbrev pub is_there : Machine → Part → Bool
+abbrev pub is_there : Machine → EntryClass → Bool
 is_there m (Notes s call) = nat_le s (length m.sources)
 is_there m (Moves s step) = nat_le s (length m.sources)
 is_there m _ = true
@@ -67,7 +67,7 @@ is_short past s = nat_le (length (history s past)) most_entries
 
 -- the machine's sources alone have entries, and each has no more than its history has places for (own)
 pub record HistoriesFit (m : Machine) (past : List Entry) : Type 0 where
-  pub there : list_all (λ e. is_there m (part_of e.kind)) past ≡ true
+  pub there : list_all (λ e. is_there m (class_of e.kind)) past ≡ true
   pub short : list_all (is_short past) (range_with_len 0 (length m.sources + 1)) ≡ true
 
 -- ---- who is enabled, by the journal, the sources' histories and the word
@@ -101,7 +101,7 @@ is_idle m past of now =
 
 -- nobody can make anything, every script has exited, and no attempt is open
 abbrev pub is_finished : Machine → List Entry → (ℕ → List Entry) → EventNow → Bool
-is_finished m past of now = all_gone m past && is_none (maker past) && is_idle m past of now
+is_finished m past of now = have_all_exited m past && is_none (maker past) && is_idle m past of now
 
 -- ---- pending times
 
@@ -127,9 +127,9 @@ deadline_at None = None
 deadline_at (Some since) = Some (gives_up_at since)
 
 -- the end of a script's sleep, where it is pending: not that of a frozen task, nor of a task while the machine sleeps (own)
-abbrev pub pending_sleep : Bool → Freezing → Option Script → Seat → Option ℕ
-pending_sleep asleep f None seat = None
-pending_sleep asleep f (Some s) seat = if f.frozen || (asleep && not (is_line s.kind)) then None else seat.until
+abbrev pub pending_sleep : Bool → Freezing → Option Script → ScriptPosition → Option ℕ
+pending_sleep asleep f None position = None
+pending_sleep asleep f (Some s) position = if f.frozen || (asleep && not (is_line s.kind)) then None else position.until
 
 -- the least such end among the first n scripts (own)
 abbrev pub next_sleep : Machine → List Entry → ℕ → Option ℕ
@@ -137,7 +137,7 @@ next_sleep m past zero = None
 next_sleep m past (suc n) =
     sooner
     (pending_sleep (sleeps_now past) (freezing m n past) (slice_get m.actors n)
-    (seat_at (seats (length m.actors) past) n))
+    (position_at (positions (length m.actors) past) n))
     (next_sleep m past n)
 
 -- the end of the autosleep work's nap, where it is pending (own)
@@ -176,40 +176,40 @@ abbrev pub IsOutside : Machine → (ℕ → List Entry) → Actor → Type 0
 IsOutside m of who = is_calling (length m.sources + 1) of who ≡ false
 
 -- the actor's last entry is of that source (own)
-abbrev pub is_behind : ℕ → Actor → List Entry → Bool
-is_behind s who [] = false
-is_behind s who (e ∷ past) = if is_same e.actor who then is_of s (part_of e.kind) else is_behind s who past
+abbrev pub last_is_of : ℕ → Actor → List Entry → Bool
+last_is_of s who [] = false
+last_is_of s who (e ∷ past) = if is_same e.actor who then is_of s (class_of e.kind) else last_is_of s who past
 
--- an entry is the next of its actor: one of the journal and a note stand outside of its calls, a step of the word right behind an entry of its source, and a jump where it may
-abbrev pub JointStep : Machine → List Entry → Entry → Part → Type 0
+-- an entry is the next of its actor: one of the journal and a note stand outside of its calls, a step of the word right after an entry of its source, and a jump where it may
+abbrev pub JointStep : Machine → List Entry → Entry → EntryClass → Type 0
 JointStep m past e OfJournal =
     IsOwnTurn m (journal past) (λ s. history s past) e.actor × IsOutside m (λ s. history s past) e.actor
 JointStep m past e (Notes s call) =
     IsOwnCall m (journal past) (λ t. history t past) e.actor e.kind × IsOutside m (λ t. history t past) e.actor
-JointStep m past e (Moves s step) = is_behind s e.actor past ≡ true
+JointStep m past e (Moves s step) = last_is_of s e.actor past ≡ true
 JointStep m past e OfTime = JumpStep m (journal past) (λ s. history s past) (numbers past) e.time
 
 -- the entries of all parts fit together
 abbrev pub JointPart : Machine → List Entry → Type 0
 JointPart m [] = Unit {0}
-JointPart m (e ∷ past) = JointStep m past e (part_of e.kind) × JointPart m past
+JointPart m (e ∷ past) = JointStep m past e (class_of e.kind) × JointPart m past
 
 -- an entry carries the time of its place, unless it is a jump
-abbrev pub IsOnTime : List Entry → ℕ → Part → Type 0
+abbrev pub IsOnTime : List Entry → ℕ → EntryClass → Type 0
 IsOnTime past time OfTime = Unit {0}
 IsOnTime past time _ = time ≡ time_of past
 
 -- each entry carries the numbers and the time of its place
-abbrev pub Placed : List Entry → Type 0
-Placed [] = Unit {0}
-Placed (e ∷ past) = (e.now ≡ numbers past) × IsOnTime past e.time (part_of e.kind) × Placed past
+abbrev pub AreNumbered : List Entry → Type 0
+AreNumbered [] = Unit {0}
+AreNumbered (e ∷ past) = (e.now ≡ numbers past) × IsOnTime past e.time (class_of e.kind) × AreNumbered past
 
 -- the entries so far, the newest first, are legal
 pub record IsLegal (m : Machine) (past : List Entry) : Type 0 where
   pub journal : JournalPart m (journal past)
   pub sources : SourcePart past
   pub histories : HistoriesFit m past
-  pub placed : Placed past
+  pub placed : AreNumbered past
   pub joint : JointPart m past
 
 -- ---- whole logs
@@ -238,18 +238,18 @@ put_waiting false i (Waits why) others = record { actor = actor.Script i; why = 
 put_waiting exited i next others = others
 
 -- the scripts from number i on that have not exited, and why each waits
-abbrev pub waiting_from : Machine → List Entry → EventNow → ℕ → List Seat → List Waiting
+abbrev pub waiting_from : Machine → List Entry → EventNow → ℕ → List ScriptPosition → List Waiting
 waiting_from m past now i [] = []
-waiting_from m past now i (seat ∷ rest) =
-    put_waiting seat.exited i (due m past (actor.Script i) now) (waiting_from m past now (suc i) rest)
+waiting_from m past now i (position ∷ rest) =
+    put_waiting position.exited i (due m past (actor.Script i) now) (waiting_from m past now (suc i) rest)
 
 -- the scripts that have not exited, and why each waits
 abbrev pub waiting : Machine → List Entry → EventNow → List Waiting
-waiting m past now = waiting_from m past now 0 (seats (length m.actors) past)
+waiting m past now = waiting_from m past now 0 (positions (length m.actors) past)
 
 -- after these entries nobody goes on: some script has not exited, no actor may make an entry, and nothing waits for a time
 pub record IsStuckAfter (m : Machine) (past : List Entry) : Type 0 where
-  pub left : all_gone m (journal past) ≡ false
+  pub left : have_all_exited m (journal past) ≡ false
   pub idle : is_idle m (journal past) (λ s. history s past) (numbers past) ≡ true
   pub timeless : next_time m (journal past) (λ s. history s past) ≡ None
 

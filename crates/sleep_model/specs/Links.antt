@@ -19,9 +19,9 @@ IsOrder dependents_of [] = Unit {0}
 IsOrder dependents_of (d ∷ ds) = (is_among ds d ≡ false) × AllAmong ds (dependents_of d) × IsOrder dependents_of ds
 
 -- each device at its first place alone
-abbrev pub first_places : List ℕ → List ℕ
-first_places [] = []
-first_places (d ∷ ds) = d ∷ filter (λ x. not (x == d)) (first_places ds)
+abbrev pub first_occurrences : List ℕ → List ℕ
+first_occurrences [] = []
+first_occurrences (d ∷ ds) = d ∷ filter (λ x. not (x == d)) (first_occurrences ds)
 
 -- from d by these further steps, each to a device that hangs right below, to e
 abbrev pub LeadsTo : (ℕ → List ℕ) → ℕ → List ℕ → ℕ → Type 0

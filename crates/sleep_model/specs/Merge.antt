@@ -9,7 +9,7 @@ use Rattle.sleep_model.specs.declared.entry.JournalEntry.{JournalEntry}
 use Rattle.sleep_model.specs.declared.entry.SourceEntry.{SourceEntry}
 use Rattle.sleep_model.specs.declared.machine.Machine.{Machine}
 use Rattle.sleep_model.specs.Numbers.{word_step, after_step}
-use Rattle.sleep_model.specs.Parts.{Part, OfTime, part_of}
+use Rattle.sleep_model.specs.EntryClasses.{EntryClass, OfTime, class_of}
 use Rattle.sleep_model.specs.Path.{is_same}
 use Rattle.sleep_model.specs.Word.{position}
 
@@ -52,15 +52,15 @@ abbrev pub is_actor_before : Actor → Actor → Bool
 is_actor_before a b = before_or (actor_rank a) (actor_rank b) (nat_lt (actor_number a) (actor_number b))
 
 -- x stands before y: by position, steps on the word after the others, then by tick, then by actor (own)
-abbrev pub stands_before : JournalEntry → JournalEntry → Bool
-stands_before x y =
+abbrev pub precedes : JournalEntry → JournalEntry → Bool
+precedes x y =
     before_or x.stamp.pos y.stamp.pos (before_or (step_number x) (step_number y)
     (before_or x.stamp.tick y.stamp.tick (is_actor_before x.entry.actor y.entry.actor)))
 
 -- an entry put before the first that does not stand before it
 abbrev pub put_in_order : JournalEntry → List JournalEntry → List JournalEntry
 put_in_order x [] = x ∷ []
-put_in_order x (y ∷ ys) = if stands_before y x then y ∷ put_in_order x ys else x ∷ y ∷ ys
+put_in_order x (y ∷ ys) = if precedes y x then y ∷ put_in_order x ys else x ∷ y ∷ ys
 
 -- the entries in order
 abbrev pub in_order : List JournalEntry → List JournalEntry
@@ -82,19 +82,19 @@ merge journal histories = map (λ e. e.entry) (stamped journal histories)
 -- ---- what fits
 
 -- the least position that may follow an entry: the same, and one more after a step
-abbrev pub position_behind : JournalEntry → ℕ
-position_behind e = e.stamp.pos + step_number e
+abbrev pub next_position : JournalEntry → ℕ
+next_position e = e.stamp.pos + step_number e
 
--- ticks rise and positions never fall, and rise after a step, behind that entry
-abbrev pub rises_behind : JournalEntry → List JournalEntry → Bool
-rises_behind e [] = true
-rises_behind e (next ∷ rest) =
-    nat_lt e.stamp.tick next.stamp.tick && nat_le (position_behind e) next.stamp.pos && rises_behind next rest
+-- ticks rise and positions never fall, and rise after a step, after that entry
+abbrev pub rises_after : JournalEntry → List JournalEntry → Bool
+rises_after e [] = true
+rises_after e (next ∷ rest) =
+    nat_lt e.stamp.tick next.stamp.tick && nat_le (next_position e) next.stamp.pos && rises_after next rest
 
 -- so along a whole list
 abbrev pub rises : List JournalEntry → Bool
 rises [] = true
-rises (e ∷ rest) = rises_behind e rest
+rises (e ∷ rest) = rises_after e rest
 
 -- an actor's entries
 abbrev pub entries_of : Actor → List JournalEntry → List JournalEntry
@@ -116,14 +116,14 @@ is_chained word (e ∷ rest) =
     && is_chained (after_step (word_step e.entry.kind) word) rest
 
 -- the entry is a jump of time
-abbrev pub is_jump : Part → Bool
+abbrev pub is_jump : EntryClass → Bool
 is_jump OfTime = true
 is_jump _ = false
 
--- an entry that is no jump has the present time, and a tick behind the last jump's; a jump raises the time, and stands behind all ticks before it
+-- an entry that is no jump has the present time, and a tick after the last jump's; a jump raises the time, and stands after all ticks before it
 abbrev pub fits_time : ℕ → ℕ → ℕ → JournalEntry → Bool
 fits_time time jumped last e =
-    if is_jump (part_of e.entry.kind) then nat_lt time e.entry.time && nat_lt last e.stamp.tick
+    if is_jump (class_of e.entry.kind) then nat_lt time e.entry.time && nat_lt last e.stamp.tick
     else (e.entry.time == time) && nat_lt jumped e.stamp.tick
 
 -- so for all entries, after the last jump's time and tick, and the greatest tick so far
@@ -131,7 +131,7 @@ abbrev pub is_timed : ℕ → ℕ → ℕ → List JournalEntry → Bool
 is_timed time jumped last [] = true
 is_timed time jumped last (e ∷ rest) =
     fits_time time jumped last e
-    && is_timed e.entry.time (if is_jump (part_of e.entry.kind) then e.stamp.tick else jumped)
+    && is_timed e.entry.time (if is_jump (class_of e.entry.kind) then e.stamp.tick else jumped)
     (max last e.stamp.tick) rest
 
 -- the first n of a kind

@@ -109,13 +109,13 @@ moved zero dependents_of d = d ∷ []
 moved (suc levels) dependents_of d = d ∷ flat_map (moved levels dependents_of) (dependents_of d)
 
 -- each device at its last place alone
-abbrev pub last_places : List ℕ → List ℕ
-last_places [] = []
-last_places (x ∷ xs) = if is_among xs x then last_places xs else x ∷ last_places xs
+abbrev pub last_occurrences : List ℕ → List ℕ
+last_occurrences [] = []
+last_occurrences (x ∷ xs) = if is_among xs x then last_occurrences xs else x ∷ last_occurrences xs
 
 -- the order after these are taken out and put at its end (device_pm_move_last)
 abbrev pub moved_last : List ℕ → List ℕ → List ℕ
-moved_last devices order = filter (λ d. not (is_among devices d)) order ++ last_places devices
+moved_last devices order = filter (λ d. not (is_among devices d)) order ++ last_occurrences devices
 
 -- the order after these links, the newest first: each moved its consumer, and all that hangs below it by the links up to this one, to the end (device_link_add)
 abbrev pub order_by : List (Option ℕ) → List Link → List ℕ

@@ -73,12 +73,12 @@ general_in a answers zero = 0
 general_in a answers (suc n) = one_if (is_none (answer_for a.what (Some (suc n)) answers)) + general_in a answers n
 
 -- in how many of the first n attempts an answer stands (own)
-abbrev pub stands_in : Answer → List Answer → ℕ → Option ℕ → ℕ
-stands_in a answers n None = general_in a answers n
-stands_in a answers n (Some k) = one_if (nat_le 1 k && nat_le k n)
+abbrev pub attempts_with : Answer → List Answer → ℕ → Option ℕ → ℕ
+attempts_with a answers n None = general_in a answers n
+attempts_with a answers n (Some k) = one_if (nat_le 1 k && nat_le k n)
 
 -- the places on source s that a machine's calls may need (own)
 abbrev pub places : Machine → ℕ → ℕ
 places m s =
     sum (map (op_places (length m.sources) s) (all_operations m.actors))
-    + sum (map (λ a. stands_in a m.answers (most_attempts m) a.attempt * report_places s a) m.answers)
+    + sum (map (λ a. attempts_with a m.answers (most_attempts m) a.attempt * report_places s a) m.answers)

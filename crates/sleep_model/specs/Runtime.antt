@@ -12,7 +12,7 @@ use Rattle.sleep_model.specs.declared.machine.Device.{Device}
 use Rattle.sleep_model.specs.declared.machine.Machine.{Machine}
 use Rattle.phase_table.specs.declared.phase.Phase.{Phase}
 use Rattle.phase_table.specs.declared.phase.Phase.TheVariants as phase
-use Rattle.sleep_model.specs.Stands.{stands, stand_at, is_prepared, is_direct_complete, is_taken}
+use Rattle.sleep_model.specs.PhaseStates.{phase_states, state_at, is_prepared, is_direct_complete, is_taken}
 
 -- ---- what the file says of a device
 
@@ -96,15 +96,15 @@ disabled_by_late (e ∷ past) = disabled_by_late_after e.kind (disabled_by_late 
 
 -- d was direct-complete in suspend, and resume is not done since: runtime PM of it is disabled (__device_suspend, pm_runtime_disable)
 abbrev pub is_disabled_direct : Machine → ℕ → List Entry → Bool
-is_disabled_direct m d past = disabled_by_direct past && is_direct_complete (stand_at (stands (length m.devices) phase.Suspend past) d)
+is_disabled_direct m d past = disabled_by_direct past && is_direct_complete (state_at (phase_states (length m.devices) phase.Suspend past) d)
 
 -- d was taken by late, and early is not done since: runtime PM of it is disabled (__device_suspend_late, __pm_runtime_disable)
 abbrev pub is_disabled_late : Machine → ℕ → List Entry → Bool
-is_disabled_late m d past = disabled_by_late past && is_taken (stand_at (stands (length m.devices) phase.Late past) d)
+is_disabled_late m d past = disabled_by_late past && is_taken (state_at (phase_states (length m.devices) phase.Late past) d)
 
 -- d is prepared (power.is_prepared)
 abbrev pub is_prepared_device : Machine → ℕ → List Entry → Bool
-is_prepared_device m d past = is_prepared (stand_at (stands (length m.devices) phase.Suspend past) d)
+is_prepared_device m d past = is_prepared (state_at (phase_states (length m.devices) phase.Suspend past) d)
 
 -- ---- requests
 

@@ -12,11 +12,11 @@ use Rattle.sleep_model.specs.declared.machine.Op.{Op}
 use Rattle.sleep_model.specs.declared.machine.Op.TheVariants as op
 use Rattle.sleep_model.specs.declared.log.Why.TheVariants as why
 use Rattle.sleep_model.specs.declared.machine.Machine.{Machine}
-use Rattle.sleep_model.specs.declared.place.Freezing.{Freezing}
-use Rattle.sleep_model.specs.declared.place.Seat.{Seat}
+use Rattle.sleep_model.specs.declared.progress.Freezing.{Freezing}
+use Rattle.sleep_model.specs.declared.progress.ScriptPosition.{ScriptPosition}
 use Rattle.sleep_model.specs.Attempt.{sleeps_now}
-use Rattle.sleep_model.specs.declared.place.Due.{Due}
-use Rattle.sleep_model.specs.declared.place.Due.TheVariants.{Makes, Waits, Gone}
+use Rattle.sleep_model.specs.declared.progress.Due.{Due}
+use Rattle.sleep_model.specs.declared.progress.Due.TheVariants.{Makes, Waits, Exited}
 use Rattle.sleep_model.specs.Word.{visible}
 use Rattle.sleep_model.specs.Numbers.{time_of}
 use Rattle.sleep_model.specs.Guard.{in_force}
@@ -34,7 +34,7 @@ read_due now waits asked =
     if now.inpr == 0 then Makes (kind.Read (visible now))
     else (if waits then (if asked then Makes kind.ReadIntr else Waits why.InProgress) else Makes kind.ReadWait)
 
--- a save is ok exactly where its number is the count and no event is in progress (pm_save_wakeup_count)
+-- a save is ok exactly if its number is the count and no event is in progress (pm_save_wakeup_count)
 abbrev pub save_due : EventNow → ℕ → Due
 save_due now c = if (visible now == c) && (now.inpr == 0) then Makes (kind.Saved c) else Makes (kind.SaveErr c EINVAL)
 
@@ -64,7 +64,7 @@ autosleep_due held begun mem off =
 
 -- a sleep up to that time ends where it has come (schedule_timeout)
 abbrev pub slept_due : Option ℕ → ℕ → Due
-slept_due None time = Gone
+slept_due None time = Exited
 slept_due (Some until) time = if nat_le until time then Makes kind.Slept else Waits (why.Until until)
 
 -- a wait for a mark of that number (own)
@@ -81,44 +81,44 @@ abbrev pub unless_unsaved : Bool → Bool → Due → Due
 unless_unsaved if_saved saved due = if if_saved && not saved then Makes kind.StateUnsaved else due
 
 -- a sleep of so long that has begun or not (schedule_timeout)
-abbrev pub sleep_due : (ℕ → Kind) → ℕ → Seat → ℕ → Due
-sleep_due begins ms seat time = if seat.waits then slept_due seat.until time else Makes (begins (time + ms))
+abbrev pub sleep_due : (ℕ → Kind) → ℕ → ScriptPosition → ℕ → Due
+sleep_due begins ms position time = if position.waits then slept_due position.until time else Makes (begins (time + ms))
 
 -- the next entry of a script at an operation, or its exit; a call on a source makes none (kernel/power/main.c, state_store, wakeup_count_store, autosleep_store)
-abbrev pub step_due : Machine → List Entry → EventNow → Seat → Bool → Option Op → Due
-step_due m past now seat asked None = Makes kind.Exit
-step_due m past now seat asked (Some op.Read) = read_due now seat.waits asked
-step_due m past now seat asked (Some (op.Save count)) =
-    count_due (is_some (holder past)) (is_on past) seat.waits asked now (saved_number count seat.last_read)
-step_due m past now seat asked (Some (op.State text if_saved)) =
-    unless_unsaved if_saved seat.saved
-    (state_due (is_some (holder past)) (is_on past) seat.waits asked (is_mem text)
+abbrev pub step_due : Machine → List Entry → EventNow → ScriptPosition → Bool → Option Op → Due
+step_due m past now position asked None = Makes kind.Exit
+step_due m past now position asked (Some op.Read) = read_due now position.waits asked
+step_due m past now position asked (Some (op.Save count)) =
+    count_due (is_some (holder past)) (is_on past) position.waits asked now (saved_number count position.last_read)
+step_due m past now position asked (Some (op.State text if_saved)) =
+    unless_unsaved if_saved position.saved
+    (state_due (is_some (holder past)) (is_on past) position.waits asked (is_mem text)
     (kind.Attempt (attempts past + 1) (in_force past)))
-step_due m past now seat asked (Some (op.Autosleep text)) =
-    autosleep_due (is_some (holder past)) seat.waits (is_mem text) (is_off text)
-step_due m past now seat asked (Some (op.Sleep ms)) = sleep_due kind.Sleep ms seat (time_of past)
-step_due m past now seat asked (Some (op.SleepD ms)) = sleep_due kind.SleepD ms seat (time_of past)
-step_due m past now seat asked (Some op.FreezePoint) = Makes kind.Pass
-step_due m past now seat asked (Some (op.Post mark)) = Makes (kind.Post mark)
-step_due m past now seat asked (Some (op.Wait mark)) = mark_due mark (mark_at (raised (length m.marks) past) mark)
-step_due m past now seat asked (Some (op.Runtime d to_suspended)) =
+step_due m past now position asked (Some (op.Autosleep text)) =
+    autosleep_due (is_some (holder past)) position.waits (is_mem text) (is_off text)
+step_due m past now position asked (Some (op.Sleep ms)) = sleep_due kind.Sleep ms position (time_of past)
+step_due m past now position asked (Some (op.SleepD ms)) = sleep_due kind.SleepD ms position (time_of past)
+step_due m past now position asked (Some op.FreezePoint) = Makes kind.Pass
+step_due m past now position asked (Some (op.Post mark)) = Makes (kind.Post mark)
+step_due m past now position asked (Some (op.Wait mark)) = mark_due mark (mark_at (raised (length m.marks) past) mark)
+step_due m past now position asked (Some (op.Runtime d to_suspended)) =
     Makes (kind.RuntimeAsk d to_suspended (runtime_due m d to_suspended past))
-step_due m past now seat asked (Some (op.Link supplier consumer)) =
+step_due m past now position asked (Some (op.Link supplier consumer)) =
     Makes (kind.LinkAdd supplier consumer (link_add_due m past supplier consumer))
-step_due m past now seat asked (Some (op.LinkState supplier consumer active)) =
+step_due m past now position asked (Some (op.LinkState supplier consumer active)) =
     Makes (kind.LinkState supplier consumer active (link_state_due m past supplier consumer))
-step_due m past now seat asked (Some _) = Gone
+step_due m past now position asked (Some _) = Exited
 
 -- a frozen task waits, and so does a task while the machine sleeps; one that is asked to freeze does so where it may (try_to_freeze)
-abbrev pub task_due : Machine → List Entry → EventNow → Freezing → TaskKind → Seat → Option Op → Due
-task_due m past now f kind' seat op =
+abbrev pub task_due : Machine → List Entry → EventNow → Freezing → TaskKind → ScriptPosition → Option Op → Due
+task_due m past now f kind' position op =
     if f.frozen then Waits why.Frozen
     else (if sleeps_now past && not (is_line kind') then Waits why.Asleep
-    else (if f.asked && freezes_at (is_user kind') seat.waits op then Makes kind.Frozen
-    else step_due m past now seat f.asked op))
+    else (if f.asked && freezes_at (is_user kind') position.waits op then Makes kind.Frozen
+    else step_due m past now position f.asked op))
 
 -- a script that has exited makes nothing more
-abbrev pub seat_due : Machine → List Entry → EventNow → Freezing → Option Script → Seat → Due
-seat_due m past now f None seat = Gone
-seat_due m past now f (Some s) seat =
-    if seat.exited then Gone else task_due m past now f s.kind seat (slice_get (entry_steps s) seat.done)
+abbrev pub position_due : Machine → List Entry → EventNow → Freezing → Option Script → ScriptPosition → Due
+position_due m past now f None position = Exited
+position_due m past now f (Some s) position =
+    if position.exited then Exited else task_due m past now f s.kind position (slice_get (entry_steps s) position.done)

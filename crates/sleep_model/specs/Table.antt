@@ -16,8 +16,8 @@ use Rattle.sleep_model.specs.declared.machine.PlatUndo.{PlatUndo}
 use Rattle.sleep_model.specs.declared.machine.PlatUndo.TheVariants as undo
 use Rattle.phase_table.specs.declared.phase.Phase.{Phase}
 use Rattle.phase_table.specs.declared.phase.Phase.TheVariants as phase
-use Rattle.sleep_model.specs.declared.place.Stage.{Stage}
-use Rattle.sleep_model.specs.declared.place.Stage.TheVariants as stage
+use Rattle.sleep_model.specs.declared.progress.Stage.{Stage}
+use Rattle.sleep_model.specs.declared.progress.Stage.TheVariants as stage
 use Rattle.phase_table.specs.Phases.{is_down}
 
 -- ---- the table of an attempt
@@ -73,36 +73,36 @@ row (stage.Downs _) = to (stage.PlatformDown down.PrepareLate) (stage.PlatformUp
 -- ---- its columns, by what a stage is of
 
 -- the stage after a stage, where nothing fails (enter_state, suspend_devices_and_enter, suspend_enter)
-abbrev pub behind : Stage → Stage
-behind s = (row s).next
+abbrev pub next_stage : Stage → Stage
+next_stage s = (row s).next
 
 -- the stage after a stage that failed (enter_state, suspend_devices_and_enter, suspend_enter)
 abbrev pub failed_at : Stage → Stage
 failed_at s = (row s).failed
 
 -- after a phase on the devices' way down (suspend_devices_and_enter, suspend_enter)
-abbrev pub behind_down : Phase → Stage
-behind_down p = (row (stage.Downs p)).next
+abbrev pub stage_after_down : Phase → Stage
+stage_after_down p = (row (stage.Downs p)).next
 
 -- after a phase on the devices' way up (suspend_enter, dpm_resume_end)
-abbrev pub behind_up : Phase → Stage
-behind_up p = (row (stage.Ups p)).next
+abbrev pub stage_after_up : Phase → Stage
+stage_after_up p = (row (stage.Ups p)).next
 
 -- after a freeze that left none (suspend_freeze_processes)
-abbrev pub behind_freeze : Group → Stage
-behind_freeze g = (row (stage.Freezes g)).next
+abbrev pub stage_after_freeze : Group → Stage
+stage_after_freeze g = (row (stage.Freezes g)).next
 
 -- after a step of the platform on the way down (suspend_devices_and_enter, suspend_enter)
-abbrev pub behind_platform_down : PlatDo → Stage
-behind_platform_down step = (row (stage.PlatformDown step)).next
+abbrev pub stage_after_platform_down : PlatDo → Stage
+stage_after_platform_down step = (row (stage.PlatformDown step)).next
 
 -- after a step of the platform on the way up (suspend_devices_and_enter, suspend_enter)
-abbrev pub behind_platform_up : PlatUndo → Stage
-behind_platform_up step = (row (stage.PlatformUp step)).next
+abbrev pub stage_after_platform_up : PlatUndo → Stage
+stage_after_platform_up step = (row (stage.PlatformUp step)).next
 
 -- after a thaw (suspend_freeze_processes, suspend_finish)
-abbrev pub behind_thaw : Thaw → Stage
-behind_thaw those = (row (stage.Thaws those)).next
+abbrev pub stage_after_thaw : Thaw → Stage
+stage_after_thaw those = (row (stage.Thaws those)).next
 
 -- after a step of the platform that failed (platform_resume_end, platform_resume_finish, platform_resume_noirq)
 abbrev pub failed_platform_down : PlatDo → Stage
@@ -133,21 +133,21 @@ abbrev pub by_case : Bool → Stage → Stage → Stage
 by_case true here there = here
 by_case false here there = there
 
--- the stage behind a phase that is done (suspend_devices_and_enter, suspend_enter)
+-- the stage after a phase that is done (suspend_devices_and_enter, suspend_enter)
 abbrev pub after_done : Phase → Option Errno → Stage
 after_done phase.Prepare r = by_error r (stage.Downs phase.Suspend) (failed_phase phase.Prepare)
 after_done phase.Syscore r = stage.Enters
 after_done phase.SyscoreResume r = stage.StartsIrqs
 after_done phase.Complete r = stage.PlatformUp undo.End
-after_done p r = if is_down p then by_error r (behind_down p) (failed_phase p) else behind_up p
+after_done p r = if is_down p then by_error r (stage_after_down p) (failed_phase p) else stage_after_up p
 
 -- the stage of the open attempt after an entry (enter_state, suspend_devices_and_enter, suspend_enter)
 abbrev pub stage_after : Kind → Option Stage → Option Stage
 stage_after (kind.Attempt n guarded) before = Some stage.Notifies
 stage_after (kind.NotifyPrepare x r) before = Some (by_error r stage.Notifies stage.Posts)
 stage_after (kind.Freeze g) before = Some (stage.Freezes g)
-stage_after (kind.Froze g end) before = Some (by_froze end (behind_freeze g) (failed_freeze g))
-stage_after (kind.PlatformDo step r) before = Some (by_error r (behind_platform_down step) (failed_platform_down step))
+stage_after (kind.Froze g end) before = Some (by_froze end (stage_after_freeze g) (failed_freeze g))
+stage_after (kind.PlatformDo step r) before = Some (by_error r (stage_after_platform_down step) (failed_platform_down step))
 stage_after (kind.Done p r) before = Some (after_done p r)
 stage_after (kind.CpuOff k) before = Some stage.StopsCpus
 stage_after (kind.CpuBusy k) before = Some stage.StartsCpus
@@ -158,9 +158,9 @@ stage_after (kind.Enter busy) before = Some (by_case busy stage.StartsSyscore st
 stage_after (kind.Wake by_event) before = Some stage.StartsSyscore
 stage_after (kind.SyscoreResume x) before = Some stage.StartsSyscore
 stage_after (kind.CpuOn k) before = Some stage.StartsCpus
-stage_after (kind.PlatformUndo step) before = Some (behind_platform_up step)
+stage_after (kind.PlatformUndo step) before = Some (stage_after_platform_up step)
 stage_after kind.Clear before = Some (stage.Thaws thaw.All)
-stage_after (kind.Thaw those) before = Some (behind_thaw those)
+stage_after (kind.Thaw those) before = Some (stage_after_thaw those)
 stage_after (kind.NotifyPost x) before = Some stage.Posts
 stage_after (kind.Over n r) before = None
 stage_after _ before = before

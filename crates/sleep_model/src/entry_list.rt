@@ -1,7 +1,7 @@
 //! The entries of a log, where most are kept as they stand in a journal.
 
 use crate::entry::{Entry, JournalEntry};
-use crate::journal::{Journal, Made, Moment, entry_at};
+use crate::journal::{Journal, Moment, Recorded, entry_at};
 use std::alloc::{AllocError, Global};
 use std::marker::Model;
 
@@ -23,16 +23,16 @@ pub struct EntryList {
 impl Model for EntryList {
     ghost use Rattle.std.specs.Prelude.{List, reverse};
     ghost use Rattle.sleep_model.specs.declared.entry.Entry.{Entry};
-    ghost use Rattle.sleep_model.specs.Woven.{woven};
+    ghost use Rattle.sleep_model.specs.Interleaved.{interleaved};
 
     ghost Value = { List Entry };
 
-    ghost view = { λ l. woven 0 (reverse l.journal.past) l.others.items };
+    ghost view = { λ l. interleaved 0 (reverse l.journal.past) l.others.items };
 }
 
 impl EntryList {
     ghost use Rattle.std.specs.Prelude.{◌≡◌, ◌++◌, ◌∷◌, [], length, reverse, OnOk, OnErr};
-    ghost use Rattle.sleep_model.specs.Woven.{woven, unread};
+    ghost use Rattle.sleep_model.specs.Interleaved.{interleaved, unread};
 
     /// No entry.
     pub fn new(alloc: Global) -> Self
@@ -44,15 +44,15 @@ impl EntryList {
         }
     }
 
-    /// The entries of a journal, and others among them, each behind as many of the journal as it says.
-    pub fn of_parts(journal: Journal, others: Vec<OtherEntry>) -> Self
-        ensures { result ≡ woven 0 (reverse journal.past) others.items }
+    /// The entries of a journal, and others among them, each after as many of the journal as it says.
+    pub fn of_journal(journal: Journal, others: Vec<OtherEntry>) -> Self
+        ensures { result ≡ interleaved 0 (reverse journal.past) others.items }
     {
         EntryList { journal, others }
     }
 
-    /// Puts an entry behind all others. After an error nothing has changed.
-    #[tactic(auto, using(crate::proofs::Weaving::put_last))]
+    /// Puts an entry after all others. After an error nothing has changed.
+    #[tactic(auto, using(crate::proofs::Interleaving::put_last))]
     pub fn push(&mut self, entry: Entry) -> Result<(), AllocError>
         ensures ok { OnOk result (self.new ≡ self.old ++ entry ∷ []) }
         ensures err { OnErr result (self.new ≡ self.old) }
@@ -63,7 +63,7 @@ impl EntryList {
     }
 
     /// How many entries there are.
-    #[tactic(auto, using(crate::proofs::Weaving::length_all))]
+    #[tactic(auto, using(crate::proofs::Interleaving::length_all))]
     pub fn len(&self) -> usize
         ensures { result ≡ length self.now }
     {
@@ -74,7 +74,7 @@ impl EntryList {
     pub fn reader(&self) -> EntryReader<'_>
         ensures { unread result ≡ self.now }
     {
-        let (moments, made) = self.journal.parts();
+        let (moments, made) = self.journal.moments_and_entries();
         EntryReader {
             passed: 0,
             moments,
@@ -90,25 +90,25 @@ pub struct EntryReader<'a> {
     /// How many of the journal were read.
     passed: usize,
     moments: &'a [Moment],
-    made: &'a [Made],
+    made: &'a [Recorded],
     others: &'a [OtherEntry],
 }
 
 impl<'a> Model for EntryReader<'a> {
-    ghost use Rattle.sleep_model.specs.Woven.{Unread};
+    ghost use Rattle.sleep_model.specs.Interleaved.{Unread};
 
     ghost Value = { Unread };
 
-    ghost use Rattle.sleep_model.specs.ReaderFields.{left, AreReadable};
+    ghost use Rattle.sleep_model.specs.ReaderFields.{unread_seen, AreReadable};
 
-    ghost view = { left };
+    ghost view = { unread_seen };
 
     ghost invariant = { AreReadable };
 }
 
 impl<'a> EntryReader<'a> {
     ghost use Rattle.std.specs.Prelude.{◌≡◌, ◌∷◌, [], true, MatchOption};
-    ghost use Rattle.sleep_model.specs.Woven.{unread, is_ahead, is_journals_turn};
+    ghost use Rattle.sleep_model.specs.Interleaved.{unread, is_ahead, is_journals_turn};
 
     /// Whether that one of the others stands before all that is left of the journal.
     #[inline(always)]
@@ -120,7 +120,7 @@ impl<'a> EntryReader<'a> {
 
     /// The next entry, where it is the journal's. `None` at the end.
     #[inline(always)]
-    #[tactic(auto, using(crate::proofs::Weaving::read_journal, crate::proofs::Weaving::read_none))]
+    #[tactic(auto, using(crate::proofs::Interleaving::read_journal, crate::proofs::Interleaving::read_none))]
     fn next_of_journal(&mut self) -> Option<Entry>
         requires { is_journals_turn self.old.passed self.old.journal self.old.others ≡ true }
         ensures { MatchOption result ((unread self.old ≡ []) × (self.new ≡ self.old)) (λ e. unread self.old ≡ e ∷ unread self.new) }
@@ -134,7 +134,7 @@ impl<'a> EntryReader<'a> {
 
     /// The next entry. `None` at the end.
     #[inline(always)]
-    #[tactic(auto, using(crate::proofs::Weaving::read_other))]
+    #[tactic(auto, using(crate::proofs::Interleaving::read_other))]
     pub fn next(&mut self) -> Option<Entry>
         ensures { MatchOption result ((unread self.old ≡ []) × (self.new ≡ self.old)) (λ e. unread self.old ≡ e ∷ unread self.new) }
     {

@@ -16,10 +16,10 @@ pub(crate) struct Moment {
     stamp: Stamp,
 }
 
-/// An entry: the number of its moment, how many ticks it stands behind that moment's first, who made it,
+/// An entry: the number of its moment, how many ticks it stands after that moment's first, who made it,
 /// and what it was.
 #[derive(Clone, Copy)]
-pub(crate) struct Made {
+pub(crate) struct Recorded {
     moment: u32,
     ticks: u32,
     actor: Actor,
@@ -30,25 +30,25 @@ pub(crate) struct Made {
 #[derive(Drop)]
 pub struct Journal {
     moments: Vec<Moment>,
-    made: Vec<Made>,
+    made: Vec<Recorded>,
     room: usize,
 }
 
 impl Model for Journal {
-    ghost use Rattle.sleep_model.specs.Journals.{Places};
+    ghost use Rattle.sleep_model.specs.Journals.{JournalRoom};
 
-    ghost Value = { Places };
+    ghost Value = { JournalRoom };
 
-    ghost use Rattle.sleep_model.specs.JournalFields.{places, AreKept};
+    ghost use Rattle.sleep_model.specs.JournalFields.{journal_room, JournalInvariant};
 
-    ghost view = { places };
+    ghost view = { journal_room };
 
-    ghost invariant = { AreKept };
+    ghost invariant = { JournalInvariant };
 }
 
-/// How many ticks an entry stands behind the first of that moment, if it is of that moment.
+/// How many ticks an entry stands after the first of that moment, if it is of that moment.
 #[inline(always)]
-fn ticks_behind(moment: Moment, one: JournalEntry) -> Option<u32>
+fn ticks_after(moment: Moment, one: JournalEntry) -> Option<u32>
     ensures { IfSome result (λ ticks. IsShared moment one ticks) }
 {
     let JournalEntry { stamp, entry } = one;
@@ -62,7 +62,7 @@ fn ticks_behind(moment: Moment, one: JournalEntry) -> Option<u32>
     Some(ticks as u32)
 }
 
-/// The entry's moment, the last or a new one, and how many ticks the entry stands behind its first.
+/// The entry's moment, the last or a new one, and how many ticks the entry stands after its first.
 #[inline(always)]
 #[tactic(auto, using(crate::proofs::Journals::found_last, crate::proofs::Journals::found_new))]
 fn found(moments: &mut Vec<Moment>, one: JournalEntry) -> (u32, u32)
@@ -75,7 +75,7 @@ fn found(moments: &mut Vec<Moment>, one: JournalEntry) -> (u32, u32)
 {
     let count = moments.len();
     if count > 0 {
-        if let Some(ticks) = ticks_behind(moments[count - 1], one) {
+        if let Some(ticks) = ticks_after(moments[count - 1], one) {
             return (count as u32 - 1, ticks);
         }
     }
@@ -89,7 +89,7 @@ fn found(moments: &mut Vec<Moment>, one: JournalEntry) -> (u32, u32)
 
 /// The entry that was made so.
 #[inline(always)]
-pub(crate) fn entry_at(moments: &[Moment], made: &Made) -> JournalEntry
+pub(crate) fn entry_at(moments: &[Moment], made: &Recorded) -> JournalEntry
     requires { IsOf moments.now made.now }
     ensures { result ≡ entry_of (moment_at moments.now made.now.moment) made.now }
 {
@@ -123,22 +123,22 @@ impl Journal {
         }
     }
 
-    /// Sees that at least `places` places are reserved. After an error nothing has changed.
-    pub fn reserve(&mut self, places: usize) -> Result<(), AllocError>
+    /// Sees that at least `journal_room` places are reserved. After an error nothing has changed.
+    pub fn reserve(&mut self, journal_room: usize) -> Result<(), AllocError>
         ensures past { self.new.past ≡ self.old.past }
         ensures room { self.old.room ≤ self.new.room }
-        ensures ok { OnOk result (places ≤ self.new.room) }
-        ensures enough { places ≤ self.old.room → IsOk result }
+        ensures ok { OnOk result (journal_room ≤ self.new.room) }
+        ensures enough { journal_room ≤ self.old.room → IsOk result }
         ensures err { OnErr result (self.new ≡ self.old) }
     {
-        if self.room < places {
+        if self.room < journal_room {
             // A moment's number has to fit.
-            if u32::MAX as usize - self.moments.len() <= places {
+            if u32::MAX as usize - self.moments.len() <= journal_room {
                 return Err(AllocError);
             }
-            self.moments.reserve(places)?;
-            self.made.reserve(places)?;
-            self.room = places;
+            self.moments.reserve(journal_room)?;
+            self.made.reserve(journal_room)?;
+            self.room = journal_room;
         }
         Ok(())
     }
@@ -167,7 +167,7 @@ impl Journal {
     {
         let (moment, ticks) = found(&mut self.moments, one);
         let Entry { actor, kind, .. } = one.entry;
-        self.made.push_reserved(Made {
+        self.made.push_reserved(Recorded {
             moment,
             ticks,
             actor,
@@ -187,7 +187,7 @@ impl Journal {
     }
 
     /// The moments, and the entries of them, the oldest first.
-    pub(crate) fn parts(&self) -> (&[Moment], &[Made])
+    pub(crate) fn moments_and_entries(&self) -> (&[Moment], &[Recorded])
         ensures items { items_of result.0.now result.1.now ≡ reverse self.now.past }
         ensures kept { AreOf result.0.now result.1.now }
     {
@@ -199,7 +199,7 @@ impl Journal {
 #[derive(Drop)]
 pub struct JournalReader<'a> {
     moments: &'a [Moment],
-    made: &'a [Made],
+    made: &'a [Recorded],
 }
 
 impl<'a> Model for JournalReader<'a> {

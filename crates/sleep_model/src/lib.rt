@@ -22,7 +22,7 @@ mod log;
 mod machine;
 mod name;
 mod numbered;
-mod place;
+mod progress;
 mod word;
 mod words;
 
@@ -42,6 +42,8 @@ pub use machine::{
 };
 pub use name::{AUTOSLEEP, NAME_BYTES, Name, are_name_bytes, is_name};
 pub use phase_table::Phase;
-pub use place::{AsyncWork, Callback, Due, Freezing, Seat, Sleep, Stage, Stand, Work};
+pub use progress::{
+    AsyncWork, Callback, Due, Freezing, PhaseState, ScriptPosition, Sleep, Stage, Work,
+};
 pub use word::{EventNow, Stamp, WordKind, WordStep, pos, visible};
 pub use words::{link_word, runtime_word, state_word};

@@ -102,7 +102,7 @@ pub enum Op {
     Save {
         count: Option<u32>,
     },
-    /// Writes `/sys/power/state`; with `if_saved` only where this task's last save was ok.
+    /// Writes `/sys/power/state`; with `if_saved` only if this task's last save was ok.
     State {
         text: Text,
         if_saved: bool,

@@ -54,7 +54,7 @@ impl Model for Name {
 impl Name {
     ghost use Rattle.std.specs.Prelude.{◌≡◌, ◌<◌, ◌≤◌, ℕ, codes, length, IfSome, IfNone};
 
-    /// The name that these bytes spell. None exactly where they are no byte at all, or more than 32.
+    /// The name that these bytes spell. None exactly if they are no byte at all, or more than 32.
     pub fn of_bytes(bytes: &[u8]) -> Option<Name>
         ensures name { IfSome result (λ n. n ≡ bytes.now) }
         ensures fits { IfSome result (λ _. (0 < length bytes.now) × (length bytes.now ≤ 32)) }

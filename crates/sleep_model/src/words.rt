@@ -43,7 +43,7 @@ impl TaskKind {
         task_kinds!(name of self)
     }
 
-    /// The kind whose word these bytes are. None exactly where they are no kind's word.
+    /// The kind whose word these bytes are. None exactly if they are no kind's word.
     pub fn of_bytes(bytes: &[u8]) -> Option<TaskKind>
         ensures found { IfSome result (λ k. bytes.now ≡ kind_word k) }
         ensures none { IfNone result ((k : TaskKind) → bytes.now ≢ kind_word k) }
@@ -69,7 +69,7 @@ impl Group {
         groups!(name of self)
     }
 
-    /// The group whose word these bytes are. None exactly where they are no group's word.
+    /// The group whose word these bytes are. None exactly if they are no group's word.
     pub fn of_bytes(bytes: &[u8]) -> Option<Group>
         ensures found { IfSome result (λ g. bytes.now ≡ group_word g) }
         ensures none { IfNone result ((g : Group) → bytes.now ≢ group_word g) }
@@ -96,7 +96,7 @@ impl SkipCause {
         skip_causes!(name of self)
     }
 
-    /// The cause whose word these bytes are. None exactly where they are no cause's word.
+    /// The cause whose word these bytes are. None exactly if they are no cause's word.
     pub fn of_bytes(bytes: &[u8]) -> Option<SkipCause>
         ensures found { IfSome result (λ c. bytes.now ≡ cause_text c) }
         ensures none { IfNone result ((c : SkipCause) → bytes.now ≢ cause_text c) }
@@ -123,7 +123,7 @@ impl PlatDo {
         steps_down!(name of self)
     }
 
-    /// The platform's step whose word these bytes are. None exactly where they are no such word.
+    /// The platform's step whose word these bytes are. None exactly if they are no such word.
     pub fn of_bytes(bytes: &[u8]) -> Option<PlatDo>
         ensures found { IfSome result (λ s. bytes.now ≡ down_word s) }
         ensures none { IfNone result ((s : PlatDo) → bytes.now ≢ down_word s) }
@@ -151,7 +151,7 @@ impl PlatUndo {
         steps_up!(name of self)
     }
 
-    /// The platform's step up whose word these bytes are. None exactly where they are no such word.
+    /// The platform's step up whose word these bytes are. None exactly if they are no such word.
     pub fn of_bytes(bytes: &[u8]) -> Option<PlatUndo>
         ensures found { IfSome result (λ s. bytes.now ≡ up_word s) }
         ensures none { IfNone result ((s : PlatUndo) → bytes.now ≢ up_word s) }

@@ -15,7 +15,7 @@ pub did_append : (xs ys : List Turn) → did_in (xs ++ ys) ≡ did_in xs + did_i
 did_append [] ys = omega arith
 did_append (x ∷ xs) ys = let e = did_append xs ys in omega arith
 
--- behind turns without a Stop come others
+-- after turns without a Stop come others
 pub on_append : (stop : Bool) (xs ys : List Turn) → goes_on false xs ≡ true → goes_on stop ys ≡ true → goes_on stop (xs ++ ys) ≡ true
 on_append stop [] ys h k = k
 on_append stop (Stop ∷ []) ys h k = grind (arith, h)

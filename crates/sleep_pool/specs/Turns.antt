@@ -69,7 +69,7 @@ WentIdle made left most old turns new = WentOn made left most old turns new × I
 abbrev pub WentToStop : {J : Type 0} → (J → List Turn → J → Type 0) → (J → ℕ) → ℕ → J → List Turn → J → Type 0
 WentToStop made left most old turns new = Went made left true most old turns new × (length turns ≡ most) × StopsAtLast turns
 
--- n rounds were made, and one that a job's Stop cut short: those before it had a turn more than those behind it
+-- n rounds were made, and one that a job's Stop cut short: those before it had a turn more than those after it
 abbrev pub CutShort : {J : Type 0} → (J → List Turn → J → Type 0) → (J → ℕ) → ℕ → List J → List J → Type 0
 CutShort made left rounds [] news = ⊥
 CutShort made left rounds (old ∷ olds) [] = ⊥

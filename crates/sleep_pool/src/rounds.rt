@@ -5,7 +5,7 @@ use crate::turns::{Job, Turn};
 
 /// How a round ended.
 #[derive(Clone, Copy, Drop)]
-pub struct Round {
+pub struct RoundResult {
     /// How many turns did something.
     pub did: u64,
     /// Whether a turn was a `Stop`, which ends the round.
@@ -13,7 +13,7 @@ pub struct Round {
 }
 
 /// One turn of one job.
-fn one_turn<W, J: Job<W>>(job: &mut J, shared: &W, now: u64) -> Round
+fn one_turn<W, J: Job<W>>(job: &mut J, shared: &W, now: u64) -> RoundResult
     requires left { 0 < J.left job.old }
     requires goes { J.goes job.old shared.now now }
     ensures went { AllWent (Went J.made J.left result.stopped 1) (job.old ∷ []) (job.new ∷ []) result.did }
@@ -25,15 +25,15 @@ fn one_turn<W, J: Job<W>>(job: &mut J, shared: &W, now: u64) -> Round
 {
     let turn = job.turn(shared, now);
     match turn {
-        Turn::Did => Round {
+        Turn::Did => RoundResult {
             did: 1,
             stopped: false,
         },
-        Turn::NotYet | Turn::Done => Round {
+        Turn::NotYet | Turn::Done => RoundResult {
             did: 0,
             stopped: false,
         },
-        Turn::Stop => Round {
+        Turn::Stop => RoundResult {
             did: 0,
             stopped: true,
         },
@@ -41,7 +41,7 @@ fn one_turn<W, J: Job<W>>(job: &mut J, shared: &W, now: u64) -> Round
 }
 
 /// One turn of each job, in their order, up to a `Stop`.
-pub fn one_round<W, J: Job<W>>(jobs: &mut [J], shared: &W, now: u64) -> Round
+pub fn one_round<W, J: Job<W>>(jobs: &mut [J], shared: &W, now: u64) -> RoundResult
     requires left { All (λ j. 0 < J.left j) jobs.old }
     requires goes { All (λ j. J.goes j shared.now now) jobs.old }
     ensures went { AllWent (Went J.made J.left result.stopped 1) jobs.old jobs.new result.did }
@@ -53,7 +53,7 @@ pub fn one_round<W, J: Job<W>>(jobs: &mut [J], shared: &W, now: u64) -> Round
     ensures goes { All (λ j. J.goes j shared.now now) jobs.new }
 {
     if jobs.is_empty() {
-        return Round {
+        return RoundResult {
             did: 0,
             stopped: false,
         };
@@ -67,7 +67,7 @@ pub fn one_round<W, J: Job<W>>(jobs: &mut [J], shared: &W, now: u64) -> Round
         return ahead;
     }
     let behind = one_round(back, shared, now);
-    Round {
+    RoundResult {
         did: ahead.did + behind.did,
         stopped: behind.stopped,
     }

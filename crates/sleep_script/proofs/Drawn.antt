@@ -12,7 +12,7 @@ use Rattle.sleep_model.specs.declared.machine.Notifier.{Notifier}
 use Rattle.sleep_model.specs.declared.machine.Script.{Script}
 use Rattle.sleep_model.specs.declared.machine.TaskKind.TheVariants.{Irq}
 use Rattle.sleep_script.specs.declared.draws.Draws.{Draws}
-use Rattle.sleep_script.specs.Generated.{drawn, draw, drawn_parent, drawn_device, drawn_links, sleeper, drawn_event, line, behind_links, generated}
+use Rattle.sleep_script.specs.Generated.{drawn, draw, drawn_parent, drawn_device, drawn_links, sleeper, drawn_event, line, after_links, generated}
 
 -- one device more
 pub more_parents : (seed i : ℕ) → 1 ≤ i →
@@ -76,21 +76,21 @@ one_device seed devices i bit parents old new d l e b f g h =
     device : Option ℕ → ℕ → Device
     device p x = record { name = codes "d" ++ decimal i; parent = p; flags = record { 0 = x } }
 
--- the machine from its parts, where each drew behind the one before
+-- the machine from its parts, where each drew after the one before
 pub machine_is : (seed count : ℕ) (a b c : Draws) (devices : List Device) (links : List Link) (task irq : Script) (actors : List Script) (x y z : List ℕ) (sources syscore marks : List (List ℕ)) (notifiers : List Notifier) (answers : List Answer) →
     a ≡ draws_at seed 1 → devices ≡ map (drawn_device a.seed count) (range_with_len 0 count) → b ≡ draws_at a.seed (2 * count) → links ≡ drawn_links b.seed count (count / 4) →
-    c ≡ draws_at b.seed (behind_links count) → task ≡ sleeper → irq ≡ line c.seed c.next → actors ≡ task ∷ irq ∷ [] →
+    c ≡ draws_at b.seed (after_links count) → task ≡ sleeper → irq ≡ line c.seed c.next → actors ≡ task ∷ irq ∷ [] →
     x ≡ codes "s0" → y ≡ codes "s1" → z ≡ codes "s2" → sources ≡ x ∷ y ∷ z ∷ [] → syscore ≡ [] → notifiers ≡ [] → marks ≡ [] → answers ≡ [] →
     record { alarm_ms = 1000; cpus = 1; auto_cycles = 16; devices = devices; links = links; syscore = syscore; notifiers = notifiers; sources = sources; marks = marks; actors = actors; answers = answers } ≡ generated seed count
 machine_is seed count a b c devices links task irq actors x y z sources syscore marks notifiers answers ea ed eb el ec et ei eac ex ey ez es esy en em ean =
     let sa : a.seed ≡ seed = ap (λ (d : Draws). d.seed) ea in
     let sb : b.seed ≡ seed = ap (λ (d : Draws). d.seed) eb ∙ sa in
     let sc : c.seed ≡ seed = ap (λ (d : Draws). d.seed) ec ∙ sb in
-    let nc : c.next ≡ behind_links count = ap (λ (d : Draws). d.next) ec in
+    let nc : c.next ≡ after_links count = ap (λ (d : Draws). d.next) ec in
     let ds : devices ≡ map (drawn_device seed count) (range_with_len 0 count) = ed ∙ ap (λ (s : ℕ). map (drawn_device s count) (range_with_len 0 count)) sa in
     let ls : links ≡ drawn_links seed count (count / 4) = el ∙ ap (λ (s : ℕ). drawn_links s count (count / 4)) sb in
-    let ln : irq ≡ line seed (behind_links count) = ei ∙ (ap (λ (s : ℕ). line s c.next) sc ∙ ap (line seed) nc) in
-    let acs : actors ≡ sleeper ∷ line seed (behind_links count) ∷ [] = eac ∙ (ap (λ (s : Script). s ∷ irq ∷ []) et ∙ ap (λ (s : Script). sleeper ∷ s ∷ []) ln) in
+    let ln : irq ≡ line seed (after_links count) = ei ∙ (ap (λ (s : ℕ). line s c.next) sc ∙ ap (line seed) nc) in
+    let acs : actors ≡ sleeper ∷ line seed (after_links count) ∷ [] = eac ∙ (ap (λ (s : Script). s ∷ irq ∷ []) et ∙ ap (λ (s : Script). sleeper ∷ s ∷ []) ln) in
     let srcs : sources ≡ codes "s0" ∷ codes "s1" ∷ codes "s2" ∷ [] = es ∙ (ap (λ (n : List ℕ). n ∷ y ∷ z ∷ []) ex ∙ (ap (λ (n : List ℕ). codes "s0" ∷ n ∷ z ∷ []) ey ∙ ap (λ (n : List ℕ). codes "s0" ∷ codes "s1" ∷ n ∷ []) ez)) in
     ap (λ (v : List Device). machine v links syscore notifiers sources marks actors answers) ds
     ∙ (ap (λ (v : List Link). machine (generated seed count).devices v syscore notifiers sources marks actors answers) ls

@@ -10,7 +10,7 @@ use Rattle.sleep_model.specs.declared.log.Want.TheVariants as want
 use Rattle.sleep_model.specs.declared.machine.Machine.{Machine}
 use Rattle.sleep_model.specs.declared.machine.SourceCall.{SourceCall}
 use Rattle.sleep_model.specs.declared.word.Stamp.{Stamp}
-use Rattle.sleep_model.specs.Calls.{calls_behind, ends_turn, one_more, note, report_calls, turns_ended, calls_of, calls_due}
+use Rattle.sleep_model.specs.Calls.{calls_after_turn, ends_turn, one_more, note, report_calls, turns_ended, calls_of, calls_due}
 use Rattle.sleep_model.specs.Path.{attempts, attempts_after, is_same}
 use Rattle.sleep_script.specs.Jobs.{JobState, first_job, is_exit, after_turn, after_call, raised, IsWanted, has_exited, IsJobOf}
 
@@ -43,8 +43,8 @@ longer : (b : Bool) (xs ys zs : List Kind) → length xs ≤ length (cond b (xs 
 longer true xs ys zs = omega (arith, length-append (xs ++ ys) zs, length-append xs ys)
 longer false xs ys zs = omega arith
 
-behind_same : (m m' : Machine) (who who' : Actor) (b : Bool) (t t' : ℕ) → m ≡ m' → who ≡ who' → t ≡ t' → calls_behind m who b (t + 1) ≡ calls_behind m' who' b (t' + 1)
-behind_same m m' who who' b t t' one two three = cc
+after_same : (m m' : Machine) (who who' : Actor) (b : Bool) (t t' : ℕ) → m ≡ m' → who ≡ who' → t ≡ t' → calls_after_turn m who b (t + 1) ≡ calls_after_turn m' who' b (t' + 1)
+after_same m m' who who' b t t' one two three = cc
 
 -- after an entry of its own that was due with all calls made, where so many attempts are begun
 pub own_entry : (m : Machine) (who : Actor) (e : Entry) (past : List Entry) (made : ℕ) (job : JobState) (stamp : Stamp) (attempt : ℕ)
@@ -57,11 +57,11 @@ own_entry m who e past made job stamp attempt same begun due h = record {
   pending_is =
       ap₂ (λ (xs ys : List Kind). xs ++ ys)
       (ap₂ (λ (x : Machine) (n : ℕ). report_calls x n e.kind) h.machine_is begun ∙ reports_before m (attempts past) e.kind)
-      (behind_same job.machine m job.who who (ends_turn e.kind) job.turns (turns_ended who past) h.machine_is h.actor_is h.turns_are)
-      ∙ sym (grown (is_same e.actor who) (calls_of m who past) (report_calls m (attempts past) e.kind) (calls_behind m who (ends_turn e.kind) (turns_ended who past + 1)) made same due);
+      (after_same job.machine m job.who who (ends_turn e.kind) job.turns (turns_ended who past) h.machine_is h.actor_is h.turns_are)
+      ∙ sym (grown (is_same e.actor who) (calls_of m who past) (report_calls m (attempts past) e.kind) (calls_after_turn m who (ends_turn e.kind) (turns_ended who past + 1)) made same due);
   calls_are = h.calls_are;
   exited_is = ap (λ b. is_exit e.kind || b) h.exited_is ∙ ap (λ b. (b && is_exit e.kind) || has_exited who past) (sym same);
-  fits = omega (arith, h.fits, longer (is_same e.actor who) (calls_of m who past) (report_calls m (attempts past) e.kind) (calls_behind m who (ends_turn e.kind) (turns_ended who past + 1)));
+  fits = omega (arith, h.fits, longer (is_same e.actor who) (calls_of m who past) (report_calls m (attempts past) e.kind) (calls_after_turn m who (ends_turn e.kind) (turns_ended who past + 1)));
 }
 
 -- ---- an entry of another
@@ -70,7 +70,7 @@ own_entry m who e past made job stamp attempt same begun due h = record {
 pub other_entry : (m : Machine) (who : Actor) (e : Entry) (past : List Entry) (made : ℕ) (job : JobState) → is_same e.actor who ≡ false → IsJobOf m who past made job → IsJobOf m who (e ∷ past) made job
 other_entry m who e past made job other h =
     let calls : calls_of m who (e ∷ past) ≡ calls_of m who past =
-    ap (λ b. cond b (calls_of m who past ++ report_calls m (attempts past) e.kind ++ calls_behind m who (ends_turn e.kind) (turns_ended who past + 1)) (calls_of m who past)) other in
+    ap (λ b. cond b (calls_of m who past ++ report_calls m (attempts past) e.kind ++ calls_after_turn m who (ends_turn e.kind) (turns_ended who past + 1)) (calls_of m who past)) other in
     record {
       machine_is = h.machine_is;
       actor_is = h.actor_is;
@@ -113,17 +113,17 @@ floor_raised m who journal made job stamp h = record {
 
 -- ---- what comes next
 
-first_behind : (n : ℕ) (xs : List Kind) → slice_get (drop n xs) 0 ≡ slice_get xs n
-first_behind zero [] = refl
-first_behind zero (x ∷ xs) = refl
-first_behind (suc n) [] = refl
-first_behind (suc n) (x ∷ xs) = first_behind n xs
+first_after : (n : ℕ) (xs : List Kind) → slice_get (drop n xs) 0 ≡ slice_get xs n
+first_after zero [] = refl
+first_after zero (x ∷ xs) = refl
+first_after (suc n) [] = refl
+first_after (suc n) (x ∷ xs) = first_after n xs
 
 -- the first call that is left is the next that is due
 pub next_is : (m : Machine) (who : Actor) (journal : List Entry) (made : ℕ) (job : JobState) → IsJobOf m who journal made job → slice_get job.pending 0 ≡ slice_get (calls_of m who journal) made
-next_is m who journal made job h = ap (λ xs. slice_get xs 0) h.pending_is ∙ first_behind made (calls_of m who journal)
+next_is m who journal made job h = ap (λ xs. slice_get xs 0) h.pending_is ∙ first_after made (calls_of m who journal)
 
--- no call is left exactly where all that are due were made
+-- no call is left exactly if all that are due were made
 pub all_made : (m : Machine) (who : Actor) (journal : List Entry) (made : ℕ) (job : JobState) → IsJobOf m who journal made job → (job.pending ≡ []) ↔ (made ≡ calls_due m who journal)
 all_made m who journal made job h = (
   λ (none : job.pending ≡ []). omega (arith, h.fits, left_are m who journal made job h, ap length none),

@@ -12,7 +12,7 @@ use Rattle.sleep_model.specs.Accepted.{IsAccepted, AreScripts, AreSteps}
 use Rattle.sleep_model.specs.Links.{AreLinks, is_linked}
 use Rattle.sleep_model.specs.Order.{EachAfterParent, parents_of}
 use Rattle.sleep_model.specs.Places.{places, op_places, all_operations, link_steps, most_attempts}
-use Rattle.sleep_script.specs.Generated.{drawn, draw, drawn_parent, drawn_device, drawn_links, sleeper, drawn_event, behind_links, generated}
+use Rattle.sleep_script.specs.Generated.{drawn, draw, drawn_parent, drawn_device, drawn_links, sleeper, drawn_event, after_links, generated}
 use Rattle.sleep_script.proofs.Rising.{AreRising, not_below}
 
 less : (x n : ℕ) → 0 < n → x % n < n
@@ -60,12 +60,12 @@ linked_any u v (l ∷ ls) = ap (λ b. (l.supplier == u && l.consumer == v) || b)
 
 module _ (ps : List (Option ℕ)) (after : EachAfterParent 0 ps) where
   -- links that may be added in turn, each rising
-  record Stand (ls : List Link) : Type 0 where
+  record PhaseState (ls : List Link) : Type 0 where
     pub linked : AreLinks ps (reverse ls)
     pub rising : AreRising (reverse ls)
 
-  one_more : (u v : ℕ) (ls : List Link) → u < length ps → v < length ps → Stand ls → (b : Bool) → (nat_lt u v && not (list_any (λ (l : Link). l.supplier == u && l.consumer == v) ls)) ≡ b
-      → Stand (cond b (ls ++ record { supplier = u; consumer = v; active = true } ∷ []) ls)
+  one_more : (u v : ℕ) (ls : List Link) → u < length ps → v < length ps → PhaseState ls → (b : Bool) → (nat_lt u v && not (list_any (λ (l : Link). l.supplier == u && l.consumer == v) ls)) ≡ b
+      → PhaseState (cond b (ls ++ record { supplier = u; consumer = v; active = true } ∷ []) ls)
   one_more u v ls hu hv s false e = s
   one_more u v ls hu hv s true e =
       let both = and_parts (nat_lt u v) (not (list_any (λ (l : Link). l.supplier == u && l.consumer == v) ls)) e in
@@ -77,7 +77,7 @@ module _ (ps : List (Option ℕ)) (after : EachAfterParent 0 ps) where
         rising = subst AreRising (sym back) (up, s.rising);
       }
 
-  stand : (seed devices : ℕ) → length ps ≡ devices → 1 ≤ devices → (n : ℕ) → Stand (drawn_links seed devices n)
+  stand : (seed devices : ℕ) → length ps ≡ devices → 1 ≤ devices → (n : ℕ) → PhaseState (drawn_links seed devices n)
   stand seed devices l h zero = record { linked = tt; rising = tt }
   stand seed devices l h (suc n) =
       let u = draw seed (2 * devices + 2 * n) devices in
@@ -105,7 +105,7 @@ event_steps seed devices k rest h =
 
 scripts : (seed devices : ℕ) → AreScripts (generated seed devices) (generated seed devices).actors
 scripts seed devices =
-    let k = behind_links devices in
+    let k = after_links devices in
     let event = λ (n : ℕ). drawn_event seed (k + 3 * n) in
     let calls : AreSteps (generated seed devices) (event 0 ++ (event 1 ++ (event 2 ++ (event 3 ++ [])))) =
     event_steps seed devices (k + 3 * 0) (event 1 ++ (event 2 ++ (event 3 ++ [])))
@@ -158,7 +158,7 @@ event_places s source ms = by_test (source == s) (ms == 0)
 
 pub few_places : (seed devices s : ℕ) → places (generated seed devices) s ≤ 16
 few_places seed devices s =
-    let k = behind_links devices in
+    let k = after_links devices in
     let a = event_places s (draw seed (k + 3 * 0 + 1) 3) (50 * draw seed (k + 3 * 0 + 2) 2) in
     let b = event_places s (draw seed (k + 3 * 1 + 1) 3) (50 * draw seed (k + 3 * 1 + 2) 2) in
     let d = event_places s (draw seed (k + 3 * 2 + 1) 3) (50 * draw seed (k + 3 * 2 + 2) 2) in

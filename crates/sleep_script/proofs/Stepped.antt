@@ -9,11 +9,11 @@ use Rattle.script_plan.specs.CallPlans.{noted}
 
 -- ---- the next call
 
-first_behind : (n : ℕ) (xs : List Kind) → slice_get xs n ≡ slice_get (drop n xs) 0
-first_behind zero [] = refl
-first_behind zero (x ∷ xs) = refl
-first_behind (suc n) [] = refl
-first_behind (suc n) (x ∷ xs) = first_behind n xs
+first_after : (n : ℕ) (xs : List Kind) → slice_get xs n ≡ slice_get (drop n xs) 0
+first_after zero [] = refl
+first_after zero (x ∷ xs) = refl
+first_after (suc n) [] = refl
+first_after (suc n) (x ∷ xs) = first_after n xs
 
 -- where a call is left and no report, one of the own calls is left
 own_left : (own : List Report) (made : ℕ) (xs : List Kind) → map noted own ≡ xs → 0 < length (drop made xs) → made < length own
@@ -23,7 +23,7 @@ own_left own made xs are some = omega (arith, some, length-drop made xs, sym (ap
 pub own_next : (rs own : List Report) (made : ℕ) (xs : List Kind) (r : Report) → None ≡ slice_get rs 0 → map noted own ≡ xs → 0 < length (map noted rs ++ drop made xs)
     → slice_get (map noted rs ++ drop made xs) 0 ≡ Some (noted (get_or own made r))
 own_next [] own made xs r none are some =
-    sym (first_behind made xs)
+    sym (first_after made xs)
     ∙ (ap (λ ys. slice_get ys made) (sym are) ∙ (slice_get-map noted own made ∙ ap (option_map noted) (slice_get-get_or own made r (own_left own made xs are some))))
 own_next (x ∷ rs) own made xs r none are some = cc
 

@@ -53,9 +53,9 @@ drawn_event seed k = once (Sleep (100 + draw seed k 900)) ∷ once (Event (draw 
 abbrev pub line : ℕ → ℕ → Script
 line seed k = record { name = codes "line"; kind = Irq; repeat = 1; steps = flat_map (λ n. drawn_event seed (k + 3 * n)) (range_with_len 0 4) }
 
--- the first number behind those that the devices and links take (own)
-abbrev pub behind_links : ℕ → ℕ
-behind_links devices = 2 * devices + 2 * (devices / 4)
+-- the first number after those that the devices and links take (own)
+abbrev pub after_links : ℕ → ℕ
+after_links devices = 2 * devices + 2 * (devices / 4)
 
 -- the machine of a seed and a number of devices (own)
 abbrev pub generated : ℕ → ℕ → Machine
@@ -69,6 +69,6 @@ generated seed devices = record {
   notifiers = [];
   sources = codes "s0" ∷ codes "s1" ∷ codes "s2" ∷ [];
   marks = [];
-  actors = sleeper ∷ line seed (behind_links devices) ∷ [];
+  actors = sleeper ∷ line seed (after_links devices) ∷ [];
   answers = [];
 }

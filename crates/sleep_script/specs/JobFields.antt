@@ -6,7 +6,7 @@ use Rattle.sleep_model.specs.declared.machine.Machine.{Machine}
 use Rattle.sleep_model.specs.Calls.{calls_at, calls_of_turn}
 use Rattle.sleep_model.specs.Scripts.{pieces}
 use Rattle.script_plan.specs.CallPlans.{ScriptCalls, noted}
-use Rattle.sleep_script.specs.declared.job.Job.TheInside.{Inside}
+use Rattle.sleep_script.specs.declared.job.ActorJob.TheInside.{Inside}
 use Rattle.sleep_script.specs.Jobs.{JobState}
 
 -- the calls right before a turn, by a plan; without one there are none (own)
@@ -19,8 +19,8 @@ abbrev pub IsPlanOf : Option ScriptCalls → Machine → Actor → Type 0
 IsPlanOf plan m who = (k : ℕ) → planned_at plan k ≡ calls_of_turn m who k
 
 -- due are the reports that are left, then the calls before the next turn that are left (own)
-abbrev pub state : Inside → JobState
-state j = record {
+abbrev pub seen_job : Inside → JobState
+seen_job j = record {
   machine = j.plans.now;
   who = j.who;
   turns = j.turns;
@@ -36,5 +36,5 @@ pub record IsJob (j : Inside) : Type 0 where
   pub due_is : j.due ≡ length (map noted j.reports.now ++ drop j.made (calls_of_turn j.plans.now j.who j.turns))
 
 -- the plan has the actor's calls, and that number of calls is due (own)
-abbrev pub keeps : Inside → Type 0
-keeps j = IsJob j
+abbrev pub job_invariant : Inside → Type 0
+job_invariant j = IsJob j

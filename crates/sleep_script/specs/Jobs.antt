@@ -8,7 +8,7 @@ use Rattle.sleep_model.specs.declared.log.Want.{Want}
 use Rattle.sleep_model.specs.declared.log.Want.TheVariants as want
 use Rattle.sleep_model.specs.declared.machine.Machine.{Machine}
 use Rattle.sleep_model.specs.declared.word.Stamp.{Stamp}
-use Rattle.sleep_model.specs.Calls.{calls_of_turn, calls_behind, ends_turn, one_more, note, report_calls, turns_ended, calls_of, calls_due}
+use Rattle.sleep_model.specs.Calls.{calls_of_turn, calls_after_turn, ends_turn, one_more, note, report_calls, turns_ended, calls_of, calls_due}
 use Rattle.sleep_model.specs.Path.{is_same}
 
 -- ---- a job
@@ -44,7 +44,7 @@ abbrev pub is_exit : Kind → Bool
 is_exit kind.Exit = true
 is_exit _ = false
 
--- after a turn of its own steps, behind which its actor may have calls to make (own)
+-- after a turn of its own steps, after which its actor may have calls to make (own)
 abbrev pub after_step : JobState → JobState
 after_step job = record job { turns = job.turns + 1; pending = calls_of_turn job.machine job.who (job.turns + 1) }
 
@@ -52,7 +52,7 @@ after_step job = record job { turns = job.turns + 1; pending = calls_of_turn job
 abbrev pub after_turn : Stamp → Kind → ℕ → JobState → JobState
 after_turn stamp k n job = record job {
   turns = one_more (ends_turn k) job.turns;
-  pending = report_calls job.machine n k ++ calls_behind job.machine job.who (ends_turn k) (job.turns + 1);
+  pending = report_calls job.machine n k ++ calls_after_turn job.machine job.who (ends_turn k) (job.turns + 1);
   exited = is_exit k || job.exited;
   floor = stamp;
 }

@@ -4,7 +4,7 @@ ghost use Rattle.std.specs.Prelude.{◌≡◌, ◌==◌, ◌&&◌, ◌<◌, ◌�
 ghost use Rattle.std.specs.List.{list_any, range_with_len};
 ghost use Rattle.sleep_model.specs.Accepted.{IsAccepted};
 ghost use Rattle.sleep_model.specs.Places.{places};
-ghost use Rattle.sleep_script.specs.Generated.{drawn_parent, drawn_device, with_link, drawn_links, once, sleeper, drawn_event, line, behind_links, generated};
+ghost use Rattle.sleep_script.specs.Generated.{drawn_parent, drawn_device, with_link, drawn_links, once, sleeper, drawn_event, line, after_links, generated};
 
 use crate::draws::Draws;
 use bitflags::Flags;
@@ -92,7 +92,7 @@ fn is_linked(links: &[Link], supplier: u32, consumer: u32) -> bool
     links.iter().any(|link| link.supplier == supplier && link.consumer == consumer)
 }
 
-/// Puts a link from a lesser to a greater device behind the others, where it does not stand.
+/// Puts a link from a lesser to a greater device after the others, where it does not stand.
 fn add_link(links: &mut Vec<Link>, supplier: u32, consumer: u32) -> Result<(), Mem>
     ensures { OnOk result (links.new.items ≡ with_link supplier consumer links.old.items) }
 {
@@ -114,7 +114,7 @@ fn draw_links(alloc: Global, draws: &mut Draws, devices: u32) -> Result<Vec<Link
     ensures links { IfOk result
         (λ v. v.items ≡ drawn_links draws.old.seed devices (devices / 4)) }
     ensures next { OnOk result
-        (draws.new ≡ record { seed = draws.old.seed; next = behind_links devices }) }
+        (draws.new ≡ record { seed = draws.old.seed; next = after_links devices }) }
 {
     let mut links = Vec::new(alloc);
     for _ in 0..devices / 4 {
@@ -151,7 +151,7 @@ fn sleeper(alloc: Global) -> Result<Script, Mem>
     })
 }
 
-/// Puts a pause and an event behind the others.
+/// Puts a pause and an event after the others.
 fn draw_event(draws: &mut Draws, steps: &mut Vec<Step>) -> Result<(), Mem>
     requires few { draws.old.next ≤ 4000 }
     ensures steps { OnOk result

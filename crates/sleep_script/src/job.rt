@@ -10,7 +10,7 @@ use script_plan::{Plan, ends_turn};
 use sleep_model::{Actor, Kind, Phase, Report, Stamp, Want, What};
 use std::marker::Model;
 
-/// The reports behind the first.
+/// The reports after the first.
 fn rest_of(reports: &[Report]) -> &[Report]
     ensures { result.now ≡ drop 1 reports.now }
 {
@@ -46,7 +46,7 @@ pub(crate) fn later(one: Stamp, other: Stamp) -> Stamp
 /// the callbacks that its actor runs (`drivers/base/power/main.c`, `async_suspend`; `kernel/power/autosleep.c`,
 /// `try_to_suspend`).
 #[derive(Drop)]
-pub struct Job<'m> {
+pub struct ActorJob<'m> {
     plans: &'m MachinePlans<'m>,
     who: Actor,
     /// A script's own steps.
@@ -64,19 +64,19 @@ pub struct Job<'m> {
     floor: Stamp,
 }
 
-impl<'m> Model for Job<'m> {
+impl<'m> Model for ActorJob<'m> {
     ghost use Rattle.sleep_script.specs.Jobs.{JobState};
 
     ghost Value = { JobState };
 
-    ghost use Rattle.sleep_script.specs.JobFields.{state, keeps};
+    ghost use Rattle.sleep_script.specs.JobFields.{seen_job, job_invariant};
 
-    ghost view = { state };
+    ghost view = { seen_job };
 
-    ghost invariant = { keeps };
+    ghost invariant = { job_invariant };
 }
 
-impl<'m> Job<'m> {
+impl<'m> ActorJob<'m> {
     ghost use Rattle.std.specs.Prelude.{◌≡◌, ◌+◌, ◌<◌, ◌^◌, [], Some, drop, length, map, nat_lt, option_copied, slice_get};
     ghost use Rattle.sleep_model.specs.declared.entry.Kind.TheVariants as kind;
     ghost use Rattle.script_plan.specs.CallPlans.{noted};
@@ -90,7 +90,7 @@ impl<'m> Job<'m> {
         ensures { result ≡ first_job plans.now who }
     {
         let due = calls_before(plan, 0).len();
-        Job {
+        ActorJob {
             plans,
             who,
             plan,
@@ -110,21 +110,21 @@ impl<'m> Job<'m> {
         ensures { result ≡ first_job plans.now (Actor.Script script) }
     {
         let plan: &'m Plan<'m> = plans.script(script);
-        Job::new(plans, Actor::Script(script), Some(plan))
+        ActorJob::new(plans, Actor::Script(script), Some(plan))
     }
 
     /// The job of the machine's autosleep work, before its first run.
     pub fn of_auto(plans: &'m MachinePlans<'_>) -> Self
         ensures { result ≡ first_job plans.now Actor.Auto }
     {
-        Job::new(plans, Actor::Auto, None)
+        ActorJob::new(plans, Actor::Auto, None)
     }
 
     /// The job of the device with that number, before its first callback.
     pub fn of_device(plans: &'m MachinePlans<'_>, device: u32) -> Self
         ensures { result ≡ first_job plans.now (Actor.Dev device) }
     {
-        Job::new(plans, Actor::Dev(device), None)
+        ActorJob::new(plans, Actor::Dev(device), None)
     }
 
     /// The calls of its own steps right before its next turn.
@@ -200,7 +200,7 @@ impl<'m> Job<'m> {
     /// Its actor made an entry of the journal, with that stamp, where `attempt` attempts were begun. Most entries
     /// leave it nothing to do.
     #[inline(always)]
-    pub fn told_turn(&mut self, stamp: Stamp, kind: Kind, attempt: u32)
+    pub fn told_core(&mut self, stamp: Stamp, kind: Kind, attempt: u32)
         requires made { self.old.pending ≡ [] }
         requires few { self.old.turns < 2 ^ 63 }
         ensures { self.new ≡ after_turn stamp kind attempt self.old }

@@ -4,9 +4,9 @@ use Rattle.std.proofs.Math.ListN.{get_or-map}
 use Rattle.std.proofs.lemmas.Bool.{false≢true}
 use Rattle.std.proofs.lemmas.Bool.Decides.{nat_tests}
 use Rattle.std.proofs.lemmas.List.{get_or-drop}
-use Rattle.sleep_model.specs.declared.place.Seat.{Seat}
+use Rattle.sleep_model.specs.declared.progress.ScriptPosition.{ScriptPosition}
 use Rattle.sleep_model.specs.Legal.{sooner}
-use Rattle.sleep_model.specs.Seats.{first_seat, seat_at}
+use Rattle.sleep_model.specs.Positions.{first_position, position_at}
 use Rattle.sleep_state.specs.Sleepers.{is_later, HasSlept, NoneSlept}
 use Rattle.sleep_state.specs.Trees.{least_of, AreJoined}
 use Rattle.sleep_state.proofs.Sleeping.{all_later, least_end_is}
@@ -30,25 +30,25 @@ come_other nodes many k now joined some l h later =
 
 -- ---- scripts
 
-pub slept_of : (seats : List Seat) (ends : List (Option ℕ)) (i now : ℕ) → ends ≡ map (λ (x : Seat). x.until) seats → is_later (slice_index_or ends i None) now ≡ false → HasSlept seats i now
-slept_of seats ends i now is h =
-    ap (λ (o : Option ℕ). is_later o now) (sym (ap (λ (xs : List (Option ℕ)). slice_index_or xs i None) is ∙ get_or-map (λ (x : Seat). x.until) seats i first_seat)) ∙ h
+pub slept_of : (positions : List ScriptPosition) (ends : List (Option ℕ)) (i now : ℕ) → ends ≡ map (λ (x : ScriptPosition). x.until) positions → is_later (slice_index_or ends i None) now ≡ false → HasSlept positions i now
+slept_of positions ends i now is h =
+    ap (λ (o : Option ℕ). is_later o now) (sym (ap (λ (xs : List (Option ℕ)). slice_index_or xs i None) is ∙ get_or-map (λ (x : ScriptPosition). x.until) positions i first_position)) ∙ h
 
-seat_beyond : (seats : List Seat) (i : ℕ) → length seats ≤ i → seat_at seats i ≡ first_seat
-seat_beyond [] i l = refl
-seat_beyond (x ∷ xs) zero l = absurd (omega (arith, l))
-seat_beyond (x ∷ xs) (suc i) l = seat_beyond xs i (omega (arith, l))
+position_beyond : (positions : List ScriptPosition) (i : ℕ) → length positions ≤ i → position_at positions i ≡ first_position
+position_beyond [] i l = refl
+position_beyond (x ∷ xs) zero l = absurd (omega (arith, l))
+position_beyond (x ∷ xs) (suc i) l = position_beyond xs i (omega (arith, l))
 
-pub none_of : (seats : List Seat) (ends : List (Option ℕ)) (now : ℕ) → ends ≡ map (λ (x : Seat). x.until) seats → is_later (least_of ends) now ≡ true → NoneSlept seats now
-none_of seats ends now is h i = by_size (nat_lt i (length seats)) refl
+pub none_of : (positions : List ScriptPosition) (ends : List (Option ℕ)) (now : ℕ) → ends ≡ map (λ (x : ScriptPosition). x.until) positions → is_later (least_of ends) now ≡ true → NoneSlept positions now
+none_of positions ends now is h i = by_size (nat_lt i (length positions)) refl
   where
-    by_size : (b : Bool) → nat_lt i (length seats) ≡ b → is_later (seat_at seats i).until now ≡ true
+    by_size : (b : Bool) → nat_lt i (length positions) ≡ b → is_later (position_at positions i).until now ≡ true
     by_size true e =
-        all_later seats (length seats) now (ap (λ (o : Option ℕ). is_later o now) (sym (ap least_of is ∙ least_end_is seats)) ∙ h) i (grind (arith, nat_tests))
-    by_size false e = ap (λ (s : Seat). is_later s.until now) (seat_beyond seats i (grind (arith, nat_tests)))
+        all_later positions (length positions) now (ap (λ (o : Option ℕ). is_later o now) (sym (ap least_of is ∙ least_end_is positions)) ∙ h) i (grind (arith, nat_tests))
+    by_size false e = ap (λ (s : ScriptPosition). is_later s.until now) (position_beyond positions i (grind (arith, nat_tests)))
 
 -- who has slept is one of the scripts
-pub slept_within : (seats : List Seat) (i now : ℕ) → HasSlept seats i now → i < length seats
+pub slept_within : (positions : List ScriptPosition) (i now : ℕ) → HasSlept positions i now → i < length positions
 slept_within [] i now h = absurd (false≢true (sym h))
 slept_within (x ∷ xs) zero now h = omega arith
 slept_within (x ∷ xs) (suc i) now h = omega (arith, slept_within xs i now h)

@@ -4,7 +4,7 @@ use Rattle.sleep_base.specs.declared.errno.Errno.{Errno}
 use Rattle.sleep_model.specs.declared.entry.Actor.{Actor}
 use Rattle.sleep_model.specs.declared.entry.Kind.{Kind}
 use Rattle.sleep_model.specs.declared.machine.Device.{Device}
-use Rattle.sleep_model.specs.declared.place.Callback.{Callback}
+use Rattle.sleep_model.specs.declared.progress.Callback.{Callback}
 use Rattle.sleep_model.specs.Devices.{is_device, callback_after, phase_failed_after, own_error_after, asks_direct_after}
 use Rattle.sleep_model.specs.Runtime.{starts_suspended, statuses_after, disabled_by_direct_after, disabled_by_late_after}
 

@@ -1,8 +1,8 @@
 pub mod DeviceStates
 pub mod MomentFields
 pub mod Paths
-pub mod Places
-pub mod SeatFields
+pub mod JournalRooms
+pub mod PositionFields
 pub mod Sleepers
 pub mod TaskFields
 pub mod TaskStates

@@ -8,10 +8,10 @@ abbrev pub own : Inside → List (Option ℕ)
 own m = drop m.many m.nodes.items
 
 -- the nodes are a tree
-pub record IsTree (m : Inside) : Type 0 where
+pub record IsSleepTree (m : Inside) : Type 0 where
   pub size : length m.nodes.items ≡ 2 * m.many
   pub joined : AreJoined m.many m.nodes.items
 
 -- what holds of the moments between calls
-abbrev pub keeps : Inside → Type 0
-keeps m = IsTree m
+abbrev pub moments_invariant : Inside → Type 0
+moments_invariant m = IsSleepTree m

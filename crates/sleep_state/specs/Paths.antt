@@ -3,8 +3,8 @@ use Rattle.std.specs.Prelude.{ℕ, Option, None}
 use Rattle.sleep_base.specs.declared.errno.Errno.{Errno}
 use Rattle.sleep_model.specs.declared.entry.Actor.{Actor}
 use Rattle.sleep_model.specs.declared.entry.Kind.{Kind}
-use Rattle.sleep_model.specs.declared.place.Sleep.{Sleep}
-use Rattle.sleep_model.specs.declared.place.Stage.{Stage}
+use Rattle.sleep_model.specs.declared.progress.Sleep.{Sleep}
+use Rattle.sleep_model.specs.declared.progress.Stage.{Stage}
 use Rattle.sleep_model.specs.Attempt.{freeze_since_after, sleep_after, failed_after}
 use Rattle.sleep_model.specs.Path.{attempts_after, maker_after}
 use Rattle.sleep_model.specs.Table.{stage_after}

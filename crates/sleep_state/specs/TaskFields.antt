@@ -4,4 +4,4 @@ use Rattle.sleep_state.specs.TaskStates.{TaskState}
 
 -- the tasks as contracts see them
 abbrev pub tasks : Inside → TaskState
-tasks t = record { seats = t.seats; marks = t.marks.items }
+tasks t = record { positions = t.positions; marks = t.marks.items }

@@ -126,7 +126,7 @@ impl Devices {
     ghost use Rattle.sleep_model.specs.Walk.{or_else};
     ghost use Rattle.sleep_state.specs.DeviceStates.{devices_after, undisturbed};
 
-    /// No phase is open, and the devices have the runtime status that the file gives them. `Mem` where there
+    /// No phase is open, and the devices have the runtime status that the file gives them. `Mem` if there
     /// is no memory.
     pub fn new(alloc: Global, devices: &[Device]) -> Result<Self, Mem>
         ensures { IfOk result (λ d. d ≡ undisturbed devices.now) }

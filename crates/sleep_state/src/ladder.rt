@@ -1,7 +1,7 @@
 //! The ladder of an attempt as one table (`enter_state`, `suspend_devices_and_enter`, `suspend_enter`).
 
 ghost use Rattle.std.specs.Prelude.{◌≡◌};
-ghost use Rattle.sleep_model.specs.Table.{behind, by_case, failed_at};
+ghost use Rattle.sleep_model.specs.Table.{next_stage, by_case, failed_at};
 
 use sleep_model::{Group, Phase, PlatDo, PlatUndo, Stage, Thaw};
 
@@ -55,8 +55,8 @@ macro_rules! ladder {
 }
 
 /// The stage that follows a stage, if nothing fails.
-pub fn behind(stage: Stage) -> Stage
-    ensures { result ≡ behind stage }
+pub fn next_stage(stage: Stage) -> Stage
+    ensures { result ≡ next_stage stage }
 {
     ladder!(next of stage)
 }
@@ -70,9 +70,13 @@ pub(crate) fn failed(stage: Stage) -> Stage
 
 /// The stage after one that is over, failed or not.
 pub(crate) fn leave(stage: Stage, fails: bool) -> Stage
-    ensures { result ≡ by_case fails (failed_at stage) (behind stage) }
+    ensures { result ≡ by_case fails (failed_at stage) (next_stage stage) }
 {
-    if fails { failed(stage) } else { behind(stage) }
+    if fails {
+        failed(stage)
+    } else {
+        next_stage(stage)
+    }
 }
 
 /// The stage after an entry that leaves its stage only if it fails.

@@ -2,7 +2,7 @@
 //! devices. Its tests are in `part_cases`.
 //!
 //! Promises: After an entry each part stands where the definitions say; the least end of the scripts' sleeps. By
-//! the clauses of `note` of each; `Tasks::seat`, `raised`, `all_exited`, `least_end`, `are_still`.
+//! the clauses of `note` of each; `Tasks::position`, `raised`, `all_exited`, `least_end`, `are_stopped`.
 //!
 //! Begin reading in `src/path.rt`, `src/devices.rt`, `src/tasks.rt`.
 #![tactic(auto)]
@@ -11,11 +11,11 @@ mod devices;
 mod ladder;
 mod moments;
 mod path;
-mod seats;
+mod positions;
 mod tasks;
 
 pub use devices::{Devices, is_device};
-pub use ladder::behind;
+pub use ladder::next_stage;
 pub use moments::sooner;
 pub use path::{Path, busy_error};
 pub use tasks::Tasks;

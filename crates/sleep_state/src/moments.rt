@@ -24,11 +24,11 @@ impl Model for Moments {
 
     ghost Value = { List (Option ℕ) };
 
-    ghost use Rattle.sleep_state.specs.MomentFields.{own, keeps};
+    ghost use Rattle.sleep_state.specs.MomentFields.{own, moments_invariant};
 
     ghost view = { own };
 
-    ghost invariant = { keeps };
+    ghost invariant = { moments_invariant };
 }
 
 /// The lesser of two moments, where there are any.
@@ -99,9 +99,9 @@ fn rise(nodes: &mut [Option<u64>], many: usize, above: usize)
     }
 }
 
-/// The node behind this one and all below it, where each node stands before those below it; 0 where there is none.
+/// The node after this one and all below it, where each node stands before those below it; 0 if there is none.
 #[inline(always)]
-fn node_behind(at: usize) -> usize {
+fn next_node(at: usize) -> usize {
     if at % 2 == 0 {
         return at.saturating_add(1);
     }
@@ -149,7 +149,7 @@ impl Moments {
     ghost use Rattle.sleep_state.specs.Trees.{least_of};
     ghost use Rattle.sleep_state.specs.Sleepers.{is_later};
 
-    /// So many things without a moment. `Mem` where there is no memory.
+    /// So many things without a moment. `Mem` if there is no memory.
     #[tactic(auto, using(crate::proofs::Rising::own_first))]
     pub(crate) fn new(alloc: Global, many: usize) -> Result<Self, Mem>
         ensures { IfOk result (λ m. m ≡ replicate many None) }
@@ -195,7 +195,7 @@ impl Moments {
                 return None;
             }
             if is_later(node_there(self.nodes.as_slice(), at), now) {
-                at = node_behind(at);
+                at = next_node(at);
             } else if at < self.many {
                 at *= 2;
             } else {
@@ -205,14 +205,14 @@ impl Moments {
         None
     }
 
-    /// The next thing behind that one, or the first of all, whose moment is not later than now. Things are gone through in
-    /// the order of the tree. Where none is found behind none, each moment is later.
-    pub(crate) fn next_come(&self, behind: Option<usize>, now: u64) -> Option<usize>
+    /// The next thing after that one, or the first of all, whose moment is not later than now. Things are gone through in
+    /// the order of the tree. Where none is found after none, each moment is later.
+    pub(crate) fn next_come(&self, next_stage: Option<usize>, now: u64) -> Option<usize>
         ensures found { IfSome result (λ thing. is_later (slice_index_or self.now thing None) now ≡ false) }
-        ensures none { behind ≡ None → result ≡ None → is_later (least_of self.now) now ≡ true }
+        ensures none { next_stage ≡ None → result ≡ None → is_later (least_of self.now) now ≡ true }
     {
-        match behind {
-            Some(thing) => self.come_from(node_behind(self.many.saturating_add(thing)), now),
+        match next_stage {
+            Some(thing) => self.come_from(next_node(self.many.saturating_add(thing)), now),
             None => self.first_come(now),
         }
     }

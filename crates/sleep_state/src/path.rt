@@ -2,10 +2,10 @@ ghost use Rattle.std.specs.Prelude.{◌≡◌, ◌<◌, ◌^◌};
 ghost use Rattle.sleep_model.specs.Path.{attempts_after, maker_after};
 ghost use Rattle.sleep_model.specs.Attempt.{freeze_since_after, sleep_after, failed_after, freeze_error, busy_error};
 ghost use Rattle.sleep_model.specs.Walk.{or_else};
-ghost use Rattle.sleep_model.specs.declared.place.Stage.{Stage};
+ghost use Rattle.sleep_model.specs.declared.progress.Stage.{Stage};
 ghost use Rattle.sleep_model.specs.Table.{stage_after, after_done, by_froze, by_case};
 
-use crate::ladder::{failed, leave, behind, stay};
+use crate::ladder::{failed, leave, next_stage, stay};
 use sleep_base::Errno;
 use sleep_model::{Actor, FrozeEnd, Kind, Phase, Sleep, Stage};
 use std::marker::Model;
@@ -45,9 +45,9 @@ fn after_done(phase: Phase, r: Option<Errno>) -> Stage
         Phase::Prepare => leave(Stage::Prepares, r.is_some()),
         Phase::Suspend | Phase::Late | Phase::Noirq => leave(Stage::Downs(phase), r.is_some()),
         Phase::Syscore => Stage::Enters,
-        Phase::SyscoreResume => behind(Stage::StartsSyscore),
-        Phase::ResumeNoirq | Phase::Early | Phase::Resume => behind(Stage::Ups(phase)),
-        Phase::Complete => behind(Stage::Completes),
+        Phase::SyscoreResume => next_stage(Stage::StartsSyscore),
+        Phase::ResumeNoirq | Phase::Early | Phase::Resume => next_stage(Stage::Ups(phase)),
+        Phase::Complete => next_stage(Stage::Completes),
     }
 }
 
@@ -71,17 +71,17 @@ fn stage_after(kind: Kind, before: Option<Stage>) -> Option<Stage>
         Kind::Done(phase, r) => after_done(phase, r),
         Kind::CpuOff(_) => Stage::StopsCpus,
         Kind::CpuBusy(_) => failed(Stage::StopsCpus),
-        Kind::Irqs { on: false } => behind(Stage::StopsIrqs),
+        Kind::Irqs { on: false } => next_stage(Stage::StopsIrqs),
         Kind::SyscoreCheck(r) => leave(Stage::Checks, r.is_some()),
         Kind::SyscoreSuspend(_, r) => stay(Stage::StopsSyscore, r.is_some()),
         Kind::Enter { busy } => stay(Stage::Enters, busy),
-        Kind::Wake { .. } => behind(Stage::Enters),
+        Kind::Wake { .. } => next_stage(Stage::Enters),
         Kind::SyscoreResume(_) => Stage::StartsSyscore,
-        Kind::Irqs { on: true } => behind(Stage::StartsIrqs),
+        Kind::Irqs { on: true } => next_stage(Stage::StartsIrqs),
         Kind::CpuOn(_) => Stage::StartsCpus,
-        Kind::PlatformUndo(step) => behind(Stage::PlatformUp(step)),
-        Kind::Clear => behind(Stage::Clears),
-        Kind::Thaw(those) => behind(Stage::Thaws(those)),
+        Kind::PlatformUndo(step) => next_stage(Stage::PlatformUp(step)),
+        Kind::Clear => next_stage(Stage::Clears),
+        Kind::Thaw(those) => next_stage(Stage::Thaws(those)),
         Kind::NotifyPost(_) => Stage::Posts,
         Kind::Over { .. } => return None,
         _ => return before,

@@ -1,18 +1,18 @@
 ghost use Rattle.std.specs.Prelude.{◌≡◌, ◌<◌, ◌^◌};
 ghost use Rattle.sleep_model.specs.Marks.{marks_after};
-ghost use Rattle.sleep_model.specs.Seats.{seat_part, next_step, seat_after, seats_after};
-ghost use Rattle.sleep_state.specs.TaskStates.{SeatIsSmall, MarksAreSmall};
+ghost use Rattle.sleep_model.specs.Positions.{position_effect, next_step, position_after, positions_after};
+ghost use Rattle.sleep_state.specs.TaskStates.{PositionIsSmall, MarksAreSmall};
 
-use crate::seats::{Seats, first_seat};
+use crate::positions::{ScriptPositions, first_position};
 use sleep_base::Mem;
-use sleep_model::{Actor, Kind, Seat};
+use sleep_model::{Actor, Kind, ScriptPosition};
 use std::alloc::Global;
 use std::marker::Model;
 
 /// Where each script of a machine stands, and the marks by which scripts wait for one another.
 #[derive(Drop)]
 pub struct Tasks {
-    seats: Seats,
+    positions: ScriptPositions,
     marks: Vec<u32>,
 }
 
@@ -27,52 +27,52 @@ impl Model for Tasks {
 }
 
 /// The step under way has ended, and the next one has not begun.
-fn next_step(seat: Seat) -> Seat
-    requires done { seat.done < 2 ^ 63 }
-    requires turns { seat.turns < 2 ^ 63 }
-    ensures { result ≡ next_step seat }
+fn next_step(position: ScriptPosition) -> ScriptPosition
+    requires done { position.done < 2 ^ 63 }
+    requires turns { position.turns < 2 ^ 63 }
+    ensures { result ≡ next_step position }
 {
-    Seat {
-        done: seat.done + 1,
-        turns: seat.turns + 1,
+    ScriptPosition {
+        done: position.done + 1,
+        turns: position.turns + 1,
         waits: false,
         until: None,
-        ..seat
+        ..position
     }
 }
 
 /// A script's place after an entry of its own.
-fn seat_after(kind: Kind, seat: Seat) -> Seat
-    requires done { seat.done < 2 ^ 63 }
-    requires turns { seat.turns < 2 ^ 63 }
-    ensures { result ≡ seat_after (seat_part kind) seat }
+fn position_after(kind: Kind, position: ScriptPosition) -> ScriptPosition
+    requires done { position.done < 2 ^ 63 }
+    requires turns { position.turns < 2 ^ 63 }
+    ensures { result ≡ position_after (position_effect kind) position }
 {
     match kind {
-        Kind::ReadWait | Kind::SaveWait(_) | Kind::StateWait => Seat {
+        Kind::ReadWait | Kind::SaveWait(_) | Kind::StateWait => ScriptPosition {
             waits: true,
-            ..seat
+            ..position
         },
-        Kind::AutoSet(_) => Seat {
-            turns: seat.turns + 1,
+        Kind::AutoSet(_) => ScriptPosition {
+            turns: position.turns + 1,
             waits: true,
-            ..seat
+            ..position
         },
-        Kind::Sleep(until) | Kind::SleepD(until) => Seat {
+        Kind::Sleep(until) | Kind::SleepD(until) => ScriptPosition {
             waits: true,
             until: Some(until),
-            ..seat
+            ..position
         },
-        Kind::Read(c) => Seat {
+        Kind::Read(c) => ScriptPosition {
             last_read: Some(c),
-            ..next_step(seat)
+            ..next_step(position)
         },
-        Kind::Saved(_) => Seat {
+        Kind::Saved(_) => ScriptPosition {
             saved: true,
-            ..next_step(seat)
+            ..next_step(position)
         },
-        Kind::SaveErr(..) => Seat {
+        Kind::SaveErr(..) => ScriptPosition {
             saved: false,
-            ..next_step(seat)
+            ..next_step(position)
         },
         Kind::ReadIntr
         | Kind::StateErr(_)
@@ -86,24 +86,24 @@ fn seat_after(kind: Kind, seat: Seat) -> Seat
         | Kind::Got(_)
         | Kind::RuntimeAsk { .. }
         | Kind::LinkAdd { .. }
-        | Kind::LinkState { .. } => next_step(seat),
-        Kind::Exit => Seat {
+        | Kind::LinkState { .. } => next_step(position),
+        Kind::Exit => ScriptPosition {
             exited: true,
-            ..seat
+            ..position
         },
-        _ => seat,
+        _ => position,
     }
 }
 
 /// A script's own entry moves its place.
 #[tactic(auto, using(crate::proofs::Sleeping::set_none))]
-fn move_seat(seats: &mut Seats, who: Actor, kind: Kind)
-    requires { SeatIsSmall who seats.old }
-    ensures { seats.new ≡ seats_after who (seat_part kind) seats.old }
+fn move_position(positions: &mut ScriptPositions, who: Actor, kind: Kind)
+    requires { PositionIsSmall who positions.old }
+    ensures { positions.new ≡ positions_after who (position_effect kind) positions.old }
 {
     if let Actor::Script(i) = who {
-        match seats.get(i as usize) {
-            Some(seat) => seats.set(i as usize, seat_after(kind, seat)),
+        match positions.get(i as usize) {
+            Some(position) => positions.set(i as usize, position_after(kind, position)),
             None => {}
         }
     }
@@ -135,38 +135,38 @@ impl Tasks {
     ghost use Rattle.std.specs.Prelude.{◌≡◌, ◌≤◌, ◌^◌, None, IfOk, IfSome, length};
     ghost use Rattle.std.specs.Bool.{OnTrue};
     ghost use Rattle.sleep_model.specs.Marks.{mark_at};
-    ghost use Rattle.sleep_model.specs.Seats.{seat_at, all_exited};
-    ghost use Rattle.sleep_state.specs.TaskStates.{SeatIsSmall, MarksAreSmall, tasks_after, at_first};
-    ghost use Rattle.sleep_state.specs.Sleepers.{end_of, AllStill, HasSlept, NoneSlept};
+    ghost use Rattle.sleep_model.specs.Positions.{position_at, all_exited};
+    ghost use Rattle.sleep_state.specs.TaskStates.{PositionIsSmall, MarksAreSmall, tasks_after, first_tasks};
+    ghost use Rattle.sleep_state.specs.Sleepers.{end_of, AreStopped, HasSlept, NoneSlept};
 
-    /// All scripts at their first steps, and no mark raised. `Mem` where there is no memory.
+    /// All scripts at their first steps, and no mark raised. `Mem` if there is no memory.
     pub fn new(alloc: Global, scripts: usize, marks: usize) -> Result<Self, Mem>
-        ensures { IfOk result (λ t. t ≡ at_first scripts marks) }
+        ensures { IfOk result (λ t. t ≡ first_tasks scripts marks) }
     {
         Ok(Tasks {
-            seats: Seats::new(alloc, scripts)?,
+            positions: ScriptPositions::new(alloc, scripts)?,
             marks: vec![in alloc; 0; marks]?,
         })
     }
 
     /// What an entry of that actor does to the tasks.
     pub fn note(&mut self, who: Actor, kind: Kind)
-        requires seat { SeatIsSmall who self.old.seats }
+        requires position { PositionIsSmall who self.old.positions }
         requires marks { MarksAreSmall kind self.old.marks }
         ensures { self.new ≡ tasks_after who kind self.old }
     {
-        move_seat(&mut self.seats, who, kind);
+        move_position(&mut self.positions, who, kind);
         move_marks(&mut self.marks, kind);
     }
 
     /// Where that script stands.
-    #[tactic(auto, using(crate::proofs::Sleeping::seat_none))]
-    pub fn seat(&self, script: u32) -> Seat
-        ensures { result ≡ seat_at self.now.seats script }
+    #[tactic(auto, using(crate::proofs::Sleeping::position_none))]
+    pub fn position(&self, script: u32) -> ScriptPosition
+        ensures { result ≡ position_at self.now.positions script }
     {
-        match self.seats.get(script as usize) {
-            Some(seat) => seat,
-            None => first_seat(),
+        match self.positions.get(script as usize) {
+            Some(position) => position,
+            None => first_position(),
         }
     }
 
@@ -182,33 +182,33 @@ impl Tasks {
 
     /// Whether every script has made its exit.
     pub fn all_exited(&self) -> bool
-        ensures { result ≡ all_exited self.now.seats }
+        ensures { result ≡ all_exited self.now.positions }
     {
-        self.seats.all_exited()
+        self.positions.all_exited()
     }
 
     /// The least end of all scripts' sleeps.
     pub fn least_end(&self) -> Option<u64>
-        ensures { result ≡ end_of self.now.seats (length self.now.seats) }
+        ensures { result ≡ end_of self.now.positions (length self.now.positions) }
     {
-        self.seats.least_end()
+        self.positions.least_end()
     }
 
     /// Whether each script has exited, or sleeps to a moment later than that. It may be so where that is not told.
-    pub fn are_still(&self, time: u64) -> bool
-        ensures { OnTrue result (AllStill self.now.seats time) }
+    pub fn are_stopped(&self, time: u64) -> bool
+        ensures { OnTrue result (AreStopped self.now.positions time) }
     {
-        self.seats.are_still(time)
+        self.positions.are_stopped(time)
     }
 
-    /// The next script behind that one, or the first, whose sleep has come to its end by now, in an order of its own.
-    /// Where none is found behind none, no script's has.
-    pub fn next_slept(&self, behind: Option<u32>, now: u64) -> Option<u32>
-        ensures found { IfSome result (λ script. HasSlept self.now.seats script now) }
-        ensures none { behind ≡ None → result ≡ None → length self.now.seats ≤ 2 ^ 32 → NoneSlept self.now.seats now }
+    /// The next script after that one, or the first, whose sleep has come to its end by now, in an order of its own.
+    /// If none is found after none, no script's has.
+    pub fn next_slept(&self, next_stage: Option<u32>, now: u64) -> Option<u32>
+        ensures found { IfSome result (λ script. HasSlept self.now.positions script now) }
+        ensures none { next_stage ≡ None → result ≡ None → length self.now.positions ≤ 2 ^ 32 → NoneSlept self.now.positions now }
     {
-        let behind = behind.map(|script| script as usize);
-        match self.seats.next_slept(behind, now) {
+        let next_stage = next_stage.map(|script| script as usize);
+        match self.positions.next_slept(next_stage, now) {
             Some(script) => u32::try_from(script).ok(),
             None => None,
         }

@@ -1,2 +1,2 @@
 mod Marking
-mod Standing
+mod LinkIndexes

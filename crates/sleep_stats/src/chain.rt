@@ -3,7 +3,7 @@
 ghost use Rattle.std.specs.Prelude.{◌≡◌, IfOk};
 ghost use Rattle.sleep_model.specs.Accepted.{IsAccepted};
 ghost use Rattle.sleep_model.specs.Order.{parents_of};
-ghost use Rattle.device_links.specs.Passes.{CanStand};
+ghost use Rattle.device_links.specs.Passes.{CanBeAdded};
 ghost use Rattle.device_chain.specs.Chains.{IsLongest, is_certified};
 ghost use Rattle.sleep_stats.specs.Linked.{added_links, last_linked};
 
@@ -16,7 +16,7 @@ use std::alloc::Global;
 /// The longest chain of devices at a log's end.
 pub fn longest(alloc: Global, machine: &Machine, log: &Log) -> Result<Chain, Mem>
     requires accepted { IsAccepted machine.now }
-    requires stand { CanStand (parents_of machine.now.devices) (added_links machine.now log.now) }
+    requires stand { CanBeAdded (parents_of machine.now.devices) (added_links machine.now log.now) }
     ensures { IfOk result (λ c. IsLongest (last_linked machine.now log.now) c) }
 {
     let links = last_linked(alloc, machine, log)?;
@@ -29,7 +29,7 @@ pub fn longest(alloc: Global, machine: &Machine, log: &Log) -> Result<Chain, Mem
 /// longer.
 pub fn certified(alloc: Global, machine: &Machine, log: &Log, chain: &Chain) -> Result<bool, Mem>
     requires accepted { IsAccepted machine.now }
-    requires stand { CanStand (parents_of machine.now.devices) (added_links machine.now log.now) }
+    requires stand { CanBeAdded (parents_of machine.now.devices) (added_links machine.now log.now) }
     ensures { IfOk result (λ sure. sure ≡ is_certified (last_linked machine.now log.now) chain.now) }
 {
     let links = last_linked(alloc, machine, log)?;

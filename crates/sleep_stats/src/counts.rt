@@ -51,7 +51,7 @@ pub struct LastErrnos {
     pub older: Option<Errno>,
 }
 
-/// 1 where it is so, else 0.
+/// 1 if it is so, else 0.
 fn one_if(so: bool) -> u32
     ensures { result ≡ one_if so }
 {

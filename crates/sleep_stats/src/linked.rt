@@ -5,7 +5,7 @@ ghost use Rattle.indexmap.specs.IndexMap.{get};
 ghost use Rattle.sleep_model.specs.declared.entry.Entry.{Entry};
 ghost use Rattle.sleep_model.specs.Accepted.{IsAccepted};
 ghost use Rattle.sleep_model.specs.Order.{parents_of};
-ghost use Rattle.device_links.specs.Passes.{CanStand};
+ghost use Rattle.device_links.specs.Passes.{CanBeAdded};
 ghost use Rattle.sleep_stats.specs.Linked.{added_after, added_links, last_linked, last_links, with_last, with_one};
 ghost use Rattle.sleep_stats.specs.States.{AreLast, AreMarked, AreSet};
 
@@ -24,38 +24,38 @@ struct Ends {
 
 /// Links, the oldest first, and whether they are active by their ends, so that one that stands is found at once.
 #[derive(Drop)]
-struct Standing {
+struct LinkIndex {
     links: Vec<Link>,
     ends: IndexMap<Ends, bool>,
 }
 
-/// Puts a link behind the others.
-fn put_link(standing: &mut Standing, link: Link) -> Result<(), Mem>
-    requires { AreMarked standing.old.links.items (get ⟦<Ends as PartialEq>⟧.eq standing.old.ends) }
-    ensures links { OnOk result (standing.new.links.items ≡ standing.old.links.items ++ link ∷ []) }
-    ensures marked { OnOk result (AreMarked standing.new.links.items (get ⟦<Ends as PartialEq>⟧.eq standing.new.ends)) }
+/// Puts a link after the others.
+fn put_link(link_index: &mut LinkIndex, link: Link) -> Result<(), Mem>
+    requires { AreMarked link_index.old.links.items (get ⟦<Ends as PartialEq>⟧.eq link_index.old.ends) }
+    ensures links { OnOk result (link_index.new.links.items ≡ link_index.old.links.items ++ link ∷ []) }
+    ensures marked { OnOk result (AreMarked link_index.new.links.items (get ⟦<Ends as PartialEq>⟧.eq link_index.new.ends)) }
 {
     let Link {
         supplier,
         consumer,
         active,
     } = link;
-    standing.ends.insert(Ends { supplier, consumer }, active)?;
-    standing.links.push(link)?;
+    link_index.ends.insert(Ends { supplier, consumer }, active)?;
+    link_index.links.push(link)?;
     Ok(())
 }
 
-/// Puts a link that is active behind the others, unless it stands.
-fn add_link(standing: &mut Standing, supplier: u32, consumer: u32) -> Result<(), Mem>
-    requires { AreMarked standing.old.links.items (get ⟦<Ends as PartialEq>⟧.eq standing.old.ends) }
-    ensures links { OnOk result (standing.new.links.items ≡ with_one standing.old.links.items supplier consumer) }
-    ensures marked { OnOk result (AreMarked standing.new.links.items (get ⟦<Ends as PartialEq>⟧.eq standing.new.ends)) }
+/// Puts a link that is active after the others, unless it stands.
+fn add_link(link_index: &mut LinkIndex, supplier: u32, consumer: u32) -> Result<(), Mem>
+    requires { AreMarked link_index.old.links.items (get ⟦<Ends as PartialEq>⟧.eq link_index.old.ends) }
+    ensures links { OnOk result (link_index.new.links.items ≡ with_one link_index.old.links.items supplier consumer) }
+    ensures marked { OnOk result (AreMarked link_index.new.links.items (get ⟦<Ends as PartialEq>⟧.eq link_index.new.ends)) }
 {
-    if standing.ends.get(&Ends { supplier, consumer }).is_some() {
+    if link_index.ends.get(&Ends { supplier, consumer }).is_some() {
         return Ok(());
     }
     put_link(
-        standing,
+        link_index,
         Link {
             supplier,
             consumer,
@@ -65,46 +65,46 @@ fn add_link(standing: &mut Standing, supplier: u32, consumer: u32) -> Result<(),
 }
 
 /// Takes an entry's part in the links.
-fn note_link(standing: &mut Standing, kind: Kind) -> Result<(), Mem>
-    requires { AreMarked standing.old.links.items (get ⟦<Ends as PartialEq>⟧.eq standing.old.ends) }
-    ensures links { OnOk result (standing.new.links.items ≡ added_after kind standing.old.links.items) }
-    ensures marked { OnOk result (AreMarked standing.new.links.items (get ⟦<Ends as PartialEq>⟧.eq standing.new.ends)) }
+fn note_link(link_index: &mut LinkIndex, kind: Kind) -> Result<(), Mem>
+    requires { AreMarked link_index.old.links.items (get ⟦<Ends as PartialEq>⟧.eq link_index.old.ends) }
+    ensures links { OnOk result (link_index.new.links.items ≡ added_after kind link_index.old.links.items) }
+    ensures marked { OnOk result (AreMarked link_index.new.links.items (get ⟦<Ends as PartialEq>⟧.eq link_index.new.ends)) }
 {
     match kind {
         Kind::LinkAdd {
             supplier,
             consumer,
             r: None,
-        } => add_link(standing, supplier, consumer),
+        } => add_link(link_index, supplier, consumer),
         _ => Ok(()),
     }
 }
 
 /// These links, the oldest first.
-fn standing_of(alloc: Global, links: &[Link]) -> Result<Standing, Mem>
+fn link_index_of(alloc: Global, links: &[Link]) -> Result<LinkIndex, Mem>
     ensures links { IfOk result (λ s. s.links.items ≡ links.now) }
     ensures marked { IfOk result (λ s. AreMarked s.links.items (get ⟦<Ends as PartialEq>⟧.eq s.ends)) }
 {
-    let mut standing = Standing {
+    let mut link_index = LinkIndex {
         links: Vec::new(alloc),
         ends: IndexMap::new(alloc),
     };
     for link in links {
-        put_link(&mut standing, *link)?;
+        put_link(&mut link_index, *link)?;
     }
-    Ok(standing)
+    Ok(link_index)
 }
 
 /// The machine's links, and those that the log adds, each once, the oldest first.
 fn added_links(alloc: Global, machine: &Machine, log: &Log) -> Result<Vec<Link>, Mem>
     ensures { IfOk result (λ v. v.items ≡ added_links machine.now log.now) }
 {
-    let mut standing = standing_of(alloc, machine.links.as_slice())?;
+    let mut link_index = link_index_of(alloc, machine.links.as_slice())?;
     let mut reader = log.entries.reader();
     while let Some(entry) = reader.next() {
-        note_link(&mut standing, entry.kind)?;
+        note_link(&mut link_index, entry.kind)?;
     }
-    Ok(standing.links)
+    Ok(link_index.links)
 }
 
 /// Takes an entry's part in the states of links.
@@ -168,7 +168,7 @@ fn last_links(alloc: Global, machine: &Machine, log: &Log) -> Result<Vec<Link>, 
 /// The devices and the links at a log's end, with their order.
 pub(crate) fn last_linked(alloc: Global, machine: &Machine, log: &Log) -> Result<Links, Mem>
     requires accepted { IsAccepted machine.now }
-    requires stand { CanStand (parents_of machine.now.devices) (added_links machine.now log.now) }
+    requires stand { CanBeAdded (parents_of machine.now.devices) (added_links machine.now log.now) }
     ensures { IfOk result (λ l. l ≡ last_linked machine.now log.now) }
 {
     let parents = parents_of(alloc, machine.devices.as_slice())?;

@@ -9,7 +9,7 @@ use Rattle.sleep_model.specs.declared.machine.Machine.{Machine}
 use Rattle.sleep_model.specs.declared.machine.Op.{Op}
 use Rattle.sleep_model.specs.declared.machine.Op.TheVariants as op
 use Rattle.sleep_model.specs.declared.machine.Script.{Script}
-use Rattle.sleep_model.specs.Calls.{calls_at, pieces_in, pieces_if, ends_turn, one_more, turns_ended, calls_of_turn, calls_behind, report_calls, calls_of}
+use Rattle.sleep_model.specs.Calls.{calls_at, pieces_in, pieces_if, ends_turn, one_more, turns_ended, calls_of_turn, calls_after_turn, report_calls, calls_of}
 use Rattle.sleep_model.specs.Path.{attempts, is_same}
 use Rattle.sleep_model.specs.Places.{op_places, all_operations, places_if}
 use Rattle.sleep_model.specs.Scripts.{Piece, Calls, Turns, pieces_of, autosleep_pieces, operations}
@@ -30,7 +30,7 @@ abbrev until : (ℕ → List Kind) → ℕ → List Kind
 until at zero = at 0
 until at (suc k) = until at k ++ at (suc k)
 
--- those behind it
+-- those after it
 abbrev calls_past : List Piece → ℕ → List Kind
 calls_past [] k = []
 calls_past (Calls note ∷ rest) k = calls_past rest k
@@ -48,7 +48,7 @@ next_calls (Calls n ∷ rest) k = next_calls rest k
 next_calls (Turns ∷ rest) zero = first_calls rest
 next_calls (Turns ∷ rest) (suc k) = next_calls rest k
 
--- the calls before a turn, and those behind it, are all
+-- the calls before a turn, and those after it, are all
 calls_parted : (ps : List Piece) (k : ℕ) → until (calls_at ps) k ++ calls_past ps k ≡ all_calls ps
 calls_parted ps zero = first_calls ps
 calls_parted ps (suc k) = append_assoc (until (calls_at ps) k) (calls_at ps (suc k)) (calls_past ps (suc k)) ∙ (ap (λ xs. until (calls_at ps) k ++ xs) (next_calls ps k) ∙ calls_parted ps k)
@@ -113,7 +113,7 @@ calls_are m s who [] = omega arith
 calls_are m s who (e ∷ past) = by_same (is_same e.actor who) (ends_turn e.kind) (calls_are m s who past)
   where
     by_same : (b ends : Bool) → weigh s (calls_of m who past) ≡ own_calls m s who (turns_ended who past) + reported_by m s who past
-        → weigh s (cond b (calls_of m who past ++ report_calls m (attempts past) e.kind ++ calls_behind m who ends (turns_ended who past + 1)) (calls_of m who past))
+        → weigh s (cond b (calls_of m who past ++ report_calls m (attempts past) e.kind ++ calls_after_turn m who ends (turns_ended who past + 1)) (calls_of m who past))
         ≡ own_calls m s who (one_more (b && ends) (turns_ended who past)) + (when b (weigh s (report_calls m (attempts past) e.kind)) + reported_by m s who past)
     by_same false ends same = omega (arith, same)
     by_same true true same =

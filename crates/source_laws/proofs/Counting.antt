@@ -9,9 +9,9 @@ use Rattle.sleep_model.specs.declared.entry.Entry.{Entry}
 use Rattle.sleep_model.specs.declared.entry.Kind.{Kind}
 use Rattle.sleep_model.specs.declared.machine.Machine.{Machine}
 use Rattle.sleep_model.specs.declared.machine.SourceCall.{SourceCall}
-use Rattle.sleep_model.specs.Calls.{calls_of, calls_behind, report_calls, ends_turn, turns_ended, is_note_of, notes_of, one_more, made}
+use Rattle.sleep_model.specs.Calls.{calls_of, calls_after_turn, report_calls, ends_turn, turns_ended, is_note_of, notes_of, one_more, made}
 use Rattle.sleep_model.specs.Legal.{JointPart, JointStep, IsOwnCall, is_there}
-use Rattle.sleep_model.specs.Parts.{Part, OfJournal, Notes, Moves, OfTime, part_of, is_kept, journal}
+use Rattle.sleep_model.specs.EntryClasses.{EntryClass, OfJournal, Notes, Moves, OfTime, class_of, is_in_journal, journal}
 use Rattle.sleep_model.specs.Path.{attempts, is_same}
 use Rattle.sleep_model.specs.Sources.{history, is_of}
 use Rattle.source_laws.proofs.Weighing.{part_places, kind_places, weigh, front, front_within, front_more, front_same, noted, when, over_all, over_both, over_one, is_timer, AllBelow}
@@ -51,23 +51,23 @@ more_made (suc n) s b of other who l own rest = by_last (s == n) refl (λ k. mor
         let apart : s ≢ n = grind (arith, nat_tests) in
         ap₂ (λ x y. x + y) (rest n e) (before (omega arith)) ∙ sum_one_more b (notes_of who (other n)) (made n other who)
 
-history_own : (s : ℕ) (e : Entry) (past : List Entry) → is_of s (part_of e.kind) ≡ true → history s (e ∷ past) ≡ e ∷ history s past
+history_own : (s : ℕ) (e : Entry) (past : List Entry) → is_of s (class_of e.kind) ≡ true → history s (e ∷ past) ≡ e ∷ history s past
 history_own s e past h = ap (λ b. cond b (e ∷ history s past) (history s past)) h
 
-history_other : (s : ℕ) (e : Entry) (past : List Entry) → is_of s (part_of e.kind) ≡ false → history s (e ∷ past) ≡ history s past
+history_other : (s : ℕ) (e : Entry) (past : List Entry) → is_of s (class_of e.kind) ≡ false → history s (e ∷ past) ≡ history s past
 history_other s e past h = ap (λ b. cond b (e ∷ history s past) (history s past)) h
 
 -- an entry that is no note adds no call
 not_noted : (m : Machine) (e : Entry) (past : List Entry) (who : Actor) → ((past : List Entry) → notes_of who (e ∷ past) ≡ notes_of who past)
     → made (length m.sources + 1) (λ s. history s (e ∷ past)) who ≡ made (length m.sources + 1) (λ s. history s past) who
-not_noted m e past who h = same_made (length m.sources + 1) (λ s. history s (e ∷ past)) (λ s. history s past) who (λ s. by_source s (is_of s (part_of e.kind)))
+not_noted m e past who h = same_made (length m.sources + 1) (λ s. history s (e ∷ past)) (λ s. history s past) who (λ s. by_source s (is_of s (class_of e.kind)))
   where
     by_source : (s : ℕ) (b : Bool) → notes_of who (cond b (e ∷ history s past) (history s past)) ≡ notes_of who (history s past)
     by_source s true = h (history s past)
     by_source s false = refl
 
 -- a note adds one of its actor
-noted_one : (m : Machine) (e : Entry) (past : List Entry) (who : Actor) (t : ℕ) (call : SourceCall) → part_of e.kind ≡ Notes t call → nat_le t (length m.sources) ≡ true
+noted_one : (m : Machine) (e : Entry) (past : List Entry) (who : Actor) (t : ℕ) (call : SourceCall) → class_of e.kind ≡ Notes t call → nat_le t (length m.sources) ≡ true
     → made (length m.sources + 1) (λ s. history s (e ∷ past)) who ≡ one_more (is_same e.actor who) (made (length m.sources + 1) (λ s. history s past) who)
 noted_one m e past who t call part there =
     let within : t < length m.sources + 1 = grind (arith, nat_tests) in
@@ -98,8 +98,8 @@ follows_more s made calls more places h = record {
 follows_entry : (m : Machine) (s made places : ℕ) (who : Actor) (e : Entry) (past : List Entry) → Follows s made (calls_of m who past) places → Follows s made (calls_of m who (e ∷ past)) places
 follows_entry m s made places who e past h = by_same (is_same e.actor who)
   where
-    by_same : (b : Bool) → Follows s made (cond b (calls_of m who past ++ report_calls m (attempts past) e.kind ++ calls_behind m who (ends_turn e.kind) (turns_ended who past + 1)) (calls_of m who past)) places
-    by_same true = follows_more s made (calls_of m who past ++ report_calls m (attempts past) e.kind) (calls_behind m who (ends_turn e.kind) (turns_ended who past + 1)) places
+    by_same : (b : Bool) → Follows s made (cond b (calls_of m who past ++ report_calls m (attempts past) e.kind ++ calls_after_turn m who (ends_turn e.kind) (turns_ended who past + 1)) (calls_of m who past)) places
+    by_same true = follows_more s made (calls_of m who past ++ report_calls m (attempts past) e.kind) (calls_after_turn m who (ends_turn e.kind) (turns_ended who past + 1)) places
         (follows_more s made (calls_of m who past) (report_calls m (attempts past) e.kind) places h)
     by_same false = h
 
@@ -108,7 +108,7 @@ abbrev pub Made : Machine → ℕ → Actor → List Entry → Type 0
 Made m s who past = Follows s (made (length m.sources + 1) (λ t. history t past) who) (calls_of m who (journal past)) (noted_by s who past)
 
 -- its own note is the next of its calls
-own_note : (m : Machine) (s : ℕ) (e : Entry) (past : List Entry) (who : Actor) (t : ℕ) (call : SourceCall) → part_of e.kind ≡ Notes t call → nat_le t (length m.sources) ≡ true
+own_note : (m : Machine) (s : ℕ) (e : Entry) (past : List Entry) (who : Actor) (t : ℕ) (call : SourceCall) → class_of e.kind ≡ Notes t call → nat_le t (length m.sources) ≡ true
     → (is_same e.actor who ≡ true → slice_get (calls_of m who (journal past)) (made (length m.sources + 1) (λ t. history t past) who) ≡ Some e.kind)
     → Made m s who past → Follows s (made (length m.sources + 1) (λ t. history t (e ∷ past)) who) (calls_of m who (journal past)) (noted_by s who (e ∷ past))
 own_note m s e past who t call part there next h = by_same (is_same e.actor who) refl
@@ -138,10 +138,10 @@ next_of m past of a (actor.Timer t) k e n h = absurd (true≢false n)
 next_of m past of _ _ k e n h = absurd (true≢false (sym e))
 
 -- an entry that is no note
-aside : (m : Machine) (s : ℕ) (e : Entry) (past : List Entry) (who : Actor) → ((past : List Entry) → notes_of who (e ∷ past) ≡ notes_of who past) → kind_places s e.kind ≡ 0
+outside : (m : Machine) (s : ℕ) (e : Entry) (past : List Entry) (who : Actor) → ((past : List Entry) → notes_of who (e ∷ past) ≡ notes_of who past) → kind_places s e.kind ≡ 0
     → (calls : List Kind) → Follows s (made (length m.sources + 1) (λ t. history t past) who) calls (noted_by s who past)
     → Follows s (made (length m.sources + 1) (λ t. history t (e ∷ past)) who) calls (noted_by s who (e ∷ past))
-aside m s e past who n w calls h =
+outside m s e past who n w calls h =
     let same = not_noted m e past who n in
     let none : noted_by s who (e ∷ past) ≡ noted_by s who past = ap (λ k. when (is_same e.actor who) k + noted_by s who past) w ∙ by_same (is_same e.actor who) in
     record { within = omega (arith, same, h.within); are = none ∙ (h.are ∙ ap (λ k. front s k calls) (sym same)) }
@@ -150,30 +150,30 @@ aside m s e past who n w calls h =
     by_same true = omega arith
     by_same false = omega arith
 
-no_note : (who : Actor) (e : Entry) (part : Part) → part_of e.kind ≡ part → is_note_of who e part ≡ false → (past : List Entry) → notes_of who (e ∷ past) ≡ notes_of who past
+no_note : (who : Actor) (e : Entry) (part : EntryClass) → class_of e.kind ≡ part → is_note_of who e part ≡ false → (past : List Entry) → notes_of who (e ∷ past) ≡ notes_of who past
 no_note who e part p n past = ap (λ b. one_more (is_note_of who e b) (notes_of who past)) p ∙ ap (λ b. one_more b (notes_of who past)) n
 
-journal_more : (e : Entry) (past : List Entry) → is_kept (part_of e.kind) ≡ true → journal (e ∷ past) ≡ e ∷ journal past
+journal_more : (e : Entry) (past : List Entry) → is_in_journal (class_of e.kind) ≡ true → journal (e ∷ past) ≡ e ∷ journal past
 journal_more e past h = ap (λ b. cond b (e ∷ journal past) (journal past)) h
 
-journal_same : (e : Entry) (past : List Entry) → is_kept (part_of e.kind) ≡ false → journal (e ∷ past) ≡ journal past
+journal_same : (e : Entry) (past : List Entry) → is_in_journal (class_of e.kind) ≡ false → journal (e ∷ past) ≡ journal past
 journal_same e past h = ap (λ b. cond b (e ∷ journal past) (journal past)) h
 
-by_part : (m : Machine) (s : ℕ) (e : Entry) (past : List Entry) (who : Actor) → is_timer who ≡ false → (part : Part) → part_of e.kind ≡ part → JointStep m past e part → is_there m part ≡ true
+by_part : (m : Machine) (s : ℕ) (e : Entry) (past : List Entry) (who : Actor) → is_timer who ≡ false → (part : EntryClass) → class_of e.kind ≡ part → JointStep m past e part → is_there m part ≡ true
     → Made m s who past → Made m s who (e ∷ past)
 by_part m s e past who n (Notes t call) p h there k =
-    subst (λ (xs : List Entry). Follows s (made (length m.sources + 1) (λ t. history t (e ∷ past)) who) (calls_of m who xs) (noted_by s who (e ∷ past))) (sym (journal_same e past (ap is_kept p)))
+    subst (λ (xs : List Entry). Follows s (made (length m.sources + 1) (λ t. history t (e ∷ past)) who) (calls_of m who xs) (noted_by s who (e ∷ past))) (sym (journal_same e past (ap is_in_journal p)))
     (own_note m s e past who t call p there (λ same. next_of m (journal past) (λ t. history t past) e.actor who e.kind same n h.0) k)
 by_part m s e past who n (Moves t step) p h there k =
-    subst (λ (xs : List Entry). Follows s (made (length m.sources + 1) (λ t. history t (e ∷ past)) who) (calls_of m who xs) (noted_by s who (e ∷ past))) (sym (journal_same e past (ap is_kept p)))
-    (aside m s e past who (no_note who e (Moves t step) p refl) (ap (part_places s) p) (calls_of m who (journal past)) k)
+    subst (λ (xs : List Entry). Follows s (made (length m.sources + 1) (λ t. history t (e ∷ past)) who) (calls_of m who xs) (noted_by s who (e ∷ past))) (sym (journal_same e past (ap is_in_journal p)))
+    (outside m s e past who (no_note who e (Moves t step) p refl) (ap (part_places s) p) (calls_of m who (journal past)) k)
 by_part m s e past who n OfJournal p h there k =
-    subst (λ (xs : List Entry). Follows s (made (length m.sources + 1) (λ t. history t (e ∷ past)) who) (calls_of m who xs) (noted_by s who (e ∷ past))) (sym (journal_more e past (ap is_kept p)))
-    (aside m s e past who (no_note who e OfJournal p refl) (ap (part_places s) p) (calls_of m who (e ∷ journal past))
+    subst (λ (xs : List Entry). Follows s (made (length m.sources + 1) (λ t. history t (e ∷ past)) who) (calls_of m who xs) (noted_by s who (e ∷ past))) (sym (journal_more e past (ap is_in_journal p)))
+    (outside m s e past who (no_note who e OfJournal p refl) (ap (part_places s) p) (calls_of m who (e ∷ journal past))
     (follows_entry m s (made (length m.sources + 1) (λ t. history t past) who) (noted_by s who past) who e (journal past) k))
 by_part m s e past who n OfTime p h there k =
-    subst (λ (xs : List Entry). Follows s (made (length m.sources + 1) (λ t. history t (e ∷ past)) who) (calls_of m who xs) (noted_by s who (e ∷ past))) (sym (journal_more e past (ap is_kept p)))
-    (aside m s e past who (no_note who e OfTime p refl) (ap (part_places s) p) (calls_of m who (e ∷ journal past))
+    subst (λ (xs : List Entry). Follows s (made (length m.sources + 1) (λ t. history t (e ∷ past)) who) (calls_of m who xs) (noted_by s who (e ∷ past))) (sym (journal_more e past (ap is_in_journal p)))
+    (outside m s e past who (no_note who e OfTime p refl) (ap (part_places s) p) (calls_of m who (e ∷ journal past))
     (follows_entry m s (made (length m.sources + 1) (λ t. history t past) who) (noted_by s who past) who e (journal past) k))
 
 made_none : (n : ℕ) (who : Actor) → made n (λ t. []) who ≡ 0
@@ -188,14 +188,14 @@ and_second : (a b : Bool) → (a && b) ≡ true → b ≡ true
 and_second true b h = h
 and_second false b h = absurd (true≢false (sym h))
 
-follows : (m : Machine) (s : ℕ) (past : List Entry) (who : Actor) → is_timer who ≡ false → JointPart m past → list_all (λ e. is_there m (part_of e.kind)) past ≡ true → Made m s who past
+follows : (m : Machine) (s : ℕ) (past : List Entry) (who : Actor) → is_timer who ≡ false → JointPart m past → list_all (λ e. is_there m (class_of e.kind)) past ≡ true → Made m s who past
 follows m s [] who n h there = record { within = omega (arith, made_none (length m.sources + 1) who); are = sym (ap (λ k. front s k (calls_of m who [])) (made_none (length m.sources + 1) who)) }
 follows m s (e ∷ past) who n h there =
-    by_part m s e past who n (part_of e.kind) refl h.0 (and_first (is_there m (part_of e.kind)) (list_all (λ e. is_there m (part_of e.kind)) past) there)
-    (follows m s past who n h.1 (and_second (is_there m (part_of e.kind)) (list_all (λ e. is_there m (part_of e.kind)) past) there))
+    by_part m s e past who n (class_of e.kind) refl h.0 (and_first (is_there m (class_of e.kind)) (list_all (λ e. is_there m (class_of e.kind)) past) there)
+    (follows m s past who n h.1 (and_second (is_there m (class_of e.kind)) (list_all (λ e. is_there m (class_of e.kind)) past) there))
 
 -- an actor's notes weigh no more than its calls
-pub notes_within : (m : Machine) (s : ℕ) (past : List Entry) (who : Actor) → is_timer who ≡ false → JointPart m past → list_all (λ e. is_there m (part_of e.kind)) past ≡ true → noted_by s who past ≤ weigh s (calls_of m who (journal past))
+pub notes_within : (m : Machine) (s : ℕ) (past : List Entry) (who : Actor) → is_timer who ≡ false → JointPart m past → list_all (λ e. is_there m (class_of e.kind)) past ≡ true → noted_by s who past ≤ weigh s (calls_of m who (journal past))
 notes_within m s past who n h there =
     let f = follows m s past who n h there in
     omega (arith, f.are, front_within s (made (length m.sources + 1) (λ t. history t past) who) (calls_of m who (journal past)))
@@ -203,7 +203,7 @@ notes_within m s past who n h there =
 -- ---- all actors
 
 -- a timer's notes are expiries, which have places already
-timer_free : (m : Machine) (s : ℕ) (e : Entry) (past : List Entry) (part : Part) → part_of e.kind ≡ part → is_timer e.actor ≡ true → JointStep m past e part → kind_places s e.kind ≡ 0
+timer_free : (m : Machine) (s : ℕ) (e : Entry) (past : List Entry) (part : EntryClass) → class_of e.kind ≡ part → is_timer e.actor ≡ true → JointStep m past e part → kind_places s e.kind ≡ 0
 timer_free m s e past (Moves t step) p i h = ap (part_places s) p
 timer_free m s e past OfJournal p i h = ap (part_places s) p
 timer_free m s e past OfTime p i h = ap (part_places s) p
@@ -224,5 +224,5 @@ noted_all m s n (e ∷ past) l h =
     omega (arith, noted_all m s n past l.1 h.1, over_both n (λ a. when (is_same e.actor a) (kind_places s e.kind)) (λ a. noted_by s a past), by_timer (is_timer e.actor) refl)
   where
     by_timer : (b : Bool) → is_timer e.actor ≡ b → kind_places s e.kind ≤ over_all n (λ a. when (is_same e.actor a) (kind_places s e.kind))
-    by_timer true i = omega (arith, timer_free m s e past (part_of e.kind) refl i h.0)
+    by_timer true i = omega (arith, timer_free m s e past (class_of e.kind) refl i h.0)
     by_timer false i = over_one n e.actor (kind_places s e.kind) i l.0

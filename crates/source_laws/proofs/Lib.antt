@@ -12,4 +12,4 @@ pub mod Trying
 pub mod Limiting
 pub mod Running
 pub mod Attempting
-pub mod Keeping
+pub mod Fitting

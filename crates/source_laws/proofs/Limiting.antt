@@ -14,7 +14,7 @@ use Rattle.sleep_model.specs.Calls.{ends_step}
 use Rattle.sleep_model.specs.Legal.{JournalPart}
 use Rattle.sleep_model.specs.Path.{maker, is_actor, is_same}
 use Rattle.sleep_model.specs.Places.{one_if, is_state}
-use Rattle.sleep_model.specs.Seats.{seat_part}
+use Rattle.sleep_model.specs.Positions.{position_effect}
 use Rattle.source_laws.proofs.Summing.{total, one_where}
 use Rattle.source_laws.proofs.Trying.{is_attempt, is_over, maker_is, done_of, done_other, done_own, done_out, steps_if, steps_in, passes, TriesAt, Trial, ByMaking, ByTrying, ByWorking, ByOther, trial, same_actor, maker_other}
 use Rattle.source_laws.proofs.Weighing.{when}
@@ -70,12 +70,12 @@ in_range m i k e = get_range m.actors i k e
     get_range (x ∷ xs) zero k e = omega arith
     get_range (x ∷ xs) (suc i) k e = let rest = get_range xs i k e in omega arith
 
-no_end : (k : Kind) → is_attempt k ≡ true → ends_step (seat_part k) ≡ false
+no_end : (k : Kind) → is_attempt k ≡ true → ends_step (position_effect k) ≡ false
 no_end (kind.Attempt n guarded) e = refl
 no_end _ e = absurd (true≢false (sym e))
 
 -- an entry that ends no step leaves it where it is
-done_same : (m : Machine) (past : List Entry) (e : Entry) (i : ℕ) → is_same e.actor (actor.Script i) ≡ true → ends_step (seat_part e.kind) ≡ false → done_of m (e ∷ past) i ≡ done_of m past i
+done_same : (m : Machine) (past : List Entry) (e : Entry) (i : ℕ) → is_same e.actor (actor.Script i) ≡ true → ends_step (position_effect e.kind) ≡ false → done_of m (e ∷ past) i ≡ done_of m past i
 done_same m past e i s n = by_range (nat_lt i (length m.actors)) refl
   where
     by_range : (b : Bool) → nat_lt i (length m.actors) ≡ b → done_of m (e ∷ past) i ≡ done_of m past i
@@ -94,7 +94,7 @@ done_less m past e i s = by_range (nat_lt i (length m.actors)) refl
     by_range true r =
         let within : i < length m.actors = grind (arith, nat_tests) in
         let is = done_own m past e i s within in
-        omega (arith, ap (λ n. firsts n (steps_in m i)) is, by_end (ends_step (seat_part e.kind)))
+        omega (arith, ap (λ n. firsts n (steps_in m i)) is, by_end (ends_step (position_effect e.kind)))
     by_range false r = let out : length m.actors ≤ i = grind (arith, nat_tests) in omega (arith, ap (λ n. firsts n (steps_in m i)) (done_out m past e i s out))
 
 pub tried_same : (who : Actor) (past : List Entry) (e : Entry) → is_attempt e.kind ≡ false → tried who (e ∷ past) ≡ tried who past
@@ -111,8 +111,8 @@ pub tried_more : (who : Actor) (past : List Entry) (e : Entry) → is_same e.act
 tried_more who past e s t = ap (λ b. when b (one_if (is_attempt e.kind)) + tried who past) s ∙ ap (λ b. one_if b + tried who past) t
 
 -- who makes the open attempt after an entry, by what that is
-pub making_kept : (e : Entry) (past : List Entry) (a : Actor) → is_attempt e.kind ≡ false → is_over e.kind ≡ false → is_actor a (maker (e ∷ past)) ≡ is_actor a (maker past)
-making_kept e past a t o = ap (is_actor a) (maker_is e.kind e.actor (maker past)) ∙ (ap (λ b. is_actor a (cond b (Some e.actor) (cond (is_over e.kind) None (maker past)))) t ∙ ap (λ b. is_actor a (cond b None (maker past))) o)
+pub making_preserved : (e : Entry) (past : List Entry) (a : Actor) → is_attempt e.kind ≡ false → is_over e.kind ≡ false → is_actor a (maker (e ∷ past)) ≡ is_actor a (maker past)
+making_preserved e past a t o = ap (is_actor a) (maker_is e.kind e.actor (maker past)) ∙ (ap (λ b. is_actor a (cond b (Some e.actor) (cond (is_over e.kind) None (maker past)))) t ∙ ap (λ b. is_actor a (cond b None (maker past))) o)
 
 pub making_over : (e : Entry) (past : List Entry) (a : Actor) → is_attempt e.kind ≡ false → is_over e.kind ≡ true → is_actor a (maker (e ∷ past)) ≡ false
 making_over e past a t o = ap (is_actor a) (maker_is e.kind e.actor (maker past)) ∙ (ap (λ b. is_actor a (cond b (Some e.actor) (cond (is_over e.kind) None (maker past)))) t ∙ ap (λ b. is_actor a (cond b None (maker past))) o)
@@ -137,7 +137,7 @@ own_tries m i past e (ByMaking t ends w a) s h = by_over (is_over e.kind) refl
         }
     by_over false o =
         let same = done_same m past e i s (ends ∙ o) in
-        let kept = making_kept e past (actor.Script i) t o in
+        let kept = making_preserved e past (actor.Script i) t o in
         record {
           within = omega (arith, h.within, tried_same (actor.Script i) past e t, ap (λ n. firsts n (steps_in m i)) same, ap one_if kept);
           at_state = λ x. ap (λ n. passes is_state (slice_get (steps_in m i) n)) same ∙ h.at_state (sym kept ∙ x);
@@ -150,19 +150,19 @@ own_tries m i past e (ByTrying t f at) s h =
       at_state = λ x. ap (λ n. passes is_state (slice_get (steps_in m i) n)) same ∙ state;
     }
 own_tries m i past e (ByWorking t o w a l) s h = absurd (true≢false (sym s ∙ ap (λ x. is_same x (actor.Script i)) w))
-own_tries m i past e (ByOther t o w a) s h = by_end (ends_step (seat_part e.kind)) refl
+own_tries m i past e (ByOther t o w a) s h = by_end (ends_step (position_effect e.kind)) refl
   where
-    by_end : (b : Bool) → ends_step (seat_part e.kind) ≡ b → Tries m i (e ∷ past)
+    by_end : (b : Bool) → ends_step (position_effect e.kind) ≡ b → Tries m i (e ∷ past)
     by_end true ends =
         let free : is_actor (actor.Script i) (maker past) ≡ false = subst (λ (x : Actor). is_actor x (maker past) ≡ false) (same_actor e.actor (actor.Script i) s) (a ends) in
-        let kept = making_kept e past (actor.Script i) t o in
+        let kept = making_preserved e past (actor.Script i) t o in
         record {
           within = omega (arith, h.within, tried_same (actor.Script i) past e t, done_less m past e i s, ap one_if kept);
           at_state = λ x. absurd (true≢false (sym x ∙ (kept ∙ free)));
         }
     by_end false ends =
         let same = done_same m past e i s ends in
-        let kept = making_kept e past (actor.Script i) t o in
+        let kept = making_preserved e past (actor.Script i) t o in
         record {
           within = omega (arith, h.within, tried_same (actor.Script i) past e t, ap (λ n. firsts n (steps_in m i)) same, ap one_if kept);
           at_state = λ x. ap (λ n. passes is_state (slice_get (steps_in m i) n)) same ∙ h.at_state (sym kept ∙ x);

@@ -9,7 +9,7 @@ use Rattle.sleep_model.specs.declared.machine.SourceCall.TheVariants as call
 use Rattle.sleep_model.specs.declared.word.WordKind.{WordKind}
 use Rattle.sleep_model.specs.declared.word.WordKind.TheVariants as step
 use Rattle.sleep_model.specs.Legal.{SourcePart, OwnStep}
-use Rattle.sleep_model.specs.Parts.{Part, OfJournal, Notes, Moves, OfTime, part_of}
+use Rattle.sleep_model.specs.EntryClasses.{EntryClass, OfJournal, Notes, Moves, OfTime, class_of}
 use Rattle.sleep_model.specs.Places.{call_places, one_if}
 use Rattle.sleep_model.specs.Sources.{history, is_of, since, since_after, owed, owed_after, makes, expiry, expiry_after, has_expired, later, starting, SourceStep, IsNext}
 use Rattle.source_laws.proofs.Weighing.{part_places, kind_places, noted}
@@ -20,21 +20,21 @@ ends [] = false
 ends (step.Finish ∷ rest) = true
 ends (s ∷ rest) = ends rest
 
--- an event is in progress behind these steps, where it is or not before
+-- an event is in progress after these steps, where it is or not before
 abbrev goes : Bool → List WordKind → Bool
 goes active [] = active
 goes active (step.Start ∷ rest) = goes true rest
 goes active (step.Finish ∷ rest) = goes false rest
 goes active (step.Hard ∷ rest) = goes active rest
 
--- the places set aside for an expiry: none where a finish is owed, which cancels it
-abbrev aside : Bool → Bool → ℕ
-aside true false = 2
-aside _ ends = 0
+-- the places set aside for an expiry: none if a finish is owed, which cancels it
+abbrev outside : Bool → Bool → ℕ
+outside true false = 2
+outside _ ends = 0
 
 -- so many entries were made, and so much is owed; there is an expiry, an event is in progress, these steps are owed; the calls have so many places
 pub record Keeps (made : ℕ) (expires active : Bool) (steps : List WordKind) (places : ℕ) : Type 0 where
-  within : made + length steps + aside expires (ends steps) ≤ places
+  within : made + length steps + outside expires (ends steps) ≤ places
   lives : expires ≡ true → ends steps ≡ false → goes active steps ≡ true
 
 -- a step of the word
@@ -46,7 +46,7 @@ moves_keep made places s time o x step.Finish steps h = record { within = omega 
 
 -- ---- a call
 
--- there is an expiry behind an event: one with a length sets it
+-- there is an expiry after an event: one with a length sets it
 abbrev expires_after : Bool → Bool → Bool
 expires_after true before = before
 expires_after false before = true
@@ -55,8 +55,8 @@ expires_after false before = true
 abbrev event_steps : Bool → Bool → Bool → List WordKind
 event_steps hard quick active = cond active [] (step.Start ∷ []) ++ cond hard (step.Hard ∷ []) [] ++ cond quick (step.Finish ∷ []) []
 
-event_within : (made places : ℕ) (hard quick expires active : Bool) → made + 0 + aside expires false ≤ places
-    → suc made + length (event_steps hard quick active) + aside (expires_after quick expires) (ends (event_steps hard quick active)) ≤ cond quick 3 4 + one_if hard + places
+event_within : (made places : ℕ) (hard quick expires active : Bool) → made + 0 + outside expires false ≤ places
+    → suc made + length (event_steps hard quick active) + outside (expires_after quick expires) (ends (event_steps hard quick active)) ≤ cond quick 3 4 + one_if hard + places
 event_within made places true true true true l = omega (arith, l)
 event_within made places true true true false l = omega (arith, l)
 event_within made places true true false true l = omega (arith, l)
@@ -92,7 +92,7 @@ later_some : (time : ℕ) (o : Option ℕ) → is_some (later time o) ≡ true
 later_some time None = refl
 later_some time (Some y) = refl
 
--- whether an expiry stands behind an event
+-- whether an expiry stands after an event
 event_expires : (quick : Bool) (time : ℕ) (x : Option ℕ) → is_some (cond quick x (later time x)) ≡ expires_after quick (is_some x)
 event_expires true time x = refl
 event_expires false time x = later_some time x
@@ -101,7 +101,7 @@ event_starts : (o : Option ℕ) → cond (is_some o) [] (step.Start ∷ []) ≡ 
 event_starts None = refl
 event_starts (Some y) = refl
 
--- the note of a call, where nothing is owed; an expiry only where one stands
+-- the note of a call, where nothing is owed; an expiry only if one stands
 notes_keep : (made places s time : ℕ) (by : SourceCall) (o x : Option ℕ) → (by ≡ call.Expire → is_some x ≡ true) → Keeps made (is_some x) (is_some o) [] places
     → Keeps (suc made) (is_some (expiry_after (Notes s by) time x)) (is_some o) (makes by o) (call_places by + places)
 notes_keep made places s time call.Awake None x z h = record { within = omega (arith, h.within); lives = λ e. absurd (true≢false (sym e)) }
@@ -143,7 +143,7 @@ next_moves own s time places step (next ∷ rest) e n h =
     (subst (λ (x : WordKind). Keeps (length own) (is_some (expiry own)) (is_some (since own)) (x ∷ rest) places) n (subst (λ (xs : List WordKind). Keeps (length own) (is_some (expiry own)) (is_some (since own)) xs places) e h))
 
 -- where the source is that of the entry
-own_keeps : (own : List Entry) (s time places : ℕ) (who : Actor) (part : Part) → is_of s part ≡ true → SourceStep own time who part → KeepsTo own places
+own_keeps : (own : List Entry) (s time places : ℕ) (who : Actor) (part : EntryClass) → is_of s part ≡ true → SourceStep own time who part → KeepsTo own places
     → Keeps (suc (length own)) (is_some (expiry_after part time (expiry own))) (is_some (since_after part time (since own))) (owed_after part (since own) (owed own)) (part_places s part + places)
 own_keeps own s time places who (Notes t call) o h k =
     let free = nothing_owed own time t who call h in
@@ -158,14 +158,14 @@ own_keeps own s time places who OfJournal o h k = absurd (true≢false (sym o))
 own_keeps own s time places who OfTime o h k = absurd (true≢false (sym o))
 
 -- the step of an entry of source s in the history of s
-step_in : (s : ℕ) (past : List Entry) (e : Entry) (part : Part) → is_of s part ≡ true → OwnStep past e part → SourceStep (history s past) e.time e.actor part
+step_in : (s : ℕ) (past : List Entry) (e : Entry) (part : EntryClass) → is_of s part ≡ true → OwnStep past e part → SourceStep (history s past) e.time e.actor part
 step_in s past e (Notes t call) o h = let same : t ≡ s = grind (arith, nat_tests) in subst (λ (x : ℕ). SourceStep (history x past) e.time e.actor (Notes t call)) same h
 step_in s past e (Moves t step) o h = let same : t ≡ s = grind (arith, nat_tests) in subst (λ (x : ℕ). SourceStep (history x past) e.time e.actor (Moves t step)) same h
 step_in s past e OfJournal o h = tt
 step_in s past e OfTime o h = tt
 
 -- an entry of another takes no place
-no_places : (s : ℕ) (part : Part) → is_of s part ≡ false → part_places s part ≡ 0
+no_places : (s : ℕ) (part : EntryClass) → is_of s part ≡ false → part_places s part ≡ 0
 no_places s (Notes t call) o = ap (λ b. cond b (call_places call) 0) o
 no_places s (Moves t step) o = refl
 no_places s OfJournal o = refl
@@ -173,11 +173,11 @@ no_places s OfTime o = refl
 
 keeps : (s : ℕ) (past : List Entry) → SourcePart past → KeepsTo (history s past) (noted s past)
 keeps s [] h = record { within = omega arith; lives = λ e. absurd (true≢false (sym e)) }
-keeps s (e ∷ past) h = by_source (is_of s (part_of e.kind)) refl (keeps s past h.1)
+keeps s (e ∷ past) h = by_source (is_of s (class_of e.kind)) refl (keeps s past h.1)
   where
-    by_source : (b : Bool) → is_of s (part_of e.kind) ≡ b → KeepsTo (history s past) (noted s past) → KeepsTo (cond b (e ∷ history s past) (history s past)) (kind_places s e.kind + noted s past)
-    by_source true o k = own_keeps (history s past) s e.time (noted s past) e.actor (part_of e.kind) o (step_in s past e (part_of e.kind) o h.0) k
-    by_source false o k = let none : noted s past ≡ kind_places s e.kind + noted s past = omega (arith, no_places s (part_of e.kind) o) in subst (λ (n : ℕ). KeepsTo (history s past) n) none k
+    by_source : (b : Bool) → is_of s (class_of e.kind) ≡ b → KeepsTo (history s past) (noted s past) → KeepsTo (cond b (e ∷ history s past) (history s past)) (kind_places s e.kind + noted s past)
+    by_source true o k = own_keeps (history s past) s e.time (noted s past) e.actor (class_of e.kind) o (step_in s past e (class_of e.kind) o h.0) k
+    by_source false o k = let none : noted s past ≡ kind_places s e.kind + noted s past = omega (arith, no_places s (class_of e.kind) o) in subst (λ (n : ℕ). KeepsTo (history s past) n) none k
 
 -- a history has no more entries than its notes have places
 pub history_keeps : (s : ℕ) (past : List Entry) → SourcePart past → length (history s past) ≤ noted s past

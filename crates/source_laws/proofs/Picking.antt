@@ -17,7 +17,7 @@ use Rattle.sleep_model.specs.Answers.{answer, answer_for, answer_reports, own_or
 use Rattle.sleep_model.specs.Calls.{note, report_calls}
 use Rattle.sleep_model.specs.Legal.{JournalPart}
 use Rattle.sleep_model.specs.Path.{attempts, attempts_after}
-use Rattle.sleep_model.specs.Places.{one_if, report_places, stands_in, general_in, call_places, places_if}
+use Rattle.sleep_model.specs.Places.{one_if, report_places, attempts_with, general_in, call_places, places_if}
 use Rattle.source_laws.proofs.Asking.{reported}
 use Rattle.source_laws.proofs.Beginning.{begins, begun, begun_after, once}
 use Rattle.source_laws.proofs.Summing.{total, sum_is, total_plus, total_most, if_there}
@@ -164,7 +164,7 @@ own_passes k (suc n) = by_last (k == suc n) refl (nat_le k n) refl (own_passes k
         by_first true = refl
         by_first false = refl
 
-stands_within : (a : Answer) (answers : List Answer) (n : ℕ) (o : Option ℕ) → passing (stands_by a.what answers o) n ≤ stands_in a answers n o
+stands_within : (a : Answer) (answers : List Answer) (n : ℕ) (o : Option ℕ) → passing (stands_by a.what answers o) n ≤ attempts_with a answers n o
 stands_within a answers n None = omega (arith, general_is a answers n)
 stands_within a answers n (Some k) = own_passes k n
 
@@ -189,18 +189,18 @@ reported_counted m s (e ∷ past) =
     one_more x y r = omega arith
 
 -- all reports keep to the places of the answers, in the attempts in which these stand
-pub reported_within : (m : Machine) (s most : ℕ) (past : List Entry) → JournalPart m past → attempts past ≤ most → reported m s past ≤ sum (map (λ a. stands_in a m.answers most a.attempt * report_places s a) m.answers)
+pub reported_within : (m : Machine) (s most : ℕ) (past : List Entry) → JournalPart m past → attempts past ≤ most → reported m s past ≤ sum (map (λ a. attempts_with a m.answers most a.attempt * report_places s a) m.answers)
 reported_within m s most past h l =
     omega (
       arith,
       reported_counted m s past,
-      sum_is (λ (a : Answer). stands_in a m.answers most a.attempt * report_places s a) m.answers,
-      total_most (given s m.answers past) (λ a. stands_in a m.answers most a.attempt * report_places s a) m.answers each,
+      sum_is (λ (a : Answer). attempts_with a m.answers most a.attempt * report_places s a) m.answers,
+      total_most (given s m.answers past) (λ a. attempts_with a m.answers most a.attempt * report_places s a) m.answers each,
     )
   where
     times : (x y r : ℕ) → x ≤ y → x * r ≤ y * r
     times x y r l = grind arith
 
-    each : (a : Answer) → given s m.answers past a ≤ stands_in a m.answers most a.attempt * report_places s a
-    each a = times (counted a.what (stands_at m.answers a) past) (stands_in a m.answers most a.attempt) (report_places s a)
+    each : (a : Answer) → given s m.answers past a ≤ attempts_with a m.answers most a.attempt * report_places s a
+    each a = times (counted a.what (stands_at m.answers a) past) (attempts_with a m.answers most a.attempt) (report_places s a)
         (omega (arith, counted_within m a.what (stands_at m.answers a) past h, passing_most (stands_at m.answers a) (attempts past) most l, stands_within a m.answers most a.attempt))

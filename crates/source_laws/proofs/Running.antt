@@ -12,24 +12,24 @@ use Rattle.sleep_model.specs.declared.log.Why.TheVariants as why
 use Rattle.sleep_model.specs.declared.machine.Machine.{Machine}
 use Rattle.sleep_model.specs.declared.machine.Op.{Op}
 use Rattle.sleep_model.specs.declared.machine.Script.{Script}
-use Rattle.sleep_model.specs.declared.place.Due.TheVariants.{Makes, Waits}
-use Rattle.sleep_model.specs.declared.place.Seat.{Seat}
-use Rattle.sleep_model.specs.declared.place.Stage.{Stage}
-use Rattle.sleep_model.specs.declared.place.Work.{Work}
-use Rattle.sleep_model.specs.declared.place.Work.TheVariants.{Resting, Attempting}
+use Rattle.sleep_model.specs.declared.progress.Due.TheVariants.{Makes, Waits}
+use Rattle.sleep_model.specs.declared.progress.ScriptPosition.{ScriptPosition}
+use Rattle.sleep_model.specs.declared.progress.Stage.{Stage}
+use Rattle.sleep_model.specs.declared.progress.Work.{Work}
+use Rattle.sleep_model.specs.declared.progress.Work.TheVariants.{Resting, Attempting}
 use Rattle.sleep_model.specs.declared.word.EventNow.{EventNow}
 use Rattle.sleep_model.specs.Attempt.{attempt_due, sleeps_now}
 use Rattle.sleep_model.specs.Autosleep.{work, work_after, work_step, work_due, looks_at, runs, runs_after, may_run, is_queued, queued_after}
 use Rattle.sleep_model.specs.Due.{due, own_due, is_over}
 use Rattle.sleep_model.specs.Legal.{JournalPart, JournalStep}
 use Rattle.sleep_model.specs.Lock.{is_on}
-use Rattle.sleep_model.specs.Parts.{part_of}
+use Rattle.sleep_model.specs.EntryClasses.{class_of}
 use Rattle.sleep_model.specs.Path.{maker, is_actor, is_same}
 use Rattle.sleep_model.specs.Places.{one_if, is_autosleep, all_operations}
 use Rattle.sleep_model.specs.Scripts.{entry_steps, operations, makes_entry}
 use Rattle.sleep_laws.proofs.Made.{Made, StepMade, TaskMade, WorkMade, DeviceMade, EntryMade, ByMaker, ByTask, ByWork, ByDevice, ByTime}
 use Rattle.sleep_laws.proofs.MakingOwn.{made, entry_made}
-use Rattle.source_laws.proofs.Limiting.{tried, tried_same, tried_other, tried_more, making_kept, making_over, making_new}
+use Rattle.source_laws.proofs.Limiting.{tried, tried_same, tried_other, tried_more, making_preserved, making_over, making_new}
 use Rattle.source_laws.proofs.Summing.{total, count_is, one_where, total_flat, total_filter}
 use Rattle.source_laws.proofs.Trying.{is_attempt, is_over as ends_attempt, done_of, steps_if, steps_in, passes, is_attempting, is_trying, TriesAt, Trial, ByMaking, ByTrying, ByWorking, ByOther, trial, same_actor, maker_other}
 
@@ -91,7 +91,7 @@ own_tries m past e (ByMaking t ends steps a) s h = by_over (ends_attempt e.kind)
           attempting = λ x. absurd (true≢false (sym x ∙ free));
         }
     by_over false o =
-        let kept = making_kept e past actor.Auto t o in
+        let kept = making_preserved e past actor.Auto t o in
         let new : work (e ∷ past) ≡ work past = work_own e.actor e.kind (work past) s ∙ (steps (work past) ∙ ap (λ b. cond b (looks_at (work past)) (work past)) o) in
         let none : due_still (is_actor actor.Auto (maker (e ∷ past))) (work (e ∷ past)) ≡ 0 = ap (λ b. due_still b (work (e ∷ past))) (kept ∙ mine) in
         record {
@@ -109,7 +109,7 @@ own_tries m past e (ByTrying t f at) s h =
     }
 own_tries m past e (ByWorking t o w a l) s h =
     let free : is_actor actor.Auto (maker past) ≡ false = subst (λ (x : Actor). is_actor x (maker past) ≡ false) w a in
-    let kept = making_kept e past actor.Auto t o in
+    let kept = making_preserved e past actor.Auto t o in
     let before : due_still (is_actor actor.Auto (maker past)) (work past) ≡ one_if (is_trying (work past)) = ap (λ b. due_still b (work past)) free in
     let after : due_still (is_actor actor.Auto (maker (e ∷ past))) (work (e ∷ past)) ≡ one_if (is_trying (work_step e.kind (work past))) =
     ap (λ b. due_still b (work (e ∷ past))) (kept ∙ free) ∙ ap (λ v. one_if (is_trying v)) (work_own e.actor e.kind (work past) s) in
@@ -152,15 +152,15 @@ made_no_run : (m : Machine) (past : List Entry) (now : EventNow) (there : Stage)
 made_no_run m past now _ _ Made.Ends = refl
 made_no_run m past now _ _ _ = refl
 
-step_no_run : (m : Machine) (past : List Entry) (now : EventNow) (seat : Seat) (asked : Bool) (o : Option Op) (k : Kind) → StepMade m past now seat asked o k → is_run k ≡ false
-step_no_run m past now seat asked _ _ StepMade.Exits = refl
-step_no_run m past now seat asked _ _ _ = refl
+step_no_run : (m : Machine) (past : List Entry) (now : EventNow) (position : ScriptPosition) (asked : Bool) (o : Option Op) (k : Kind) → StepMade m past now position asked o k → is_run k ≡ false
+step_no_run m past now position asked _ _ StepMade.Exits = refl
+step_no_run m past now position asked _ _ _ = refl
 
 device_no_run : (m : Machine) (past : List Entry) (now : EventNow) (d : ℕ) (k : Kind) → DeviceMade m past now d k → is_run k ≡ false
 device_no_run m past now d _ (DeviceMade.OwnFails p r w g f) = refl
 device_no_run m past now d _ _ = refl
 
--- it runs only where it rests
+-- it runs only if it rests
 run_rests : (m : Machine) (past : List Entry) (now : EventNow) (w : Work) (k : Kind) → WorkMade m past now w k → is_run k ≡ true → (w ≡ Resting) × (k ≡ kind.AutoRun)
 run_rests m past now _ _ WorkMade.Runs e = (refl, refl)
 run_rests m past now _ _ (WorkMade.Reads q) e = absurd (true≢false (sym e))
@@ -182,7 +182,7 @@ work_due_at m past now a s o w =
     ∙ (ap (λ b. cond b (Waits why.Asleep) (cond (is_over m past) (Waits why.NoWork) (work_due m past now (work past)))) s
     ∙ (ap (λ b. cond b (Waits why.NoWork) (work_due m past now (work past))) o ∙ ap (work_due m past now) w))
 
--- and only where it may
+-- and only if it may
 run_may : (m : Machine) (past : List Entry) (now : EventNow) (who : Actor) (k : Kind) → EntryMade m past now who k → is_run k ≡ true → due m past who now ≡ Makes k → may_run m past ≡ true
 run_may m past now who k (ByMaker _ here there _ a e c x) r d = absurd (true≢false (sym r ∙ made_no_run m past now there k x))
 run_may m past now _ _ (ByTask i _ a (TaskMade.Freezes s go asked)) r d = absurd (true≢false (sym r))
@@ -193,7 +193,7 @@ run_may m past now _ k (ByWork w _ a s o e x) r d =
 run_may m past now _ k (ByDevice d _ a x) r e = absurd (true≢false (sym r ∙ device_no_run m past now d k x))
 run_may m past now _ _ ByTime r d = absurd (true≢false (sym r))
 
-run_step : (m : Machine) (past : List Entry) (time : ℕ) (now : EventNow) (who : Actor) (k : Kind) → JournalStep m past (record { time = time; now = now; actor = who; kind = k }) (part_of k) → is_run k ≡ true → may_run m past ≡ true
+run_step : (m : Machine) (past : List Entry) (time : ℕ) (now : EventNow) (who : Actor) (k : Kind) → JournalStep m past (record { time = time; now = now; actor = who; kind = k }) (class_of k) → is_run k ≡ true → may_run m past ≡ true
 run_step m past time now who kind.AutoRun h r = run_may m past now who kind.AutoRun (made m past now who kind.AutoRun h.0) refl h.0
 run_step m past time now who _ h r = absurd (true≢false (sym r))
 
@@ -227,7 +227,7 @@ record Quiet (past : List Entry) : Type 0 where
   none : runs past ≡ 0
 
 -- an entry that queues no work, is no run, and leaves work that rests
-record IsCalm (who : Actor) (k : Kind) : Type 0 where
+record IsQuiescent (who : Actor) (k : Kind) : Type 0 where
   queues : (on : Bool) → queued_after k on false ≡ false
   runs : is_run k ≡ false
   rests : work_after who k Resting ≡ Resting
@@ -239,17 +239,17 @@ work_any (actor.Dev i) k w e = refl
 work_any (actor.Timer i) k w e = refl
 work_any actor.Time k w e = refl
 
-maker_calm : (m : Machine) (past : List Entry) (now : EventNow) (there : Stage) (k : Kind) → Made m past now there k → (who : Actor) → IsCalm who k
-maker_calm m past now _ _ Made.Ends who = record { queues = λ on. refl; runs = refl; rests = work_any who _ Resting refl }
-maker_calm m past now _ _ _ who = record { queues = λ on. refl; runs = refl; rests = work_any who _ Resting refl }
+maker_quiescent : (m : Machine) (past : List Entry) (now : EventNow) (there : Stage) (k : Kind) → Made m past now there k → (who : Actor) → IsQuiescent who k
+maker_quiescent m past now _ _ Made.Ends who = record { queues = λ on. refl; runs = refl; rests = work_any who _ Resting refl }
+maker_quiescent m past now _ _ _ who = record { queues = λ on. refl; runs = refl; rests = work_any who _ Resting refl }
 
-step_calm : (m : Machine) (past : List Entry) (now : EventNow) (i : ℕ) (seat : Seat) (asked : Bool) (o : Option Op) (k : Kind) → StepMade m past now seat asked o k → (passes is_autosleep o ≡ true → ⊥) → IsCalm (actor.Script i) k
-step_calm m past now i seat asked _ _ (StepMade.AutoEnds text w) n = absurd (n refl)
-step_calm m past now i seat asked _ _ _ n = record { queues = λ on. refl; runs = refl; rests = refl }
+step_quiescent : (m : Machine) (past : List Entry) (now : EventNow) (i : ℕ) (position : ScriptPosition) (asked : Bool) (o : Option Op) (k : Kind) → StepMade m past now position asked o k → (passes is_autosleep o ≡ true → ⊥) → IsQuiescent (actor.Script i) k
+step_quiescent m past now i position asked _ _ (StepMade.AutoEnds text w) n = absurd (n refl)
+step_quiescent m past now i position asked _ _ _ n = record { queues = λ on. refl; runs = refl; rests = refl }
 
-device_calm : (m : Machine) (past : List Entry) (now : EventNow) (d : ℕ) (k : Kind) → DeviceMade m past now d k → IsCalm (actor.Dev d) k
-device_calm m past now d _ (DeviceMade.OwnFails p r w g f) = record { queues = λ on. refl; runs = refl; rests = refl }
-device_calm m past now d _ _ = record { queues = λ on. refl; runs = refl; rests = refl }
+device_quiescent : (m : Machine) (past : List Entry) (now : EventNow) (d : ℕ) (k : Kind) → DeviceMade m past now d k → IsQuiescent (actor.Dev d) k
+device_quiescent m past now d _ (DeviceMade.OwnFails p r w g f) = record { queues = λ on. refl; runs = refl; rests = refl }
+device_quiescent m past now d _ _ = record { queues = λ on. refl; runs = refl; rests = refl }
 
 get_one : (test : Op → Bool) (xs : List Op) (k : ℕ) → passes test (slice_get xs k) ≡ true → 1 ≤ total (one_where test) xs
 get_one test [] k e = absurd (true≢false (sym e))
@@ -267,22 +267,22 @@ none_written m z i k e =
     let one : 1 ≤ total (λ s. total (one_where is_autosleep) (operations s)) m.actors = script_one is_autosleep m.actors i k e in
     absurd (omega (arith, one, total_flat (one_where is_autosleep) operations m.actors, count_is is_autosleep (all_operations m.actors), z))
 
-entry_calm : (m : Machine) → count_by is_autosleep (all_operations m.actors) ≡ 0 → (past : List Entry) (now : EventNow) (who : Actor) (k : Kind) → EntryMade m past now who k → Quiet past → (is_run k ≡ true → may_run m past ≡ true) → IsCalm who k
-entry_calm m z past now who k (ByMaker _ here there _ a e c x) q r = maker_calm m past now there k x who
-entry_calm m z past now _ _ (ByTask i _ a (TaskMade.Freezes s go asked)) q r = record { queues = λ on. refl; runs = refl; rests = refl }
-entry_calm m z past now _ k (ByTask i _ a (TaskMade.Steps s _ o go at x)) q r =
+entry_quiescent : (m : Machine) → count_by is_autosleep (all_operations m.actors) ≡ 0 → (past : List Entry) (now : EventNow) (who : Actor) (k : Kind) → EntryMade m past now who k → Quiet past → (is_run k ≡ true → may_run m past ≡ true) → IsQuiescent who k
+entry_quiescent m z past now who k (ByMaker _ here there _ a e c x) q r = maker_quiescent m past now there k x who
+entry_quiescent m z past now _ _ (ByTask i _ a (TaskMade.Freezes s go asked)) q r = record { queues = λ on. refl; runs = refl; rests = refl }
+entry_quiescent m z past now _ k (ByTask i _ a (TaskMade.Steps s _ o go at x)) q r =
     let here : slice_get (steps_in m i) (done_of m past i) ≡ o = ap (λ y. slice_get (steps_if y) (done_of m past i)) go.script ∙ at in
-    step_calm m past now i _ _ o k x (λ p. none_written m z i (done_of m past i) (ap (passes is_autosleep) here ∙ p))
-entry_calm m z past now _ k (ByWork w _ a s o e x) q r =
+    step_quiescent m past now i _ _ o k x (λ p. none_written m z i (done_of m past i) (ap (passes is_autosleep) here ∙ p))
+entry_quiescent m z past now _ k (ByWork w _ a s o e x) q r =
     absurd (true≢false (sym (and_parts (is_queued past) (nat_lt (runs past) m.auto_cycles) (r (rests_run m past now w k x (sym e ∙ q.rests)))).0 ∙ q.queue))
-entry_calm m z past now _ k (ByDevice d _ a x) q r = device_calm m past now d k x
-entry_calm m z past now _ _ ByTime q r = record { queues = λ on. refl; runs = refl; rests = refl }
+entry_quiescent m z past now _ k (ByDevice d _ a x) q r = device_quiescent m past now d k x
+entry_quiescent m z past now _ _ ByTime q r = record { queues = λ on. refl; runs = refl; rests = refl }
 
 quiet : (m : Machine) → count_by is_autosleep (all_operations m.actors) ≡ 0 → (past : List Entry) → JournalPart m past → Quiet past
 quiet m z [] h = record { queue = refl; rests = refl; none = refl }
 quiet m z (e ∷ past) h =
     let q = quiet m z past h.1 in
-    let c = entry_calm m z past e.now e.actor e.kind (entry_made m past e h) q (run_step m past e.time e.now e.actor e.kind h.0) in
+    let c = entry_quiescent m z past e.now e.actor e.kind (entry_made m past e h) q (run_step m past e.time e.now e.actor e.kind h.0) in
     record {
       queue = ap (queued_after e.kind (is_on past)) q.queue ∙ c.queues (is_on past);
       rests = ap (work_after e.actor e.kind) q.rests ∙ c.rests;

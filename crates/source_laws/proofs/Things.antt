@@ -4,7 +4,7 @@ use Rattle.std.proofs.lemmas.Bool.{true≢false}
 use Rattle.std.proofs.lemmas.Bool.Decides.{nat_tests}
 use Rattle.phase_table.specs.declared.phase.Phase.{Phase}
 use Rattle.phase_table.specs.declared.phase.Phase.TheVariants as phase
-use Rattle.phase_table.specs.Phases.{is_phase, phase_place}
+use Rattle.phase_table.specs.Phases.{is_phase, phase_rank}
 use Rattle.sleep_model.specs.declared.machine.What.{What}
 use Rattle.sleep_model.specs.declared.machine.What.TheVariants as what
 use Rattle.sleep_model.specs.Answers.{is_thing}
@@ -14,7 +14,7 @@ phase_of n =
     cond (n == 0) phase.Prepare (cond (n == 1) phase.Suspend (cond (n == 2) phase.Late (cond (n == 3) phase.Noirq (cond (n == 4) phase.Syscore (cond (n == 5) phase.SyscoreResume
     (cond (n == 6) phase.ResumeNoirq (cond (n == 7) phase.Early (cond (n == 8) phase.Resume phase.Complete))))))))
 
-phase_back : (p : Phase) → phase_of (phase_place p) ≡ p
+phase_back : (p : Phase) → phase_of (phase_rank p) ≡ p
 unfolding phase_of
 phase_back phase.Prepare = refl
 phase_back phase.Suspend = refl
@@ -29,7 +29,7 @@ phase_back phase.Complete = refl
 
 pub same_phase : (p q : Phase) → is_phase p q ≡ true → p ≡ q
 same_phase p q e =
-    let same : phase_place p ≡ phase_place q = grind (arith, nat_tests) in
+    let same : phase_rank p ≡ phase_rank q = grind (arith, nat_tests) in
     sym (phase_back p) ∙ (ap phase_of same ∙ phase_back q)
 
 pub and_parts : (a b : Bool) → (a && b) ≡ true → (a ≡ true) × (b ≡ true)

@@ -11,10 +11,10 @@ use Rattle.sleep_model.specs.declared.entry.Kind.TheVariants as kind
 use Rattle.sleep_model.specs.declared.machine.Machine.{Machine}
 use Rattle.sleep_model.specs.declared.machine.Op.{Op}
 use Rattle.sleep_model.specs.declared.machine.Script.{Script}
-use Rattle.sleep_model.specs.declared.place.Seat.{Seat}
-use Rattle.sleep_model.specs.declared.place.Stage.{Stage}
-use Rattle.sleep_model.specs.declared.place.Work.{Work}
-use Rattle.sleep_model.specs.declared.place.Work.TheVariants.{Reading, Saving, Attempting, Looking, Napping, Closing}
+use Rattle.sleep_model.specs.declared.progress.ScriptPosition.{ScriptPosition}
+use Rattle.sleep_model.specs.declared.progress.Stage.{Stage}
+use Rattle.sleep_model.specs.declared.progress.Work.{Work}
+use Rattle.sleep_model.specs.declared.progress.Work.TheVariants.{Reading, Saving, Attempting, Looking, Napping, Closing}
 use Rattle.sleep_model.specs.declared.word.EventNow.{EventNow}
 use Rattle.sleep_model.specs.Autosleep.{work, work_step, looks_at, after_look, seen_count, runs, runs_after}
 use Rattle.sleep_model.specs.Calls.{ends_step}
@@ -22,8 +22,8 @@ use Rattle.sleep_model.specs.Legal.{JournalPart}
 use Rattle.sleep_model.specs.Path.{maker, maker_after, is_actor, is_same}
 use Rattle.sleep_model.specs.Places.{one_if, is_state}
 use Rattle.sleep_model.specs.Scripts.{entry_steps}
-use Rattle.sleep_model.specs.Seats.{SeatPart, seat_part, seats, seats_after, seat_after, seat_at, first_seat}
-use Rattle.sleep_laws.proofs.Holding.{Moved, Opens, Makes, Beside, Owns, Aside, moved}
+use Rattle.sleep_model.specs.Positions.{PositionEffect, position_effect, positions, positions_after, position_after, position_at, first_position}
+use Rattle.sleep_laws.proofs.LockHolding.{Moved, Opens, Makes, Beside, Owns, Outside, moved}
 use Rattle.sleep_laws.proofs.Made.{Made, StepMade, TaskMade, WorkMade, DeviceMade, EntryMade, ByMaker, ByTask, ByWork, ByDevice, ByTime}
 use Rattle.sleep_laws.proofs.MakingOwn.{entry_made}
 
@@ -44,12 +44,12 @@ maker_is _ who before = refl
 
 -- ---- where scripts stand
 
-pub seats_length : (n : ℕ) (past : List Entry) → length (seats n past) ≡ n
-seats_length n [] = length-replicate n first_seat
-seats_length n (e ∷ past) = by_actor e.actor (seats_length n past)
+pub positions_length : (n : ℕ) (past : List Entry) → length (positions n past) ≡ n
+positions_length n [] = length-replicate n first_position
+positions_length n (e ∷ past) = by_actor e.actor (positions_length n past)
   where
-    by_actor : (a : Actor) → length (seats n past) ≡ n → length (seats_after a (seat_part e.kind) (seats n past)) ≡ n
-    by_actor (actor.Script i) l = length-set (seats n past) i (seat_after (seat_part e.kind) (seat_at (seats n past) i)) ∙ l
+    by_actor : (a : Actor) → length (positions n past) ≡ n → length (positions_after a (position_effect e.kind) (positions n past)) ≡ n
+    by_actor (actor.Script i) l = length-set (positions n past) i (position_after (position_effect e.kind) (position_at (positions n past) i)) ∙ l
     by_actor actor.Auto l = l
     by_actor (actor.Dev d) l = l
     by_actor (actor.Timer t) l = l
@@ -57,40 +57,40 @@ seats_length n (e ∷ past) = by_actor e.actor (seats_length n past)
 
 -- how many of its steps script i has done
 abbrev pub done_of : Machine → List Entry → ℕ → ℕ
-done_of m past i = (seat_at (seats (length m.actors) past) i).done
+done_of m past i = (position_at (positions (length m.actors) past) i).done
 
 pub done_other : (m : Machine) (past : List Entry) (e : Entry) (i : ℕ) → is_same e.actor (actor.Script i) ≡ false → done_of m (e ∷ past) i ≡ done_of m past i
 done_other m past e i n = by_actor e.actor n
   where
-    by_actor : (a : Actor) → is_same a (actor.Script i) ≡ false → (seat_at (seats_after a (seat_part e.kind) (seats (length m.actors) past)) i).done ≡ done_of m past i
+    by_actor : (a : Actor) → is_same a (actor.Script i) ≡ false → (position_at (positions_after a (position_effect e.kind) (positions (length m.actors) past)) i).done ≡ done_of m past i
     by_actor (actor.Script j) n =
         let other : i ≢ j = grind (arith, nat_tests) in
-        ap (λ (s : Seat). s.done) (get_or-set_other (seats (length m.actors) past) j i (seat_after (seat_part e.kind) (seat_at (seats (length m.actors) past) j)) first_seat other)
+        ap (λ (s : ScriptPosition). s.done) (get_or-set_other (positions (length m.actors) past) j i (position_after (position_effect e.kind) (position_at (positions (length m.actors) past) j)) first_position other)
     by_actor actor.Auto n = refl
     by_actor (actor.Dev d) n = refl
     by_actor (actor.Timer t) n = refl
     by_actor actor.Time n = refl
 
-pub after_done : (part : SeatPart) (s : Seat) → (seat_after part s).done ≡ cond (ends_step part) (s.done + 1) s.done
-after_done SeatPart.Waits s = refl
-after_done SeatPart.Sets s = refl
-after_done (SeatPart.Sleeps u) s = refl
-after_done (SeatPart.Reads c) s = refl
-after_done (SeatPart.Saves ok) s = refl
-after_done SeatPart.Steps s = refl
-after_done SeatPart.Exits s = refl
-after_done SeatPart.Stays s = refl
+pub after_done : (part : PositionEffect) (s : ScriptPosition) → (position_after part s).done ≡ cond (ends_step part) (s.done + 1) s.done
+after_done PositionEffect.Waits s = refl
+after_done PositionEffect.Sets s = refl
+after_done (PositionEffect.Sleeps u) s = refl
+after_done (PositionEffect.Reads c) s = refl
+after_done (PositionEffect.Saves ok) s = refl
+after_done PositionEffect.Steps s = refl
+after_done PositionEffect.Exits s = refl
+after_done PositionEffect.Stays s = refl
 
 -- a script of the machine does one more by an entry that ends a step
-pub done_own : (m : Machine) (past : List Entry) (e : Entry) (i : ℕ) → is_same e.actor (actor.Script i) ≡ true → i < length m.actors → done_of m (e ∷ past) i ≡ cond (ends_step (seat_part e.kind)) (done_of m past i + 1) (done_of m past i)
+pub done_own : (m : Machine) (past : List Entry) (e : Entry) (i : ℕ) → is_same e.actor (actor.Script i) ≡ true → i < length m.actors → done_of m (e ∷ past) i ≡ cond (ends_step (position_effect e.kind)) (done_of m past i + 1) (done_of m past i)
 done_own m past e i s l = by_actor e.actor s
   where
-    by_actor : (a : Actor) → is_same a (actor.Script i) ≡ true → (seat_at (seats_after a (seat_part e.kind) (seats (length m.actors) past)) i).done ≡ cond (ends_step (seat_part e.kind)) (done_of m past i + 1) (done_of m past i)
+    by_actor : (a : Actor) → is_same a (actor.Script i) ≡ true → (position_at (positions_after a (position_effect e.kind) (positions (length m.actors) past)) i).done ≡ cond (ends_step (position_effect e.kind)) (done_of m past i + 1) (done_of m past i)
     by_actor (actor.Script j) s =
         let same : j ≡ i = grind (arith, nat_tests) in
-        let within : i < length (seats (length m.actors) past) = omega (arith, seats_length (length m.actors) past) in
-        subst (λ (x : ℕ). (seat_at (slice_set (seats (length m.actors) past) x (seat_after (seat_part e.kind) (seat_at (seats (length m.actors) past) x))) i).done ≡ cond (ends_step (seat_part e.kind)) (done_of m past i + 1) (done_of m past i)) (sym same)
-        (ap (λ (x : Seat). x.done) (get_or-set_same (seats (length m.actors) past) i (seat_after (seat_part e.kind) (seat_at (seats (length m.actors) past) i)) first_seat within) ∙ after_done (seat_part e.kind) (seat_at (seats (length m.actors) past) i))
+        let within : i < length (positions (length m.actors) past) = omega (arith, positions_length (length m.actors) past) in
+        subst (λ (x : ℕ). (position_at (slice_set (positions (length m.actors) past) x (position_after (position_effect e.kind) (position_at (positions (length m.actors) past) x))) i).done ≡ cond (ends_step (position_effect e.kind)) (done_of m past i + 1) (done_of m past i)) (sym same)
+        (ap (λ (x : ScriptPosition). x.done) (get_or-set_same (positions (length m.actors) past) i (position_after (position_effect e.kind) (position_at (positions (length m.actors) past) i)) first_position within) ∙ after_done (position_effect e.kind) (position_at (positions (length m.actors) past) i))
     by_actor actor.Auto s = absurd (true≢false (sym s))
     by_actor (actor.Dev d) s = absurd (true≢false (sym s))
     by_actor (actor.Timer t) s = absurd (true≢false (sym s))
@@ -100,10 +100,10 @@ done_own m past e i s l = by_actor e.actor s
 pub done_out : (m : Machine) (past : List Entry) (e : Entry) (i : ℕ) → is_same e.actor (actor.Script i) ≡ true → length m.actors ≤ i → done_of m (e ∷ past) i ≡ done_of m past i
 done_out m past e i s l = by_actor e.actor s
   where
-    by_actor : (a : Actor) → is_same a (actor.Script i) ≡ true → (seat_at (seats_after a (seat_part e.kind) (seats (length m.actors) past)) i).done ≡ done_of m past i
+    by_actor : (a : Actor) → is_same a (actor.Script i) ≡ true → (position_at (positions_after a (position_effect e.kind) (positions (length m.actors) past)) i).done ≡ done_of m past i
     by_actor (actor.Script j) s =
         let same : j ≡ i = grind (arith, nat_tests) in
-        ap (λ (xs : List Seat). (seat_at xs i).done) (set_past (seats (length m.actors) past) j (seat_after (seat_part e.kind) (seat_at (seats (length m.actors) past) j)) (omega (arith, seats_length (length m.actors) past)))
+        ap (λ (xs : List ScriptPosition). (position_at xs i).done) (set_past (positions (length m.actors) past) j (position_after (position_effect e.kind) (position_at (positions (length m.actors) past) j)) (omega (arith, positions_length (length m.actors) past)))
     by_actor actor.Auto s = absurd (true≢false (sym s))
     by_actor (actor.Dev d) s = absurd (true≢false (sym s))
     by_actor (actor.Timer t) s = absurd (true≢false (sym s))
@@ -143,18 +143,18 @@ TriesAt m past _ = ⊥
 
 -- what an entry is to attempts: the maker makes it in the open one; it begins one; the work makes it; it is another
 pub data Trial (m : Machine) (past : List Entry) (who : Actor) (k : Kind) : Type 0 where
-  ByMaking : is_attempt k ≡ false → ends_step (seat_part k) ≡ is_over k → ((w : Work) → work_step k w ≡ cond (is_over k) (looks_at w) w) → is_actor who (maker past) ≡ true → Trial m past who k
+  ByMaking : is_attempt k ≡ false → ends_step (position_effect k) ≡ is_over k → ((w : Work) → work_step k w ≡ cond (is_over k) (looks_at w) w) → is_actor who (maker past) ≡ true → Trial m past who k
   ByTrying : is_attempt k ≡ true → maker past ≡ None → TriesAt m past who → Trial m past who k
   ByWorking : is_attempt k ≡ false → is_over k ≡ false → who ≡ actor.Auto → is_actor who (maker past) ≡ false → one_if (is_trying (work_step k (work past))) + runs past ≤ runs_after k (runs past) + one_if (is_trying (work past)) → Trial m past who k
-  ByOther : is_attempt k ≡ false → is_over k ≡ false → is_same who actor.Auto ≡ false → (ends_step (seat_part k) ≡ true → is_actor who (maker past) ≡ false) → Trial m past who k
+  ByOther : is_attempt k ≡ false → is_over k ≡ false → is_same who actor.Auto ≡ false → (ends_step (position_effect k) ≡ true → is_actor who (maker past) ≡ false) → Trial m past who k
 
 maker_trial : (m : Machine) (past : List Entry) (now : EventNow) (there : Stage) (k : Kind) → Made m past now there k → (who : Actor) → is_actor who (maker past) ≡ true → Trial m past who k
 maker_trial m past now _ _ Made.Ends who a = ByMaking refl refl (λ w. refl) a
 maker_trial m past now _ _ _ who a = ByMaking refl refl (λ w. refl) a
 
-step_trial : (m : Machine) (past : List Entry) (now : EventNow) (i : ℕ) (seat : Seat) (asked : Bool) (o : Option Op) (k : Kind) → StepMade m past now seat asked o k → is_actor (actor.Script i) (maker past) ≡ false → (is_attempt k ≡ true → maker past ≡ None) → slice_get (steps_in m i) (done_of m past i) ≡ o → Trial m past (actor.Script i) k
-step_trial m past now i seat asked _ _ (StepMade.Attempts text if_saved f o) a free at = ByTrying refl (free refl) (ap (passes is_state) at)
-step_trial m past now i seat asked _ _ _ a free at = ByOther refl refl refl (λ x. a)
+step_trial : (m : Machine) (past : List Entry) (now : EventNow) (i : ℕ) (position : ScriptPosition) (asked : Bool) (o : Option Op) (k : Kind) → StepMade m past now position asked o k → is_actor (actor.Script i) (maker past) ≡ false → (is_attempt k ≡ true → maker past ≡ None) → slice_get (steps_in m i) (done_of m past i) ≡ o → Trial m past (actor.Script i) k
+step_trial m past now i position asked _ _ (StepMade.Attempts text if_saved f o) a free at = ByTrying refl (free refl) (ap (passes is_state) at)
+step_trial m past now i position asked _ _ _ a free at = ByOther refl refl refl (λ x. a)
 
 look_tries : (o : Option ℕ) (c : ℕ) → is_trying (after_look o (Looking c)) ≡ false
 look_tries None c = refl
@@ -202,9 +202,9 @@ no_attempt : (m : Machine) (past : List Entry) (now : EventNow) (there : Stage) 
 no_attempt m past now _ _ Made.Ends = refl
 no_attempt m past now _ _ _ = refl
 
-aside_attempt : (k : Kind) {st : Option Stage} → Aside st k → is_attempt k ≡ false
-aside_attempt _ Aside.Frozen = refl
-aside_attempt _ _ = refl
+outside_attempt : (k : Kind) {st : Option Stage} → Outside st k → is_attempt k ≡ false
+outside_attempt _ Outside.Frozen = refl
+outside_attempt _ _ = refl
 
 device_attempt : (m : Machine) (past : List Entry) (now : EventNow) (d : ℕ) (k : Kind) → DeviceMade m past now d k → is_attempt k ≡ false
 device_attempt m past now d _ (DeviceMade.OwnFails p r w g f) = refl
@@ -213,7 +213,7 @@ device_attempt m past now d _ _ = refl
 pub moved_free : (m : Machine) (past : List Entry) (now : EventNow) (who : Actor) (k : Kind) → Moved m past now who k → is_attempt k ≡ true → maker past ≡ None
 moved_free m past now _ _ (Opens who n guarded f e) a = f
 moved_free m past now _ _ (Makes who here there k i e c x) a = absurd (true≢false (sym a ∙ no_attempt m past now there k x))
-moved_free m past now _ _ (Beside who k i x) a = absurd (true≢false (sym a ∙ aside_attempt k x))
+moved_free m past now _ _ (Beside who k i x) a = absurd (true≢false (sym a ∙ outside_attempt k x))
 moved_free m past now _ _ (Owns d k x) a = absurd (true≢false (sym a ∙ device_attempt m past now d k x))
 
 -- what each entry of a legal journal is to attempts

@@ -5,20 +5,20 @@ use Rattle.sleep_model.specs.declared.entry.Actor.{Actor}
 use Rattle.sleep_model.specs.declared.entry.Actor.TheVariants as actor
 use Rattle.sleep_model.specs.declared.entry.Entry.{Entry}
 use Rattle.sleep_model.specs.declared.entry.Kind.{Kind}
-use Rattle.sleep_model.specs.Parts.{Part, Notes, part_of}
+use Rattle.sleep_model.specs.EntryClasses.{EntryClass, Notes, class_of}
 use Rattle.sleep_model.specs.Path.{is_same}
 use Rattle.sleep_model.specs.Places.{call_places, places_if}
 
 -- ---- what notes weigh
 
 -- the places on source s of an entry with that part: those of the call that it notes
-abbrev pub part_places : ℕ → Part → ℕ
+abbrev pub part_places : ℕ → EntryClass → ℕ
 part_places s (Notes t made) = places_if s t (call_places made)
 part_places s _ = 0
 
 -- the places on source s of an entry of that kind
 abbrev pub kind_places : ℕ → Kind → ℕ
-kind_places s k = part_places s (part_of k)
+kind_places s k = part_places s (class_of k)
 
 -- those of all these
 abbrev pub weigh : ℕ → List Kind → ℕ
@@ -46,7 +46,7 @@ front_more s k [] x e = absurd (cc)
 front_more s zero (y ∷ xs) x e = let same : y ≡ x = cc in (ap (λ z. kind_places s z + 0) same ∙ omega arith, omega arith)
 front_more s (suc k) (y ∷ xs) x e = let rest = front_more s k xs x e in (omega (arith, rest.0), omega (arith, rest.1))
 
--- what comes behind does not count
+-- what comes after does not count
 pub front_same : (s k : ℕ) (xs ys : List Kind) → k ≤ length xs → front s k (xs ++ ys) ≡ front s k xs
 front_same s zero xs ys l = refl
 front_same s (suc k) [] ys l = absurd (omega arith)

@@ -4,7 +4,7 @@
 //! Promises: A source's history never has more entries than the machine's calls have places on it, in every legal
 //! list of entries of every machine. By the clauses of `histories_keep_to_their_places`.
 //!
-//! Begin reading in `specs/Room.antt`, `proofs/Keeping.antt`.
+//! Begin reading in `specs/Room.antt`, `proofs/Fitting.antt`.
 #![tactic(auto)]
 
 mod room;

@@ -17,16 +17,16 @@ pub struct Syscore {
 }
 
 impl Model for Syscore {
-    ghost use Rattle.syscore_ops.specs.Parts.{Parts};
+    ghost use Rattle.syscore_ops.specs.SyscoreStates.{SyscoreState};
 
-    ghost Value = { Parts };
+    ghost Value = { SyscoreState };
 
     ghost view = { λ s. record { n = s.n; flags = s.suspended } };
 }
 
 impl Syscore {
     ghost use Rattle.std.specs.Prelude.{◌≡◌, false, replicate, IfOk, IsSome};
-    ghost use Rattle.syscore_ops.specs.Parts.{parts_after, parts_after_any, next_suspended, next_resumed, suspend_entry, resume_entry};
+    ghost use Rattle.syscore_ops.specs.SyscoreStates.{syscore_after, syscore_after_any, next_suspended, next_resumed, suspend_entry, resume_entry};
 
     /// `n` parts, none of which is suspended. `Mem` if there is no memory for the parts.
     pub fn new(alloc: Global, n: u32) -> Result<Self, Mem>
@@ -38,7 +38,7 @@ impl Syscore {
 
     /// What an entry leaves: a part that answered 0 is suspended, one that was resumed is not.
     pub fn note(&mut self, kind: Kind)
-        ensures { self.new ≡ parts_after kind self.old }
+        ensures { self.new ≡ syscore_after kind self.old }
     {
         match kind {
             Kind::SyscoreSuspend(x, None) => self.suspended.set(x, true),
@@ -47,7 +47,7 @@ impl Syscore {
         }
     }
 
-    /// The part that is suspended next, the last that is not. None exactly where all are
+    /// The part that is suspended next, the last that is not. None exactly if all are
     /// (`syscore_suspend`).
     pub fn next(&self) -> Option<u32>
         ensures { result ≡ next_suspended self.now }
@@ -55,7 +55,7 @@ impl Syscore {
         last_unset(&self.suspended, self.n)
     }
 
-    /// The part that is resumed next, the first that is suspended. None exactly where none is
+    /// The part that is resumed next, the first that is suspended. None exactly if none is
     /// (`syscore_resume`).
     #[tactic(auto, using(sleep_model::proofs::Searches::find_is_first))]
     pub fn next_started(&self) -> Option<u32>
@@ -69,7 +69,7 @@ impl Syscore {
     pub fn suspend_turn(&mut self, r: Option<Errno>) -> Kind
         requires { IsSome (next_suspended self.old) }
         ensures kind { suspend_entry r self.old ≡ Some result }
-        ensures after { self.new ≡ parts_after result self.old }
+        ensures after { self.new ≡ syscore_after result self.old }
     {
         match self.next() {
             Some(x) => {
@@ -81,11 +81,11 @@ impl Syscore {
         }
     }
 
-    /// The entry of the part that is resumed next. None exactly where none is suspended
+    /// The entry of the part that is resumed next. None exactly if none is suspended
     /// (`syscore_resume`). It is for the same callers as `suspend_turn`.
     pub fn resume_turn(&mut self) -> Option<Kind>
         ensures kind { result ≡ resume_entry self.old }
-        ensures after { self.new ≡ parts_after_any result self.old }
+        ensures after { self.new ≡ syscore_after_any result self.old }
     {
         let x = self.next_started()?;
         let kind = Kind::SyscoreResume(x);

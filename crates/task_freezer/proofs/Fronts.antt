@@ -4,7 +4,7 @@ use Rattle.sleep_model.specs.declared.entry.Actor.{Actor}
 use Rattle.sleep_model.specs.declared.entry.Group.{Group}
 use Rattle.sleep_model.specs.declared.entry.Thaw.{Thaw}
 use Rattle.sleep_model.specs.declared.machine.Script.{Script}
-use Rattle.sleep_model.specs.declared.place.Freezing.{Freezing}
+use Rattle.sleep_model.specs.declared.progress.Freezing.{Freezing}
 use Rattle.sleep_model.specs.Freezer.{asked_by, all_asked, let_go, all_let_go}
 use Rattle.task_freezer.specs.Fronts.{asked_front, front_let_go}
 

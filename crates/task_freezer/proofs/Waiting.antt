@@ -9,21 +9,21 @@ use Rattle.sleep_model.specs.declared.entry.Kind.{Kind}
 use Rattle.sleep_model.specs.declared.entry.Kind.TheVariants as kind
 use Rattle.sleep_model.specs.declared.entry.Thaw.{Thaw}
 use Rattle.sleep_model.specs.declared.machine.Script.{Script}
-use Rattle.sleep_model.specs.declared.place.Freezing.{Freezing}
+use Rattle.sleep_model.specs.declared.progress.Freezing.{Freezing}
 use Rattle.sleep_model.specs.Freezer.{unasked, freezing_at, all_asked, all_let_go, put_frozen, freezings_after}
-use Rattle.task_freezer.specs.Freezers.{mark_gone, gone_after, gone_at, waits_for, left_by}
-use Rattle.task_freezer.specs.Waits.{as_count, left_counts, waits_in, waits_of, wait_groups, IsOfOne, IsMoved, AreMoved}
+use Rattle.task_freezer.specs.Freezers.{mark_exited, exited_flags_after, exited_at, waits_for, left_by}
+use Rattle.task_freezer.specs.Waits.{as_count, left_counts, waits_in, waits_of, wait_groups, IsOfOne, CountIsMoved, AreMoved}
 
 -- ---- one state a script
 
-mark_len : (who : Actor) (gs : List Bool) → length (mark_gone who gs) ≡ length gs
+mark_len : (who : Actor) (gs : List Bool) → length (mark_exited who gs) ≡ length gs
 mark_len (actor.Script i) gs = grind (arith, length-set)
 mark_len _ gs = refl
 
 -- an entry takes no script's flag
-pub gone_len : (who : Actor) (k : Kind) (gs : List Bool) → length (gone_after who k gs) ≡ length gs
-gone_len who kind.Exit gs = mark_len who gs
-gone_len who _ gs = refl
+pub exited_len : (who : Actor) (k : Kind) (gs : List Bool) → length (exited_flags_after who k gs) ≡ length gs
+exited_len who kind.Exit gs = mark_len who gs
+exited_len who _ gs = refl
 
 asked_len : (g : Group) (who : Actor) (i : ℕ) (ss : List Script) (fs : List Freezing) → length fs ≡ length ss → length (all_asked g who i ss fs) ≡ length ss
 asked_len g who i [] [] all = refl
@@ -85,19 +85,19 @@ swapped true false k rest = omega arith
 swapped false true k rest = omega arith
 swapped false false k rest = refl
 
-behind_one : (b : Bool) (k : ℕ) (new old : List ℕ) (x y : ℕ) → length new + x ≡ length old + y → length (cond b (k ∷ new) new) + x ≡ length (cond b (k ∷ old) old) + y
-behind_one true k new old x y same = omega (arith, same)
-behind_one false k new old x y same = same
+after_one : (b : Bool) (k : ℕ) (new old : List ℕ) (x y : ℕ) → length new + x ≡ length old + y → length (cond b (k ∷ new) new) + x ≡ length (cond b (k ∷ old) old) + y
+after_one true k new old x y same = omega (arith, same)
+after_one false k new old x y same = same
 
 left_set : (g : Group) (k i : ℕ) (ss : List Script) (fs : List Freezing) (gs : List Bool) (f : Freezing) (p : Bool) → length fs ≡ length ss → length gs ≡ length ss
-    → length (left_by g k ss (slice_set fs i f) (slice_set gs i p)) + as_count (waits_in g (slice_get ss i) (freezing_at fs i) (gone_at gs i))
-    ≡ length (left_by g k ss fs gs) + as_count (waits_in g (slice_get ss i) (freezing_at (slice_set fs i f) i) (gone_at (slice_set gs i p) i))
+    → length (left_by g k ss (slice_set fs i f) (slice_set gs i p)) + as_count (waits_in g (slice_get ss i) (freezing_at fs i) (exited_at gs i))
+    ≡ length (left_by g k ss fs gs) + as_count (waits_in g (slice_get ss i) (freezing_at (slice_set fs i f) i) (exited_at (slice_set gs i p) i))
 left_set g k i [] fs gs f p all each = refl
 left_set g k i (s ∷ ss) [] gs f p all each = absurd (omega (arith, all))
 left_set g k i (s ∷ ss) (x ∷ fs) [] f p all each = absurd (omega (arith, each))
 left_set g k zero (s ∷ ss) (x ∷ fs) (y ∷ gs) f p all each = swapped (waits_for g s.kind f p) (waits_for g s.kind x y) k (left_by g (suc k) ss fs gs)
 left_set g k (suc i) (s ∷ ss) (x ∷ fs) (y ∷ gs) f p all each =
-    behind_one (waits_for g s.kind x y) k (left_by g (suc k) ss (slice_set fs i f) (slice_set gs i p)) (left_by g (suc k) ss fs gs) _ _
+    after_one (waits_for g s.kind x y) k (left_by g (suc k) ss (slice_set fs i f) (slice_set gs i p)) (left_by g (suc k) ss fs gs) _ _
     (left_set g (suc k) i ss fs gs f p (omega (arith, all)) (omega (arith, each)))
 
 set_same : (fs : List Freezing) (i : ℕ) → slice_set fs i (freezing_at fs i) ≡ fs
@@ -105,35 +105,35 @@ set_same [] i = refl
 set_same (f ∷ fs) zero = refl
 set_same (f ∷ fs) (suc i) = ap (λ rest. f ∷ rest) (set_same fs i)
 
-gone_same : (gs : List Bool) (i : ℕ) → slice_set gs i (gone_at gs i) ≡ gs
-gone_same [] i = refl
-gone_same (b ∷ gs) zero = refl
-gone_same (b ∷ gs) (suc i) = ap (λ rest. b ∷ rest) (gone_same gs i)
+exited_same : (gs : List Bool) (i : ℕ) → slice_set gs i (exited_at gs i) ≡ gs
+exited_same [] i = refl
+exited_same (b ∷ gs) zero = refl
+exited_same (b ∷ gs) (suc i) = ap (λ rest. b ∷ rest) (exited_same gs i)
 
 has_frozen : (g : Group) (who : Actor) (ss : List Script) (fs : List Freezing) (gs : List Bool) → length fs ≡ length ss → length gs ≡ length ss
-    → IsMoved g who ss (put_frozen who fs) gs (length (left_by g 0 ss fs gs)) (waits_of g who ss fs gs)
+    → CountIsMoved g who ss (put_frozen who fs) gs (length (left_by g 0 ss fs gs)) (waits_of g who ss fs gs)
 has_frozen g (actor.Script i) ss fs gs all each =
-    subst (λ xs. IsMoved g (actor.Script i) ss (put_frozen (actor.Script i) fs) xs (length (left_by g 0 ss fs gs)) (waits_of g (actor.Script i) ss fs gs)) (gone_same gs i)
-    (left_set g 0 i ss fs gs (record (freezing_at fs i) { frozen = true }) (gone_at gs i) all each)
+    subst (λ xs. CountIsMoved g (actor.Script i) ss (put_frozen (actor.Script i) fs) xs (length (left_by g 0 ss fs gs)) (waits_of g (actor.Script i) ss fs gs)) (exited_same gs i)
+    (left_set g 0 i ss fs gs (record (freezing_at fs i) { frozen = true }) (exited_at gs i) all each)
 has_frozen g _ ss fs gs all each = refl
 
-has_gone : (g : Group) (who : Actor) (ss : List Script) (fs : List Freezing) (gs : List Bool) → length fs ≡ length ss → length gs ≡ length ss
-    → IsMoved g who ss fs (mark_gone who gs) (length (left_by g 0 ss fs gs)) (waits_of g who ss fs gs)
-has_gone g (actor.Script i) ss fs gs all each =
-    subst (λ xs. IsMoved g (actor.Script i) ss xs (mark_gone (actor.Script i) gs) (length (left_by g 0 ss fs gs)) (waits_of g (actor.Script i) ss fs gs)) (set_same fs i)
+has_exited : (g : Group) (who : Actor) (ss : List Script) (fs : List Freezing) (gs : List Bool) → length fs ≡ length ss → length gs ≡ length ss
+    → CountIsMoved g who ss fs (mark_exited who gs) (length (left_by g 0 ss fs gs)) (waits_of g who ss fs gs)
+has_exited g (actor.Script i) ss fs gs all each =
+    subst (λ xs. CountIsMoved g (actor.Script i) ss xs (mark_exited (actor.Script i) gs) (length (left_by g 0 ss fs gs)) (waits_of g (actor.Script i) ss fs gs)) (set_same fs i)
     (left_set g 0 i ss fs gs (freezing_at fs i) true all each)
-has_gone g _ ss fs gs all each = refl
+has_exited g _ ss fs gs all each = refl
 
 one_moved : (g : Group) (who : Actor) (k : Kind) (ss : List Script) (fs : List Freezing) (gs : List Bool) → length fs ≡ length ss → length gs ≡ length ss → IsOfOne k
-    → IsMoved g who ss (freezings_after ss who k fs) (gone_after who k gs) (length (left_by g 0 ss fs gs)) (waits_of g who ss fs gs)
+    → CountIsMoved g who ss (freezings_after ss who k fs) (exited_flags_after who k gs) (length (left_by g 0 ss fs gs)) (waits_of g who ss fs gs)
 one_moved g who (kind.Freeze h) ss fs gs all each one = absurd one
 one_moved g who (kind.Thaw those) ss fs gs all each one = absurd one
 one_moved g who kind.Frozen ss fs gs all each one = has_frozen g who ss fs gs all each
-one_moved g who kind.Exit ss fs gs all each one = has_gone g who ss fs gs all each
+one_moved g who kind.Exit ss fs gs all each one = has_exited g who ss fs gs all each
 one_moved g who _ ss fs gs all each one = refl
 
--- an entry of one task's own changes what is left by that task alone
+-- an entry of one task's own changes what is left only by that task
 pub are_moved : (who : Actor) (k : Kind) (ss : List Script) (fs now : List Freezing) (gs leaving : List Bool) → length fs ≡ length ss → length gs ≡ length ss
-    → now ≡ freezings_after ss who k fs → leaving ≡ gone_after who k gs → IsOfOne k → AreMoved who ss now leaving (left_counts ss fs gs) (wait_groups who ss fs gs)
+    → now ≡ freezings_after ss who k fs → leaving ≡ exited_flags_after who k gs → IsOfOne k → AreMoved who ss now leaving (left_counts ss fs gs) (wait_groups who ss fs gs)
 are_moved who k ss fs now gs leaving all each now_is leaving_are one =
     rw (now_is, leaving_are) (record { user = one_moved group.User who k ss fs gs all each one; kernel = one_moved group.Kernel who k ss fs gs all each one })

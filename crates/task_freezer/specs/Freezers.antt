@@ -7,7 +7,7 @@ use Rattle.sleep_model.specs.declared.entry.Kind.{Kind}
 use Rattle.sleep_model.specs.declared.entry.Kind.TheVariants as kind
 use Rattle.sleep_model.specs.declared.machine.Script.{Script}
 use Rattle.sleep_model.specs.declared.machine.TaskKind.{TaskKind}
-use Rattle.sleep_model.specs.declared.place.Freezing.{Freezing}
+use Rattle.sleep_model.specs.declared.progress.Freezing.{Freezing}
 use Rattle.sleep_model.specs.Attempt.{gives_up_at}
 use Rattle.sleep_model.specs.Freezer.{unasked, is_in, freezings_after}
 use Rattle.task_freezer.specs.declared.freezer.Round.{Round}
@@ -18,55 +18,55 @@ use Rattle.task_freezer.specs.declared.left.Left.{Left}
 pub record FreezerState : Type 0 where
   pub scripts : List Script
   pub freezings : List Freezing
-  pub gone : List Bool
+  pub exited_flags : List Bool
 
 -- these scripts, asked for nothing and there still
-abbrev pub at_first : List Script → FreezerState
-at_first scripts = record {
+abbrev pub first_freezer : List Script → FreezerState
+first_freezer scripts = record {
   scripts = scripts;
   freezings = replicate (length scripts) unasked;
-  gone = replicate (length scripts) false;
+  exited_flags = replicate (length scripts) false;
 }
 
 -- ---- an entry
 
 -- a script has exited (do_exit)
-abbrev pub mark_gone : Actor → List Bool → List Bool
-mark_gone (actor.Script i) before = slice_set before i true
-mark_gone who before = before
+abbrev pub mark_exited : Actor → List Bool → List Bool
+mark_exited (actor.Script i) before = slice_set before i true
+mark_exited who before = before
 
 -- who has exited, after an entry of that actor (do_exit)
-abbrev pub gone_after : Actor → Kind → List Bool → List Bool
-gone_after who kind.Exit before = mark_gone who before
-gone_after who _ before = before
+abbrev pub exited_flags_after : Actor → Kind → List Bool → List Bool
+exited_flags_after who kind.Exit before = mark_exited who before
+exited_flags_after who _ before = before
 
 -- what an entry of that actor does to the freezer (freeze_task, __refrigerator, thaw_processes)
 abbrev pub freezer_after : Actor → Kind → FreezerState → FreezerState
 freezer_after who kind before = record {
   scripts = before.scripts;
   freezings = freezings_after before.scripts who kind before.freezings;
-  gone = gone_after who kind before.gone;
+  exited_flags = exited_flags_after who kind before.exited_flags;
 }
 
 -- ---- whom a freeze waits for
 
 -- whether a script has exited, of those there are
-abbrev pub gone_at : List Bool → ℕ → Bool
-gone_at gone i = slice_index_or gone i false
+abbrev pub exited_at : List Bool → ℕ → Bool
+exited_at exited_flags i = slice_index_or exited_flags i false
 
 -- a task keeps the freeze of its group waiting: it is asked, not frozen, and there still (try_to_freeze_tasks)
 abbrev pub waits_for : Group → TaskKind → Freezing → Bool → Bool
-waits_for g kind f gone = is_in g kind && f.asked && not f.frozen && not gone
+waits_for g kind f exited_flags = is_in g kind && f.asked && not f.frozen && not exited_flags
 
 -- the tasks, from number i on, that keep the freeze of a group waiting (try_to_freeze_tasks)
 abbrev pub left_by : Group → ℕ → List Script → List Freezing → List Bool → List ℕ
-left_by g i (s ∷ ss) (f ∷ fs) (b ∷ gone) =
-    if waits_for g s.kind f b then i ∷ left_by g (suc i) ss fs gone else left_by g (suc i) ss fs gone
+left_by g i (s ∷ ss) (f ∷ fs) (b ∷ exited_flags) =
+    if waits_for g s.kind f b then i ∷ left_by g (suc i) ss fs exited_flags else left_by g (suc i) ss fs exited_flags
 left_by g i _ _ _ = []
 
 -- the tasks that a freeze of the group still waits for, in the order of the file (try_to_freeze_tasks, todo)
 abbrev pub left_of : Group → FreezerState → List ℕ
-left_of g state = left_by g 0 state.scripts state.freezings state.gone
+left_of g state = left_by g 0 state.scripts state.freezings state.exited_flags
 
 -- the first, or else the other
 abbrev pub first_or : Option ℕ → ℕ → Option ℕ

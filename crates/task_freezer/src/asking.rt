@@ -3,7 +3,7 @@
 
 ghost use Rattle.std.specs.Prelude.{◌≡◌, ◌<◌, ◌^◌, length};
 ghost use Rattle.sleep_model.specs.Freezer.{unasked, is_in, is_task, asked_by, all_asked, let_go, all_let_go, put_frozen, freezings_after};
-ghost use Rattle.task_freezer.specs.Freezers.{mark_gone, gone_after};
+ghost use Rattle.task_freezer.specs.Freezers.{mark_exited, exited_flags_after};
 
 use sleep_model::{Actor, Freezing, Group, Kind, Script, TaskKind, Thaw};
 
@@ -119,21 +119,21 @@ pub(crate) fn move_freezings(
 }
 
 /// A task has exited (`do_exit`).
-fn mark_gone(gone: &mut Vec<bool>, who: Actor)
-    ensures { gone.new.items ≡ mark_gone who gone.old.items }
+fn mark_exited(exited_flags: &mut Vec<bool>, who: Actor)
+    ensures { exited_flags.new.items ≡ mark_exited who exited_flags.old.items }
 {
     if let Actor::Script(i) = who {
-        if (i as usize) < gone.len() {
-            gone[i as usize] = true;
+        if (i as usize) < exited_flags.len() {
+            exited_flags[i as usize] = true;
         }
     }
 }
 
 /// Who has exited, after an entry of that actor.
-pub(crate) fn move_gone(gone: &mut Vec<bool>, who: Actor, kind: Kind)
-    ensures { gone.new.items ≡ gone_after who kind gone.old.items }
+pub(crate) fn move_exited(exited_flags: &mut Vec<bool>, who: Actor, kind: Kind)
+    ensures { exited_flags.new.items ≡ exited_flags_after who kind exited_flags.old.items }
 {
     if let Kind::Exit = kind {
-        mark_gone(gone, who);
+        mark_exited(exited_flags, who);
     }
 }

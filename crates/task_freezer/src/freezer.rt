@@ -1,7 +1,7 @@
 ghost use Rattle.std.specs.Prelude.{◌≡◌, ◌≤◌, ◌^◌};
 ghost use Rattle.sleep_model.specs.Attempt.{gives_up_at};
 
-use crate::asking::{move_freezings, move_gone, unasked};
+use crate::asking::{move_exited, move_freezings, unasked};
 use crate::left::{Left, LeftCounts, counts_after, left_among, waits_among};
 use sleep_base::Mem;
 use sleep_model::{Actor, FREEZE_TIMEOUT_MSECS, Freezing, Group, Kind, Script};
@@ -35,7 +35,7 @@ pub struct Freezer<'m> {
     scripts: &'m [Script],
     freezings: Vec<Freezing>,
     // Who has exited.
-    gone: Vec<bool>,
+    exited_flags: Vec<bool>,
     left: LeftCounts,
 }
 
@@ -54,17 +54,17 @@ impl<'m> Model for Freezer<'m> {
 impl<'m> Freezer<'m> {
     ghost use Rattle.std.specs.Prelude.{◌≡◌, ◌<◌, ◌≤◌, ◌^◌, IfOk, length};
     ghost use Rattle.sleep_model.specs.Freezer.{freezing_at};
-    ghost use Rattle.task_freezer.specs.Freezers.{at_first, freezer_after, left_of, IsLeft, round_of};
+    ghost use Rattle.task_freezer.specs.Freezers.{first_freezer, freezer_after, left_of, IsLeft, round_of};
 
-    /// These scripts, none of which is asked or has exited. `Mem` where there is no memory.
+    /// These scripts, none of which is asked or has exited. `Mem` if there is no memory.
     pub fn new(alloc: Global, scripts: &'m [Script]) -> Result<Self, Mem>
         requires { length scripts.now < 2 ^ 31 }
-        ensures { IfOk result (λ f. f ≡ at_first scripts.now) }
+        ensures { IfOk result (λ f. f ≡ first_freezer scripts.now) }
     {
         Ok(Freezer {
             scripts,
             freezings: vec![in alloc; unasked(); scripts.len()]?,
-            gone: vec![in alloc; false; scripts.len()]?,
+            exited_flags: vec![in alloc; false; scripts.len()]?,
             left: LeftCounts { user: 0, kernel: 0 },
         })
     }
@@ -85,13 +85,13 @@ impl<'m> Freezer<'m> {
     fn move_tasks(&mut self, who: Actor, kind: Kind)
         ensures { self.new ≡ freezer_after who kind self.old }
     {
-        let waited = waits_among(self.scripts, &self.freezings, &self.gone, who);
-        move_gone(&mut self.gone, who, kind);
+        let waited = waits_among(self.scripts, &self.freezings, &self.exited_flags, who);
+        move_exited(&mut self.exited_flags, who, kind);
         move_freezings(&mut self.freezings, self.scripts, who, kind);
         self.left = counts_after(
             self.scripts,
             &self.freezings,
-            &self.gone,
+            &self.exited_flags,
             who,
             kind,
             self.left,
@@ -122,11 +122,11 @@ impl<'m> Freezer<'m> {
     pub fn left(&self, group: Group) -> Left
         ensures { IsLeft result (left_of group self.now) }
     {
-        left_among(self.scripts, &self.freezings, &self.gone, group)
+        left_among(self.scripts, &self.freezings, &self.exited_flags, group)
     }
 
     /// How a freeze of the group stands at that time that goes on since then. The tasks are gone through
-    /// only where it gives up (`try_to_freeze_tasks`).
+    /// only if it gives up (`try_to_freeze_tasks`).
     pub fn round(&self, group: Group, since: u64, time: u64) -> Round
         requires { since ≤ 2 ^ 63 }
         ensures { result ≡ round_of since time (left_of group self.now) }

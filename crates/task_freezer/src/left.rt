@@ -15,14 +15,14 @@ pub struct Left {
 }
 
 /// Whether a task keeps the freeze of its group waiting (`try_to_freeze_tasks`).
-fn waits_for(group: Group, kind: TaskKind, freezing: Freezing, gone: bool) -> bool
-    ensures { result ≡ waits_for group kind freezing gone }
+fn waits_for(group: Group, kind: TaskKind, freezing: Freezing, exited_flags: bool) -> bool
+    ensures { result ≡ waits_for group kind freezing exited_flags }
 {
-    is_in(group, kind) && freezing.asked && !freezing.frozen && !gone
+    is_in(group, kind) && freezing.asked && !freezing.frozen && !exited_flags
 }
 
 impl Left {
-    /// One task more is left, behind the others.
+    /// One task more is left, after the others.
     fn and(self, task: u32) -> Left
         requires { self.count < 2 ^ 32 - 1 }
         ensures count { result.count ≡ self.count + 1 }
@@ -43,20 +43,20 @@ impl Left {
 pub(crate) fn left_among(
     scripts: &[Script],
     freezings: &[Freezing],
-    gone: &[bool],
+    exited_flags: &[bool],
     group: Group,
 ) -> Left
-    requires gone { length gone.now ≡ length scripts.now }
+    requires exited_flags { length exited_flags.now ≡ length scripts.now }
     requires freezings { length freezings.now ≡ length scripts.now }
     requires few { length scripts.now < 2 ^ 32 }
-    ensures { IsLeft result (left_by group 0 scripts.now freezings.now gone.now) }
+    ensures { IsLeft result (left_by group 0 scripts.now freezings.now exited_flags.now) }
 {
     let mut left = Left {
         count: 0,
         first: None,
     };
     for (i, script) in scripts.iter().enumerate() {
-        if waits_for(group, script.kind, freezings[i], gone[i]) {
+        if waits_for(group, script.kind, freezings[i], exited_flags[i]) {
             left = left.and(i as u32);
         }
     }
@@ -93,19 +93,24 @@ pub(crate) struct WaitGroups {
 fn waits_in(
     scripts: &[Script],
     freezings: &[Freezing],
-    gone: &[bool],
+    exited_flags: &[bool],
     group: Group,
     who: Actor,
 ) -> bool
-    requires gone { length gone.now ≡ length scripts.now }
+    requires exited_flags { length exited_flags.now ≡ length scripts.now }
     requires freezings { length freezings.now ≡ length scripts.now }
-    ensures { result ≡ waits_of group who scripts.now freezings.now gone.now }
+    ensures { result ≡ waits_of group who scripts.now freezings.now exited_flags.now }
 {
     let Actor::Script(i) = who else {
         return false;
     };
     match scripts.get(i as usize) {
-        Some(script) => waits_for(group, script.kind, freezings[i as usize], gone[i as usize]),
+        Some(script) => waits_for(
+            group,
+            script.kind,
+            freezings[i as usize],
+            exited_flags[i as usize],
+        ),
         None => false,
     }
 }
@@ -114,16 +119,16 @@ fn waits_in(
 pub(crate) fn waits_among(
     scripts: &[Script],
     freezings: &[Freezing],
-    gone: &[bool],
+    exited_flags: &[bool],
     who: Actor,
 ) -> WaitGroups
-    requires gone { length gone.now ≡ length scripts.now }
+    requires exited_flags { length exited_flags.now ≡ length scripts.now }
     requires freezings { length freezings.now ≡ length scripts.now }
-    ensures { result ≡ wait_groups who scripts.now freezings.now gone.now }
+    ensures { result ≡ wait_groups who scripts.now freezings.now exited_flags.now }
 {
     WaitGroups {
-        user: waits_in(scripts, freezings, gone, Group::User, who),
-        kernel: waits_in(scripts, freezings, gone, Group::Kernel, who),
+        user: waits_in(scripts, freezings, exited_flags, Group::User, who),
+        kernel: waits_in(scripts, freezings, exited_flags, Group::Kernel, who),
     }
 }
 
@@ -141,27 +146,27 @@ fn moved(count: u32, waited: bool, waits: bool) -> u32
 pub(crate) fn counts_after(
     scripts: &[Script],
     freezings: &[Freezing],
-    gone: &[bool],
+    exited_flags: &[bool],
     who: Actor,
     kind: Kind,
     before: LeftCounts,
     waited: WaitGroups,
 ) -> LeftCounts
-    requires gone { length gone.now ≡ length scripts.now }
+    requires exited_flags { length exited_flags.now ≡ length scripts.now }
     requires freezings { length freezings.now ≡ length scripts.now }
     requires few { length scripts.now < 2 ^ 31 }
     requires user_few { before.user ≤ length scripts.now }
     requires kernel_few { before.kernel ≤ length scripts.now }
-    requires moved { IsOfOne kind → AreMoved who scripts.now freezings.now gone.now before waited }
-    ensures { result ≡ left_counts scripts.now freezings.now gone.now }
+    requires moved { IsOfOne kind → AreMoved who scripts.now freezings.now exited_flags.now before waited }
+    ensures { result ≡ left_counts scripts.now freezings.now exited_flags.now }
 {
     match kind {
         Kind::Freeze(_) | Kind::Thaw(_) => LeftCounts {
-            user: left_among(scripts, freezings, gone, Group::User).count,
-            kernel: left_among(scripts, freezings, gone, Group::Kernel).count,
+            user: left_among(scripts, freezings, exited_flags, Group::User).count,
+            kernel: left_among(scripts, freezings, exited_flags, Group::Kernel).count,
         },
         _ => {
-            let waits = waits_among(scripts, freezings, gone, who);
+            let waits = waits_among(scripts, freezings, exited_flags, who);
             LeftCounts {
                 user: moved(before.user, waited.user, waits.user),
                 kernel: moved(before.kernel, waited.kernel, waits.kernel),

@@ -1,6 +1,6 @@
 //! Tests of what threads share, and of calls that no line of `part_cases` can make: jobs of a pool, objects under
 //! locks, the event word in its table, the merge of what several workers made, suspend-to-idle by four workers; and
-//! calls that may be made only where the caller knows what came before, as those on a wakeup source, on named locks
+//! calls that may be made only if the caller knows what came before, as those on a wakeup source, on named locks
 //! and on the job of an actor. They stand apart from the crates that they try, so that those are proved once. No
 //! program stands on this crate.
 //!

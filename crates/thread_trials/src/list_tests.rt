@@ -1,16 +1,16 @@
 ghost use Rattle.std.specs.Prelude.{◌≡◌, ◌<◌, ◌++◌, [], length, drop};
-ghost use Rattle.turn_lock.specs.Books.{placed};
+ghost use Rattle.turn_lock.specs.Bookings.{placed};
 ghost use Rattle.turn_lock.specs.Passes.{IsPass, Holds, first_of, had_by, made_of, number_of};
 
-use crate::lock_tests::Journal;
+use crate::lock_tests::NumberList;
 use std::alloc::Global;
 use std::sync::Wait;
-use turn_lock::{Desk, Held, Made, Pass, give, take};
+use turn_lock::{Held, Made, Pass, SharedLocks, give, take};
 
 /// A pass that holds nothing, beside its list.
 #[derive(Drop)]
-pub(crate) struct Worker {
-    pub pass: Pass<Journal>,
+pub(crate) struct PassHolder {
+    pub pass: Pass<NumberList>,
     pub made: Vec<Made<u32>>,
     ghost listed: { made_of pass.token ≡ made.items },
 }
@@ -18,7 +18,7 @@ pub(crate) struct Worker {
 /// A pass that holds an object, beside its list as it will be once the object is back.
 #[derive(Drop)]
 pub(crate) struct Busy {
-    pub held: Held<Journal>,
+    pub held: Held<NumberList>,
     pub object: usize,
     pub made: Vec<Made<u32>>,
     ghost same: { held.object ≡ object },
@@ -26,28 +26,33 @@ pub(crate) struct Busy {
     ghost listed: { made.items ≡ made_of held.token ++ placed object (length (had_by held.token)) (drop (length (had_by held.token)) held.value.notes.items) },
 }
 
-impl Worker {
+impl PassHolder {
     /// A pass that made nothing yet.
-    pub(crate) fn new(alloc: Global, pass: Pass<Journal>) -> Worker
+    pub(crate) fn new(alloc: Global, pass: Pass<NumberList>) -> PassHolder
         requires { made_of pass.token ≡ [] }
         ensures { result.pass ≡ pass }
     {
-        Worker {
+        PassHolder {
             pass,
             made: Vec::new(alloc),
         }
     }
 
     /// Takes an object.
-    pub(crate) fn take<R: Wait>(self, rt: &R, desk: &Desk<Journal, u32>, object: usize) -> Busy
-        requires pass { IsPass desk.now.shared.table_id (first_of self.pass.token) self.pass.token }
+    pub(crate) fn take<R: Wait>(
+        self,
+        rt: &R,
+        cells: &SharedLocks<NumberList, u32>,
+        object: usize,
+    ) -> Busy
+        requires pass { IsPass cells.now.shared.table_id (first_of self.pass.token) self.pass.token }
         requires object { object < length (first_of self.pass.token) }
-        ensures held { Holds desk.now.shared.table_id (first_of self.pass.token) object result.held.token }
+        ensures held { Holds cells.now.shared.table_id (first_of self.pass.token) object result.held.token }
         ensures object { result.object ≡ object }
         ensures number { number_of result.held.token ≡ number_of self.pass.token }
     {
-        let Worker { pass, made } = self;
-        let held = take(desk, rt, pass, object);
+        let PassHolder { pass, made } = self;
+        let held = take(cells, rt, pass, object);
         Busy { held, object, made }
     }
 }
@@ -79,13 +84,13 @@ impl Busy {
     }
 
     /// Gives the object back.
-    pub(crate) fn give(self, desk: &Desk<Journal, u32>) -> Worker
-        requires held { Holds desk.now.shared.table_id (first_of self.held.token) self.object self.held.token }
-        ensures pass { IsPass desk.now.shared.table_id (first_of self.held.token) result.pass.token }
+    pub(crate) fn give(self, cells: &SharedLocks<NumberList, u32>) -> PassHolder
+        requires held { Holds cells.now.shared.table_id (first_of self.held.token) self.object self.held.token }
+        ensures pass { IsPass cells.now.shared.table_id (first_of self.held.token) result.pass.token }
         ensures number { number_of result.pass.token ≡ number_of self.held.token }
     {
         let Busy { held, made, .. } = self;
-        let pass = give(desk, held);
-        Worker { pass, made }
+        let pass = give(cells, held);
+        PassHolder { pass, made }
     }
 }

@@ -8,15 +8,15 @@ use std::sync::{Barrier, Wait};
 use std::test::Fail;
 use std::thread;
 use std::thread::Threads;
-use turn_lock::{Booked, Desk, LockTable, Pass, give, take};
+use turn_lock::{Booked, LockTable, Pass, SharedLocks, give, take};
 
-/// An object of the tests: numbers, one behind another.
+/// An object of the tests: numbers, one after another.
 #[derive(Drop)]
-pub(crate) struct Journal {
+pub(crate) struct NumberList {
     pub notes: Vec<u32>,
 }
 
-impl Booked for Journal {
+impl Booked for NumberList {
     ghost use Rattle.std.specs.Prelude.{List};
 
     type Item = u32;
@@ -28,7 +28,7 @@ impl Booked for Journal {
     ghost entries = { λ j. j.notes.items };
 }
 
-impl Journal {
+impl NumberList {
     /// Adds a number, where there is memory. Answers whether there was.
     pub(crate) fn note(&mut self, x: u32) -> bool
         ensures added { result ≡ true → self.new.notes.items ≡ self.old.notes.items ++ x ∷ [] }
@@ -43,12 +43,12 @@ impl Journal {
 }
 
 /// `count` empty objects.
-pub(crate) fn objects(alloc: Global, count: usize) -> Result<Vec<Journal>, AllocError>
+pub(crate) fn objects(alloc: Global, count: usize) -> Result<Vec<NumberList>, AllocError>
     ensures { IfOk result (λ values. vec_len values ≡ count) }
 {
     let mut values = Vec::new(alloc);
     for _ in 0..count {
-        values.push(Journal {
+        values.push(NumberList {
             notes: Vec::new(alloc),
         })?;
     }
@@ -58,36 +58,36 @@ pub(crate) fn objects(alloc: Global, count: usize) -> Result<Vec<Journal>, Alloc
 /// Takes one of two objects, and waits with it for another worker that holds the other one.
 fn meet<R: Wait>(
     rt: &R,
-    desk: &Desk<Journal, u32>,
-    pass: Pass<Journal>,
+    cells: &SharedLocks<NumberList, u32>,
+    pass: Pass<NumberList>,
     next: &AtomicU64,
     both: &Barrier,
 ) -> bool
-    requires pass { IsPass desk.now.shared.table_id (first_of pass.token) pass.token }
+    requires pass { IsPass cells.now.shared.table_id (first_of pass.token) pass.token }
     requires object { 2 ≤ length (first_of pass.token) }
 {
     let object = next.fetch_add(1, Ordering::SeqCst) % 2;
-    let held = take(desk, rt, pass, object as usize);
+    let held = take(cells, rt, pass, object as usize);
     both.wait(rt);
-    let _pass = give(desk, held);
+    let _pass = give(cells, held);
     true
 }
 
 /// Two workers, each with an object.
 fn meeting<R: Threads + Wait + Sync>(
     rt: &R,
-    locks: &LockTable<Journal>,
-    passes: Vec<Pass<Journal>>,
+    locks: &LockTable<NumberList>,
+    passes: Vec<Pass<NumberList>>,
 ) -> Result<usize, AllocError>
     requires passes { AreAll locks.now.own (tokens passes.items) }
     requires object { 2 ≤ length (first_of locks.now.own) }
 {
-    let desk = &locks.desk;
+    let cells = &locks.cells;
     let next = AtomicU64::new(0);
     let both = Barrier::new(2);
-    let one = |pass: Pass<Journal>| -> bool
-        requires { IsPass desk.now.shared.table_id (first_of pass.token) pass.token × (2 ≤ length (first_of pass.token)) }
-    { meet(rt, desk, pass, &next, &both) };
+    let one = |pass: Pass<NumberList>| -> bool
+        requires { IsPass cells.now.shared.table_id (first_of pass.token) pass.token × (2 ≤ length (first_of pass.token)) }
+    { meet(rt, cells, pass, &next, &both) };
     Ok(thread::map_vec(rt, passes, &one)?.len())
 }
 

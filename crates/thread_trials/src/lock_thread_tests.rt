@@ -2,14 +2,14 @@ ghost use Rattle.std.specs.Prelude.{◌≡◌, ◌≤◌, [], map, length, IfOk}
 ghost use Rattle.turn_lock.specs.Passes.{IsPass, AreAll, AreNew, first_of, made_of, number_of};
 ghost use Rattle.turn_lock.specs.Passing.{tokens};
 
-use crate::list_tests::Worker;
-use crate::lock_tests::{Journal, objects};
+use crate::list_tests::PassHolder;
+use crate::lock_tests::{NumberList, objects};
 use std::alloc::{AllocError, Global};
 use std::sync::Wait;
 use std::test::Fail;
 use std::thread::Threads;
 use std::{mem, thread};
-use turn_lock::{Desk, LockTable, Made, Pass, close_locks};
+use turn_lock::{LockTable, Made, Pass, SharedLocks, close_locks};
 
 /// What stands in place of an entry that was struck out; no worker adds it.
 const STRUCK: u32 = u32::MAX;
@@ -18,19 +18,19 @@ const STRUCK: u32 = u32::MAX;
 fn work<R: Wait>(
     rt: &R,
     alloc: Global,
-    desk: &Desk<Journal, u32>,
-    pass: Pass<Journal>,
+    cells: &SharedLocks<NumberList, u32>,
+    pass: Pass<NumberList>,
     turns: u32,
-) -> Worker
-    requires pass { IsPass desk.now.shared.table_id (first_of pass.token) pass.token }
+) -> PassHolder
+    requires pass { IsPass cells.now.shared.table_id (first_of pass.token) pass.token }
     requires new { made_of pass.token ≡ [] }
     requires objects { 2 ≤ length (first_of pass.token) }
-    ensures pass { IsPass desk.now.shared.table_id (first_of pass.token) result.pass.token }
+    ensures pass { IsPass cells.now.shared.table_id (first_of pass.token) result.pass.token }
     ensures number { number_of result.pass.token ≡ number_of pass.token }
 {
-    let mut worker = Worker::new(alloc, pass);
+    let mut worker = PassHolder::new(alloc, pass);
     for i in 0..turns {
-        worker = worker.take(rt, desk, (i % 2) as usize).note(i).give(desk);
+        worker = worker.take(rt, cells, (i % 2) as usize).note(i).give(cells);
     }
     worker
 }
@@ -39,34 +39,34 @@ fn work<R: Wait>(
 fn burst<R: Threads + Wait + Sync>(
     rt: &R,
     alloc: Global,
-    locks: &LockTable<Journal>,
-    passes: Vec<Pass<Journal>>,
+    locks: &LockTable<NumberList>,
+    passes: Vec<Pass<NumberList>>,
     turns: u32,
-) -> Result<Vec<Worker>, AllocError>
+) -> Result<Vec<PassHolder>, AllocError>
     requires passes { AreNew locks.now.own (tokens passes.items) }
     requires objects { 2 ≤ length (first_of locks.now.own) }
     ensures { IfOk result (λ workers. AreAll locks.now.own (tokens (map (λ w. w.pass) workers.items))) }
 {
-    let desk = &locks.desk;
-    let one = |pass: Pass<Journal>| -> Worker
-        requires { IsPass desk.now.shared.table_id (first_of pass.token) pass.token × (made_of pass.token ≡ []) × (2 ≤ length (first_of pass.token)) }
-        ensures { IsPass desk.entry.now.shared.table_id (first_of pass.token) result.pass.token × (number_of result.pass.token ≡ number_of pass.token) }
-    { work(rt, alloc, desk, pass, turns) };
+    let cells = &locks.cells;
+    let one = |pass: Pass<NumberList>| -> PassHolder
+        requires { IsPass cells.now.shared.table_id (first_of pass.token) pass.token × (made_of pass.token ≡ []) × (2 ≤ length (first_of pass.token)) }
+        ensures { IsPass cells.entry.now.shared.table_id (first_of pass.token) result.pass.token × (number_of result.pass.token ≡ number_of pass.token) }
+    { work(rt, alloc, cells, pass, turns) };
     let workers = thread::map_vec(rt, passes, &one)?;
     Ok(workers)
 }
 
 /// The passes of all workers, in order, and their lists.
-fn parted(
+fn split(
     alloc: Global,
-    workers: Vec<Worker>,
-) -> Result<(Vec<Pass<Journal>>, Vec<Vec<Made<u32>>>), AllocError>
+    workers: Vec<PassHolder>,
+) -> Result<(Vec<Pass<NumberList>>, Vec<Vec<Made<u32>>>), AllocError>
     ensures passes { IfOk result (λ parts. parts.0.items ≡ map (λ w. w.pass) workers.items) }
 {
     let mut passes = Vec::with_capacity(alloc, workers.len())?;
     let mut lists = Vec::with_capacity(alloc, workers.len())?;
     for worker in workers {
-        let Worker { pass, made } = worker;
+        let PassHolder { pass, made } = worker;
         passes.push(pass)?;
         lists.push(made)?;
     }
@@ -74,7 +74,7 @@ fn parted(
 }
 
 /// Strikes an entry out of its object's list. Answers whether it stood there, not yet struck out.
-fn strike(values: &mut Vec<Journal>, made: &Made<u32>) -> bool {
+fn strike(values: &mut Vec<NumberList>, made: &Made<u32>) -> bool {
     let Some(journal) = values.get_mut(made.object as usize) else {
         return false;
     };
@@ -85,7 +85,7 @@ fn strike(values: &mut Vec<Journal>, made: &Made<u32>) -> bool {
 }
 
 /// Strikes out the entries of one list. Answers whether all stood there.
-fn strike_list(values: &mut Vec<Journal>, list: &Vec<Made<u32>>) -> bool {
+fn strike_list(values: &mut Vec<NumberList>, list: &Vec<Made<u32>>) -> bool {
     let mut stood = true;
     for made in list {
         stood = strike(values, made) && stood;
@@ -94,7 +94,7 @@ fn strike_list(values: &mut Vec<Journal>, list: &Vec<Made<u32>>) -> bool {
 }
 
 /// Whether all entries of an object were struck out.
-fn is_struck(journal: &Journal) -> bool {
+fn is_struck(journal: &NumberList) -> bool {
     for number in &journal.notes {
         if *number != STRUCK {
             return false;
@@ -104,7 +104,7 @@ fn is_struck(journal: &Journal) -> bool {
 }
 
 /// Whether each entry of the lists stands at its place, and each entry of the two values is in one list, once.
-fn each_once(values: &mut Vec<Journal>, lists: &Vec<Vec<Made<u32>>>) -> bool {
+fn each_once(values: &mut Vec<NumberList>, lists: &Vec<Vec<Made<u32>>>) -> bool {
     let mut stood = true;
     for list in lists {
         stood = strike_list(values, list) && stood;
@@ -116,7 +116,7 @@ fn each_once(values: &mut Vec<Journal>, lists: &Vec<Vec<Made<u32>>>) -> bool {
 }
 
 /// How many numbers each of two objects has, where each is in one list, once.
-fn counted_in(values: &mut Vec<Journal>, lists: &Vec<Vec<Made<u32>>>) -> Option<(usize, usize)> {
+fn counted_in(values: &mut Vec<NumberList>, lists: &Vec<Vec<Made<u32>>>) -> Option<(usize, usize)> {
     let once = each_once(values, lists);
     match values.as_slice() {
         [first, second] => once.then_some((first.notes.len(), second.notes.len())),
@@ -135,7 +135,7 @@ fn counted<R: Threads + Wait + Sync>(
 {
     let (locks, passes) = LockTable::new(alloc, objects(alloc, 2)?, workers)?;
     let workers = burst(rt, alloc, &locks, passes, turns)?;
-    let (passes, lists) = parted(alloc, workers)?;
+    let (passes, lists) = split(alloc, workers)?;
     let mut values = close_locks(alloc, locks, passes)?;
     let counted = counted_in(&mut values, &lists);
     drop(values);

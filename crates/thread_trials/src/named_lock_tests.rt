@@ -1,5 +1,5 @@
 ghost use Rattle.std.specs.Prelude.{◌≤◌, OnOk};
-ghost use Rattle.wake_locks.specs.Locks.{AreBefore, IsTimely};
+ghost use Rattle.wake_locks.specs.Locks.{AreBefore, ExpiriesAreDue};
 
 use sleep_base::Mem;
 use sleep_model::{Name, Stats};
@@ -21,8 +21,8 @@ fn is_bad(answer: Result<LockAnswer, LockFault>) -> bool {
 
 /// Whether two locks are locked, of which one ends by itself, and two texts that name none are refused.
 fn are_locked<R: Wait>(rt: &R, locks: &mut Locks) -> bool
-    requires { IsTimely 0 locks.old }
-    ensures { IsTimely 0 locks.new }
+    requires { ExpiriesAreDue 0 locks.old }
+    ensures { ExpiriesAreDue 0 locks.new }
 {
     let wifi = locks.wake_lock(rt, b"wifi", 0);
     let gps = locks.wake_lock(rt, b"gps 1500000\n", 0);
@@ -44,17 +44,17 @@ fn advance<R: Wait, const CAP: usize>(
     locks: &mut WakeLocks<CAP>,
     to: u64,
 ) -> Result<(), LockFault>
-    requires timely { IsTimely 0 locks.old }
+    requires timely { ExpiriesAreDue 0 locks.old }
     requires small { to ≤ 9 }
     ensures before { AreBefore to locks.new }
-    ensures timely { OnOk result (IsTimely to locks.new) }
+    ensures timely { OnOk result (ExpiriesAreDue to locks.new) }
 {
     locks.advance(rt, to)
 }
 
 /// Whether the timeout ends by 3 ms, and its lock is unlocked then.
 fn ends<R: Wait>(rt: &R, locks: &mut Locks) -> bool
-    requires { IsTimely 0 locks.old }
+    requires { ExpiriesAreDue 0 locks.old }
     ensures { AreBefore 3 locks.new }
 {
     match advance(rt, locks, 3) {
@@ -74,7 +74,7 @@ const GPS: Stats = Stats {
     last_time: 2,
 };
 
-/// Whether the first of two locks has counted that, also where it is asked by its name.
+/// Whether the first of two locks has counted that, also if it is asked by its name.
 fn have_counted(locks: &Locks, all: &[LockStats]) -> bool
     requires { AreBefore 3 locks.now }
 {
@@ -96,7 +96,7 @@ fn knows_none(locks: &Locks) -> bool
 
 /// Whether two locks are locked, one ends, and each is counted.
 fn live<R: Wait>(rt: &R, locks: &mut Locks) -> Result<bool, Mem>
-    requires { IsTimely 0 locks.old }
+    requires { ExpiriesAreDue 0 locks.old }
 {
     let locked = are_locked(rt, locks);
     let both = have_names(locks, 2, 0)?;
@@ -115,7 +115,7 @@ fn a_lock_is_active_until_its_end(rt: HostRuntime) {
 
 /// Whether a lock is locked twice, and then full, also for its timeout.
 fn is_full<R: Wait>(rt: &R, locks: &mut WakeLocks<6>, name: Name) -> bool
-    requires { IsTimely 0 locks.old }
+    requires { ExpiriesAreDue 0 locks.old }
 {
     let first = locks.wake_lock(rt, b"a 1000000", 0);
     let second = locks.wake_lock(rt, b"a 1000000", 0);
@@ -135,8 +135,8 @@ fn a_lock_with_three_places_left_is_full(rt: HostRuntime) {
 
 /// Whether as many locks are locked as may be known, each with a name of its own.
 fn knows_most<R: Wait>(rt: &R, locks: &mut Locks) -> bool
-    requires { IsTimely 0 locks.old }
-    ensures { IsTimely 0 locks.new }
+    requires { ExpiriesAreDue 0 locks.old }
+    ensures { ExpiriesAreDue 0 locks.new }
 {
     let mut all = true;
     for number in 0..MOST_LOCKS as u8 {
@@ -149,7 +149,7 @@ fn knows_most<R: Wait>(rt: &R, locks: &mut Locks) -> bool
 
 /// Whether no further name is taken, and a known one is unlocked and locked again.
 fn takes_no_more<R: Wait>(rt: &R, locks: &mut Locks) -> bool
-    requires { IsTimely 0 locks.old }
+    requires { ExpiriesAreDue 0 locks.old }
 {
     let more = locks.wake_lock(rt, b"one_more", 0);
     let unlocked = locks.wake_unlock(rt, b"n07", 0);

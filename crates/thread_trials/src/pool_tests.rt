@@ -8,17 +8,17 @@ use std::thread::{Threads, yield_now};
 
 /// A job that does something `wants` times, then stops or is done. It can make `left` turns.
 #[derive(Clone, Copy, Drop)]
-struct Task {
+struct CountingJob {
     left: u64,
     wants: u64,
     did: u64,
     stops: bool,
 }
 
-fn that_wants(wants: u64, stops: bool) -> Task
+fn that_wants(wants: u64, stops: bool) -> CountingJob
     ensures { (result.left ≡ 1000) × (result.did ≡ 0) }
 {
-    Task {
+    CountingJob {
         left: 1000,
         wants,
         did: 0,
@@ -26,7 +26,7 @@ fn that_wants(wants: u64, stops: bool) -> Task
     }
 }
 
-impl Job<AtomicU64> for Task {
+impl Job<AtomicU64> for CountingJob {
     ghost left = { λ t. t.left };
 
     ghost goes = { λ t _ _. t.did + t.left ≤ 1000 };
@@ -92,7 +92,7 @@ fn a_worker_makes_a_thousand_rounds(rt: HostRuntime) {
     assert!(rt; first.left == 0 && second.left == 0);
     let mut few = [that_wants(3, false); 2];
     assert!(rt; burst(&rt, &mut few, &shared, 0, 255) == 6);
-    let mut none: [Task; 0] = [];
+    let mut none: [CountingJob; 0] = [];
     assert!(rt; burst(&rt, &mut none, &shared, 0, 4) == 0);
 }
 

@@ -8,7 +8,7 @@ use sleep_model::{
     Answer, Kind, ListOf, Machine, Name, Op, Phase, Report, Script, SourceCall, Stamp, State, Step,
     TaskKind, Text, Want, What,
 };
-use sleep_script::{Job, TimerJob};
+use sleep_script::{ActorJob, TimerJob};
 use std::alloc::Global;
 use std::test::Fail;
 
@@ -110,7 +110,7 @@ fn go_well(plans: &MachinePlans<'_>) -> Result<bool, Mem>
     requires answers { length plans.now.answers ≡ 1 }
     requires sources { length plans.now.sources ≡ 1 }
 {
-    let mut job = Job::of_script(plans, 0);
+    let mut job = ActorJob::of_script(plans, 0);
     let reports = reports_an_event(&mut job)?;
     let goes = goes_on(&mut job)?;
     Ok(reports && goes && work_reports(plans) && device_reports(plans))
@@ -121,8 +121,8 @@ fn stamp(tick: u64) -> Stamp {
     Stamp { pos: 0, tick }
 }
 
-/// The next call of a script, which is made. `Mem` where it makes none.
-fn call(job: &mut Job<'_>) -> Result<(u32, SourceCall), Mem>
+/// The next call of a script, which is made. `Mem` if it makes none.
+fn call(job: &mut ActorJob<'_>) -> Result<(u32, SourceCall), Mem>
     requires { job.old.calls < 100 }
     ensures turns { job.new.turns ≡ job.old.turns }
     ensures calls { job.new.calls ≤ job.old.calls + 1 }
@@ -136,15 +136,15 @@ fn call(job: &mut Job<'_>) -> Result<(u32, SourceCall), Mem>
     }
 }
 
-/// The next turn of a script, which makes that entry. `Mem` where it has none.
-fn turn(job: &mut Job<'_>, kind: Kind) -> Result<(), Mem>
+/// The next turn of a script, which makes that entry. `Mem` if it has none.
+fn turn(job: &mut ActorJob<'_>, kind: Kind) -> Result<(), Mem>
     requires { job.old.turns < 100 }
     ensures turns { job.new.turns ≤ job.old.turns + 1 }
     ensures calls { job.new.calls ≡ job.old.calls }
 {
     match job.next() {
         Want::Core => {
-            job.told_turn(stamp(3), kind, 1);
+            job.told_core(stamp(3), kind, 1);
             Ok(())
         }
         _ => Err(Mem),
@@ -152,7 +152,7 @@ fn turn(job: &mut Job<'_>, kind: Kind) -> Result<(), Mem>
 }
 
 /// Whether a script whose callback suspends device 0 reports an event before the callback ends.
-fn reports_an_event(job: &mut Job<'_>) -> Result<bool, Mem>
+fn reports_an_event(job: &mut ActorJob<'_>) -> Result<bool, Mem>
     requires turns { job.old.turns ≡ 0 }
     requires calls { job.old.calls ≡ 0 }
     ensures turns { OnOk result (job.new.turns ≤ 2) }
@@ -168,7 +168,7 @@ fn reports_an_event(job: &mut Job<'_>) -> Result<bool, Mem>
 }
 
 /// Whether a script reads the count, keeps the system awake, by source 1, while it sets autosleep, makes an event and exits.
-fn goes_on(job: &mut Job<'_>) -> Result<bool, Mem>
+fn goes_on(job: &mut ActorJob<'_>) -> Result<bool, Mem>
     requires turns { job.old.turns ≤ 2 }
     requires calls { job.old.calls ≤ 1 }
 {
@@ -188,7 +188,7 @@ fn goes_on(job: &mut Job<'_>) -> Result<bool, Mem>
 }
 
 /// Whoever makes a callback makes its reports; a good write to autosleep keeps the system awake while it is set, by the source
-/// behind the others; an operation that is a call makes it; and a script that has exited does nothing.
+/// after the others; an operation that is a call makes it; and a script that has exited does nothing.
 #[test]
 fn jobs_make_turns_and_calls(rt: HostRuntime) -> Result<(), Fail> {
     let machine = machine(rt.alloc())?;
@@ -199,15 +199,15 @@ fn jobs_make_turns_and_calls(rt: HostRuntime) -> Result<(), Fail> {
 
 /// Whether the autosleep work that suspends device 0 reports an event.
 fn work_reports(plans: &MachinePlans<'_>) -> bool {
-    let mut work = Job::of_auto(plans);
-    work.told_turn(stamp(3), Kind::Begin(Phase::Suspend, 0), 1);
+    let mut work = ActorJob::of_auto(plans);
+    work.told_core(stamp(3), Kind::Begin(Phase::Suspend, 0), 1);
     work.owes() && matches!(work.next(), Want::Source(0, _))
 }
 
 /// Whether device 0 that is suspended by its own thread does.
 fn device_reports(plans: &MachinePlans<'_>) -> bool {
-    let mut device = Job::of_device(plans, 0);
-    device.told_turn(stamp(3), Kind::Begin(Phase::Suspend, 0), 1);
+    let mut device = ActorJob::of_device(plans, 0);
+    device.told_core(stamp(3), Kind::Begin(Phase::Suspend, 0), 1);
     device.owes() && matches!(device.next(), Want::Source(0, _))
 }
 

@@ -1,6 +1,6 @@
 ghost use Rattle.std.specs.Prelude.{◌≡◌};
 
-use sleep_script::{Job, TimerJob};
+use sleep_script::{ActorJob, TimerJob};
 use wakeup_source::{MOST_ENTRIES, WakeSource};
 
 /// What may be sent to a thread, and nothing else, goes through.
@@ -18,7 +18,7 @@ pub fn sent_source(source: WakeSource<MOST_ENTRIES>) -> WakeSource<MOST_ENTRIES>
 }
 
 /// So may the job of an actor.
-pub fn sent_job(job: Job<'_>) -> Job<'_>
+pub fn sent_job(job: ActorJob<'_>) -> ActorJob<'_>
     ensures { result ≡ job.entry }
 {
     sent(job)

@@ -13,7 +13,7 @@ use std::thread::Threads;
 
 /// Two steps of a source: the first begins an event, and the second ends it, or is hard, where another source came before.
 fn two_steps(table: &EventTable, seat: EventSeat, came: &AtomicBool) -> EventSeat
-    requires table { seat.token.table_id ≡ table.now.desk.shared.table_id }
+    requires table { seat.token.table_id ≡ table.now.cells.shared.table_id }
     requires new { made_of seat.token ≡ [] }
     ensures table { result.token.table_id ≡ seat.token.table_id }
     ensures number { number_of result.token ≡ number_of seat.token }
@@ -32,14 +32,14 @@ fn twice<R: Threads + Wait + Sync>(
     look: &LookSeat,
     seats: Vec<EventSeat>,
 ) -> Result<Vec<EventSeat>, AllocError>
-    requires look { look.now.token.table_id ≡ table.now.desk.shared.table_id }
+    requires look { look.now.token.table_id ≡ table.now.cells.shared.table_id }
     requires seats { AreNew look.now.token (tokens seats.items) }
     ensures { IfOk result (λ back. AreAll look.now.token (tokens back.items)) }
 {
     let _ = look;
     let came = AtomicBool::new(false);
     let one = |seat: EventSeat| -> EventSeat
-        requires { (seat.token.table_id ≡ table.now.desk.shared.table_id) × (made_of seat.token ≡ []) }
+        requires { (seat.token.table_id ≡ table.now.cells.shared.table_id) × (made_of seat.token ≡ []) }
         ensures { (result.token.table_id ≡ seat.token.table_id) × (number_of result.token ≡ number_of seat.token) }
     { two_steps(table, seat, &came) };
     let back = thread::map_vec(rt, seats, &one)?;

@@ -13,7 +13,7 @@ use std::thread::Threads;
 
 /// Begins the source's event, and waits until the other one's is in progress. Answers the word then.
 fn meet<R: Wait>(rt: &R, table: &EventTable, seat: EventSeat, both: &Barrier) -> EventNow
-    requires table { seat.token.table_id ≡ table.now.desk.shared.table_id }
+    requires table { seat.token.table_id ≡ table.now.cells.shared.table_id }
     requires new { made_of seat.token ≡ [] }
 {
     let mut seat = seat.on(table);
@@ -32,13 +32,13 @@ fn meeting<R: Threads + Wait + Sync>(
     look: &LookSeat,
     seats: Vec<EventSeat>,
 ) -> Result<Vec<EventNow>, AllocError>
-    requires look { look.now.token.table_id ≡ table.now.desk.shared.table_id }
+    requires look { look.now.token.table_id ≡ table.now.cells.shared.table_id }
     requires seats { AreNew look.now.token (tokens seats.items) }
 {
     let _ = look;
     let both = Barrier::new(2);
     let one = |seat: EventSeat| -> EventNow
-        requires { (seat.token.table_id ≡ table.now.desk.shared.table_id) × (made_of seat.token ≡ []) }
+        requires { (seat.token.table_id ≡ table.now.cells.shared.table_id) × (made_of seat.token ≡ []) }
     { meet(rt, table, seat, &both) };
     let seen = thread::map_vec(rt, seats, &one)?;
     Ok(seen)

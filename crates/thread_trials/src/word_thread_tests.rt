@@ -29,7 +29,7 @@ fn note(positions: &mut Vec<u64>, position: u64) {
 
 /// All steps of one worker: events one after another, with a hard step in each. It looks at the word after each step.
 fn work(alloc: Global, table: &EventTable, seat: EventSeat, turns: u32) -> Done
-    requires table { seat.token.table_id ≡ table.now.desk.shared.table_id }
+    requires table { seat.token.table_id ≡ table.now.cells.shared.table_id }
     requires new { made_of seat.token ≡ [] }
     requires turns { turns ≤ 10000 }
     ensures table { result.seat.token.table_id ≡ seat.token.table_id }
@@ -62,14 +62,14 @@ fn burst<R: Threads + Wait + Sync>(
     seats: Vec<EventSeat>,
     turns: u32,
 ) -> Result<Vec<Done>, AllocError>
-    requires look { look.now.token.table_id ≡ table.now.desk.shared.table_id }
+    requires look { look.now.token.table_id ≡ table.now.cells.shared.table_id }
     requires seats { AreNew look.now.token (tokens seats.items) }
     requires turns { turns ≤ 10000 }
     ensures { IfOk result (λ done. AreAll look.now.token (map (λ d. d.seat.token) done.items)) }
 {
     let _ = look;
     let one = |seat: EventSeat| -> Done
-        requires { (seat.token.table_id ≡ table.now.desk.shared.table_id) × (made_of seat.token ≡ []) × (turns ≤ 10000) }
+        requires { (seat.token.table_id ≡ table.now.cells.shared.table_id) × (made_of seat.token ≡ []) × (turns ≤ 10000) }
         ensures { (result.seat.token.table_id ≡ seat.token.table_id) × (number_of result.seat.token ≡ number_of seat.token) }
     { work(alloc, table, seat, turns) };
     let done = thread::map_vec(rt, seats, &one)?;

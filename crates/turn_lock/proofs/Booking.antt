@@ -1,7 +1,7 @@
 -- Lists of entries with their makers, when entries are added at the end.
 use Rattle.std.proofs.Common.{◌≡◌, ℕ, suc, ◌+◌, ◌<◌, ◌≢◌, Bool, true, false, eqb, eq-eqb, ne_eqb, if◌then◌else◌, List, [], ◌∷◌, ◌++◌, length, sym, refl, ap, ◌∙◌, arith}
 use Rattle.turn_lock.specs.declared.view.Made.{Made}
-use Rattle.turn_lock.specs.Books.{made, placed, of_object, made_by, bare, all_by, AreBelow}
+use Rattle.turn_lock.specs.Bookings.{made, placed, of_object, made_by, empty, all_by, AreBelow}
 
 module _ {A : Type 0} where
   front : (b : Bool) (m : A) (xs ys zs : List A) → zs ≡ xs ++ ys → (if b then m ∷ zs else zs) ≡ (if b then m ∷ xs else xs) ++ ys
@@ -46,17 +46,17 @@ module _ {I : Type 0} where
   of_object_other i j p [] other = refl
   of_object_other i j p (x ∷ xs) other = refused (eqb i j) (made i p x ∷ of_object j (placed i (p + 1) xs)) (of_object j (placed i (p + 1) xs)) (ne_eqb i j other) ∙ of_object_other i j (p + 1) xs other
 
-  pub bare_both : (es more : List (ℕ × I)) → bare (es ++ more) ≡ bare es ++ bare more
-  bare_both [] more = refl
-  bare_both (e ∷ es) more = ap (λ l. e.1 ∷ l) (bare_both es more)
+  pub unstamped_both : (es more : List (ℕ × I)) → empty (es ++ more) ≡ empty es ++ empty more
+  unstamped_both [] more = refl
+  unstamped_both (e ∷ es) more = ap (λ l. e.1 ∷ l) (unstamped_both es more)
 
-  pub bare_all : (k : ℕ) (xs : List I) → bare (all_by k xs) ≡ xs
-  bare_all k [] = refl
-  bare_all k (x ∷ xs) = ap (λ l. x ∷ l) (bare_all k xs)
+  pub unstamped_all : (k : ℕ) (xs : List I) → empty (all_by k xs) ≡ xs
+  unstamped_all k [] = refl
+  unstamped_all k (x ∷ xs) = ap (λ l. x ∷ l) (unstamped_all k xs)
 
-  pub bare_length : (es : List (ℕ × I)) → length (bare es) ≡ length es
-  bare_length [] = refl
-  bare_length (e ∷ es) = ap suc (bare_length es)
+  pub unstamped_length : (es : List (ℕ × I)) → length (empty es) ≡ length es
+  unstamped_length [] = refl
+  unstamped_length (e ∷ es) = ap suc (unstamped_length es)
 
   pub below_both : (n k : ℕ) (es : List (ℕ × I)) (xs : List I) → k < n → AreBelow n es → AreBelow n (es ++ all_by k xs)
   below_both n k [] [] low below = tt

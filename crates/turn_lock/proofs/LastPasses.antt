@@ -13,7 +13,7 @@ use Rattle.turn_lock.specs.declared.table.Pass.{Pass}
 use Rattle.turn_lock.specs.Passes.{Token, IsPass, IsPassOf, AreAll, first_of, made_of, number_of}
 use Rattle.turn_lock.specs.Passing.{tokens, made_lists, AreOut, AreFull}
 use Rattle.turn_lock.specs.Locks.{IsObject, AreClosed}
-use Rattle.turn_lock.proofs.Keeping.{at_end, within, there, Ended}
+use Rattle.turn_lock.proofs.Invariance.{at_end, within, there, Ended}
 
 module _ {V : Type 0} where
   abbrev or_else : V → Option V → V

@@ -1,5 +1,5 @@
 pub mod Booking
-pub mod Keeping
+pub mod Invariance
 pub mod NewPasses
 pub mod LastPasses
 pub mod Listed

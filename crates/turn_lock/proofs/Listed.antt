@@ -2,7 +2,7 @@
 use Rattle.std.proofs.Common.{◌≡◌, ℕ, ◌+◌, List, [], ◌∷◌, ◌++◌, length, drop, sym, ap, ◌∙◌, arith, append_assoc, length-append}
 use Rattle.std.proofs.Math.Seq.{drop-append_seam}
 use Rattle.turn_lock.specs.declared.view.Made.{Made}
-use Rattle.turn_lock.specs.Books.{made, placed}
+use Rattle.turn_lock.specs.Bookings.{made, placed}
 
 module _ {I : Type 0} where
   placed_end : (object place : ℕ) (xs : List I) (x : I) → placed object place (xs ++ x ∷ []) ≡ placed object place xs ++ made object (place + length xs) x ∷ []

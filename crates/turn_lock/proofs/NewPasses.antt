@@ -6,7 +6,7 @@ use Rattle.turn_lock.specs.declared.table.Pass.{Pass}
 use Rattle.turn_lock.specs.Locks.{keeper, pass_view}
 use Rattle.turn_lock.specs.Passes.{Token, IsPassOf, AreNew, first_of, made_of, number_of}
 use Rattle.turn_lock.specs.Passing.{tokens}
-use Rattle.turn_lock.proofs.Keeping.{at_end}
+use Rattle.turn_lock.proofs.Invariance.{at_end}
 
 module _ {V I : Type 0} where
   pub none_new : (own : Token V I) → own.me.0.next ≡ 0 → own.me.0.known ≡ [] → AreNew own []

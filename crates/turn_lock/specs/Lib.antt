@@ -1,4 +1,4 @@
-pub mod Books
+pub mod Bookings
 pub mod Locks
 pub mod Passes
 pub mod Passing

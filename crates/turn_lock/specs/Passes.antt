@@ -5,12 +5,12 @@ use lib.ListN.{get_elem?}
 use Rattle.atomic_table.specs.Seated.{TableId}
 use Rattle.atomic_table.specs.declared.shared.Seat.{Seat}
 use Rattle.turn_lock.specs.declared.view.Made.{Made}
-use Rattle.turn_lock.specs.declared.view.View.{View}
-use Rattle.turn_lock.specs.Books.{placed}
+use Rattle.turn_lock.specs.declared.view.PassView.{PassView}
+use Rattle.turn_lock.specs.Bookings.{placed}
 
 -- a seat at a table of objects of the type V with entries of the type I
 abbrev pub Token : Type 0 → Type 0 → Type 0
-Token V I = Seat (Option V) (View V I)
+Token V I = Seat (Option V) (PassView V I)
 
 module _ {V I : Type 0} where
   -- the values that the table of a seat was made of

@@ -9,13 +9,17 @@ ghost use Rattle.turn_lock.specs.Passing.{tokens, made_lists, AreOut, AreFull};
 
 use crate::booked::Booked;
 use crate::plays::Glue;
-use crate::table::{Desk, LockTable, Pass, Token};
+use crate::table::{LockTable, Pass, SharedLocks, Token};
 use atomic_table::Closed;
 use sleep_base::Mem;
 use std::alloc::Global;
 
 /// What the passes made comes to the table's own seat.
-fn gather<V: Booked>(table: &Desk<V, V::Item>, own: &mut Token<V, V::Item>, passes: Vec<Pass<V>>)
+fn gather<V: Booked>(
+    table: &SharedLocks<V, V::Item>,
+    own: &mut Token<V, V::Item>,
+    passes: Vec<Pass<V>>,
+)
     requires table { (own.old.table_id ≡ table.now.shared.table_id) × (0 < own.old.table_id.words) }
     requires own { IsOwn own.old }
     requires passes { AreAll own.old (tokens passes.items) }
@@ -56,8 +60,8 @@ pub fn close_locks<V: Booked>(
     requires passes { AreAll locks.own (tokens passes.items) }
     ensures { IfOk result (λ values. AreClosed V.root V.entries (first_of locks.own) (made_lists passes.items) values.items) }
 {
-    let values = Vec::with_capacity(alloc, locks.desk.slot_count())?;
-    let LockTable { desk, mut own } = locks;
-    gather(&desk, &mut own, passes);
-    Ok(unslotted(desk.close_with(own), values))
+    let values = Vec::with_capacity(alloc, locks.cells.slot_count())?;
+    let LockTable { cells, mut own } = locks;
+    gather(&cells, &mut own, passes);
+    Ok(unslotted(cells.close_with(own), values))
 }

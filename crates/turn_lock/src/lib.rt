@@ -1,5 +1,5 @@
 //! Locks in one table, one an object. A pass remembers each entry that it added to an object. Threads share the
-//! `desk` of a `LockTable`; the table's own seat stays with its owner, who needs it to close the table. Its tests
+//! `cells` of a `LockTable`; the table's own seat stays with its owner, who needs it to close the table. Its tests
 //! are in `thread_trials`.
 //!
 //! Promises: A lock guards a list that only grows. A pass that takes it sees every entry that it added before
@@ -19,5 +19,5 @@ mod view;
 
 pub use booked::Booked;
 pub use closing::close_locks;
-pub use table::{Desk, Held, LockTable, Pass, Token, give, take};
-pub use view::{Made, View};
+pub use table::{Held, LockTable, Pass, SharedLocks, Token, give, take};
+pub use view::{Made, PassView};

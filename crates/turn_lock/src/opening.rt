@@ -23,17 +23,17 @@ fn slotted<V: Drop>(alloc: Global, values: Vec<V>) -> Result<Vec<Option<V>>, Mem
 
 impl<V: Booked> LockTable<V> {
     /// A table with no pass yet.
-    fn bare(alloc: Global, values: Vec<V>) -> Result<LockTable<V>, Mem>
+    fn empty(alloc: Global, values: Vec<V>) -> Result<LockTable<V>, Mem>
         requires { 1 ≤ vec_len values }
         ensures { IfOk result (λ locks. (first_of locks.own ≡ values.items) × (locks.own.me.0.next ≡ 0) × (locks.own.me.0.known ≡ [])) }
     {
         let words = vec![in alloc; 0; values.len()]?;
         let about = Snapshot::of(&values);
         let slots = slotted(alloc, values)?;
-        let Ok((desk, own)) = Table::new(alloc, words.as_slice(), slots, &about) else {
+        let Ok((cells, own)) = Table::new(alloc, words.as_slice(), slots, &about) else {
             return Err(Mem);
         };
-        Ok(LockTable { desk, own })
+        Ok(LockTable { cells, own })
     }
 
     /// That many new passes, in the order of their numbers.
@@ -61,7 +61,7 @@ impl<V: Booked> LockTable<V> {
         ensures count { IfOk result (λ made. vec_len made.1 ≡ passes) }
         ensures passes { IfOk result (λ made. AreNew made.0.own (tokens made.1.items)) }
     {
-        let mut locks = LockTable::bare(alloc, values)?;
+        let mut locks = LockTable::empty(alloc, values)?;
         let made = locks.passes(alloc, passes)?;
         Ok((locks, made))
     }

@@ -10,7 +10,7 @@ pub struct Made<I> {
 }
 
 /// What a seat knows. No value of it is made.
-pub struct View<V, I> {
+pub struct PassView<V, I> {
     /// The values that the table was made of.
     pub first: LinkedList<V>,
     /// Whether it is the table's own seat.

@@ -11,14 +11,14 @@ use Rattle.sleep_model.specs.declared.word.EventNow.{EventNow}
 use Rattle.sleep_model.specs.Numbers.{numbers}
 use Rattle.sleep_model.specs.Places.{one_if}
 use Rattle.sleep_model.specs.Sources.{since, expiry, makes, has_expired}
-use Rattle.wakeup_source.specs.SourceStates.{SourceState, bare, latest, note_entry, step_entry}
-use Rattle.wakeup_source.specs.Told.{source_call, after_steps, word_after, MayCall}
+use Rattle.wakeup_source.specs.SourceStates.{SourceState, unstamped, latest, note_entry, step_entry}
+use Rattle.wakeup_source.specs.Shown.{source_call, after_steps, word_after_kinds, MayCall}
 use Rattle.wakeup_source.specs.declared.call_by.CallBy.{CallBy}
-use Rattle.event_word.specs.Steps.{has_places}
+use Rattle.event_word.specs.Steps.{has_room_for_all}
 use Rattle.wake_locks.specs.Locks.{maker, own_after}
-use Rattle.wake_locks.specs.LockFields.{IsLock, IsMade, standing_of, standing_from, IsKept, IsMeant, IsBehind}
-use Rattle.wake_locks.specs.declared.standing.Standing.{Standing}
-use Rattle.wake_locks.specs.Standings.{standing_after, is_due}
+use Rattle.wake_locks.specs.LockFields.{IsLock, IsMade, status_of, status_from, SourceInvariant, IsMeant, IsNotBefore}
+use Rattle.wake_locks.specs.declared.status.LockStatus.{LockStatus}
+use Rattle.wake_locks.specs.LockStatuses.{status_after, is_due}
 
 -- the entries after a call, by when the event in progress began
 abbrev pub entries : SourceCall → ℕ → List Entry → Option ℕ → List Entry
@@ -32,9 +32,9 @@ record Stands (own : List Entry) (began end : Option ℕ) : Type 0 where
   in_progress : (numbers own).inpr ≡ one_if (is_some began)
   finished : (numbers own).count ≤ length own
   rests : began ≡ None → end ≡ None
-  ends : IsBehind (latest own) end
+  ends : IsNotBefore (latest own) end
 
-stands_now : (own : List Entry) → IsKept own → Stands own (since own) (expiry own)
+stands_now : (own : List Entry) → SourceInvariant own → Stands own (since own) (expiry own)
 stands_now own kept = record { since_is = refl; expiry_is = refl; in_progress = kept.in_progress; finished = kept.finished; rests = kept.rests; ends = kept.ends }
 
 -- a length is not 0
@@ -43,7 +43,7 @@ lasts ms l = grind (arith, nat_tests)
 
 -- ---- what a call needs
 
-places_by : (made : SourceCall) (now : ℕ) (own : List Entry) (began end : Option ℕ) → Stands own began end → length own ≤ 60000 → IsMeant made now (standing_from began end) → has_places (numbers own) (makes made began) ≡ true
+places_by : (made : SourceCall) (now : ℕ) (own : List Entry) (began end : Option ℕ) → Stands own began end → length own ≤ 60000 → IsMeant made now (status_from began end) → has_room_for_all (numbers own) (makes made began) ≡ true
 places_by call.Awake now own None end h few meant = grind (arith, nat_tests, h.in_progress)
 places_by call.Awake now own (Some b) end h few meant = refl
 places_by call.Relax now own None end h few meant = refl
@@ -55,16 +55,16 @@ places_by call.Expire now own None end h few meant = refl
 places_by call.Expire now own (Some b) end h few meant = grind (arith, nat_tests, h.in_progress, h.finished)
 
 -- the steps of a call have their places
-pub places : (made : SourceCall) (now : ℕ) (own : List Entry) → IsKept own → length own ≤ 60000 → IsMeant made now (standing_of own) → has_places (numbers own) (makes made (since own)) ≡ true
+pub places : (made : SourceCall) (now : ℕ) (own : List Entry) → SourceInvariant own → length own ≤ 60000 → IsMeant made now (status_of own) → has_room_for_all (numbers own) (makes made (since own)) ≡ true
 places made now own kept few meant = places_by made now own (since own) (expiry own) (stands_now own kept) few meant
 
-expires : (now : ℕ) (began end : Option ℕ) → is_due now (standing_from began end) ≡ true → has_expired end now ≡ true
+expires : (now : ℕ) (began end : Option ℕ) → is_due now (status_from began end) ≡ true → has_expired end now ≡ true
 expires now None end d = absurd (let no : false ≡ true = d in cc)
 expires now (Some b) None d = absurd (let no : false ≡ true = d in cc)
 expires now (Some b) (Some e) d = d
 
 -- an expiry comes where it is due
-pub may : (made : SourceCall) (now : ℕ) (own : List Entry) → IsMeant made now (standing_of own) → MayCall made own now
+pub may : (made : SourceCall) (now : ℕ) (own : List Entry) → IsMeant made now (status_of own) → MayCall made own now
 may call.Awake now own meant = tt
 may call.Relax now own meant = tt
 may (call.Event ms hard) now own meant = tt
@@ -72,8 +72,8 @@ may call.Expire now own meant = expires now (since own) (expiry own) meant
 
 -- ---- what it leaves
 
-stands_by : (made : SourceCall) (now : ℕ) (own : List Entry) (began end : Option ℕ) → Stands own began end → IsMeant made now (standing_from began end)
-    → standing_after made now (standing_from began end) ≡ standing_of (entries made now own began)
+stands_by : (made : SourceCall) (now : ℕ) (own : List Entry) (began end : Option ℕ) → Stands own began end → IsMeant made now (status_from began end)
+    → status_after made now (status_from began end) ≡ status_of (entries made now own began)
 stands_by call.Awake now own None end h meant = refl
 stands_by call.Awake now own (Some b) end h meant = rw h.since_is refl
 stands_by call.Relax now own None end h meant = rw h.since_is refl
@@ -87,10 +87,10 @@ stands_by call.Expire now own None end h meant = rw h.since_is refl
 stands_by call.Expire now own (Some b) end h meant = refl
 
 -- how the lock then stands
-pub stands : (made : SourceCall) (now : ℕ) (own : List Entry) → IsKept own → IsMeant made now (standing_of own) → standing_after made now (standing_of own) ≡ standing_of (own_after made now own)
+pub stands : (made : SourceCall) (now : ℕ) (own : List Entry) → SourceInvariant own → IsMeant made now (status_of own) → status_after made now (status_of own) ≡ status_of (own_after made now own)
 stands made now own kept meant = stands_by made now own (since own) (expiry own) (stands_now own kept) meant
 
-moves_by : (made : SourceCall) (now : ℕ) (own : List Entry) (began : Option ℕ) (standing : Option ℕ) → IsMeant made now (standing_from began standing) → word_after (makes made began) (numbers own) ≡ numbers (entries made now own began)
+moves_by : (made : SourceCall) (now : ℕ) (own : List Entry) (began : Option ℕ) (status : Option ℕ) → IsMeant made now (status_from began status) → word_after_kinds (makes made began) (numbers own) ≡ numbers (entries made now own began)
 moves_by call.Awake now own None end meant = refl
 moves_by call.Awake now own (Some b) end meant = refl
 moves_by call.Relax now own None end meant = refl
@@ -102,7 +102,7 @@ moves_by call.Expire now own None end meant = refl
 moves_by call.Expire now own (Some b) end meant = refl
 
 -- and the word
-pub word_moves : (made : SourceCall) (now : ℕ) (own : List Entry) → IsMeant made now (standing_of own) → word_after (makes made (since own)) (numbers own) ≡ numbers (own_after made now own)
+pub word_moves : (made : SourceCall) (now : ℕ) (own : List Entry) → IsMeant made now (status_of own) → word_after_kinds (makes made (since own)) (numbers own) ≡ numbers (own_after made now own)
 word_moves made now own meant = moves_by made now own (since own) (expiry own) meant
 
 some_none : (n : ℕ) → Some n ≡ None → ⊥
@@ -115,7 +115,7 @@ started ms now own l = rw (lasts ms l) refl
 noted : (ms now : ℕ) (own : List Entry) (b : ℕ) → 1 ≤ ms → entries (call.Event ms false) now own (Some b) ≡ note_entry 0 (call.Event ms false) (who.Script 0) now (numbers own) ∷ own
 noted ms now own b l = rw (lasts ms l) refl
 
-keeps_by : (made : SourceCall) (now : ℕ) (own : List Entry) (began end : Option ℕ) → Stands own began end → latest own ≤ now → IsMeant made now (standing_from began end) → IsKept (entries made now own began)
+keeps_by : (made : SourceCall) (now : ℕ) (own : List Entry) (began end : Option ℕ) → Stands own began end → latest own ≤ now → IsMeant made now (status_from began end) → SourceInvariant (entries made now own began)
 keeps_by call.Awake now own None end h time meant = record { in_progress = omega (arith, h.in_progress); finished = omega (arith, h.finished); rests = λ _. refl; ends = tt }
 keeps_by call.Awake now own (Some b) end h time meant = record { in_progress = rw h.since_is h.in_progress; finished = omega (arith, h.finished); rests = λ _. refl; ends = tt }
 keeps_by call.Relax now own None end h time meant = record {
@@ -127,7 +127,7 @@ keeps_by call.Relax now own None end h time meant = record {
 keeps_by call.Relax now own (Some b) end h time meant = record { in_progress = omega (arith, h.in_progress); finished = omega (arith, h.finished); rests = λ _. refl; ends = tt }
 keeps_by (call.Event ms true) now own began end h time meant = absurd (let no : true ≡ false = meant.1 in cc)
 keeps_by (call.Event ms false) now own None None h time meant =
-    subst IsKept (sym (started ms now own meant.0)) (record {
+    subst SourceInvariant (sym (started ms now own meant.0)) (record {
       in_progress = omega (arith, h.in_progress);
       finished = omega (arith, h.finished);
       rests = λ n. absurd (some_none now n);
@@ -135,14 +135,14 @@ keeps_by (call.Event ms false) now own None None h time meant =
     })
 keeps_by (call.Event ms false) now own None (Some e) h time meant = absurd (some_none e (h.rests refl))
 keeps_by (call.Event ms false) now own (Some b) None h time meant =
-    subst IsKept (sym (noted ms now own b meant.0)) (record {
+    subst SourceInvariant (sym (noted ms now own b meant.0)) (record {
       in_progress = rw h.since_is h.in_progress;
       finished = omega (arith, h.finished);
       rests = λ n. absurd (some_none b (sym h.since_is ∙ n));
       ends = rw (lasts ms meant.0, h.expiry_is) (omega arith);
     })
 keeps_by (call.Event ms false) now own (Some b) (Some e) h time meant =
-    subst IsKept (sym (noted ms now own b meant.0)) (record {
+    subst SourceInvariant (sym (noted ms now own b meant.0)) (record {
       in_progress = rw h.since_is h.in_progress;
       finished = omega (arith, h.finished);
       rests = λ n. absurd (some_none b (sym h.since_is ∙ n));
@@ -157,34 +157,34 @@ keeps_by call.Expire now own None end h time meant = record {
 keeps_by call.Expire now own (Some b) end h time meant = record { in_progress = omega (arith, h.in_progress); finished = omega (arith, h.finished); rests = λ _. refl; ends = tt }
 
 -- what holds of the entries holds after the call
-pub keeps : (made : SourceCall) (now : ℕ) (own : List Entry) → IsKept own → latest own ≤ now → IsMeant made now (standing_of own) → IsKept (own_after made now own)
+pub keeps : (made : SourceCall) (now : ℕ) (own : List Entry) → SourceInvariant own → latest own ≤ now → IsMeant made now (status_of own) → SourceInvariant (own_after made now own)
 keeps made now own kept time meant = keeps_by made now own (since own) (expiry own) (stands_now own kept) time meant
 
 -- ---- a lock
 
-pub bare_length : (past : List SourceEntry) → length (bare past) ≡ length past
-bare_length [] = refl
-bare_length (e ∷ past) = omega (arith, bare_length past)
+pub unstamped_length : (past : List SourceEntry) → length (unstamped past) ≡ length past
+unstamped_length [] = refl
+unstamped_length (e ∷ past) = omega (arith, unstamped_length past)
 
 -- a source of that number, at that word, gains the entries of the call
-pub gains : (by : CallBy) (made : SourceCall) (word later : EventNow) (old new : SourceState) → by.actor ≡ maker made → old.id ≡ 0 → word ≡ numbers (bare old.past) → IsMade by made word later old new
-    → bare new.past ≡ own_after made by.now (bare old.past)
+pub gains : (by : CallBy) (made : SourceCall) (word later : EventNow) (old new : SourceState) → by.actor ≡ maker made → old.id ≡ 0 → word ≡ numbers (unstamped old.past) → IsMade by made word later old new
+    → unstamped new.past ≡ own_after made by.now (unstamped old.past)
 gains by made word later old new a n w h =
-    h.entries ∙ ap (λ i. source_call i made by.actor by.now word (bare old.past) ++ bare old.past) n
-    ∙ ap (λ who. source_call 0 made who by.now word (bare old.past) ++ bare old.past) a
-    ∙ ap (λ at. source_call 0 made (maker made) by.now at (bare old.past) ++ bare old.past) w
+    h.entries ∙ ap (λ i. source_call i made by.actor by.now word (unstamped old.past) ++ unstamped old.past) n
+    ∙ ap (λ who. source_call 0 made who by.now word (unstamped old.past) ++ unstamped old.past) a
+    ∙ ap (λ at. source_call 0 made (maker made) by.now at (unstamped old.past) ++ unstamped old.past) w
 
 -- after a call it is a lock still
-pub lock_after : (by : CallBy) (made : SourceCall) (word later : EventNow) (old new : SourceState) (before after : Standing) → by.actor ≡ maker made → IsLock before old word → latest (bare old.past) ≤ by.now → IsMeant made by.now before
-    → after ≡ standing_after made by.now before → IsMade by made word later old new → IsLock after new later
+pub lock_after : (by : CallBy) (made : SourceCall) (word later : EventNow) (old new : SourceState) (before after : LockStatus) → by.actor ≡ maker made → IsLock before old word → latest (unstamped old.past) ≤ by.now → IsMeant made by.now before
+    → after ≡ status_after made by.now before → IsMade by made word later old new → IsLock after new later
 lock_after by made word later old new before after a h time meant s m =
-    let own = bare old.past in
-    let is : bare new.past ≡ own_after made by.now own = gains by made word later old new a h.number h.word_is m in
-    let means : IsMeant made by.now (standing_of own) = subst (IsMeant made by.now) h.stands meant in
+    let own = unstamped old.past in
+    let is : unstamped new.past ≡ own_after made by.now own = gains by made word later old new a h.number h.word_is m in
+    let means : IsMeant made by.now (status_of own) = subst (IsMeant made by.now) h.stands meant in
     record {
-      stands = s ∙ ap (standing_after made by.now) h.stands ∙ stands made by.now own h.kept means ∙ ap standing_of (sym is);
+      stands = s ∙ ap (status_after made by.now) h.stands ∙ stands made by.now own h.kept means ∙ ap status_of (sym is);
       number = m.number ∙ h.number;
-      word_is = m.word_is ∙ ap (word_after (makes made (since own))) h.word_is ∙ word_moves made by.now own means ∙ ap numbers (sym is);
-      kept = subst IsKept (sym is) (keeps made by.now own h.kept time means);
+      word_is = m.word_is ∙ ap (word_after_kinds (makes made (since own))) h.word_is ∙ word_moves made by.now own means ∙ ap numbers (sym is);
+      kept = subst SourceInvariant (sym is) (keeps made by.now own h.kept time means);
       short = m.short;
     }

@@ -6,17 +6,17 @@ use Rattle.sleep_model.specs.declared.entry.Entry.{Entry}
 use Rattle.sleep_model.specs.declared.machine.SourceCall.TheVariants as call
 use Rattle.sleep_model.specs.Sources.{since}
 use Rattle.wakeup_source.specs.SourceStates.{latest}
-use Rattle.wake_locks.specs.declared.standing.Standing.{Standing}
-use Rattle.wake_locks.specs.declared.standing.Standing.TheVariants.{Inactive, Endless, Until}
+use Rattle.wake_locks.specs.declared.status.LockStatus.{LockStatus}
+use Rattle.wake_locks.specs.declared.status.LockStatus.TheVariants.{Inactive, Endless, Until}
 use Rattle.wake_locks.specs.Expiries.{IsAdvance, Due, Advanced, first_of, due_of, next_due, after_expiry, after_next, stopped, onward, expiries}
 use Rattle.wake_locks.specs.LockFields.{MatchDue}
 use Rattle.wake_locks.specs.Locks.{LockState, after_call, put, NoneDue}
-use Rattle.wake_locks.specs.Standings.{is_due}
+use Rattle.wake_locks.specs.LockStatuses.{is_due}
 use Rattle.wake_locks.specs.declared.answer.LockFault.{LockFault}
 use Rattle.wake_locks.specs.declared.answer.LockFault.TheVariants.{Full, Mem}
 use Rattle.wake_locks.specs.declared.answer.LockAnswer.{LockAnswer}
 use Rattle.wake_locks.specs.Writes.{WriteEnded, IsFull}
-use Rattle.wake_locks.specs.Locks.{AreBefore, AreInOrder, own_after}
+use Rattle.wake_locks.specs.Locks.{AreBefore, AreSortedByName, own_after}
 use Rattle.wake_locks.proofs.Calls.{entries}
 use Rattle.wake_locks.proofs.Placed.{put_there, put_before, at_place}
 
@@ -29,7 +29,7 @@ pub record Next (to : ℕ) (locks : List LockState) (at end : ℕ) : Type 0 wher
   pub in_range : at < length locks
   pub lock_is : (d : LockState) → get_or locks at d ≡ due.lock
   pub end_is : end ≡ due.at
-  pub stands : due.lock.standing ≡ Until due.at
+  pub stands : due.lock.status ≡ Until due.at
   pub behind : latest due.lock.own ≤ due.at
 
 matched_by : (to : ℕ) (locks : List LockState) (o : Option Due) (at end : ℕ) → next_due to locks ≡ o → MatchDue locks o (Some (at, end)) → Next to locks at end
@@ -44,13 +44,13 @@ unmatched locks None m = refl
 unmatched locks (Some due) m = absurd m
 
 -- it is due at its end
-pub due_there : (to : ℕ) (locks : List LockState) (at end : ℕ) (d : LockState) → Next to locks at end → is_due end (get_or locks at d).standing ≡ true
+pub due_there : (to : ℕ) (locks : List LockState) (at end : ℕ) (d : LockState) → Next to locks at end → is_due end (get_or locks at d).status ≡ true
 due_there to locks at end d n =
     let same : nat_le n.due.at end ≡ true = grind (arith, nat_tests, n.end_is) in
     rw (n.lock_is d, n.stands) same
 
-pub behind_there : (to : ℕ) (locks : List LockState) (at end : ℕ) (d : LockState) → Next to locks at end → latest (get_or locks at d).own ≤ end
-behind_there to locks at end d n = rw (n.lock_is d) (omega (arith, n.behind, n.end_is))
+pub after_there : (to : ℕ) (locks : List LockState) (at end : ℕ) (d : LockState) → Next to locks at end → latest (get_or locks at d).own ≤ end
+after_there to locks at end d n = rw (n.lock_is d) (omega (arith, n.behind, n.end_is))
 
 -- ---- one after another
 
@@ -96,18 +96,18 @@ go_on places to (suc n) k (suc m) start mid e h =
 -- how many locks are due by that moment
 abbrev pub due_count : ℕ → List LockState → ℕ
 due_count to [] = 0
-due_count to (lock ∷ locks) = cond (is_due to lock.standing) 1 0 + due_count to locks
+due_count to (lock ∷ locks) = cond (is_due to lock.status) 1 0 + due_count to locks
 
 pub count_few : (to : ℕ) (locks : List LockState) → due_count to locks ≤ length locks
 count_few to [] = omega arith
-count_few to (x ∷ xs) = go (is_due to x.standing) (count_few to xs)
+count_few to (x ∷ xs) = go (is_due to x.status) (count_few to xs)
   where
     go : (b : Bool) → due_count to xs ≤ length xs → cond b 1 0 + due_count to xs ≤ suc (length xs)
     go true h = omega (arith, h)
     go false h = omega (arith, h)
 
 -- an expiry is one that was due and is no longer
-pub count_less : (to : ℕ) (locks : List LockState) (at : ℕ) (d new : LockState) → at < length locks → is_due to (get_or locks at d).standing ≡ true → is_due to new.standing ≡ false → due_count to (set locks at new) + 1 ≡ due_count to locks
+pub count_less : (to : ℕ) (locks : List LockState) (at : ℕ) (d new : LockState) → at < length locks → is_due to (get_or locks at d).status ≡ true → is_due to new.status ≡ false → due_count to (set locks at new) + 1 ≡ due_count to locks
 count_less to [] at d new l e f = absurd (omega arith)
 count_less to (x ∷ xs) zero d new l e f = rw (e, f) (omega arith)
 count_less to (x ∷ xs) (suc i) d new l e f = omega (arith, count_less to xs i d new (omega (arith, l)) e f)
@@ -115,9 +115,9 @@ count_less to (x ∷ xs) (suc i) d new l e f = omega (arith, count_less to xs i 
 -- where none is counted, none is due
 pub none_counted : (to : ℕ) (locks : List LockState) → due_count to locks ≡ 0 → NoneDue to locks
 none_counted to [] e = tt
-none_counted to (x ∷ xs) e = go (is_due to x.standing) refl e (none_counted to xs)
+none_counted to (x ∷ xs) e = go (is_due to x.status) refl e (none_counted to xs)
   where
-    go : (b : Bool) → is_due to x.standing ≡ b → cond b 1 0 + due_count to xs ≡ 0 → (due_count to xs ≡ 0 → NoneDue to xs) → NoneDue to (x ∷ xs)
+    go : (b : Bool) → is_due to x.status ≡ b → cond b 1 0 + due_count to xs ≡ 0 → (due_count to xs ≡ 0 → NoneDue to xs) → NoneDue to (x ∷ xs)
     go true f e more = absurd (omega (arith, e))
     go false f e more = (f, more (omega (arith, e)))
 
@@ -129,7 +129,7 @@ first_some lock at (Some due) e = go (nat_le at due.at) e
     go true e = cc
     go false e = cc
 
-due_of_none : (to : ℕ) (lock : LockState) (s : Standing) (o : Option Due) → due_of to lock s o ≡ None → (is_due to s ≡ false) × (o ≡ None)
+due_of_none : (to : ℕ) (lock : LockState) (s : LockStatus) (o : Option Due) → due_of to lock s o ≡ None → (is_due to s ≡ false) × (o ≡ None)
 due_of_none to lock Inactive o e = (refl, e)
 due_of_none to lock Endless o e = (refl, e)
 due_of_none to lock (Until end) o e = go (nat_le end to) e
@@ -142,15 +142,15 @@ due_of_none to lock (Until end) o e = go (nat_le end to) e
 pub none_due : (to : ℕ) (locks : List LockState) → next_due to locks ≡ None → NoneDue to locks
 none_due to [] e = tt
 none_due to (x ∷ xs) e =
-    let both = due_of_none to x x.standing (next_due to xs) e in
+    let both = due_of_none to x x.status (next_due to xs) e in
     (both.0, none_due to xs both.1)
 
 -- where none is due, none comes next
 pub none_next : (to : ℕ) (locks : List LockState) → NoneDue to locks → next_due to locks ≡ None
 none_next to [] h = refl
-none_next to (x ∷ xs) h = go x.standing h.0 (none_next to xs h.1)
+none_next to (x ∷ xs) h = go x.status h.0 (none_next to xs h.1)
   where
-    go : (s : Standing) → is_due to s ≡ false → next_due to xs ≡ None → due_of to x s (next_due to xs) ≡ None
+    go : (s : LockStatus) → is_due to s ≡ false → next_due to xs ≡ None → due_of to x s (next_due to xs) ≡ None
     go Inactive f e = e
     go Endless f e = e
     go (Until end) f e = rw f e
@@ -158,7 +158,7 @@ none_next to (x ∷ xs) h = go x.standing h.0 (none_next to xs h.1)
 -- what comes next is due
 pub next_is_due : (to : ℕ) (locks : List LockState) (due : Due) → next_due to locks ≡ Some due → due.at ≤ to
 next_is_due to [] due e = absurd (let no : None ≡ Some due = e in cc)
-next_is_due to (x ∷ xs) due e = go x.standing (next_due to xs) e (next_is_due to xs due)
+next_is_due to (x ∷ xs) due e = go x.status (next_due to xs) e (next_is_due to xs due)
   where
     choose : (b : Bool) (end : ℕ) (later : Due) → end ≤ to → cond b (Some (record { lock = x; at = end })) (Some later) ≡ Some due → (Some later ≡ Some due → due.at ≤ to) → due.at ≤ to
     choose true end later l e more = let same : record { lock = x; at = end } ≡ due = cc in omega (arith, l, ap (λ (d : Due). d.at) same)
@@ -172,7 +172,7 @@ next_is_due to (x ∷ xs) due e = go x.standing (next_due to xs) e (next_is_due 
     by_end true end o n e more = fst end o (leb-true end to n) e more
     by_end false end o n e more = more e
 
-    go : (s : Standing) (o : Option Due) → due_of to x s o ≡ Some due → (o ≡ Some due → due.at ≤ to) → due.at ≤ to
+    go : (s : LockStatus) (o : Option Due) → due_of to x s o ≡ Some due → (o ≡ Some due → due.at ≤ to) → due.at ≤ to
     go Inactive o e more = more e
     go Endless o e more = more e
     go (Until end) o e more = by_end (nat_le end to) end o refl e more
@@ -214,13 +214,13 @@ module _ (places to at end : ℕ) (d : LockState) (start locks later : List Lock
         subst (AreBefore to) (sym later_is)
         (put_before to (after_call call.Expire n.due.at n.due.lock) locks (omega (arith, expired_at n.due.at n.due.lock.own, next_is_due to locks n.due n.is)) h)
 
-    pub made_there : AreInOrder locks → later ≡ set locks at (after_call call.Expire end (get_or locks at d))
+    pub made_there : AreSortedByName locks → later ≡ set locks at (after_call call.Expire end (get_or locks at d))
     made_there h = w.1 ∙ put_there (after_call call.Expire end (get_or locks at d)) locks at (at_place locks h at d n.in_range)
 
-    pub made_fewer : AreInOrder locks → due_count to later + 1 ≡ due_count to locks
+    pub made_fewer : AreSortedByName locks → due_count to later + 1 ≡ due_count to locks
     made_fewer h =
         let is = made_there h in
-        let was : is_due to (get_or locks at d).standing ≡ true = rw (n.lock_is d, n.stands) (grind (arith, nat_tests, next_is_due to locks n.due n.is)) in
+        let was : is_due to (get_or locks at d).status ≡ true = rw (n.lock_is d, n.stands) (grind (arith, nat_tests, next_is_due to locks n.due n.is)) in
         subst (λ (xs : List LockState). due_count to xs + 1 ≡ due_count to locks) (sym is) (count_less to locks at d (after_call call.Expire end (get_or locks at d)) n.in_range was refl)
 
 -- a fault leaves all as before

@@ -7,9 +7,9 @@ use Rattle.std.specs.declared.cmp.Ordering.TheVariants.{Less, Equal, Greater}
 use Rattle.std.proofs.lemmas.Cmp.{nat_list_cmp_total, alike_right, tied_itself}
 use Rattle.std.proofs.lemmas.Bool.{cases_lt}
 use Rattle.wakeup_source.specs.SourceStates.{latest}
-use Rattle.wake_locks.specs.Locks.{LockState, by_name, find, put, placed, AreBehind, AreInOrder, AreBefore, NoneDue}
+use Rattle.wake_locks.specs.Locks.{LockState, by_name, find, put, inserted, PrecedesEach, AreSortedByName, AreBefore, NoneDue}
 use Rattle.wake_locks.specs.LockFields.{IsAt, IsGapFor, AreAllBefore}
-use Rattle.wake_locks.specs.Standings.{is_due}
+use Rattle.wake_locks.specs.LockStatuses.{is_due}
 
 -- ---- by places
 
@@ -49,15 +49,15 @@ put_gap new (x ∷ xs) (suc i) h = rw (h.before 0 x (omega arith)) (ap (λ (ys :
 
 -- ---- in order
 
-behind_at : (name : List ℕ) (locks : List LockState) → AreBehind name locks → (j : ℕ) (d : LockState) → j < length locks → by_name name (get_or locks j d).name ≡ Less
-behind_at name [] h j d l = absurd (omega arith)
-behind_at name (x ∷ xs) h zero d l = h.0
-behind_at name (x ∷ xs) h (suc j) d l = behind_at name xs h.1 j d (omega (arith, l))
+after_at : (name : List ℕ) (locks : List LockState) → PrecedesEach name locks → (j : ℕ) (d : LockState) → j < length locks → by_name name (get_or locks j d).name ≡ Less
+after_at name [] h j d l = absurd (omega arith)
+after_at name (x ∷ xs) h zero d l = h.0
+after_at name (x ∷ xs) h (suc j) d l = after_at name xs h.1 j d (omega (arith, l))
 
-ordered : (locks : List LockState) → AreInOrder locks → (i j : ℕ) (d : LockState) → i < j → j < length locks → by_name (get_or locks i d).name (get_or locks j d).name ≡ Less
+ordered : (locks : List LockState) → AreSortedByName locks → (i j : ℕ) (d : LockState) → i < j → j < length locks → by_name (get_or locks i d).name (get_or locks j d).name ≡ Less
 ordered [] h i j d l k = absurd (omega arith)
 ordered (x ∷ xs) h zero zero d l k = absurd (omega arith)
-ordered (x ∷ xs) h zero (suc j) d l k = behind_at x.name xs h.0 j d (omega (arith, k))
+ordered (x ∷ xs) h zero (suc j) d l k = after_at x.name xs h.0 j d (omega (arith, k))
 ordered (x ∷ xs) h (suc i) zero d l k = absurd (omega arith)
 ordered (x ∷ xs) h (suc i) (suc j) d l k = ordered xs h.1 i j d (omega (arith, l)) (omega (arith, k))
 
@@ -67,7 +67,7 @@ any_of (y ∷ ys) zero d e l = refl
 any_of (y ∷ ys) (suc i) d e l = any_of ys i d e (omega (arith, l))
 
 -- each lock is at its place
-pub at_place : (locks : List LockState) → AreInOrder locks → (at : ℕ) (d : LockState) → at < length locks → IsAt (get_or locks at d).name locks at
+pub at_place : (locks : List LockState) → AreSortedByName locks → (at : ℕ) (d : LockState) → at < length locks → IsAt (get_or locks at d).name locks at
 at_place locks h at d l = record {
   in_range = l;
   before = λ j e k. ap (λ (x : LockState). by_name x.name (get_or locks at d).name) (any_of locks j e d (omega (arith, k, l))) ∙ ordered locks h j at d k l;
@@ -75,18 +75,18 @@ at_place locks h at d l = record {
 }
 
 -- a lock before one that comes before the name does so too
-pub low_more : (name : List ℕ) (locks : List LockState) (at : ℕ) (e : LockState) → AreInOrder locks → at < length locks → by_name (get_or locks at e).name name ≡ Less → AreAllBefore name locks (at + 1)
+pub low_more : (name : List ℕ) (locks : List LockState) (at : ℕ) (e : LockState) → AreSortedByName locks → at < length locks → by_name (get_or locks at e).name name ≡ Less → AreAllBefore name locks (at + 1)
 low_more name locks at e h l less j d k = elim (cases_lt j at) [
   | inl below ↦ nat_list_cmp_total.trans (get_or locks j d).name (get_or locks at d).name name (ordered locks h j at d below l) (ap (λ (x : LockState). by_name x.name name) (any_of locks at d e l) ∙ less)
   | inr above ↦ subst (λ i. by_name (get_or locks i d).name name ≡ Less) {x = at} (omega arith) (ap (λ (x : LockState). by_name x.name name) (any_of locks at d e l) ∙ less)
 ]
 
 -- the names of the locks from that place on come after this one
-abbrev pub AreAllBehind : List ℕ → List LockState → ℕ → Type 0
-AreAllBehind name locks at = (j : ℕ) (d : LockState) → at ≤ j → j < length locks → by_name (get_or locks j d).name name ≡ Greater
+abbrev pub ArePreceded : List ℕ → List LockState → ℕ → Type 0
+ArePreceded name locks at = (j : ℕ) (d : LockState) → at ≤ j → j < length locks → by_name (get_or locks j d).name name ≡ Greater
 
--- a lock behind one that comes after the name does so too
-pub high_more : (name : List ℕ) (locks : List LockState) (at : ℕ) (e : LockState) → AreInOrder locks → at < length locks → by_name (get_or locks at e).name name ≡ Greater → AreAllBehind name locks at
+-- a lock after one that comes after the name does so too
+pub high_more : (name : List ℕ) (locks : List LockState) (at : ℕ) (e : LockState) → AreSortedByName locks → at < length locks → by_name (get_or locks at e).name name ≡ Greater → ArePreceded name locks at
 high_more name locks at e h l more j d k m = elim (cases_lt at j) [
   | inl below ↦ nat_list_cmp_total.antisymm (get_or locks j d).name name ∙ ap ordering_reverse (nat_list_cmp_total.trans name (get_or locks at d).name (get_or locks j d).name
       (nat_list_cmp_total.antisymm name (get_or locks at d).name ∙ ap ordering_reverse (ap (λ (x : LockState). by_name x.name name) (any_of locks at d e l) ∙ more)) (ordered locks h at j d below m))
@@ -94,7 +94,7 @@ high_more name locks at e h l more j d k m = elim (cases_lt at j) [
 ]
 
 -- a lock of the name is at its place
-pub found_at : (name : List ℕ) (locks : List LockState) (at : ℕ) (e : LockState) → AreInOrder locks → at < length locks → by_name (get_or locks at e).name name ≡ Equal → IsAt name locks at
+pub found_at : (name : List ℕ) (locks : List LockState) (at : ℕ) (e : LockState) → AreSortedByName locks → at < length locks → by_name (get_or locks at e).name name ≡ Equal → IsAt name locks at
 found_at name locks at e h l equal = record {
   in_range = l;
   before = λ j d k. sym (alike_right nat_list_cmp_total (get_or locks at d).name name (get_or locks j d).name (ap (λ (x : LockState). by_name x.name name) (any_of locks at d e l) ∙ equal)) ∙ ordered locks h j at d k l;
@@ -103,51 +103,51 @@ found_at name locks at e h l equal = record {
 
 -- ---- what `put` keeps
 
-behind_same : (n m : List ℕ) (locks : List LockState) → by_name n m ≡ Equal → AreBehind n locks → AreBehind m locks
-behind_same n m [] e h = tt
-behind_same n m (x ∷ xs) e h = (sym (nat_list_cmp_total.congr n m x.name e) ∙ h.0, behind_same n m xs e h.1)
+after_same : (n m : List ℕ) (locks : List LockState) → by_name n m ≡ Equal → PrecedesEach n locks → PrecedesEach m locks
+after_same n m [] e h = tt
+after_same n m (x ∷ xs) e h = (sym (nat_list_cmp_total.congr n m x.name e) ∙ h.0, after_same n m xs e h.1)
 
-behind_more : (n m : List ℕ) (locks : List LockState) → by_name n m ≡ Less → AreBehind m locks → AreBehind n locks
-behind_more n m [] e h = tt
-behind_more n m (x ∷ xs) e h = (nat_list_cmp_total.trans n m x.name e h.0, behind_more n m xs e h.1)
+after_more : (n m : List ℕ) (locks : List LockState) → by_name n m ≡ Less → PrecedesEach m locks → PrecedesEach n locks
+after_more n m [] e h = tt
+after_more n m (x ∷ xs) e h = (nat_list_cmp_total.trans n m x.name e h.0, after_more n m xs e h.1)
 
-put_behind : (name : List ℕ) (new : LockState) (locks : List LockState) → by_name name new.name ≡ Less → AreBehind name locks → AreBehind name (put new locks)
-put_behind name new [] e h = (e, tt)
-put_behind name new (x ∷ xs) e h = go (by_name x.name new.name) (put new xs) (put_behind name new xs e h.1)
+put_after : (name : List ℕ) (new : LockState) (locks : List LockState) → by_name name new.name ≡ Less → PrecedesEach name locks → PrecedesEach name (put new locks)
+put_after name new [] e h = (e, tt)
+put_after name new (x ∷ xs) e h = go (by_name x.name new.name) (put new xs) (put_after name new xs e h.1)
   where
-    go : (o : Ordering) (behind : List LockState) → AreBehind name behind → AreBehind name (placed o new x xs behind)
+    go : (o : Ordering) (behind : List LockState) → PrecedesEach name behind → PrecedesEach name (inserted o new x xs behind)
     go Less behind k = (h.0, k)
     go Equal behind k = (e, h.1)
     go Greater behind k = (e, h)
 
 -- the order
-pub put_in_order : (new : LockState) (locks : List LockState) → AreInOrder locks → AreInOrder (put new locks)
+pub put_in_order : (new : LockState) (locks : List LockState) → AreSortedByName locks → AreSortedByName (put new locks)
 put_in_order new [] h = (tt, tt)
 put_in_order new (x ∷ xs) h = go (by_name x.name new.name) refl (put_in_order new xs h.1)
   where
-    go : (o : Ordering) → by_name x.name new.name ≡ o → AreInOrder (put new xs) → AreInOrder (placed o new x xs (put new xs))
-    go Less e k = (put_behind x.name new xs e h.0, k)
-    go Equal e k = (behind_same x.name new.name xs e h.0, h.1)
+    go : (o : Ordering) → by_name x.name new.name ≡ o → AreSortedByName (put new xs) → AreSortedByName (inserted o new x xs (put new xs))
+    go Less e k = (put_after x.name new xs e h.0, k)
+    go Equal e k = (after_same x.name new.name xs e h.0, h.1)
     go Greater e k =
         let less : by_name new.name x.name ≡ Less = nat_list_cmp_total.antisymm new.name x.name ∙ ap ordering_reverse e in
-        ((less, behind_more new.name x.name xs less h.0), h)
+        ((less, after_more new.name x.name xs less h.0), h)
 
 -- that no entry is later
 pub put_before : (now : ℕ) (new : LockState) (locks : List LockState) → latest new.own ≤ now → AreBefore now locks → AreBefore now (put new locks)
 put_before now new [] e h = (e, tt)
 put_before now new (x ∷ xs) e h = go (by_name x.name new.name) (put new xs) (put_before now new xs e h.1)
   where
-    go : (o : Ordering) (behind : List LockState) → AreBefore now behind → AreBefore now (placed o new x xs behind)
+    go : (o : Ordering) (behind : List LockState) → AreBefore now behind → AreBefore now (inserted o new x xs behind)
     go Less behind k = (h.0, k)
     go Equal behind k = (e, h.1)
     go Greater behind k = (e, h)
 
 -- that none is due
-pub put_none_due : (now : ℕ) (new : LockState) (locks : List LockState) → is_due now new.standing ≡ false → NoneDue now locks → NoneDue now (put new locks)
+pub put_none_due : (now : ℕ) (new : LockState) (locks : List LockState) → is_due now new.status ≡ false → NoneDue now locks → NoneDue now (put new locks)
 put_none_due now new [] e h = (e, tt)
 put_none_due now new (x ∷ xs) e h = go (by_name x.name new.name) (put new xs) (put_none_due now new xs e h.1)
   where
-    go : (o : Ordering) (behind : List LockState) → NoneDue now behind → NoneDue now (placed o new x xs behind)
+    go : (o : Ordering) (behind : List LockState) → NoneDue now behind → NoneDue now (inserted o new x xs behind)
     go Less behind k = (h.0, k)
     go Equal behind k = (e, h.1)
     go Greater behind k = (e, h)

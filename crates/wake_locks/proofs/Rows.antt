@@ -5,7 +5,7 @@ use Rattle.wake_locks.specs.declared.soonest.Soonest.{Soonest}
 use Rattle.wake_locks.specs.Expiries.{next_due}
 use Rattle.wake_locks.specs.LockFields.{AreFloors, IsSoonest, MatchDue, NoneEndsBefore, NoneEndsWithin, NoOtherEndsBefore, found_by, with_floor}
 use Rattle.wake_locks.specs.Locks.{LockState, new_lock}
-use Rattle.wake_locks.specs.Standings.{end_or_never, never}
+use Rattle.wake_locks.specs.LockStatuses.{end_or_never, never}
 use Rattle.wake_locks.proofs.Placed.{any_of}
 use Rattle.wake_locks.proofs.Sooner.{less, not_due, other_less}
 
@@ -31,12 +31,12 @@ pub floors_new : (moments : List ℕ) (locks : List LockState) → moments ≡ r
 floors_new moments locks is = subst (λ (ms : List ℕ). AreFloors ms locks) (sym is) (record { rows = refl; below = λ j d l. omega (arith, zeros 13 (j / 8)) })
 
 -- one lock of a row has another end
-pub floors_lower : (moments : List ℕ) (at end : ℕ) (locks : List LockState) (new : LockState) → at < length locks → length locks ≤ 100 → end ≡ end_or_never new.standing → AreFloors moments locks
+pub floors_lower : (moments : List ℕ) (at end : ℕ) (locks : List LockState) (new : LockState) → at < length locks → length locks ≤ 100 → end ≡ end_or_never new.status → AreFloors moments locks
     → AreFloors (set moments (at / 8) (min (get_or moments (at / 8) 0) end)) (set locks at new)
 floors_lower moments at end locks new l few e h = record {
   rows = length-set moments (at / 8) (min (get_or moments (at / 8) 0) end) ∙ h.rows;
   below = λ j d k. elim (apart j at) [
-    | inl is ↦ subst (λ i. get_or (set moments (at / 8) (min (get_or moments (at / 8) 0) end)) (i / 8) 0 ≤ end_or_never (get_or (set locks at new) i d).standing) (sym is)
+    | inl is ↦ subst (λ i. get_or (set moments (at / 8) (min (get_or moments (at / 8) 0) end)) (i / 8) 0 ≤ end_or_never (get_or (set locks at new) i d).status) (sym is)
         (rw (get_or-set_same moments (at / 8) (min (get_or moments (at / 8) 0) end) 0 row_in, get_or-set_same locks at new d l) (omega (arith, e)))
     | inr not ↦ rw (get_or-set_other locks at j new d not) (low j (h.below j d (omega (arith, k, length-set locks at new))))
   ];
@@ -66,12 +66,12 @@ floors_row moments row least locks l few none h = record {
     row_in = omega (arith, l, few, h.rows)
 
 -- one more lock looked at
-pub within_more : (locks : List LockState) (at to : ℕ) (lock : LockState) (end least new : ℕ) → at < length locks → lock ≡ get_or locks at lock → end ≡ end_or_never lock.standing → new ≡ min least end → NoneEndsWithin least (at + 1) to locks
+pub within_more : (locks : List LockState) (at to : ℕ) (lock : LockState) (end least new : ℕ) → at < length locks → lock ≡ get_or locks at lock → end ≡ end_or_never lock.status → new ≡ min least end → NoneEndsWithin least (at + 1) to locks
     → NoneEndsWithin new at to locks
 within_more locks at to lock end least new l is e n h j d f k = elim (cases_lt at j) [
   | inl m ↦ omega (arith, n, h j d (omega (arith, m)) k)
-  | inr m ↦ subst (λ i. new ≤ end_or_never (get_or locks i d).standing) {x = at} (omega (arith, f, m))
-      (subst (λ (x : LockState). new ≤ end_or_never x.standing) (is ∙ any_of locks at lock d l) (omega (arith, n, e)))
+  | inr m ↦ subst (λ i. new ≤ end_or_never (get_or locks i d).status) {x = at} (omega (arith, f, m))
+      (subst (λ (x : LockState). new ≤ end_or_never x.status) (is ∙ any_of locks at lock d l) (omega (arith, n, e)))
 ]
 
 pub within_none : (never at : ℕ) (locks : List LockState) → NoneEndsWithin never at at locks
@@ -80,14 +80,14 @@ within_none never at locks j d f k = absurd (omega (arith, f, k))
 -- ---- a row that is passed
 
 -- one lock that ends later than the moment that is asked about
-skip_one : (to floor : ℕ) (locks : List LockState) (found : Soonest) (at : ℕ) → to < floor → found.others ≤ floor → at < length locks → ((d : LockState) → floor ≤ end_or_never (get_or locks at d).standing) → IsSoonest to locks (suc at) found → IsSoonest to locks at found
+skip_one : (to floor : ℕ) (locks : List LockState) (found : Soonest) (at : ℕ) → to < floor → found.others ≤ floor → at < length locks → ((d : LockState) → floor ≤ end_or_never (get_or locks at d).status) → IsSoonest to locks (suc at) found → IsSoonest to locks at found
 skip_one to floor locks found at late few l f h = record {
   within = omega (arith, l);
   behind = omega (arith, h.behind);
   last = h.last;
   few = h.few;
   first = subst (λ (xs : List LockState). MatchDue locks (next_due to xs) (found_by to found)) (sym left)
-      (subst (λ o. MatchDue locks o (found_by to found)) (sym (not_due to x x.standing (next_due to (drop (suc at) locks)) (omega (arith, late, f (new_lock []))))) h.first);
+      (subst (λ o. MatchDue locks o (found_by to found)) (sym (not_due to x x.status (next_due to (drop (suc at) locks)) (omega (arith, late, f (new_lock []))))) h.first);
   least = subst (NoneEndsBefore (min found.end found.others)) (sym left) (omega (arith, few, f (new_lock [])), h.least);
   others = subst (NoOtherEndsBefore found.others (found.at - at)) (sym left)
       (subst (λ n. NoOtherEndsBefore found.others n (x ∷ drop (suc at) locks)) {x = suc (found.at - suc at)} (omega (arith, h.behind)) (omega (arith, few, f (new_lock [])), h.others));
@@ -122,5 +122,5 @@ pub passed : (to : ℕ) (moments : List ℕ) (row : ℕ) (locks : List LockState
     → IsSoonest to locks (row * 8) (with_floor (get_or moments row 0) found)
 passed to moments row locks found h l late s =
     skip_on to (get_or moments row 0) locks (with_floor (get_or moments row 0) found) (min (row * 8 + 8) (length locks) - row * 8) (row * 8) late (omega arith) (omega (arith, l))
-    (λ j d b k. let is : j / 8 ≡ row = omega (arith, b, k, l) in subst (λ i. get_or moments i 0 ≤ end_or_never (get_or locks j d).standing) is (h.below j d (omega (arith, k, l))))
+    (λ j d b k. let is : j / 8 ≡ row = omega (arith, b, k, l) in subst (λ i. get_or moments i 0 ≤ end_or_never (get_or locks j d).status) is (h.below j d (omega (arith, k, l))))
     (subst (λ i. IsSoonest to locks i (with_floor (get_or moments row 0) found)) {y = row * 8 + (min (row * 8 + 8) (length locks) - row * 8)} (omega (arith, l)) (floored to (get_or moments row 0) locks (min (row * 8 + 8) (length locks)) found s))

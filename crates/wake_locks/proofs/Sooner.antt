@@ -5,12 +5,12 @@ use Rattle.std.specs.List.{insert}
 use Rattle.std.proofs.lemmas.Bool.Decides.{nat_tests}
 use Rattle.wakeup_source.specs.SourceStates.{latest}
 use Rattle.wake_locks.specs.declared.soonest.Soonest.{Soonest}
-use Rattle.wake_locks.specs.declared.standing.Standing.{Standing}
-use Rattle.wake_locks.specs.declared.standing.Standing.TheVariants.{Inactive, Endless, Until}
+use Rattle.wake_locks.specs.declared.status.LockStatus.{LockStatus}
+use Rattle.wake_locks.specs.declared.status.LockStatus.TheVariants.{Inactive, Endless, Until}
 use Rattle.wake_locks.specs.Expiries.{Due, first_of, due_of, next_due}
-use Rattle.wake_locks.specs.LockFields.{IsBehind, IsSoonest, MatchDue, NoneEndsBefore, NoOtherEndsBefore, found_by, with_lock}
+use Rattle.wake_locks.specs.LockFields.{IsNotBefore, IsSoonest, MatchDue, NoneEndsBefore, NoOtherEndsBefore, found_by, with_lock}
 use Rattle.wake_locks.specs.Locks.{LockState}
-use Rattle.wake_locks.specs.Standings.{end_of, end_or_never, never}
+use Rattle.wake_locks.specs.LockStatuses.{end_of, end_or_never, never}
 
 -- ---- moments before which none ends
 
@@ -24,25 +24,25 @@ other_less sooner others zero (x ∷ xs) l h = less sooner others xs l h
 other_less sooner others (suc at) (x ∷ xs) l h = (omega (arith, h.0, l), other_less sooner others at xs l h.1)
 
 -- a lock that changes
-pub set_sooner : (soonest at : ℕ) (locks : List LockState) (new : LockState) → NoneEndsBefore soonest locks → NoneEndsBefore (min soonest (end_or_never new.standing)) (set locks at new)
+pub set_sooner : (soonest at : ℕ) (locks : List LockState) (new : LockState) → NoneEndsBefore soonest locks → NoneEndsBefore (min soonest (end_or_never new.status)) (set locks at new)
 set_sooner soonest at [] new h = tt
-set_sooner soonest zero (x ∷ xs) new h = (omega arith, less (min soonest (end_or_never new.standing)) soonest xs (omega arith) h.1)
+set_sooner soonest zero (x ∷ xs) new h = (omega arith, less (min soonest (end_or_never new.status)) soonest xs (omega arith) h.1)
 set_sooner soonest (suc at) (x ∷ xs) new h = (omega (arith, h.0), set_sooner soonest at xs new h.1)
 
 -- a new lock
-pub insert_sooner : (soonest at : ℕ) (locks : List LockState) (new : LockState) → at ≤ length locks → NoneEndsBefore soonest locks → NoneEndsBefore (min soonest (end_or_never new.standing)) (insert locks at new)
-insert_sooner soonest zero locks new l h = (omega arith, less (min soonest (end_or_never new.standing)) soonest locks (omega arith) h)
+pub insert_sooner : (soonest at : ℕ) (locks : List LockState) (new : LockState) → at ≤ length locks → NoneEndsBefore soonest locks → NoneEndsBefore (min soonest (end_or_never new.status)) (insert locks at new)
+insert_sooner soonest zero locks new l h = (omega arith, less (min soonest (end_or_never new.status)) soonest locks (omega arith) h)
 insert_sooner soonest (suc at) [] new l h = absurd (omega (arith, l))
 insert_sooner soonest (suc at) (x ∷ xs) new l h = (omega (arith, h.0), insert_sooner soonest at xs new (omega (arith, l)) h.1)
 
 -- the lock that ended
-pub other_set : (others at : ℕ) (locks : List LockState) (new : LockState) → others ≤ end_or_never new.standing → NoOtherEndsBefore others at locks → NoneEndsBefore others (set locks at new)
+pub other_set : (others at : ℕ) (locks : List LockState) (new : LockState) → others ≤ end_or_never new.status → NoOtherEndsBefore others at locks → NoneEndsBefore others (set locks at new)
 other_set others at [] new l h = tt
 other_set others zero (x ∷ xs) new l h = (l, h)
 other_set others (suc at) (x ∷ xs) new l h = (h.0, other_set others at xs new l h.1)
 
 -- a lock that ends later changes nothing of what is due
-pub not_due : (to : ℕ) (lock : LockState) (s : Standing) (o : Option Due) → to < end_or_never s → due_of to lock s o ≡ o
+pub not_due : (to : ℕ) (lock : LockState) (s : LockStatus) (o : Option Due) → to < end_or_never s → due_of to lock s o ≡ o
 not_due to lock Inactive o l = refl
 not_due to lock Endless o l = refl
 not_due to lock (Until end) o l =
@@ -52,13 +52,13 @@ not_due to lock (Until end) o l =
 -- before such a moment none is due
 pub none_by : (to soonest : ℕ) (locks : List LockState) → to < soonest → NoneEndsBefore soonest locks → next_due to locks ≡ None
 none_by to soonest [] l h = refl
-none_by to soonest (x ∷ xs) l h = not_due to x x.standing (next_due to xs) (omega (arith, l, h.0)) ∙ none_by to soonest xs l h.1
+none_by to soonest (x ∷ xs) l h = not_due to x x.status (next_due to xs) (omega (arith, l, h.0)) ∙ none_by to soonest xs l h.1
 
 -- ---- the lock that ends first
 
--- none is found behind the last
-pub none_behind : (to : ℕ) (locks : List LockState) (at : ℕ) → to < never → at ≡ length locks → IsSoonest to locks at (record { at = at; end = never; others = never })
-none_behind to locks at l e = record {
+-- none is found after the last
+pub none_after : (to : ℕ) (locks : List LockState) (at : ℕ) → to < never → at ≡ length locks → IsSoonest to locks at (record { at = at; end = never; others = never })
+none_after to locks at l e = record {
   within = omega (arith, e);
   behind = omega arith;
   last = omega arith;
@@ -98,7 +98,7 @@ module _ (locks : List LockState) (to : ℕ) (found : Soonest) where
 
   module _ (at : ℕ) (lock : LockState) (in_range : at < length locks) (is : (d : LockState) → get_or locks at d ≡ lock) where
     -- a lock that ends first of all is the one that is due
-    first_due : (end : ℕ) (o : Option Due) → lock.standing ≡ Until end → latest lock.own ≤ end → nat_le end found.end ≡ true → MatchDue locks o (found_by to found) → MatchDue locks (first_of lock end o) (Some (at, end))
+    first_due : (end : ℕ) (o : Option Due) → lock.status ≡ Until end → latest lock.own ≤ end → nat_le end found.end ≡ true → MatchDue locks o (found_by to found) → MatchDue locks (first_of lock end o) (Some (at, end))
     first_due end None s b e m = (in_range, is, refl, s, b)
     first_due end (Some due) s b e m =
         let sooner : nat_le end due.at ≡ true = grind (arith, nat_tests, found_is due m) in
@@ -128,7 +128,7 @@ module _ (locks : List LockState) (to : ℕ) (found : Soonest) where
             rw never_by (subst (λ b. MatchDue locks o (cond b (Some (found.at, found.end)) None)) found_late m)
         go false e = m
 
-    end_due : (end : ℕ) (o : Option Due) → lock.standing ≡ Until end → latest lock.own ≤ end → MatchDue locks o (found_by to found) → MatchDue locks (due_of to lock (Until end) o) (found_by to (with_lock at end found))
+    end_due : (end : ℕ) (o : Option Due) → lock.status ≡ Until end → latest lock.own ≤ end → MatchDue locks o (found_by to found) → MatchDue locks (due_of to lock (Until end) o) (found_by to (with_lock at end found))
     end_due end o s b m = go (nat_le end found.end) refl (nat_le end to) refl
       where
         go : (first : Bool) → nat_le end found.end ≡ first → (due : Bool) → nat_le end to ≡ due → MatchDue locks (cond due (first_of lock end o) o) (found_by to (cond first (record { at = at; end = end; others = min found.others found.end }) (record { at = found.at; end = found.end; others = min found.others end })))
@@ -138,13 +138,13 @@ module _ (locks : List LockState) (to : ℕ) (found : Soonest) where
         go false e false t = m
 
     -- what is due with one more lock is what is found with it
-    pub more_due : (s : Standing) (o : Option Due) → lock.standing ≡ s → IsBehind (latest lock.own) (end_of s) → to < never → MatchDue locks o (found_by to found) → MatchDue locks (due_of to lock s o) (found_by to (with_lock at (end_or_never s) found))
+    pub more_due : (s : LockStatus) (o : Option Due) → lock.status ≡ s → IsNotBefore (latest lock.own) (end_of s) → to < never → MatchDue locks o (found_by to found) → MatchDue locks (due_of to lock s o) (found_by to (with_lock at (end_or_never s) found))
     more_due Inactive o e b l m = never_due o l m
     more_due Endless o e b l m = never_due o l m
     more_due (Until end) o e b l m = end_due end o e b m
 
 -- the same is said of what is left of the locks
-least_more : (at end : ℕ) (found : Soonest) (lock : LockState) (locks : List LockState) → end ≡ end_or_never lock.standing → NoneEndsBefore (min found.end found.others) locks
+least_more : (at end : ℕ) (found : Soonest) (lock : LockState) (locks : List LockState) → end ≡ end_or_never lock.status → NoneEndsBefore (min found.end found.others) locks
     → NoneEndsBefore (min (with_lock at end found).end (with_lock at end found).others) (lock ∷ locks)
 least_more at end found lock locks e h = go (nat_le end found.end)
   where
@@ -153,7 +153,7 @@ least_more at end found lock locks e h = go (nat_le end found.end)
     go true = (omega (arith, e), less (min end (min found.others found.end)) (min found.end found.others) locks (omega arith) h)
     go false = (omega (arith, e), less (min found.end (min found.others end)) (min found.end found.others) locks (omega arith) h)
 
-others_more : (at end : ℕ) (found : Soonest) (lock : LockState) (locks : List LockState) → end ≡ end_or_never lock.standing → suc at ≤ found.at → NoneEndsBefore (min found.end found.others) locks → NoOtherEndsBefore found.others (found.at - suc at) locks
+others_more : (at end : ℕ) (found : Soonest) (lock : LockState) (locks : List LockState) → end ≡ end_or_never lock.status → suc at ≤ found.at → NoneEndsBefore (min found.end found.others) locks → NoOtherEndsBefore found.others (found.at - suc at) locks
     → NoOtherEndsBefore (with_lock at end found).others ((with_lock at end found).at - at) (lock ∷ locks)
 others_more at end found lock locks e b h k = go (nat_le end found.end)
   where
@@ -167,16 +167,16 @@ others_more at end found lock locks e b h k = go (nat_le end found.end)
         (omega (arith, e), other_less (min found.others end) found.others (found.at - suc at) locks (omega arith) k)
 
 -- one more lock
-pub one_more : (to : ℕ) (locks : List LockState) (at : ℕ) (lock : LockState) (end : ℕ) (found : Soonest) → to < never → at < length locks → lock ≡ get_or locks at lock → end ≡ end_or_never lock.standing → IsBehind (latest lock.own) (end_of lock.standing) → IsSoonest to locks (suc at) found
+pub one_more : (to : ℕ) (locks : List LockState) (at : ℕ) (lock : LockState) (end : ℕ) (found : Soonest) → to < never → at < length locks → lock ≡ get_or locks at lock → end ≡ end_or_never lock.status → IsNotBefore (latest lock.own) (end_of lock.status) → IsSoonest to locks (suc at) found
     → IsSoonest to locks at (with_lock at end found)
 one_more to locks at lock end found k l is e b h = record {
   within = omega (arith, l);
-  behind = place (nat_le end found.end);
+  behind = index_of (nat_le end found.end);
   last = last_more (nat_le end found.end) refl;
   few = few_more (nat_le end found.end);
   first = subst (λ (xs : List LockState). MatchDue locks (next_due to xs) (found_by to (with_lock at end found))) (sym left)
       (subst (λ n. MatchDue locks (next_due to (lock ∷ drop (suc at) locks)) (found_by to (with_lock at n found))) (sym e)
-      (more_due locks to found at lock l (λ d. any locks at d l ∙ sym is) lock.standing (next_due to (drop (suc at) locks)) refl b k h.first));
+      (more_due locks to found at lock l (λ d. any locks at d l ∙ sym is) lock.status (next_due to (drop (suc at) locks)) refl b k h.first));
   least = subst (NoneEndsBefore (min (with_lock at end found).end (with_lock at end found).others)) (sym left) (least_more at end found lock (drop (suc at) locks) e h.least);
   others = subst (NoOtherEndsBefore (with_lock at end found).others ((with_lock at end found).at - at)) (sym left) (others_more at end found lock (drop (suc at) locks) e h.behind h.least h.others);
 }
@@ -189,9 +189,9 @@ one_more to locks at lock end found k l is e b h = record {
     any (x ∷ xs) zero d l = refl
     any (x ∷ xs) (suc i) d l = any xs i d (omega (arith, l))
 
-    place : (b : Bool) → at ≤ (cond {A = Soonest} b (record { at = at; end = end; others = min found.others found.end }) (record { at = found.at; end = found.end; others = min found.others end })).at
-    place true = omega arith
-    place false = omega (arith, h.behind)
+    index_of : (b : Bool) → at ≤ (cond {A = Soonest} b (record { at = at; end = end; others = min found.others found.end }) (record { at = found.at; end = found.end; others = min found.others end })).at
+    index_of true = omega arith
+    index_of false = omega (arith, h.behind)
 
     last_more : (b : Bool) → nat_le end found.end ≡ b → (cond {A = Soonest} b (record { at = at; end = end; others = min found.others found.end }) (record { at = found.at; end = found.end; others = min found.others end })).end ≤ never
     last_more true t = let l : end ≤ found.end = grind (arith, nat_tests) in omega (arith, l, h.last)

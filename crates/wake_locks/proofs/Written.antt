@@ -8,9 +8,9 @@ use Rattle.wake_locks.specs.declared.answer.LockAnswer.{LockAnswer}
 use Rattle.wake_locks.specs.declared.answer.LockAnswer.TheVariants.{Done, BadText, NoSpace}
 use Rattle.wake_locks.specs.declared.answer.LockFault.{LockFault}
 use Rattle.wake_locks.specs.declared.answer.LockFault.TheVariants.{Full, Mem}
-use Rattle.wake_locks.specs.declared.standing.Standing.{Standing}
+use Rattle.wake_locks.specs.declared.status.LockStatus.{LockStatus}
 use Rattle.wake_locks.specs.LockFields.{IsAt, IsGapFor, IsMeant}
-use Rattle.wake_locks.specs.Locks.{LockState, new_lock, after_call, put, AreInOrder}
+use Rattle.wake_locks.specs.Locks.{LockState, new_lock, after_call, put, AreSortedByName}
 use Rattle.sleep_model.specs.NameBytes.{is_name}
 use Rattle.wake_locks.specs.Texts.{timed, timeout, asked_in, line_of, lock_text, unlock_text}
 use Rattle.wake_locks.specs.Writes.{IsFull, WriteEnded, answered, on_lock, locks_by, asked_lock, off_lock, unlocks_by, asked_unlock}
@@ -27,12 +27,12 @@ set_same [] i d l = absurd (omega arith)
 set_same (x ∷ xs) zero d l = refl
 set_same (x ∷ xs) (suc i) d l = ap (λ (ys : List LockState). x ∷ ys) (set_same xs i d (omega (arith, l)))
 
--- want of memory is told of no full source
+-- out of memory is told of no full source
 mem_is_not_full : (r : Result (Unit {0}) LockFault) (name : List ℕ) → r ≡ Err Mem → r ≡ Err (Full name) → ⊥
 mem_is_not_full r name e f = cc
 
 -- a call on the lock there
-pub at_ended : (places : ℕ) (made : SourceCall) (now at : ℕ) (locks : List LockState) (new d : LockState) (r : Result (Unit {0}) LockFault) → AreInOrder locks → at < length locks → Called places made now (get_or locks at d) new r
+pub at_ended : (places : ℕ) (made : SourceCall) (now at : ℕ) (locks : List LockState) (new d : LockState) (r : Result (Unit {0}) LockFault) → AreSortedByName locks → at < length locks → Called places made now (get_or locks at d) new r
     → WriteEnded places (Ok (record { lock = get_or locks at d; made = made })) now locks (set locks at new) (answered r)
 at_ended places made now at locks new d (Ok u) h l c = (
   refl,
@@ -46,12 +46,12 @@ at_ended places made now at locks new d (Err Mem) h l c = (
 )
 
 -- which keeps the order
-pub at_kept : (places : ℕ) (made : SourceCall) (now at : ℕ) (locks : List LockState) (new d : LockState) (r : Result (Unit {0}) LockFault) → AreInOrder locks → at < length locks → Called places made now (get_or locks at d) new r
-    → AreInOrder (set locks at new)
-at_kept places made now at locks new d (Ok u) h l c =
+pub at_preserved : (places : ℕ) (made : SourceCall) (now at : ℕ) (locks : List LockState) (new d : LockState) (r : Result (Unit {0}) LockFault) → AreSortedByName locks → at < length locks → Called places made now (get_or locks at d) new r
+    → AreSortedByName (set locks at new)
+at_preserved places made now at locks new d (Ok u) h l c =
     let e : set locks at new ≡ put (after_call made now (get_or locks at d)) locks = ap (set locks at) c.done ∙ sym (put_there (after_call made now (get_or locks at d)) locks at (at_place locks h at d l)) in
-    subst AreInOrder (sym e) (put_in_order (after_call made now (get_or locks at d)) locks h)
-at_kept places made now at locks new d (Err fault) h l c = subst AreInOrder (sym (ap (set locks at) c.err ∙ set_same locks at d l)) h
+    subst AreSortedByName (sym e) (put_in_order (after_call made now (get_or locks at d)) locks h)
+at_preserved places made now at locks new d (Err fault) h l c = subst AreSortedByName (sym (ap (set locks at) c.err ∙ set_same locks at d l)) h
 
 few_is : (n : ℕ) → n < 100 → nat_lt n 100 ≡ true
 few_is n l = grind (arith, nat_tests)
@@ -87,14 +87,14 @@ new_failed places name made now locks new Mem l c =
 -- ---- whole writes
 
 -- a call that a lock may have however it stands
-timed_meant : (ns now : ℕ) (s : Standing) → IsMeant (timed ns) now s
+timed_meant : (ns now : ℕ) (s : LockStatus) → IsMeant (timed ns) now s
 timed_meant ns now s = go (ns == 0) refl
   where
     go : (b : Bool) → (ns == 0) ≡ b → IsMeant (if b then call.Awake else call.Event ((ns + 999999) / 1000000) false) now s
     go true e = tt
     go false e = (grind (arith, nat_tests), refl)
 
-timeout_meant : (o : Option ℕ) (made : SourceCall) (now : ℕ) (s : Standing) → option_map timed o ≡ Some made → IsMeant made now s
+timeout_meant : (o : Option ℕ) (made : SourceCall) (now : ℕ) (s : LockStatus) → option_map timed o ≡ Some made → IsMeant made now s
 timeout_meant None made now s e = absurd (let no : None ≡ Some made = e in cc)
 timeout_meant (Some ns) made now s e = let same : timed ns ≡ made = cc in subst (λ m. IsMeant m now s) same (timed_meant ns now s)
 
@@ -103,7 +103,7 @@ named_call false name o p e = absurd (let no : None ≡ Some p = e in cc)
 named_call true name None p e = absurd (let no : None ≡ Some p = e in cc)
 named_call true name (Some made) p e = let same : (name, made) ≡ p = cc in ap (λ (q : List ℕ × SourceCall). Some q.1) same
 
-asked_meant : (o : Option ℕ) (line : List ℕ) (p : List ℕ × SourceCall) (now : ℕ) (s : Standing) → asked_in o line ≡ Some p → IsMeant p.1 now s
+asked_meant : (o : Option ℕ) (line : List ℕ) (p : List ℕ × SourceCall) (now : ℕ) (s : LockStatus) → asked_in o line ≡ Some p → IsMeant p.1 now s
 asked_meant None line p now s e =
     let is = named_call (is_name line) line (Some call.Awake) p e in
     let same : call.Awake ≡ p.1 = cc in
@@ -111,7 +111,7 @@ asked_meant None line p now s e =
 asked_meant (Some at) line p now s e = timeout_meant _ p.1 now s (named_call (is_name (take at line)) (take at line) (timeout (drop at line)) p e)
 
 -- what a text for wake_lock asks for is meant
-pub lock_meant : (text : List ℕ) (p : List ℕ × SourceCall) (now : ℕ) (s : Standing) → lock_text text ≡ Some p → IsMeant p.1 now s
+pub lock_meant : (text : List ℕ) (p : List ℕ × SourceCall) (now : ℕ) (s : LockStatus) → lock_text text ≡ Some p → IsMeant p.1 now s
 lock_meant text p now s e = asked_meant (position (λ b. b == 32) (line_of text)) (line_of text) p now s e
 
 -- a lock of a known name

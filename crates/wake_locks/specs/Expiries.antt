@@ -3,8 +3,8 @@ use Rattle.std.specs.Prelude.{◌≡◌, ◌+◌, ℕ, suc, zero, nat_le, nat_lt
 use Rattle.sleep_model.specs.declared.machine.SourceCall.TheVariants as call
 use Rattle.wake_locks.specs.declared.answer.LockFault.{LockFault}
 use Rattle.wake_locks.specs.declared.answer.LockFault.TheVariants.{Full, Mem}
-use Rattle.wake_locks.specs.declared.standing.Standing.{Standing}
-use Rattle.wake_locks.specs.declared.standing.Standing.TheVariants.{Inactive, Endless, Until}
+use Rattle.wake_locks.specs.declared.status.LockStatus.{LockStatus}
+use Rattle.wake_locks.specs.declared.status.LockStatus.TheVariants.{Inactive, Endless, Until}
 use Rattle.wake_locks.specs.Locks.{LockState, after_call, put}
 
 -- a lock that ends by itself, and when
@@ -17,8 +17,8 @@ abbrev pub first_of : LockState → ℕ → Option Due → Option Due
 first_of lock at None = Some (record { lock = lock; at = at })
 first_of lock at (Some later) = if nat_le at later.at then Some (record { lock = lock; at = at }) else Some later
 
--- this lock, where it ends by itself by that moment and none behind it ends before it
-abbrev pub due_of : ℕ → LockState → Standing → Option Due → Option Due
+-- this lock, where it ends by itself by that moment and none after it ends before it
+abbrev pub due_of : ℕ → LockState → LockStatus → Option Due → Option Due
 due_of to lock Inactive behind = behind
 due_of to lock Endless behind = behind
 due_of to lock (Until end) behind = if nat_le end to then first_of lock end behind else behind
@@ -26,7 +26,7 @@ due_of to lock (Until end) behind = if nat_le end to then first_of lock end behi
 -- the lock that ends first by that moment; of those that end together the first by name (pm_wakeup_timer_fn)
 abbrev pub next_due : ℕ → List LockState → Option Due
 next_due to [] = None
-next_due to (lock ∷ locks) = due_of to lock lock.standing (next_due to locks)
+next_due to (lock ∷ locks) = due_of to lock lock.status (next_due to locks)
 
 -- the locks after an expiry at its own moment
 abbrev pub after_expiry : Due → List LockState → List LockState

@@ -2,6 +2,6 @@ pub mod Counted
 pub mod Expiries
 pub mod LockFields
 pub mod Locks
-pub mod Standings
+pub mod LockStatuses
 pub mod Texts
 pub mod Writes

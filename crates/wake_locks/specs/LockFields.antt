@@ -9,58 +9,58 @@ use Rattle.sleep_model.specs.Numbers.{numbers}
 use Rattle.sleep_model.specs.Places.{one_if}
 use Rattle.sleep_model.specs.Sources.{makes, since, expiry, most_entries}
 use Rattle.wakeup_source.specs.declared.call_by.CallBy.{CallBy}
-use Rattle.wakeup_source.specs.SourceStates.{SourceState, bare, latest}
-use Rattle.wakeup_source.specs.Told.{source_call, word_after}
-use Rattle.wake_locks.specs.declared.standing.Standing.{Standing}
-use Rattle.wake_locks.specs.declared.standing.Standing.TheVariants.{Inactive, Endless, Until}
+use Rattle.wakeup_source.specs.SourceStates.{SourceState, unstamped, latest}
+use Rattle.wakeup_source.specs.Shown.{source_call, word_after_kinds}
+use Rattle.wake_locks.specs.declared.status.LockStatus.{LockStatus}
+use Rattle.wake_locks.specs.declared.status.LockStatus.TheVariants.{Inactive, Endless, Until}
 use Rattle.wake_locks.specs.declared.soonest.Soonest.{Soonest}
 use Rattle.wake_locks.specs.Expiries.{Due, next_due}
-use Rattle.wake_locks.specs.Locks.{LockState, AreInOrder, by_name}
-use Rattle.wake_locks.specs.Standings.{is_due, end_or_never, never}
+use Rattle.wake_locks.specs.Locks.{LockState, AreSortedByName, by_name}
+use Rattle.wake_locks.specs.LockStatuses.{is_due, end_or_never, never}
 
 -- how a source with an event in progress stands, by when that ends
-abbrev pub standing_by : Option ℕ → Standing
-standing_by None = Endless
-standing_by (Some end) = Until end
+abbrev pub status_by : Option ℕ → LockStatus
+status_by None = Endless
+status_by (Some end) = Until end
 
 -- how a source stands, by when its event began and when it ends
-abbrev pub standing_from : Option ℕ → Option ℕ → Standing
-standing_from None end = Inactive
-standing_from (Some began) end = standing_by end
+abbrev pub status_from : Option ℕ → Option ℕ → LockStatus
+status_from None end = Inactive
+status_from (Some began) end = status_by end
 
 -- how a source with these entries stands
-abbrev pub standing_of : List Entry → Standing
-standing_of own = standing_from (since own) (expiry own)
+abbrev pub status_of : List Entry → LockStatus
+status_of own = status_from (since own) (expiry own)
 
 -- a moment that is set is not before that one
-abbrev pub IsBehind : ℕ → Option ℕ → Type 0
-IsBehind now None = Unit {0}
-IsBehind now (Some end) = now ≤ end
+abbrev pub IsNotBefore : ℕ → Option ℕ → Type 0
+IsNotBefore now None = Unit {0}
+IsNotBefore now (Some end) = now ≤ end
 
 -- what holds of a source's entries: the word of its own steps is small, and an event that ends by itself is in progress
-pub record IsKept (own : List Entry) : Type 0 where
+pub record SourceInvariant (own : List Entry) : Type 0 where
   pub in_progress : (numbers own).inpr ≡ one_if (is_some (since own))
   pub finished : (numbers own).count ≤ length own
   pub rests : since own ≡ None → expiry own ≡ None
-  pub ends : IsBehind (latest own) (expiry own)
+  pub ends : IsNotBefore (latest own) (expiry own)
 
 -- and of the fields of a lock
-pub record IsLock (standing : Standing) (source : SourceState) (word : EventNow) : Type 0 where
-  pub stands : standing ≡ standing_of (bare source.past)
+pub record IsLock (status : LockStatus) (source : SourceState) (word : EventNow) : Type 0 where
+  pub stands : status ≡ status_of (unstamped source.past)
   pub number : source.id ≡ 0
-  pub word_is : word ≡ numbers (bare source.past)
-  pub kept : IsKept (bare source.past)
+  pub word_is : word ≡ numbers (unstamped source.past)
+  pub kept : SourceInvariant (unstamped source.past)
   pub short : length source.past ≤ most_entries
 
 -- the source has gained the entries of a call, and the word has made its steps
 pub record IsMade (by : CallBy) (made : SourceCall) (word later : EventNow) (old new : SourceState) : Type 0 where
   pub number : new.id ≡ old.id
-  pub entries : bare new.past ≡ source_call old.id made by.actor by.now word (bare old.past) ++ bare old.past
-  pub word_is : later ≡ word_after (makes made (since (bare old.past))) word
+  pub entries : unstamped new.past ≡ source_call old.id made by.actor by.now word (unstamped old.past) ++ unstamped old.past
+  pub word_is : later ≡ word_after_kinds (makes made (since (unstamped old.past))) word
   pub short : length new.past ≤ most_entries
 
 -- a call that a lock may have: an event has a length and is no hard one, an expiry comes where it is due
-abbrev pub IsMeant : SourceCall → ℕ → Standing → Type 0
+abbrev pub IsMeant : SourceCall → ℕ → LockStatus → Type 0
 IsMeant (call.Event ms hard) now before = (1 ≤ ms) × (hard ≡ false)
 IsMeant call.Expire now before = is_due now before ≡ true
 IsMeant _ now before = Unit {0}
@@ -88,29 +88,29 @@ abbrev pub MatchDue : List LockState → Option Due → Option (ℕ × ℕ) → 
 MatchDue locks None None = Unit {0}
 MatchDue locks None (Some p) = ⊥
 MatchDue locks (Some due) None = ⊥
-MatchDue locks (Some due) (Some p) = (p.0 < length locks) × ((d : LockState) → slice_index_or locks p.0 d ≡ due.lock) × (p.1 ≡ due.at) × (due.lock.standing ≡ Until due.at) × (latest due.lock.own ≤ due.at)
+MatchDue locks (Some due) (Some p) = (p.0 < length locks) × ((d : LockState) → slice_index_or locks p.0 d ≡ due.lock) × (p.1 ≡ due.at) × (due.lock.status ≡ Until due.at) × (latest due.lock.own ≤ due.at)
 
 -- ---- the lock that ends first
 
 -- none of the locks ends by itself before that moment
 abbrev pub NoneEndsBefore : ℕ → List LockState → Type 0
 NoneEndsBefore soonest [] = Unit {0}
-NoneEndsBefore soonest (lock ∷ locks) = (soonest ≤ end_or_never lock.standing) × NoneEndsBefore soonest locks
+NoneEndsBefore soonest (lock ∷ locks) = (soonest ≤ end_or_never lock.status) × NoneEndsBefore soonest locks
 
 -- none of them does, but for the one at that place
 abbrev pub NoOtherEndsBefore : ℕ → ℕ → List LockState → Type 0
 NoOtherEndsBefore others at [] = Unit {0}
 NoOtherEndsBefore others zero (lock ∷ locks) = NoneEndsBefore others locks
-NoOtherEndsBefore others (suc at) (lock ∷ locks) = (others ≤ end_or_never lock.standing) × NoOtherEndsBefore others at locks
+NoOtherEndsBefore others (suc at) (lock ∷ locks) = (others ≤ end_or_never lock.status) × NoOtherEndsBefore others at locks
 
 -- none of the locks from one place up to another ends by itself before that moment
 abbrev pub NoneEndsWithin : ℕ → ℕ → ℕ → List LockState → Type 0
-NoneEndsWithin moment from until locks = (j : ℕ) (d : LockState) → from ≤ j → j < until → moment ≤ end_or_never (slice_index_or locks j d).standing
+NoneEndsWithin moment from until locks = (j : ℕ) (d : LockState) → from ≤ j → j < until → moment ≤ end_or_never (slice_index_or locks j d).status
 
 -- none of a row of eight ends before the row's moment
 pub record AreFloors (moments : List ℕ) (locks : List LockState) : Type 0 where
   pub rows : length moments ≡ 13
-  pub below : (j : ℕ) (d : LockState) → j < length locks → slice_index moments (j / 8) ≤ end_or_never (slice_index_or locks j d).standing
+  pub below : (j : ℕ) (d : LockState) → j < length locks → slice_index moments (j / 8) ≤ end_or_never (slice_index_or locks j d).status
 
 -- the lock that ends first, with one more before the others, which ends at that moment
 abbrev pub with_lock : ℕ → ℕ → Soonest → Soonest
@@ -123,8 +123,8 @@ abbrev pub with_floor : ℕ → Soonest → Soonest
 with_floor floor found = record { at = found.at; end = found.end; others = min found.others floor }
 
 -- its place, and its end
-abbrev pub place_and_end : Soonest → ℕ × ℕ
-place_and_end found = (found.at, found.end)
+abbrev pub index_and_end : Soonest → ℕ × ℕ
+index_and_end found = (found.at, found.end)
 
 -- the same, where it ends by that moment
 abbrev pub found_by : ℕ → Soonest → Option (ℕ × ℕ)
@@ -142,7 +142,7 @@ pub record IsSoonest (to : ℕ) (locks : List LockState) (from : ℕ) (found : S
 
 -- what holds of all locks
 pub record AreLocks (places soonest : ℕ) (floors : List ℕ) (locks : List LockState) : Type 0 where
-  pub in_order : AreInOrder locks
+  pub in_order : AreSortedByName locks
   pub few : length locks ≤ 100
   pub places_few : places ≤ most_entries
   pub none_sooner : NoneEndsBefore soonest locks

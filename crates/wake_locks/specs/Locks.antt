@@ -11,20 +11,20 @@ use Rattle.sleep_model.specs.declared.machine.SourceCall.{SourceCall}
 use Rattle.sleep_model.specs.declared.machine.SourceCall.TheVariants as call
 use Rattle.sleep_model.specs.Numbers.{numbers}
 use Rattle.wakeup_source.specs.SourceStates.{latest}
-use Rattle.wakeup_source.specs.Told.{source_call}
-use Rattle.wake_locks.specs.declared.standing.Standing.{Standing}
-use Rattle.wake_locks.specs.declared.standing.Standing.TheVariants.{Inactive}
-use Rattle.wake_locks.specs.Standings.{standing_after, is_active, is_due}
+use Rattle.wakeup_source.specs.Shown.{source_call}
+use Rattle.wake_locks.specs.declared.status.LockStatus.{LockStatus}
+use Rattle.wake_locks.specs.declared.status.LockStatus.TheVariants.{Inactive}
+use Rattle.wake_locks.specs.LockStatuses.{status_after, is_in_progress, is_due}
 
 -- a lock: its name, how it stands, and the entries of its source, the newest first (struct wakelock)
 pub record LockState : Type 0 where
   pub name : List ℕ
-  pub standing : Standing
+  pub status : LockStatus
   pub own : List Entry
 
 -- a lock that was never called
 abbrev pub new_lock : List ℕ → LockState
-new_lock name = record { name = name; standing = Inactive; own = [] }
+new_lock name = record { name = name; status = Inactive; own = [] }
 
 -- who makes a call: the source's timer an expiry, a task any other
 abbrev pub maker : SourceCall → Actor
@@ -41,7 +41,7 @@ own_after made now own = source_call 0 made (maker made) now (numbers own) own +
 abbrev pub after_call : SourceCall → ℕ → LockState → LockState
 after_call made now lock = record {
   name = lock.name;
-  standing = standing_after made now lock.standing;
+  status = status_after made now lock.status;
   own = own_after made now lock.own;
 }
 
@@ -49,46 +49,46 @@ after_call made now lock = record {
 abbrev pub by_name : List ℕ → List ℕ → Ordering
 by_name = slice_cmp nat_cmp
 
--- this lock where the names are the same, none where its name comes later, else what is found behind it
-abbrev pub found : Ordering → LockState → Option LockState → Option LockState
-found Less lock behind = behind
-found Equal lock behind = Some lock
-found Greater lock behind = None
+-- this lock where the names are the same, none if its name comes later, else what is found after it
+abbrev pub found_lock : Ordering → LockState → Option LockState → Option LockState
+found_lock Less lock behind = behind
+found_lock Equal lock behind = Some lock
+found_lock Greater lock behind = None
 
 -- the known lock of that name (wakelock_lookup_add)
 abbrev pub find : List ℕ → List LockState → Option LockState
 find name [] = None
-find name (lock ∷ locks) = found (by_name lock.name name) lock (find name locks)
+find name (lock ∷ locks) = found_lock (by_name lock.name name) lock (find name locks)
 
--- before a lock that comes later, in place of one of the same name, else behind
-abbrev pub placed : Ordering → LockState → LockState → List LockState → List LockState → List LockState
-placed Less new lock locks behind = lock ∷ behind
-placed Equal new lock locks behind = new ∷ locks
-placed Greater new lock locks behind = new ∷ lock ∷ locks
+-- before a lock that comes later, in place of one of the same name, else after
+abbrev pub inserted : Ordering → LockState → LockState → List LockState → List LockState → List LockState
+inserted Less new lock locks behind = lock ∷ behind
+inserted Equal new lock locks behind = new ∷ locks
+inserted Greater new lock locks behind = new ∷ lock ∷ locks
 
 -- the locks with this one at its place (wakelock_lookup_add)
 abbrev pub put : LockState → List LockState → List LockState
 put new [] = new ∷ []
-put new (lock ∷ locks) = placed (by_name lock.name new.name) new lock locks (put new locks)
+put new (lock ∷ locks) = inserted (by_name lock.name new.name) new lock locks (put new locks)
 
 -- it is active, or it is not, as is asked
-abbrev pub stands_so : Bool → LockState → Bool
-stands_so true lock = is_active lock.standing
-stands_so false lock = not (is_active lock.standing)
+abbrev pub is_as_asked : Bool → LockState → Bool
+is_as_asked true lock = is_in_progress lock.status
+is_as_asked false lock = not (is_in_progress lock.status)
 
 -- the names of those that are active, or of those that are not, in order (pm_show_wakelocks)
 abbrev pub names_of : Bool → List LockState → List (List ℕ)
-names_of active locks = map (λ (lock : LockState). lock.name) (filter (stands_so active) locks)
+names_of active locks = map (λ (lock : LockState). lock.name) (filter (is_as_asked active) locks)
 
--- each lock's name comes before those of the locks behind it
-abbrev pub AreBehind : List ℕ → List LockState → Type 0
-AreBehind name [] = Unit {0}
-AreBehind name (lock ∷ locks) = (by_name name lock.name ≡ Less) × AreBehind name locks
+-- each lock's name comes before those of the locks after it
+abbrev pub PrecedesEach : List ℕ → List LockState → Type 0
+PrecedesEach name [] = Unit {0}
+PrecedesEach name (lock ∷ locks) = (by_name name lock.name ≡ Less) × PrecedesEach name locks
 
 -- the names come in order, each once
-abbrev pub AreInOrder : List LockState → Type 0
-AreInOrder [] = Unit {0}
-AreInOrder (lock ∷ locks) = AreBehind lock.name locks × AreInOrder locks
+abbrev pub AreSortedByName : List LockState → Type 0
+AreSortedByName [] = Unit {0}
+AreSortedByName (lock ∷ locks) = PrecedesEach lock.name locks × AreSortedByName locks
 
 -- no entry of a lock is later than that moment
 abbrev pub AreBefore : ℕ → List LockState → Type 0
@@ -98,9 +98,9 @@ AreBefore now (lock ∷ locks) = (latest lock.own ≤ now) × AreBefore now lock
 -- none is due by that moment
 abbrev pub NoneDue : ℕ → List LockState → Type 0
 NoneDue now [] = Unit {0}
-NoneDue now (lock ∷ locks) = (is_due now lock.standing ≡ false) × NoneDue now locks
+NoneDue now (lock ∷ locks) = (is_due now lock.status ≡ false) × NoneDue now locks
 
 -- no entry is later than that moment, and no expiry at or before it stands
-pub record IsTimely (now : ℕ) (locks : List LockState) : Type 0 where
+pub record ExpiriesAreDue (now : ℕ) (locks : List LockState) : Type 0 where
   pub before : AreBefore now locks
   pub none_due : NoneDue now locks

@@ -24,14 +24,14 @@ nanoseconds digits =
 abbrev pub timed : ℕ → SourceCall
 timed ns = if ns == 0 then call.Awake else call.Event ((ns + 999999) / 1000000) false
 
--- what stands behind the spaces
-abbrev pub behind_spaces : Option ℕ → List ℕ → List ℕ
-behind_spaces None rest = []
-behind_spaces (Some at) rest = drop at rest
+-- what stands after the spaces
+abbrev pub after_spaces : Option ℕ → List ℕ → List ℕ
+after_spaces None rest = []
+after_spaces (Some at) rest = drop at rest
 
--- the call of what stands behind a name: spaces, and a timeout (pm_wake_lock)
+-- the call of what stands after a name: spaces, and a timeout (pm_wake_lock)
 abbrev pub timeout : List ℕ → Option SourceCall
-timeout rest = option_map timed (nanoseconds (behind_spaces (position (λ b. not (b == 32)) rest) rest))
+timeout rest = option_map timed (nanoseconds (after_spaces (position (λ b. not (b == 32)) rest) rest))
 
 -- a name and a call, where the name is one
 abbrev pub named : List ℕ → Option SourceCall → Option (List ℕ × SourceCall)

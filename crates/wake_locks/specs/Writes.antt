@@ -71,7 +71,7 @@ abbrev pub HasRoom : ℕ → Result Asked LockAnswer → Type 0
 HasRoom places (Ok asked) = ¬ (IsFull places asked.lock)
 HasRoom places (Err why) = Unit {0}
 
--- how a write ends: answered, with the locks after it; or as before, at a full source, which is named, or for want of memory
+-- how a write ends: answered, with the locks after it; or as before, at a full source, which is named, or if it is out of memory
 abbrev pub WriteEnded : ℕ → Result Asked LockAnswer → ℕ → List LockState → List LockState → Result LockAnswer LockFault → Type 0
 WriteEnded places asked now old new (Ok answer) = (answer ≡ answer_of asked) × (new ≡ after_write asked now old) × HasRoom places asked
 WriteEnded places asked now old new (Err (Full name)) = (new ≡ old) × FillsUp places asked name

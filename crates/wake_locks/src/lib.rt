@@ -8,7 +8,7 @@
 //! places left. Statistics are those of each source's calls. By the clauses of `WakeLocks::wake_lock`,
 //! `wake_unlock`: `ended`; `advance`: `ended`; `names`, `list_names`, `stats`, `all_stats`.
 //!
-//! Begin reading in `src/locks.rt`, `src/soonest.rt`; `specs/Standings.antt`, `specs/Writes.antt`,
+//! Begin reading in `src/locks.rt`, `src/soonest.rt`; `specs/LockStatuses.antt`, `specs/Writes.antt`,
 //! `specs/Expiries.antt`.
 #![tactic(auto)]
 
@@ -17,10 +17,10 @@ mod floors;
 mod lock;
 mod locks;
 mod soonest;
-mod standing;
+mod status;
 mod text;
 
 pub use answer::{LockAnswer, LockFault};
 pub use lock::LockStats;
 pub use locks::{MOST_LOCKS, NameList, WakeLocks};
-pub use standing::Standing;
+pub use status::LockStatus;

@@ -1,5 +1,5 @@
 use crate::answer::LockFault;
-use crate::standing::Standing;
+use crate::status::LockStatus;
 use event_word::PlainEvents;
 use sleep_model::{Actor, Name, SourceCall, Stamp, Stats};
 use std::alloc::Global;
@@ -22,7 +22,7 @@ pub struct LockStats {
 #[derive(Drop)]
 pub(crate) struct Lock<const CAP: usize> {
     name: Name,
-    standing: Standing,
+    status: LockStatus,
     source: WakeSource<CAP>,
     events: PlainEvents,
 }
@@ -33,24 +33,24 @@ impl<const CAP: usize> Model for Lock<CAP> {
     ghost Value = { LockState };
 
     ghost use Rattle.wake_locks.specs.LockFields.{IsLock};
-    ghost use Rattle.wakeup_source.specs.SourceStates.{bare};
+    ghost use Rattle.wakeup_source.specs.SourceStates.{unstamped};
 
-    ghost view = { λ l. record { name = l.name; standing = l.standing; own = bare l.source.past } };
+    ghost view = { λ l. record { name = l.name; status = l.status; own = unstamped l.source.past } };
 
-    ghost invariant = { λ l. IsLock l.standing l.source l.events };
+    ghost invariant = { λ l. IsLock l.status l.source l.events };
 }
 
 ghost use Rattle.std.specs.Prelude.{◌≡◌, ◌≤◌, ◌<◌, ◌+◌, ◌^◌, ◌↔◌, ℕ, List, true, Err, length, OnOk, OnErr, IfOk, Some, None};
-ghost use Rattle.event_word.specs.Steps.{has_places};
+ghost use Rattle.event_word.specs.Steps.{has_room_for_all};
 ghost use Rattle.sleep_model.specs.Sources.{makes, since, most_entries, stats_at};
 ghost use Rattle.wakeup_source.specs.declared.fault.SourceFault.TheVariants as SourceFault;
-ghost use Rattle.wakeup_source.specs.SourceStates.{bare, latest};
-ghost use Rattle.wakeup_source.specs.Told.{MayCall};
+ghost use Rattle.wakeup_source.specs.SourceStates.{unstamped, latest};
+ghost use Rattle.wakeup_source.specs.Shown.{MayCall};
 ghost use Rattle.wake_locks.specs.declared.answer.LockFault.TheVariants.{Full};
-ghost use Rattle.wake_locks.specs.Locks.{new_lock, after_call, by_name, maker, stands_so};
-ghost use Rattle.wake_locks.specs.LockFields.{IsBehind, IsMade, IsMeant};
-ghost use Rattle.wake_locks.specs.Standings.{end_of, end_or_never};
-ghost use Rattle.wake_locks.specs.Counted.{Agrees, counted};
+ghost use Rattle.wake_locks.specs.Locks.{new_lock, after_call, by_name, maker, is_as_asked};
+ghost use Rattle.wake_locks.specs.LockFields.{IsNotBefore, IsMade, IsMeant};
+ghost use Rattle.wake_locks.specs.LockStatuses.{end_of, end_or_never};
+ghost use Rattle.wake_locks.specs.Counted.{Agrees, lock_stats};
 ghost use Rattle.wake_locks.specs.Writes.{IsFull};
 
 /// Who makes a call.
@@ -71,10 +71,10 @@ fn make<R: Wait, const CAP: usize>(
     by: CallBy,
     call: SourceCall,
 ) -> Result<(), SourceFault>
-    requires time { latest (bare source.old.past) ≤ by.now }
+    requires time { latest (unstamped source.old.past) ≤ by.now }
     requires small { by.now ≤ 2 ^ 63 }
-    requires can { has_places events.old (makes call (since (bare source.old.past))) ≡ true }
-    requires may { MayCall call (bare source.old.past) by.now }
+    requires can { has_room_for_all events.old (makes call (since (unstamped source.old.past))) ≡ true }
+    requires may { MayCall call (unstamped source.old.past) by.now }
     ensures made { OnOk result (IsMade by call events.old events.new source.old source.new) }
     ensures full { (result ≡ Err SourceFault.Full) ↔ (CAP < length source.old.past + 4) }
     ensures err { OnErr result ((source.new ≡ source.old) × (events.new ≡ events.old)) }
@@ -99,7 +99,7 @@ impl<const CAP: usize> Lock<CAP> {
     {
         Lock {
             name,
-            standing: Standing::Inactive,
+            status: LockStatus::Inactive,
             source: WakeSource::new(alloc, 0),
             events: PlainEvents::new(),
         }
@@ -120,22 +120,22 @@ impl<const CAP: usize> Lock<CAP> {
     }
 
     /// Whether an event is in progress, or whether none is, as is asked.
-    pub(crate) fn stands_so(&self, active: bool) -> bool
-        ensures { result ≡ stands_so active self.now }
+    pub(crate) fn is_as_asked(&self, active: bool) -> bool
+        ensures { result ≡ is_as_asked active self.now }
     {
         if active {
-            self.standing.is_active()
+            self.status.is_in_progress()
         } else {
-            !self.standing.is_active()
+            !self.status.is_in_progress()
         }
     }
 
     /// When it ends by itself, which is not before its last entry; never, where it does not.
     pub(crate) fn end_or_never(&self) -> u64
-        ensures end { result ≡ end_or_never self.now.standing }
-        ensures behind { IsBehind (latest self.now.own) (end_of self.now.standing) }
+        ensures end { result ≡ end_or_never self.now.status }
+        ensures behind { IsNotBefore (latest self.now.own) (end_of self.now.status) }
     {
-        self.standing.end_or_never()
+        self.status.end_or_never()
     }
 
     /// A call on its source. After a fault nothing has changed.
@@ -147,7 +147,7 @@ impl<const CAP: usize> Lock<CAP> {
     ) -> Result<(), LockFault>
         requires time { latest self.old.own ≤ now }
         requires small { now ≤ 2 ^ 63 }
-        requires meant { IsMeant call now self.old.standing }
+        requires meant { IsMeant call now self.old.status }
         ensures done { OnOk result (self.new ≡ after_call call now self.old) }
         ensures full { (name : List ℕ) → (result ≡ Err (Full name)) ↔ ((name ≡ self.old.name) × IsFull CAP self.old) }
         ensures err { OnErr result (self.new ≡ self.old) }
@@ -160,7 +160,7 @@ impl<const CAP: usize> Lock<CAP> {
         };
         match make(rt, &mut self.source, &mut self.events, by, call) {
             Ok(()) => {
-                self.standing = self.standing.after(call, now);
+                self.status = self.status.after(call, now);
                 Ok(())
             }
             Err(SourceFault::Full) => Err(LockFault::Full(self.name)),
@@ -178,10 +178,10 @@ impl<const CAP: usize> Lock<CAP> {
     }
 
     /// What is counted of it at that moment.
-    pub(crate) fn counted(&self, now: u64) -> LockStats
+    pub(crate) fn lock_stats(&self, now: u64) -> LockStats
         requires time { latest self.now.own ≤ now }
         requires small { now ≤ 2 ^ 63 }
-        ensures is { result ≡ counted now self.now }
+        ensures is { result ≡ lock_stats now self.now }
         ensures agrees { Agrees self.now }
     {
         LockStats {

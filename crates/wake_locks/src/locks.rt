@@ -42,16 +42,16 @@ impl<const CAP: usize> Model for WakeLocks<CAP> {
 }
 
 ghost use Rattle.std.specs.Prelude.{◌≡◌, ◌≢◌, ◌≤◌, ◌<◌, ◌+◌, ◌*◌, ◌^◌, min, ℕ, List, [], Ok, Err, None, length, slice_index_or, OnOk, OnErr, IfOk, IfErr, IfSome, option_map, map};
-ghost use Rattle.wake_locks.specs.Counted.{AllAgree, counted};
+ghost use Rattle.wake_locks.specs.Counted.{AllAgree, lock_stats};
 ghost use Rattle.sleep_model.specs.Sources.{most_entries, stats_at};
 ghost use Rattle.wake_locks.specs.declared.answer.LockAnswer.TheVariants as LockAnswer;
 ghost use Rattle.wake_locks.specs.declared.answer.LockFault.TheVariants as LockFault;
 ghost use Rattle.wakeup_source.specs.SourceStates.{latest};
-ghost use Rattle.wake_locks.specs.declared.standing.Standing.TheVariants as Standing;
+ghost use Rattle.wake_locks.specs.declared.status.LockStatus.TheVariants as LockStatus;
 ghost use Rattle.wake_locks.specs.Expiries.{IsAdvance, next_due};
-ghost use Rattle.wake_locks.specs.LockFields.{IsAt, IsGapFor, IsMeant, IsSoonest, MatchDue, NoOtherEndsBefore, NoneEndsWithin, place_and_end};
-ghost use Rattle.wake_locks.specs.Standings.{never};
-ghost use Rattle.wake_locks.specs.Locks.{LockState, new_lock, after_call, put, find, names_of, AreBefore, AreInOrder, IsTimely};
+ghost use Rattle.wake_locks.specs.LockFields.{IsAt, IsGapFor, IsMeant, IsSoonest, MatchDue, NoOtherEndsBefore, NoneEndsWithin, index_and_end};
+ghost use Rattle.wake_locks.specs.LockStatuses.{never};
+ghost use Rattle.wake_locks.specs.Locks.{LockState, new_lock, after_call, put, find, names_of, AreBefore, AreSortedByName, ExpiriesAreDue};
 ghost use Rattle.wake_locks.specs.Writes.{asked_lock, asked_unlock, on_lock, WriteEnded};
 
 impl<const CAP: usize> WakeLocks<CAP> {
@@ -69,7 +69,7 @@ impl<const CAP: usize> WakeLocks<CAP> {
     }
 
     /// Where the lock of that name is, or where it would go.
-    fn place(&self, name: &Name) -> Result<usize, usize>
+    fn index_of(&self, name: &Name) -> Result<usize, usize>
         ensures found { IfOk result (IsAt name.now self.now) }
         ensures absent { IfErr result (IsGapFor name.now self.now) }
     {
@@ -93,15 +93,15 @@ impl<const CAP: usize> WakeLocks<CAP> {
         text: &[u8],
         now: u64,
     ) -> Result<LockAnswer, LockFault>
-        requires timely { IsTimely now self.old }
+        requires timely { ExpiriesAreDue now self.old }
         requires small { now ≤ 2 ^ 63 }
         ensures ended { WriteEnded CAP (asked_lock text.now self.old) now self.old self.new result }
-        ensures timely { IsTimely now self.new }
+        ensures timely { ExpiriesAreDue now self.new }
     {
         let Some((name, call)) = lock_text(text) else {
             return Ok(LockAnswer::BadText);
         };
-        match self.place(&name) {
+        match self.index_of(&name) {
             Ok(at) => self.call_at(rt, at, call, now),
             Err(at) => self.call_new(rt, at, name, call, now),
         }
@@ -114,15 +114,15 @@ impl<const CAP: usize> WakeLocks<CAP> {
         text: &[u8],
         now: u64,
     ) -> Result<LockAnswer, LockFault>
-        requires timely { IsTimely now self.old }
+        requires timely { ExpiriesAreDue now self.old }
         requires small { now ≤ 2 ^ 63 }
         ensures ended { WriteEnded CAP (asked_unlock text.now self.old) now self.old self.new result }
-        ensures timely { IsTimely now self.new }
+        ensures timely { ExpiriesAreDue now self.new }
     {
         let Some(name) = unlock_text(text) else {
             return Ok(LockAnswer::BadText);
         };
-        match self.place(&name) {
+        match self.index_of(&name) {
             Ok(at) => self.call_at(rt, at, SourceCall::Relax, now),
             Err(_) => Ok(LockAnswer::BadText),
         }
@@ -139,7 +139,7 @@ impl<const CAP: usize> WakeLocks<CAP> {
         requires in_range { at < length self.old }
         requires time { (d : LockState) → latest (slice_index_or self.old at d).own ≤ now }
         requires small { now ≤ 2 ^ 63 }
-        requires meant { (d : LockState) → IsMeant call now (slice_index_or self.old at d).standing }
+        requires meant { (d : LockState) → IsMeant call now (slice_index_or self.old at d).status }
         ensures { (d : LockState) → WriteEnded CAP
             (Ok (record { lock = slice_index_or self.old at d; made = call })) now self.old self.new result }
     {
@@ -162,7 +162,7 @@ impl<const CAP: usize> WakeLocks<CAP> {
     ) -> Result<LockAnswer, LockFault>
         requires gap { IsGapFor name self.old at }
         requires small { now ≤ 2 ^ 63 }
-        requires meant { IsMeant call now Standing.Inactive }
+        requires meant { IsMeant call now LockStatus.Inactive }
         ensures { WriteEnded CAP (on_lock name call (length self.old) None) now self.old self.new result }
     {
         if self.locks.len() >= MOST_LOCKS {
@@ -200,7 +200,7 @@ impl<const CAP: usize> WakeLocks<CAP> {
         requires small { to ≤ 2 ^ 63 }
         ensures ended { IsAdvance CAP to self.old self.new result }
         ensures time { AreBefore to self.new }
-        ensures timely { OnOk result (IsTimely to self.new) }
+        ensures timely { OnOk result (ExpiriesAreDue to self.new) }
     {
         let many = self.locks.len();
         for _ in 0..many {
@@ -218,10 +218,10 @@ impl<const CAP: usize> WakeLocks<CAP> {
     fn next_due(&mut self, to: u64) -> Option<Soonest>
         requires small { to ≤ 2 ^ 63 }
         ensures same { self.new ≡ self.old }
-        ensures found { MatchDue self.old (next_due to self.old) (option_map place_and_end result) }
+        ensures found { MatchDue self.old (next_due to self.old) (option_map index_and_end result) }
         ensures others { IfSome result (λ found. NoOtherEndsBefore found.others found.at self.old) }
         ensures few { IfSome result (λ found. found.others ≤ never) }
-        ensures ordered { AreInOrder self.old }
+        ensures ordered { AreSortedByName self.old }
     {
         if to < self.soonest {
             return None;
@@ -310,7 +310,7 @@ impl<const CAP: usize> WakeLocks<CAP> {
     {
         names.clear();
         for lock in &self.locks {
-            if lock.stands_so(active) {
+            if lock.is_as_asked(active) {
                 names.push(lock.name())?;
             }
         }
@@ -322,12 +322,12 @@ impl<const CAP: usize> WakeLocks<CAP> {
     pub fn all_stats(&self, now: u64) -> Result<Vec<LockStats>, Mem>
         requires time { AreBefore now self.now }
         requires small { now ≤ 2 ^ 63 }
-        ensures counted { IfOk result (λ all. all.items ≡ map (counted now) self.now) }
+        ensures lock_stats { IfOk result (λ all. all.items ≡ map (lock_stats now) self.now) }
         ensures agree { OnOk result (AllAgree self.now) }
     {
         let mut all = Vec::new(self.alloc);
         for lock in &self.locks {
-            all.push(lock.counted(now))?;
+            all.push(lock.lock_stats(now))?;
         }
         Ok(all)
     }
@@ -338,7 +338,7 @@ impl<const CAP: usize> WakeLocks<CAP> {
         requires small { now ≤ 2 ^ 63 }
         ensures { result ≡ option_map (λ (lock : LockState). stats_at lock.own now) (find name.now self.now) }
     {
-        match self.place(name) {
+        match self.index_of(name) {
             Ok(at) => {
                 let lock = &self.locks[at];
                 Some(lock.stats(now))

@@ -1,6 +1,6 @@
 ghost use Rattle.std.specs.Prelude.{◌≡◌, ◌≤◌, ◌<◌, ℕ, length, not, ◌==◌, position, if◌then◌else◌, IfSome, Some, None};
 ghost use Rattle.sleep_model.specs.NameBytes.{is_name};
-ghost use Rattle.wake_locks.specs.Texts.{line_of, nanoseconds, timed, behind_spaces, timeout, named, lock_text, unlock_text};
+ghost use Rattle.wake_locks.specs.Texts.{line_of, nanoseconds, timed, after_spaces, timeout, named, lock_text, unlock_text};
 
 use sleep_base::are_digits;
 use sleep_model::{NAME_BYTES, Name, SourceCall, are_name_bytes};
@@ -85,9 +85,9 @@ fn first_other(rest: &[u8]) -> Option<usize>
     rest.iter().position(|byte| is_no_space(*byte))
 }
 
-/// What stands behind the spaces.
-fn behind_spaces(rest: &[u8]) -> &[u8]
-    ensures { result.now ≡ behind_spaces (position (λ b. not (b == 32)) rest.now) rest.now }
+/// What stands after the spaces.
+fn after_spaces(rest: &[u8]) -> &[u8]
+    ensures { result.now ≡ after_spaces (position (λ b. not (b == 32)) rest.now) rest.now }
 {
     match first_other(rest) {
         Some(at) => &rest[at..],
@@ -95,11 +95,11 @@ fn behind_spaces(rest: &[u8]) -> &[u8]
     }
 }
 
-/// The call of what stands behind a name.
+/// The call of what stands after a name.
 fn timeout(rest: &[u8]) -> Option<SourceCall>
     ensures { result ≡ timeout rest.now }
 {
-    let ns = nanoseconds(behind_spaces(rest))?;
+    let ns = nanoseconds(after_spaces(rest))?;
     Some(timed(ns))
 }
 

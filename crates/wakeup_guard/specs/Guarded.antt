@@ -2,8 +2,8 @@
 use Rattle.std.specs.Prelude.{ℕ, Bool, false, not, ◌==◌, ◌&&◌, ◌||◌, ◌%◌, ◌^◌, nat_lt, if◌then◌else◌, Option, Some, None}
 use Rattle.sleep_model.specs.declared.word.EventNow.{EventNow}
 use Rattle.sleep_model.specs.declared.entry.Kind.{Kind}
-use Rattle.sleep_model.specs.Guard.{CountPart, count_part, forgotten_after}
-use Rattle.sleep_model.specs.Guard.CountPart.{Stores, Drops, Finds, Keeps}
+use Rattle.sleep_model.specs.Guard.{CountEffect, count_effect, forgotten_after}
+use Rattle.sleep_model.specs.Guard.CountEffect.{Stores, Drops, Finds, Keeps}
 
 -- the count in force, and the hard events that are forgotten (events_check_enabled, saved_count, pm_wakeup_clear)
 pub record Guarded : Type 0 where
@@ -32,7 +32,7 @@ abbrev pub tested : ℕ → EventNow → Option ℕ → Option ℕ
 tested bits now force = if has_changed_count bits force now then None else force
 
 -- the count in force after an entry that saw this word (pm_save_wakeup_count, pm_wakeup_pending)
-abbrev pub count_after : ℕ → CountPart → EventNow → Option ℕ → Option ℕ
+abbrev pub count_after : ℕ → CountEffect → EventNow → Option ℕ → Option ℕ
 count_after bits (Stores c) now force = Some c
 count_after bits Drops now force = None
 count_after bits Finds now force = tested bits now force
@@ -41,6 +41,6 @@ count_after bits Keeps now force = force
 -- what an entry that saw this word leaves (pm_save_wakeup_count, pm_wakeup_pending, pm_wakeup_clear)
 abbrev pub guarded_after : ℕ → Kind → EventNow → Guarded → Guarded
 guarded_after bits kind now g = record {
-  force = count_after bits (count_part kind) now g.force;
+  force = count_after bits (count_effect kind) now g.force;
   forgotten = forgotten_after kind now g.forgotten;
 }

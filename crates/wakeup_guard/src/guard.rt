@@ -45,7 +45,7 @@ impl<const BITS: u32> Guard<BITS> {
         now.count % (1 << BITS)
     }
 
-    /// Saves a count. It is in force from now on exactly where it is the visible one and no event
+    /// Saves a count. It is in force from now on exactly if it is the visible one and no event
     /// is in progress, and then the answer is true; else none is in force (`pm_save_wakeup_count`).
     pub fn save(&mut self, now: EventNow, c: u32) -> bool
         ensures answer { result ≡ may_save BITS now c }

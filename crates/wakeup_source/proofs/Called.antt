@@ -9,29 +9,29 @@ use Rattle.sleep_model.specs.declared.word.WordKind.{WordKind}
 use Rattle.sleep_model.specs.declared.word.WordKind.TheVariants as step
 use Rattle.sleep_model.specs.Numbers.{after_step}
 use Rattle.sleep_model.specs.Sources.{makes, since, starting, finishing}
-use Rattle.event_word.specs.Looks.{IsTold}
-use Rattle.event_word.specs.Steps.{told_after, made_after}
+use Rattle.event_word.specs.Looks.{IsShown}
+use Rattle.event_word.specs.Steps.{shown_after, made_after}
 use Rattle.wakeup_source.specs.declared.call_by.CallBy.{CallBy}
-use Rattle.wakeup_source.specs.Called.{Scene, Notes, Steps, Calls, after_note, CanGoOnAll}
+use Rattle.wakeup_source.specs.Called.{SourceView, Notes, Steps, Calls, after_note, CanGoOnAll}
 use Rattle.wakeup_source.specs.Called as called
-use Rattle.wakeup_source.specs.SourceStates.{bare, note_entry, step_entry}
-use Rattle.wakeup_source.specs.Told.{word_after, after_steps, IsToldCall, steps_of, AreOwnSteps}
+use Rattle.wakeup_source.specs.SourceStates.{unstamped, note_entry, step_entry}
+use Rattle.wakeup_source.specs.Shown.{word_after_kinds, after_steps, IsShownCall, steps_in, AreOwnSteps}
 
--- steps behind steps
-pub more_steps : (by : CallBy) (first second : List WordKind) (old mid new : Scene) → Steps by first old mid → Steps by second mid new → Steps by (first ++ second) old new
-more_steps by [] second old mid new h k = subst (λ (s : Scene). Steps by second s new) h k
+-- steps after steps
+pub more_steps : (by : CallBy) (first second : List WordKind) (old mid new : SourceView) → Steps by first old mid → Steps by second mid new → Steps by (first ++ second) old new
+more_steps by [] second old mid new h k = subst (λ (s : SourceView). Steps by second s new) h k
 more_steps by (step ∷ first) second old mid new h k = (h.0, h.1, h.2, more_steps by first second (called.after_step by step h.0 old) mid new h.3 k)
 
 -- ---- where the word is told
 
 -- steps at a told word
-told_steps : (by : CallBy) (steps : List WordKind) (old new : Scene) (word : EventNow) → old.told ≡ Some word → Steps by steps old new
-    → (bare new.source.past ≡ after_steps old.source.id by.actor by.now word steps (bare old.source.past)) × (new.told ≡ Some (word_after steps word))
-told_steps by [] old new word t h = (ap (λ (s : Scene). bare s.source.past) h, ap (λ (s : Scene). s.told) h ∙ t)
-told_steps by (step ∷ rest) old new word t h =
-    let at : h.0 ≡ word = subst (λ o. IsTold o h.0) t h.1 in
-    let on = told_steps by rest (called.after_step by step h.0 old) new (after_step (Some step) word) (ap (told_after step) t) h.3 in
-    (subst (λ (w : EventNow). bare new.source.past ≡ after_steps old.source.id by.actor by.now (after_step (Some step) word) rest (step_entry old.source.id step by.actor by.now w ∷ bare old.source.past)) at on.0, on.1)
+shown_steps : (by : CallBy) (steps : List WordKind) (old new : SourceView) (word : EventNow) → old.shown ≡ Some word → Steps by steps old new
+    → (unstamped new.source.past ≡ after_steps old.source.id by.actor by.now word steps (unstamped old.source.past)) × (new.shown ≡ Some (word_after_kinds steps word))
+shown_steps by [] old new word t h = (ap (λ (s : SourceView). unstamped s.source.past) h, ap (λ (s : SourceView). s.shown) h ∙ t)
+shown_steps by (step ∷ rest) old new word t h =
+    let at : h.0 ≡ word = subst (λ o. IsShown o h.0) t h.1 in
+    let on = shown_steps by rest (called.after_step by step h.0 old) new (after_step (Some step) word) (ap (shown_after step) t) h.3 in
+    (subst (λ (w : EventNow). unstamped new.source.past ≡ after_steps old.source.id by.actor by.now (after_step (Some step) word) rest (step_entry old.source.id step by.actor by.now w ∷ unstamped old.source.past)) at on.0, on.1)
 
 -- steps upon entries that stand upon others
 upon : (s : ℕ) (who : Actor) (time : ℕ) (word : EventNow) (steps : List WordKind) (new own : List Entry) → after_steps s who time word steps (new ++ own) ≡ after_steps s who time word steps new ++ own
@@ -39,59 +39,59 @@ upon s who time word [] new own = refl
 upon s who time word (step ∷ rest) new own = upon s who time (after_step (Some step) word) rest (step_entry s step who time word ∷ new) own
 
 -- a call at a told word
-pub told_call : (by : CallBy) (made : SourceCall) (old new : Scene) → Calls by made old new → IsToldCall by made old.told new.told old.source new.source
-told_call by made old new h = by_told old.told refl
+pub told_source : (by : CallBy) (made : SourceCall) (old new : SourceView) → Calls by made old new → IsShownCall by made old.shown new.shown old.source new.source
+told_source by made old new h = by_shown old.shown refl
   where
-    untold : (steps : List WordKind) (old new : Scene) → old.told ≡ None → Steps by steps old new → new.told ≡ None
-    untold [] old new t h = ap (λ (s : Scene). s.told) h ∙ t
-    untold (step ∷ rest) old new t h = untold rest (called.after_step by step h.0 old) new (ap (told_after step) t) h.3
+    untold : (steps : List WordKind) (old new : SourceView) → old.shown ≡ None → Steps by steps old new → new.shown ≡ None
+    untold [] old new t h = ap (λ (s : SourceView). s.shown) h ∙ t
+    untold (step ∷ rest) old new t h = untold rest (called.after_step by step h.0 old) new (ap (shown_after step) t) h.3
 
-    by_told : (told : Option EventNow) → old.told ≡ told → IsToldCall by made told new.told old.source new.source
-    by_told None t = untold (makes made (since (bare old.source.past))) h.0 new (ap (λ (s : Scene). s.told) h.1.6 ∙ t) h.2
-    by_told (Some word) t =
+    by_shown : (shown : Option EventNow) → old.shown ≡ shown → IsShownCall by made shown new.shown old.source new.source
+    by_shown None t = untold (makes made (since (unstamped old.source.past))) h.0 new (ap (λ (s : SourceView). s.shown) h.1.6 ∙ t) h.2
+    by_shown (Some word) t =
         let noted = h.0 in
-        let at : h.1.0 ≡ word = subst (λ o. IsTold o h.1.0) t h.1.1 in
+        let at : h.1.0 ≡ word = subst (λ o. IsShown o h.1.0) t h.1.1 in
         let is : noted ≡ after_note by made h.1.0 noted.looked old = h.1.6 in
-        let steps = makes made (since (bare old.source.past)) in
-        let on = told_steps by steps noted new word (ap (λ (s : Scene). s.told) is ∙ t) h.2 in
-        let first : bare noted.source.past ≡ note_entry old.source.id made by.actor by.now word ∷ bare old.source.past =
-        ap (λ (s : Scene). bare s.source.past) is ∙ ap (λ w. note_entry old.source.id made by.actor by.now w ∷ bare old.source.past) at in
-        let own : noted.source.id ≡ old.source.id = ap (λ (s : Scene). s.source.id) is in (
-          on.0 ∙ ap (λ (s : ℕ). after_steps s by.actor by.now word steps (bare noted.source.past)) own
+        let steps = makes made (since (unstamped old.source.past)) in
+        let on = shown_steps by steps noted new word (ap (λ (s : SourceView). s.shown) is ∙ t) h.2 in
+        let first : unstamped noted.source.past ≡ note_entry old.source.id made by.actor by.now word ∷ unstamped old.source.past =
+        ap (λ (s : SourceView). unstamped s.source.past) is ∙ ap (λ w. note_entry old.source.id made by.actor by.now w ∷ unstamped old.source.past) at in
+        let own : noted.source.id ≡ old.source.id = ap (λ (s : SourceView). s.source.id) is in (
+          on.0 ∙ ap (λ (s : ℕ). after_steps s by.actor by.now word steps (unstamped noted.source.past)) own
               ∙ ap (after_steps old.source.id by.actor by.now word steps) first
-              ∙ upon old.source.id by.actor by.now word steps (note_entry old.source.id made by.actor by.now word ∷ []) (bare old.source.past),
+              ∙ upon old.source.id by.actor by.now word steps (note_entry old.source.id made by.actor by.now word ∷ []) (unstamped old.source.past),
           on.1,
         )
 
 -- ---- where the steps are told
 
-made_more : (made : WordKind) (s : ℕ) (who : Actor) (time : ℕ) (before : EventNow) (own : List Entry) → made_after made before (Some (steps_of own)) ≡ Some (steps_of (step_entry s made who time before ∷ own))
+made_more : (made : WordKind) (s : ℕ) (who : Actor) (time : ℕ) (before : EventNow) (own : List Entry) → made_after made before (Some (steps_in own)) ≡ Some (steps_in (step_entry s made who time before ∷ own))
 made_more step.Start s who time before own = refl
 made_more step.Finish s who time before own = refl
 made_more step.Hard s who time before own = refl
 
-no_step : (made : SourceCall) (s : ℕ) (who : Actor) (time : ℕ) (seen : EventNow) (own : List Entry) → steps_of own ≡ steps_of (note_entry s made who time seen ∷ own)
+no_step : (made : SourceCall) (s : ℕ) (who : Actor) (time : ℕ) (seen : EventNow) (own : List Entry) → steps_in own ≡ steps_in (note_entry s made who time seen ∷ own)
 no_step call.Awake s who time seen own = refl
 no_step call.Relax s who time seen own = refl
 no_step (call.Event ms hard) s who time seen own = refl
 no_step call.Expire s who time seen own = refl
 
-own_steps : (by : CallBy) (steps : List WordKind) (old new : Scene) → Steps by steps old new → AreOwnSteps old.made new.made old.source new.source
-own_steps by [] old new h m = ap (λ (s : Scene). s.made) h ∙ m ∙ ap (λ (s : Scene). Some (steps_of (bare s.source.past))) (sym h)
+own_steps : (by : CallBy) (steps : List WordKind) (old new : SourceView) → Steps by steps old new → AreOwnSteps old.made new.made old.source new.source
+own_steps by [] old new h m = ap (λ (s : SourceView). s.made) h ∙ m ∙ ap (λ (s : SourceView). Some (steps_in (unstamped s.source.past))) (sym h)
 own_steps by (step ∷ rest) old new h m =
     own_steps by rest (called.after_step by step h.0 old) new h.3
-    (ap (made_after step h.0) m ∙ made_more step old.source.id by.actor by.now h.0 (bare old.source.past))
+    (ap (made_after step h.0) m ∙ made_more step old.source.id by.actor by.now h.0 (unstamped old.source.past))
 
 -- a call of a bump that tells its steps
-pub own_call : (by : CallBy) (made : SourceCall) (old new : Scene) → Calls by made old new → AreOwnSteps old.made new.made old.source new.source
+pub own_call : (by : CallBy) (made : SourceCall) (old new : SourceView) → Calls by made old new → AreOwnSteps old.made new.made old.source new.source
 own_call by made old new h m =
     let is : h.0 ≡ after_note by made h.1.0 h.0.looked old = h.1.6 in
-    own_steps by (makes made (since (bare old.source.past))) h.0 new h.2
-    (ap (λ (s : Scene). s.made) is ∙ m ∙ ap Some (no_step made old.source.id by.actor by.now h.1.0 (bare old.source.past)) ∙ ap (λ (s : Scene). Some (steps_of (bare s.source.past))) (sym is))
+    own_steps by (makes made (since (unstamped old.source.past))) h.0 new h.2
+    (ap (λ (s : SourceView). s.made) is ∙ m ∙ ap Some (no_step made old.source.id by.actor by.now h.1.0 (unstamped old.source.past)) ∙ ap (λ (s : SourceView). Some (steps_in (unstamped s.source.past))) (sym is))
 
 -- ---- what can be made
 
--- steps behind steps can be made where all of them could
+-- steps after steps can be made where all of them could
 pub goes_on_more : (first second : List WordKind) (old mid new : List WordKind → Bool) → CanGoOnAll first old mid → CanGoOnAll second mid new → CanGoOnAll (first ++ second) old new
 goes_on_more first second old mid new h k rest c = k rest (h (second ++ rest) (subst (λ steps. old steps ≡ true) (append_assoc first second rest) c))
 
@@ -101,12 +101,12 @@ finishing_is None = refl
 finishing_is (Some since) = refl
 
 -- an event is its note, a start where none was in progress, a hard step where it is hard, and a finish where it has no length
-pub event_calls : (by : CallBy) (ms : ℕ) (hard : Bool) (old noted started counted new : Scene) → Notes by (call.Event ms hard) old noted → Steps by (starting (since (bare noted.source.past))) noted started
+pub event_calls : (by : CallBy) (ms : ℕ) (hard : Bool) (old noted started counted new : SourceView) → Notes by (call.Event ms hard) old noted → Steps by (starting (since (unstamped noted.source.past))) noted started
     → Steps by (cond hard (step.Hard ∷ []) []) started counted → Steps by (cond (ms == 0) (step.Finish ∷ []) []) counted new → Calls by (call.Event ms hard) old new
 event_calls by ms hard old noted started counted new n a b d =
-    let first : Steps by (starting (since (bare old.source.past))) noted started = subst (λ o. Steps by (starting o) noted started) (ap (λ (s : Scene). since (bare s.source.past)) n.6) a in (
+    let first : Steps by (starting (since (unstamped old.source.past))) noted started = subst (λ o. Steps by (starting o) noted started) (ap (λ (s : SourceView). since (unstamped s.source.past)) n.6) a in (
       noted,
       n,
-      more_steps by (starting (since (bare old.source.past)) ++ cond hard (step.Hard ∷ []) []) (cond (ms == 0) (step.Finish ∷ []) []) noted counted new
-          (more_steps by (starting (since (bare old.source.past))) (cond hard (step.Hard ∷ []) []) noted started counted first b) d,
+      more_steps by (starting (since (unstamped old.source.past)) ++ cond hard (step.Hard ∷ []) []) (cond (ms == 0) (step.Finish ∷ []) []) noted counted new
+          (more_steps by (starting (since (unstamped old.source.past))) (cond hard (step.Hard ∷ []) []) noted started counted first b) d,
     )

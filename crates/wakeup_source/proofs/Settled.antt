@@ -10,35 +10,35 @@ use Rattle.sleep_model.specs.declared.word.EventNow.{EventNow}
 use Rattle.sleep_model.specs.declared.word.Stamp.{Stamp}
 use Rattle.sleep_model.specs.declared.word.WordKind.{WordKind}
 use Rattle.sleep_model.specs.declared.word.WordKind.TheVariants as step
-use Rattle.sleep_model.specs.Sources.{makes, since, starting, owed, behind_first, caller, most_entries, IsNext}
+use Rattle.sleep_model.specs.Sources.{makes, since, starting, owed, steps_after_first, caller, most_entries, IsNext}
 use Rattle.sleep_model.specs.Merge.{of_source, step_number}
 use Rattle.sleep_model.specs.Word.{position}
 use Rattle.wakeup_source.specs.declared.call_by.CallBy.{CallBy}
-use Rattle.wakeup_source.specs.Called.{Scene, Notes, Steps, Calls, after_note}
+use Rattle.wakeup_source.specs.Called.{SourceView, Notes, Steps, Calls, after_note}
 use Rattle.wakeup_source.specs.Called as called
-use Rattle.wakeup_source.specs.SourceStates.{bare, latest, note_entry, note_tick, step_entry, AreBelow, AreInOrder, IsOwnHistory, IsSettled}
-use Rattle.wakeup_source.specs.Told.{MayCall}
+use Rattle.wakeup_source.specs.SourceStates.{unstamped, latest, note_entry, note_tick, step_entry, RisesAfter, RiseUpTo, IsOwnHistory, IsSettled}
+use Rattle.wakeup_source.specs.Shown.{MayCall}
 
 -- between a call's note and its last step: these steps are owed to that caller
-record IsInside (by : CallBy) (steps : List WordKind) (s : Scene) : Type 0 where
-  owes : owed (bare s.source.past) ≡ steps
-  calls : caller (bare s.source.past) ≡ Some by.actor
-  legal : IsOwnHistory s.source.id (bare s.source.past)
-  in_order : AreInOrder s.source.floor s.source.past
-  time : latest (bare s.source.past) ≡ by.now
+record IsInside (by : CallBy) (steps : List WordKind) (s : SourceView) : Type 0 where
+  owes : owed (unstamped s.source.past) ≡ steps
+  calls : caller (unstamped s.source.past) ≡ Some by.actor
+  legal : IsOwnHistory s.source.id (unstamped s.source.past)
+  in_order : RiseUpTo s.source.floor s.source.past
+  time : latest (unstamped s.source.past) ≡ by.now
   floor : s.source.floor.pos ≤ s.floor
 
 same : (s : ℕ) → (s == s) ≡ true
 same s = grind (arith, nat_tests)
 
 -- a new entry stands above the others
-above : (floor : Stamp) (e : SourceEntry) (past : List SourceEntry) → AreInOrder floor past → floor.pos ≤ e.stamp.pos → floor.tick < e.stamp.tick → latest (bare past) ≤ e.entry.time → AreBelow e past
+above : (floor : Stamp) (e : SourceEntry) (past : List SourceEntry) → RiseUpTo floor past → floor.pos ≤ e.stamp.pos → floor.tick < e.stamp.tick → latest (unstamped past) ≤ e.entry.time → RisesAfter e past
 above floor e [] h p t l = tt
 above floor e (x ∷ past) h p t l = (omega (arith, h.0, p), omega (arith, h.1, t), l, h.2)
 
 -- ---- a step
 
-step_owed : (made : WordKind) (s : ℕ) (who : Actor) (time : ℕ) (before : EventNow) (own : List Entry) → owed (step_entry s made who time before ∷ own) ≡ behind_first (owed own)
+step_owed : (made : WordKind) (s : ℕ) (who : Actor) (time : ℕ) (before : EventNow) (own : List Entry) → owed (step_entry s made who time before ∷ own) ≡ steps_after_first (owed own)
 step_owed step.Start s who time before own = refl
 step_owed step.Finish s who time before own = refl
 step_owed step.Hard s who time before own = refl
@@ -53,17 +53,17 @@ step_legal step.Start s who time before own h n c = (same s, (n, c), h)
 step_legal step.Finish s who time before own h n c = (same s, (n, c), h)
 step_legal step.Hard s who time before own h n c = (same s, (n, c), h)
 
--- behind a step the position is one more
+-- after a step the position is one more
 step_moves : (made : WordKind) (s : ℕ) (who : Actor) (time : ℕ) (before : EventNow) (stamp : Stamp) → step_number (of_source (record { stamp = stamp; entry = step_entry s made who time before })) ≡ 1
 step_moves step.Start s who time before stamp = refl
 step_moves step.Finish s who time before stamp = refl
 step_moves step.Hard s who time before stamp = refl
 
-inside_step : (by : CallBy) (made : WordKind) (rest : List WordKind) (before : EventNow) (s : Scene) → IsInside by (made ∷ rest) s → s.floor ≤ position before → IsInside by rest (called.after_step by made before s)
+inside_step : (by : CallBy) (made : WordKind) (rest : List WordKind) (before : EventNow) (s : SourceView) → IsInside by (made ∷ rest) s → s.floor ≤ position before → IsInside by rest (called.after_step by made before s)
 inside_step by made rest before s h l = record {
-  owes = step_owed made s.source.id by.actor by.now before (bare s.source.past) ∙ ap behind_first h.owes;
-  calls = step_caller made s.source.id by.actor by.now before (bare s.source.past) ∙ h.calls;
-  legal = step_legal made s.source.id by.actor by.now before (bare s.source.past) h.legal (subst (IsNext made) (sym h.owes) refl) h.calls;
+  owes = step_owed made s.source.id by.actor by.now before (unstamped s.source.past) ∙ ap steps_after_first h.owes;
+  calls = step_caller made s.source.id by.actor by.now before (unstamped s.source.past) ∙ h.calls;
+  legal = step_legal made s.source.id by.actor by.now before (unstamped s.source.past) h.legal (subst (IsNext made) (sym h.owes) refl) h.calls;
   in_order = (
     omega (arith, step_moves made s.source.id by.actor by.now before (record { pos = position before; tick = s.source.floor.tick + 1 })),
     omega arith,
@@ -73,7 +73,7 @@ inside_step by made rest before s h l = record {
   floor = omega arith;
 }
 
-inside_steps : (by : CallBy) (steps : List WordKind) (old new : Scene) → IsInside by steps old → Steps by steps old new → IsInside by [] new
+inside_steps : (by : CallBy) (steps : List WordKind) (old new : SourceView) → IsInside by steps old → Steps by steps old new → IsInside by [] new
 inside_steps by [] old new h k = subst (IsInside by []) (sym k) h
 inside_steps by (step ∷ rest) old new h k = inside_steps by rest (called.after_step by step k.0 old) new (inside_step by step rest k.0 old h k.2) k.3
 
@@ -97,19 +97,19 @@ note_legal call.Relax s who time seen own h o m = (same s, o, h)
 note_legal (call.Event ms hard) s who time seen own h o m = (same s, o, h)
 note_legal call.Expire s who time seen own h o m = (same s, (o, m), h)
 
--- behind a note it is the same
+-- after a note it is the same
 note_stays : (made : SourceCall) (s : ℕ) (who : Actor) (time : ℕ) (seen : EventNow) (stamp : Stamp) → step_number (of_source (record { stamp = stamp; entry = note_entry s made who time seen })) ≡ 0
 note_stays call.Awake s who time seen stamp = refl
 note_stays call.Relax s who time seen stamp = refl
 note_stays (call.Event ms hard) s who time seen stamp = refl
 note_stays call.Expire s who time seen stamp = refl
 
-inside_note : (by : CallBy) (made : SourceCall) (seen : EventNow) (looked : Option (List EventNow)) (s : Scene) → IsSettled s.source → latest (bare s.source.past) ≤ by.now → MayCall made (bare s.source.past) by.now → s.source.floor.pos ≤ position seen
-    → IsInside by (makes made (since (bare s.source.past))) (after_note by made seen looked s)
+inside_note : (by : CallBy) (made : SourceCall) (seen : EventNow) (looked : Option (List EventNow)) (s : SourceView) → IsSettled s.source → latest (unstamped s.source.past) ≤ by.now → MayCall made (unstamped s.source.past) by.now → s.source.floor.pos ≤ position seen
+    → IsInside by (makes made (since (unstamped s.source.past))) (after_note by made seen looked s)
 inside_note by made seen looked s h t m p = record {
-  owes = note_owed made s.source.id by.actor by.now seen (bare s.source.past);
-  calls = note_caller made s.source.id by.actor by.now seen (bare s.source.past);
-  legal = note_legal made s.source.id by.actor by.now seen (bare s.source.past) h.legal h.owes_none m;
+  owes = note_owed made s.source.id by.actor by.now seen (unstamped s.source.past);
+  calls = note_caller made s.source.id by.actor by.now seen (unstamped s.source.past);
+  legal = note_legal made s.source.id by.actor by.now seen (unstamped s.source.past) h.legal h.owes_none m;
   in_order = (
     omega (arith, note_stays made s.source.id by.actor by.now seen (record { pos = position seen; tick = note_tick by s.source })),
     omega arith,
@@ -146,21 +146,21 @@ short_call (call.Event ms hard) o = short_event o hard (ms == 0)
 short_call call.Expire None = omega arith
 short_call call.Expire (Some at) = omega arith
 
-entries_of : (by : CallBy) (steps : List WordKind) (old new : Scene) → Steps by steps old new → length new.source.past ≡ length old.source.past + length steps
-entries_of by [] old new h = ap (λ (s : Scene). length s.source.past) h ∙ omega arith
+entries_of : (by : CallBy) (steps : List WordKind) (old new : SourceView) → Steps by steps old new → length new.source.past ≡ length old.source.past + length steps
+entries_of by [] old new h = ap (λ (s : SourceView). length s.source.past) h ∙ omega arith
 entries_of by (step ∷ rest) old new h = omega (arith, entries_of by rest (called.after_step by step h.0 old) new h.3)
 
 -- a call makes at most four entries
-pub call_short : (by : CallBy) (made : SourceCall) (old new : Scene) → Calls by made old new → length new.source.past ≤ length old.source.past + 4
+pub call_short : (by : CallBy) (made : SourceCall) (old new : SourceView) → Calls by made old new → length new.source.past ≤ length old.source.past + 4
 call_short by made old new h =
-    omega (arith, entries_of by (makes made (since (bare old.source.past))) h.0 new h.2, ap (λ (s : Scene). length s.source.past) h.1.6, short_call made (since (bare old.source.past)))
+    omega (arith, entries_of by (makes made (since (unstamped old.source.past))) h.0 new h.2, ap (λ (s : SourceView). length s.source.past) h.1.6, short_call made (since (unstamped old.source.past)))
 
 -- after a call a source is settled
-pub settles : (by : CallBy) (made : SourceCall) (old new : Scene) → IsSettled old.source → latest (bare old.source.past) ≤ by.now → MayCall made (bare old.source.past) by.now → length old.source.past + 4 ≤ most_entries → Calls by made old new
+pub settles : (by : CallBy) (made : SourceCall) (old new : SourceView) → IsSettled old.source → latest (unstamped old.source.past) ≤ by.now → MayCall made (unstamped old.source.past) by.now → length old.source.past + 4 ≤ most_entries → Calls by made old new
     → IsSettled new.source
 settles by made old new s t m l h =
-    let first = subst (IsInside by (makes made (since (bare old.source.past)))) (sym h.1.6) (inside_note by made h.1.0 h.0.looked old s t m h.1.5) in
-    let end = inside_steps by (makes made (since (bare old.source.past))) h.0 new first h.2 in
+    let first = subst (IsInside by (makes made (since (unstamped old.source.past)))) (sym h.1.6) (inside_note by made h.1.0 h.0.looked old s t m h.1.5) in
+    let end = inside_steps by (makes made (since (unstamped old.source.past))) h.0 new first h.2 in
     record {
       owes_none = end.owes;
       legal = end.legal;

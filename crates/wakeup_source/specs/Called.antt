@@ -5,28 +5,28 @@ use Rattle.sleep_model.specs.declared.word.EventNow.{EventNow}
 use Rattle.sleep_model.specs.declared.word.WordKind.{WordKind}
 use Rattle.sleep_model.specs.Sources.{makes, since}
 use Rattle.sleep_model.specs.Word.{position}
-use Rattle.event_word.specs.Looks.{IsTold, GrewTo}
-use Rattle.event_word.specs.Steps.{MadeStep, told_after, made_after}
+use Rattle.event_word.specs.Looks.{IsShown, GrewTo}
+use Rattle.event_word.specs.Steps.{MadeStep, shown_after, made_after}
 use Rattle.wakeup_source.specs.declared.call_by.CallBy.{CallBy}
-use Rattle.wakeup_source.specs.SourceStates.{SourceState, bare, with_note, with_step}
+use Rattle.wakeup_source.specs.SourceStates.{SourceState, unstamped, with_note, with_step}
 
 -- what a bump tells, and the source that it is a bump of
-pub record Scene : Type 0 where
-  pub told : Option EventNow
+pub record SourceView : Type 0 where
+  pub shown : Option EventNow
   pub made : Option (List MadeStep)
   pub looked : Option (List EventNow)
   pub floor : ℕ
   pub source : SourceState
 
 -- a bump and a source
-abbrev pub scene : Option EventNow → Option (List MadeStep) → Option (List EventNow) → ℕ → SourceState → Scene
-scene told made looked floor source =
-    record { told = told; made = made; looked = looked; floor = floor; source = source }
+abbrev pub viewed_source : Option EventNow → Option (List MadeStep) → Option (List EventNow) → ℕ → SourceState → SourceView
+viewed_source shown made looked floor source =
+    record { shown = shown; made = made; looked = looked; floor = floor; source = source }
 
 -- after a step with that word before it
-abbrev pub after_step : CallBy → WordKind → EventNow → Scene → Scene
+abbrev pub after_step : CallBy → WordKind → EventNow → SourceView → SourceView
 after_step by step before s = record {
-  told = told_after step s.told;
+  shown = shown_after step s.shown;
   made = made_after step before s.made;
   looked = s.looked;
   floor = position before + 1;
@@ -34,16 +34,16 @@ after_step by step before s = record {
 }
 
 -- these steps are made one after another, each at the word that the holder tells, where it tells one, and no position falls
-abbrev pub Steps : CallBy → List WordKind → Scene → Scene → Type 0
+abbrev pub Steps : CallBy → List WordKind → SourceView → SourceView → Type 0
 Steps by [] old new = new ≡ old
 Steps by (step ∷ rest) old new =
-    (before : EventNow) × IsTold old.told before × (old.floor ≤ position before)
+    (before : EventNow) × IsShown old.shown before × (old.floor ≤ position before)
     × Steps by rest (after_step by step before old) new
 
 -- after the note of a call that saw that word
-abbrev pub after_note : CallBy → SourceCall → EventNow → Option (List EventNow) → Scene → Scene
+abbrev pub after_note : CallBy → SourceCall → EventNow → Option (List EventNow) → SourceView → SourceView
 after_note by call seen looked s = record {
-  told = s.told;
+  shown = s.shown;
   made = s.made;
   looked = looked;
   floor = position seen;
@@ -51,17 +51,17 @@ after_note by call seen looked s = record {
 }
 
 -- a note is made, of a word that was looked at and that is at least what bump, caller and source last knew
-abbrev pub Notes : CallBy → SourceCall → Scene → Scene → Type 0
+abbrev pub Notes : CallBy → SourceCall → SourceView → SourceView → Type 0
 Notes by call old new =
-    (seen : EventNow) × IsTold old.told seen × GrewTo seen old.looked new.looked
+    (seen : EventNow) × IsShown old.shown seen × GrewTo seen old.looked new.looked
     × (old.floor ≤ position seen) × (by.floor.pos ≤ position seen) × (old.source.floor.pos ≤ position seen)
     × (new ≡ after_note by call seen new.looked old)
 
 -- a whole call: its note, and the steps that it makes
-abbrev pub Calls : CallBy → SourceCall → Scene → Scene → Type 0
+abbrev pub Calls : CallBy → SourceCall → SourceView → SourceView → Type 0
 Calls by call old new =
-    (noted : Scene) × Notes by call old noted × Steps by (makes call (since (bare old.source.past))) noted new
+    (noted : SourceView) × Notes by call old noted × Steps by (makes call (since (unstamped old.source.past))) noted new
 
--- what could be made behind these steps can be made once they are made
+-- what could be made after these steps can be made once they are made
 abbrev pub CanGoOnAll : List WordKind → (List WordKind → Bool) → (List WordKind → Bool) → Type 0
 CanGoOnAll steps old new = (rest : List WordKind) → old (steps ++ rest) ≡ true → new rest ≡ true

@@ -1,6 +1,6 @@
-pub mod BookFields
-pub mod Books
+pub mod SourceHistoryFields
+pub mod SourceHistories
 pub mod Called
 pub mod SourceStates
 pub mod Tallies
-pub mod Told
+pub mod Shown

@@ -11,8 +11,8 @@ use Rattle.sleep_model.specs.declared.word.Stamp.{Stamp}
 use Rattle.sleep_model.specs.declared.word.WordKind.{WordKind}
 use Rattle.sleep_model.specs.declared.word.WordKind.TheVariants as step
 use Rattle.sleep_model.specs.Calls.{note}
-use Rattle.sleep_model.specs.Merge.{of_source, position_behind}
-use Rattle.sleep_model.specs.Parts.{part_of}
+use Rattle.sleep_model.specs.Merge.{of_source, next_position}
+use Rattle.sleep_model.specs.EntryClasses.{class_of}
 use Rattle.sleep_model.specs.Sources.{is_of, owed, most_entries, SourceStep}
 use Rattle.sleep_model.specs.Word.{position}
 use Rattle.wakeup_source.specs.declared.call_by.CallBy.{CallBy}
@@ -24,15 +24,15 @@ pub record SourceState : Type 0 where
   pub floor : Stamp
 
 -- the entries without their stamps
-abbrev pub bare : List SourceEntry → List Entry
-bare [] = []
-bare (e ∷ past) = e.entry ∷ bare past
+abbrev pub unstamped : List SourceEntry → List Entry
+unstamped [] = []
+unstamped (e ∷ past) = e.entry ∷ unstamped past
 
 -- a source that was never called
 abbrev pub new_source : ℕ → SourceState
 new_source id = record { id = id; past = []; floor = record { pos = 0; tick = 0 } }
 
--- the time of the newest entry in ms, 0 where there is none
+-- the time of the newest entry in ms, 0 if there is none
 abbrev pub latest : List Entry → ℕ
 latest [] = 0
 latest (e ∷ own) = e.time
@@ -53,7 +53,7 @@ note_entry s call who time seen = record { time = time; now = seen; actor = who;
 abbrev pub step_entry : ℕ → WordKind → Actor → ℕ → EventNow → Entry
 step_entry s step who time before = record { time = time; now = before; actor = who; kind = step_kind s step }
 
--- the tick of a note: behind what its maker and the source last knew
+-- the tick of a note: after what its maker and the source last knew
 abbrev pub note_tick : CallBy → SourceState → ℕ
 note_tick by source = max by.floor.tick source.floor.tick + 1
 
@@ -85,33 +85,33 @@ later_stamp one other = record { pos = max one.pos other.pos; tick = max one.tic
 
 -- ---- what holds of a source between calls
 
--- each entry's tick is above those before it, no position and no time falls, and a position rises behind a step
-abbrev pub AreBelow : SourceEntry → List SourceEntry → Type 0
-AreBelow newer [] = Unit {0}
-AreBelow newer (e ∷ past) =
-    (position_behind (of_source e) ≤ newer.stamp.pos) × (e.stamp.tick < newer.stamp.tick) × (e.entry.time ≤ newer.entry.time)
-    × AreBelow e past
+-- each entry's tick is above those before it, no position and no time falls, and a position rises after a step
+abbrev pub RisesAfter : SourceEntry → List SourceEntry → Type 0
+RisesAfter newer [] = Unit {0}
+RisesAfter newer (e ∷ past) =
+    (next_position (of_source e) ≤ newer.stamp.pos) × (e.stamp.tick < newer.stamp.tick) × (e.entry.time ≤ newer.entry.time)
+    × RisesAfter e past
 
--- the entries are in order, up to what the source last knew: behind a step that is one position more
-abbrev pub AreInOrder : Stamp → List SourceEntry → Type 0
-AreInOrder floor [] = Unit {0}
-AreInOrder floor (e ∷ past) = (position_behind (of_source e) ≤ floor.pos) × (e.stamp.tick ≤ floor.tick) × AreBelow e past
+-- the entries are in order, up to what the source last knew: after a step that is one position more
+abbrev pub RiseUpTo : Stamp → List SourceEntry → Type 0
+RiseUpTo floor [] = Unit {0}
+RiseUpTo floor (e ∷ past) = (next_position (of_source e) ≤ floor.pos) × (e.stamp.tick ≤ floor.tick) × RisesAfter e past
 
 -- each entry, the newest first, is of that source and legal where it stands
 abbrev pub IsOwnHistory : ℕ → List Entry → Type 0
 IsOwnHistory s [] = Unit {0}
 IsOwnHistory s (e ∷ own) =
-    (is_of s (part_of e.kind) ≡ true) × SourceStep own e.time e.actor (part_of e.kind) × IsOwnHistory s own
+    (is_of s (class_of e.kind) ≡ true) × SourceStep own e.time e.actor (class_of e.kind) × IsOwnHistory s own
 
 -- between calls: no step is owed, the history is legal, in order, and not too long
 pub record IsSettled (source : SourceState) : Type 0 where
-  pub owes_none : owed (bare source.past) ≡ []
-  pub legal : IsOwnHistory source.id (bare source.past)
-  pub in_order : AreInOrder source.floor source.past
+  pub owes_none : owed (unstamped source.past) ≡ []
+  pub legal : IsOwnHistory source.id (unstamped source.past)
+  pub in_order : RiseUpTo source.floor source.past
   pub short : length source.past ≤ most_entries
 
 -- and it has that number of places
-pub record IsSource (cap : ℕ) (source : SourceState) : Type 0 where
+pub record IsSourceOf (cap : ℕ) (source : SourceState) : Type 0 where
   pub settled : IsSettled source
   pub places : length source.past ≤ cap
   pub few : cap ≤ most_entries

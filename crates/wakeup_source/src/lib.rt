@@ -6,16 +6,16 @@
 //! nothing. An expiry comes exactly if its moment has come. Statistics and expiry are the history's. By the clauses
 //! of `WakeSource::stay_awake`, `relax`, `event`, `expire`, `due`, `stats`, `history`, `raise`; `stats_line`.
 //!
-//! Begin reading in `src/source.rt`, `specs/Called.antt`, `specs/Told.antt`.
+//! Begin reading in `src/source.rt`, `specs/Called.antt`, `specs/Shown.antt`.
 #![tactic(auto)]
 
-mod book;
 mod call_by;
 mod fault;
 mod kinds;
 mod line;
-mod places;
+mod reserved_places;
 mod source;
+mod source_history;
 mod steps;
 mod tally;
 

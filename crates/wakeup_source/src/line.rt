@@ -37,7 +37,7 @@ fn push_times(line: &mut String, stats: &Stats) -> Result<(), AllocError>
 }
 
 /// The line of a source in a log (`print_wakeup_source_stats`): its name, which is text, its three counts and its
-/// four times in ms, with a newline. `Mem` where there is no memory. It is for a caller that prints a source alone: a log's
+/// four times in ms, with a newline. `Mem` if there is no memory. It is for a caller that prints a source alone: a log's
 /// lines are put together without memory.
 pub fn stats_line(alloc: Global, name: &Name, stats: &Stats) -> Result<String, Mem>
     requires { IsUtf8 name.now }

@@ -1,6 +1,6 @@
-use crate::book::Book;
 use crate::call_by::CallBy;
 use crate::fault::SourceFault;
+use crate::source_history::SourceHistory;
 use event_word::Bump;
 use sleep_model::{SourceCall, SourceEntry, SourceList, Stamp, Stats};
 use std::alloc::Global;
@@ -11,26 +11,26 @@ use std::sync::Wait;
 /// `struct wakeup_source`). Contracts see its number, its entries, the newest first, and what it last knew.
 #[derive(Drop)]
 pub struct WakeSource<const CAP: usize> {
-    book: Book,
+    source_history: SourceHistory,
 }
 
 impl<const CAP: usize> Model for WakeSource<CAP> {
-    ghost use Rattle.wakeup_source.specs.SourceStates.{SourceState, IsSource};
+    ghost use Rattle.wakeup_source.specs.SourceStates.{SourceState, IsSourceOf};
 
     ghost Value = { SourceState };
 
-    ghost view = { λ s. s.book.source };
+    ghost view = { λ s. s.source_history.source };
 
-    ghost invariant = { λ s. IsSource CAP s.book.source };
+    ghost invariant = { λ s. IsSourceOf CAP s.source_history.source };
 }
 
 impl<const CAP: usize> WakeSource<CAP> {
     ghost use Rattle.std.specs.Prelude.{◌≡◌, ◌≤◌, ◌<◌, ◌+◌, ◌^◌, ◌↔◌, true, false, Some, None, Ok, Err, length, reverse, OnOk, OnErr, IfOk, IfSome};
     ghost use Rattle.sleep_model.specs.declared.machine.SourceCall.TheVariants.{Awake, Relax, Event, Expire};
     ghost use Rattle.sleep_model.specs.Sources.{makes, since, expiry, has_expired, most_entries, stats_at};
-    ghost use Rattle.wakeup_source.specs.Called.{scene, Calls, CanGoOnAll};
-    ghost use Rattle.wakeup_source.specs.SourceStates.{new_source, bare, latest, later_stamp, IsSettled};
-    ghost use Rattle.wakeup_source.specs.Told.{IsToldCall, AreOwnSteps, OnDone};
+    ghost use Rattle.wakeup_source.specs.Called.{viewed_source, Calls, CanGoOnAll};
+    ghost use Rattle.wakeup_source.specs.SourceStates.{new_source, unstamped, latest, later_stamp, IsSettled};
+    ghost use Rattle.wakeup_source.specs.Shown.{IsShownCall, AreOwnSteps, OnDone};
 
     /// The source with that number, never called. `CAP` is at most `MOST_ENTRIES`.
     pub fn new(alloc: Global, id: u32) -> Self
@@ -38,39 +38,39 @@ impl<const CAP: usize> WakeSource<CAP> {
         ensures { result ≡ new_source id }
     {
         WakeSource {
-            book: Book::new(alloc, id),
+            source_history: SourceHistory::new(alloc, id),
         }
     }
 
     /// An event that lasts until it is ended by hand (`__pm_stay_awake`). Answers what the caller then knows.
-    /// `Full` where fewer than four places are left, `Mem` where there is no memory: nothing has changed then.
+    /// `Full` where fewer than four places are left, `Mem` if there is no memory: nothing has changed then.
     pub fn stay_awake<R: Wait, B: Bump>(
         &mut self,
         rt: &R,
         events: &mut B,
         by: CallBy,
     ) -> Result<Stamp, SourceFault>
-        requires time { latest (bare self.old.past) ≤ by.now }
+        requires time { latest (unstamped self.old.past) ≤ by.now }
         requires small { by.now ≤ 2 ^ 63 }
-        requires can { B.can events.old (makes Awake (since (bare self.old.past))) ≡ true }
+        requires can { B.can events.old (makes Awake (since (unstamped self.old.past))) ≡ true }
         ensures calls { OnOk result (Calls by Awake
-            (scene (B.tells events.old) (B.made events.old) (B.looked events.old) (B.floor events.old) self.old)
-            (scene (B.tells events.new) (B.made events.new) (B.looked events.new) (B.floor events.new) self.new)) }
-        ensures told { OnOk result (IsToldCall by Awake (B.tells events.old) (B.tells events.new) self.old self.new) }
+            (viewed_source (B.shows events.old) (B.made events.old) (B.looked events.old) (B.floor events.old) self.old)
+            (viewed_source (B.shows events.new) (B.made events.new) (B.looked events.new) (B.floor events.new) self.new)) }
+        ensures shown { OnOk result (IsShownCall by Awake (B.shows events.old) (B.shows events.new) self.old self.new) }
         ensures made { OnOk result (AreOwnSteps (B.made events.old) (B.made events.new) self.old self.new) }
         ensures stamp { IfOk result (λ stamp. stamp ≡ self.new.floor) }
         ensures full { (result ≡ Err SourceFault.Full) ↔ (CAP < length self.old.past + 4) }
         ensures err { OnErr result ((self.new ≡ self.old) × (events.new ≡ events.old)) }
-        ensures time { latest (bare self.new.past) ≤ by.now }
+        ensures time { latest (unstamped self.new.past) ≤ by.now }
         ensures settled { IsSettled self.new }
-        ensures can { OnOk result (CanGoOnAll (makes Awake (since (bare self.old.past)))
+        ensures can { OnOk result (CanGoOnAll (makes Awake (since (unstamped self.old.past)))
             (B.can events.old) (B.can events.new)) }
         ensures root { B.root events.new ≡ B.root events.old }
     {
-        self.book.make_room(rt, by, CAP)?;
-        self.book.look(rt, events, by, SourceCall::Awake);
-        self.book.start_unless_active(events, by);
-        Ok(self.book.floor())
+        self.source_history.make_room(rt, by, CAP)?;
+        self.source_history.look(rt, events, by, SourceCall::Awake);
+        self.source_history.start_unless_active(events, by);
+        Ok(self.source_history.floor())
     }
 
     /// The end of the event in progress, if one is (`__pm_relax`). Answers and refuses as `stay_awake`.
@@ -80,28 +80,28 @@ impl<const CAP: usize> WakeSource<CAP> {
         events: &mut B,
         by: CallBy,
     ) -> Result<Stamp, SourceFault>
-        requires time { latest (bare self.old.past) ≤ by.now }
+        requires time { latest (unstamped self.old.past) ≤ by.now }
         requires small { by.now ≤ 2 ^ 63 }
-        requires can { B.can events.old (makes Relax (since (bare self.old.past))) ≡ true }
+        requires can { B.can events.old (makes Relax (since (unstamped self.old.past))) ≡ true }
         ensures calls { OnOk result (Calls by Relax
-            (scene (B.tells events.old) (B.made events.old) (B.looked events.old) (B.floor events.old) self.old)
-            (scene (B.tells events.new) (B.made events.new) (B.looked events.new) (B.floor events.new) self.new)) }
-        ensures told { OnOk result (IsToldCall by Relax (B.tells events.old) (B.tells events.new) self.old self.new) }
+            (viewed_source (B.shows events.old) (B.made events.old) (B.looked events.old) (B.floor events.old) self.old)
+            (viewed_source (B.shows events.new) (B.made events.new) (B.looked events.new) (B.floor events.new) self.new)) }
+        ensures shown { OnOk result (IsShownCall by Relax (B.shows events.old) (B.shows events.new) self.old self.new) }
         ensures made { OnOk result (AreOwnSteps (B.made events.old) (B.made events.new) self.old self.new) }
         ensures stamp { IfOk result (λ stamp. stamp ≡ self.new.floor) }
         ensures full { (result ≡ Err SourceFault.Full) ↔ (CAP < length self.old.past + 4) }
         ensures err { OnErr result ((self.new ≡ self.old) × (events.new ≡ events.old)) }
-        ensures time { latest (bare self.new.past) ≤ by.now }
+        ensures time { latest (unstamped self.new.past) ≤ by.now }
         ensures settled { IsSettled self.new }
-        ensures can { OnOk result (CanGoOnAll (makes Relax (since (bare self.old.past)))
+        ensures can { OnOk result (CanGoOnAll (makes Relax (since (unstamped self.old.past)))
             (B.can events.old) (B.can events.new)) }
         ensures root { B.root events.new ≡ B.root events.old }
     {
-        self.book.make_room(rt, by, CAP)?;
-        self.book.look(rt, events, by, SourceCall::Relax);
-        let active = self.book.is_active();
-        self.book.finish_if(events, by, active);
-        Ok(self.book.floor())
+        self.source_history.make_room(rt, by, CAP)?;
+        self.source_history.look(rt, events, by, SourceCall::Relax);
+        let active = self.source_history.is_active();
+        self.source_history.finish_if(events, by, active);
+        Ok(self.source_history.floor())
     }
 
     /// An event of `ms` milliseconds, a hard one or not (`pm_wakeup_ws_event`): one without length ends at once, one
@@ -114,34 +114,34 @@ impl<const CAP: usize> WakeSource<CAP> {
         ms: u32,
         hard: bool,
     ) -> Result<Stamp, SourceFault>
-        requires time { latest (bare self.old.past) ≤ by.now }
+        requires time { latest (unstamped self.old.past) ≤ by.now }
         requires small { by.now ≤ 2 ^ 63 }
-        requires can { B.can events.old (makes (Event ms hard) (since (bare self.old.past))) ≡ true }
+        requires can { B.can events.old (makes (Event ms hard) (since (unstamped self.old.past))) ≡ true }
         ensures calls { OnOk result (Calls by (Event ms hard)
-            (scene (B.tells events.old) (B.made events.old) (B.looked events.old) (B.floor events.old) self.old)
-            (scene (B.tells events.new) (B.made events.new) (B.looked events.new) (B.floor events.new) self.new)) }
-        ensures told { OnOk result (IsToldCall by (Event ms hard)
-            (B.tells events.old) (B.tells events.new) self.old self.new) }
+            (viewed_source (B.shows events.old) (B.made events.old) (B.looked events.old) (B.floor events.old) self.old)
+            (viewed_source (B.shows events.new) (B.made events.new) (B.looked events.new) (B.floor events.new) self.new)) }
+        ensures shown { OnOk result (IsShownCall by (Event ms hard)
+            (B.shows events.old) (B.shows events.new) self.old self.new) }
         ensures made { OnOk result (AreOwnSteps (B.made events.old) (B.made events.new) self.old self.new) }
         ensures stamp { IfOk result (λ stamp. stamp ≡ self.new.floor) }
         ensures full { (result ≡ Err SourceFault.Full) ↔ (CAP < length self.old.past + 4) }
         ensures err { OnErr result ((self.new ≡ self.old) × (events.new ≡ events.old)) }
-        ensures time { latest (bare self.new.past) ≤ by.now }
+        ensures time { latest (unstamped self.new.past) ≤ by.now }
         ensures settled { IsSettled self.new }
-        ensures can { OnOk result (CanGoOnAll (makes (Event ms hard) (since (bare self.old.past)))
+        ensures can { OnOk result (CanGoOnAll (makes (Event ms hard) (since (unstamped self.old.past)))
             (B.can events.old) (B.can events.new)) }
         ensures root { B.root events.new ≡ B.root events.old }
     {
         let call = SourceCall::Event { ms, hard };
-        self.book.make_room(rt, by, CAP)?;
-        self.book.look(rt, events, by, call);
-        self.book.start_unless_active(events, by);
-        self.book.hard_if(events, by, hard);
-        self.book.finish_if(events, by, ms == 0);
-        Ok(self.book.floor())
+        self.source_history.make_room(rt, by, CAP)?;
+        self.source_history.look(rt, events, by, call);
+        self.source_history.start_unless_active(events, by);
+        self.source_history.hard_if(events, by, hard);
+        self.source_history.finish_if(events, by, ms == 0);
+        Ok(self.source_history.floor())
     }
 
-    /// The end of the event in progress where its moment has come (`pm_wakeup_timer_fn`). `None` where it has not,
+    /// The end of the event in progress where its moment has come (`pm_wakeup_timer_fn`). `None` if it has not,
     /// which is tested first. Else answers and refuses as `stay_awake`.
     pub fn expire<R: Wait, B: Bump>(
         &mut self,
@@ -149,52 +149,52 @@ impl<const CAP: usize> WakeSource<CAP> {
         events: &mut B,
         by: CallBy,
     ) -> Result<Option<Stamp>, SourceFault>
-        requires time { latest (bare self.old.past) ≤ by.now }
+        requires time { latest (unstamped self.old.past) ≤ by.now }
         requires small { by.now ≤ 2 ^ 63 }
-        requires can { B.can events.old (makes Expire (since (bare self.old.past))) ≡ true }
+        requires can { B.can events.old (makes Expire (since (unstamped self.old.past))) ≡ true }
         ensures calls { OnDone result (Calls by Expire
-            (scene (B.tells events.old) (B.made events.old) (B.looked events.old) (B.floor events.old) self.old)
-            (scene (B.tells events.new) (B.made events.new) (B.looked events.new) (B.floor events.new) self.new)) }
-        ensures told { OnDone result (IsToldCall by Expire
-            (B.tells events.old) (B.tells events.new) self.old self.new) }
+            (viewed_source (B.shows events.old) (B.made events.old) (B.looked events.old) (B.floor events.old) self.old)
+            (viewed_source (B.shows events.new) (B.made events.new) (B.looked events.new) (B.floor events.new) self.new)) }
+        ensures shown { OnDone result (IsShownCall by Expire
+            (B.shows events.old) (B.shows events.new) self.old self.new) }
         ensures made { OnDone result (AreOwnSteps (B.made events.old) (B.made events.new) self.old self.new) }
         ensures stamp { IfOk result (λ answer. IfSome answer (λ stamp. stamp ≡ self.new.floor)) }
-        ensures none { (result ≡ Ok None) ↔ (has_expired (expiry (bare self.old.past)) by.now ≡ false) }
+        ensures none { (result ≡ Ok None) ↔ (has_expired (expiry (unstamped self.old.past)) by.now ≡ false) }
         ensures rests { result ≡ Ok None → (self.new ≡ self.old) × (events.new ≡ events.old) }
         ensures full { (result ≡ Err SourceFault.Full)
-            ↔ ((has_expired (expiry (bare self.old.past)) by.now ≡ true) × (CAP < length self.old.past + 4)) }
+            ↔ ((has_expired (expiry (unstamped self.old.past)) by.now ≡ true) × (CAP < length self.old.past + 4)) }
         ensures err { OnErr result ((self.new ≡ self.old) × (events.new ≡ events.old)) }
-        ensures time { latest (bare self.new.past) ≤ by.now }
+        ensures time { latest (unstamped self.new.past) ≤ by.now }
         ensures settled { IsSettled self.new }
-        ensures can { OnDone result (CanGoOnAll (makes Expire (since (bare self.old.past)))
+        ensures can { OnDone result (CanGoOnAll (makes Expire (since (unstamped self.old.past)))
             (B.can events.old) (B.can events.new)) }
         ensures root { B.root events.new ≡ B.root events.old }
     {
-        if !self.book.has_expired(by.now) {
+        if !self.source_history.has_expired(by.now) {
             return Ok(None);
         }
-        self.book.make_room(rt, by, CAP)?;
-        self.book.look(rt, events, by, SourceCall::Expire);
-        let active = self.book.is_active();
-        self.book.finish_if(events, by, active);
-        Ok(Some(self.book.floor()))
+        self.source_history.make_room(rt, by, CAP)?;
+        self.source_history.look(rt, events, by, SourceCall::Expire);
+        let active = self.source_history.is_active();
+        self.source_history.finish_if(events, by, active);
+        Ok(Some(self.source_history.floor()))
     }
 
     /// When the event in progress ends by itself, in ms, if it does (`ws->timer_expires`).
     pub fn due(&self) -> Option<u64>
-        ensures due { result ≡ expiry (bare self.now.past) }
+        ensures due { result ≡ expiry (unstamped self.now.past) }
         ensures settled { IsSettled self.now }
     {
-        self.book.expiry()
+        self.source_history.expiry()
     }
 
     /// The statistics at that moment, not before the last entry's (`print_wakeup_source_stats`).
     pub fn stats(&self, now: u64) -> Stats
-        requires time { latest (bare self.now.past) ≤ now }
+        requires time { latest (unstamped self.now.past) ≤ now }
         requires small { now ≤ 2 ^ 63 }
-        ensures { result ≡ stats_at (bare self.now.past) now }
+        ensures { result ≡ stats_at (unstamped self.now.past) now }
     {
-        self.book.stats(now)
+        self.source_history.stats(now)
     }
 
     /// The entries, the oldest first.
@@ -202,7 +202,7 @@ impl<const CAP: usize> WakeSource<CAP> {
         ensures entries { reverse result.now ≡ self.now.past }
         ensures places { length self.now.past ≤ CAP }
     {
-        self.book.as_slice()
+        self.source_history.as_slice()
     }
 
     /// The entries, the oldest first, without the source.
@@ -211,8 +211,8 @@ impl<const CAP: usize> WakeSource<CAP> {
         ensures settled { IsSettled self.entry }
         ensures places { length self.entry.past ≤ CAP }
     {
-        let WakeSource { book } = self;
-        book.into_list()
+        let WakeSource { source_history } = self;
+        source_history.into_list()
     }
 
     /// Raises what the source last knew, number by number: its next entry's tick is above.
@@ -220,6 +220,6 @@ impl<const CAP: usize> WakeSource<CAP> {
         ensures raised { self.new ≡ record self.old { floor = later_stamp self.old.floor floor } }
         ensures settled { IsSettled self.new }
     {
-        self.book.raise(floor);
+        self.source_history.raise(floor);
     }
 }

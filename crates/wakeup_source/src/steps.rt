@@ -1,24 +1,24 @@
 //! The parts of a call on a source, over the word that it moves.
 
-use crate::book::Book;
 use crate::call_by::CallBy;
 use crate::fault::SourceFault;
+use crate::source_history::SourceHistory;
 use event_word::{Bump, look_from};
 use sleep_base::wait_unless;
 use sleep_model::{SourceCall, WordKind};
 use std::sync::Wait;
 
-impl Book {
+impl SourceHistory {
     ghost use Rattle.std.specs.Prelude.{◌≡◌, ◌≤◌, ◌+◌, ◌-◌, ◌<◌, ◌^◌, ◌↔◌, ◌∷◌, [], true, None, Err, length, OnOk, OnErr, if◌then◌else◌};
     ghost use Rattle.event_word.specs.Steps.{CanMake};
     ghost use Rattle.sleep_model.specs.declared.word.WordKind.TheVariants.{Start, Finish, Hard};
     ghost use Rattle.sleep_model.specs.Sources.{since, starting, most_entries};
-    ghost use Rattle.wakeup_source.specs.Books.{IsReady};
-    ghost use Rattle.wakeup_source.specs.Called.{scene, Notes, Steps, CanGoOnAll};
-    ghost use Rattle.wakeup_source.specs.SourceStates.{bare, latest};
+    ghost use Rattle.wakeup_source.specs.SourceHistories.{IsReady};
+    ghost use Rattle.wakeup_source.specs.Called.{viewed_source, Notes, Steps, CanGoOnAll};
+    ghost use Rattle.wakeup_source.specs.SourceStates.{unstamped, latest};
 
     /// Sees that the four entries that a call may make have places and ticks. `Full` where so many entries leave
-    /// fewer than four places, `Mem` where there is no memory: nothing has changed then. Ticks that would pass their
+    /// fewer than four places, `Mem` if there is no memory: nothing has changed then. Ticks that would pass their
     /// range wait for ever.
     pub(crate) fn make_room<R: Wait>(
         &mut self,
@@ -27,7 +27,7 @@ impl Book {
         places: usize,
     ) -> Result<(), SourceFault>
         requires few { places ≤ most_entries }
-        requires time { latest (bare self.old.source.past) ≤ by.now }
+        requires time { latest (unstamped self.old.source.past) ≤ by.now }
         requires small { by.now ≤ 2 ^ 63 }
         ensures source { self.new.source ≡ self.old.source }
         ensures ready { OnOk result (IsReady 4 by self.new) }
@@ -52,8 +52,8 @@ impl Book {
     )
         requires { IsReady 4 by self.old }
         ensures notes { Notes by call
-            (scene (B.tells events.old) (B.made events.old) (B.looked events.old) (B.floor events.old) self.old.source)
-            (scene (B.tells events.new) (B.made events.new) (B.looked events.new) (B.floor events.new)
+            (viewed_source (B.shows events.old) (B.made events.old) (B.looked events.old) (B.floor events.old) self.old.source)
+            (viewed_source (B.shows events.new) (B.made events.new) (B.looked events.new) (B.floor events.new)
             self.new.source) }
         ensures ready { IsReady 3 by self.new }
         ensures floor { self.new.source.floor.pos ≤ B.floor events.new }
@@ -69,14 +69,14 @@ impl Book {
     pub(crate) fn start_unless_active<B: Bump>(&mut self, events: &mut B, by: CallBy)
         requires ready { IsReady 3 by self.old }
         requires floor { self.old.source.floor.pos ≤ B.floor events.old }
-        requires can { since (bare self.old.source.past) ≡ None → CanMake (B.can events.old) Start }
-        ensures steps { Steps by (starting (since (bare self.old.source.past)))
-            (scene (B.tells events.old) (B.made events.old) (B.looked events.old) (B.floor events.old) self.old.source)
-            (scene (B.tells events.new) (B.made events.new) (B.looked events.new) (B.floor events.new)
+        requires can { since (unstamped self.old.source.past) ≡ None → CanMake (B.can events.old) Start }
+        ensures steps { Steps by (starting (since (unstamped self.old.source.past)))
+            (viewed_source (B.shows events.old) (B.made events.old) (B.looked events.old) (B.floor events.old) self.old.source)
+            (viewed_source (B.shows events.new) (B.made events.new) (B.looked events.new) (B.floor events.new)
             self.new.source) }
         ensures ready { IsReady 2 by self.new }
         ensures floor { self.new.source.floor.pos ≤ B.floor events.new }
-        ensures can { CanGoOnAll (starting (since (bare self.old.source.past))) (B.can events.old) (B.can events.new) }
+        ensures can { CanGoOnAll (starting (since (unstamped self.old.source.past))) (B.can events.old) (B.can events.new) }
         ensures root { B.root events.new ≡ B.root events.old }
     {
         if self.is_active() {
@@ -92,8 +92,8 @@ impl Book {
         requires floor { self.old.source.floor.pos ≤ B.floor events.old }
         requires can { hard ≡ true → CanMake (B.can events.old) Hard }
         ensures steps { Steps by (if hard then Hard ∷ [] else [])
-            (scene (B.tells events.old) (B.made events.old) (B.looked events.old) (B.floor events.old) self.old.source)
-            (scene (B.tells events.new) (B.made events.new) (B.looked events.new) (B.floor events.new)
+            (viewed_source (B.shows events.old) (B.made events.old) (B.looked events.old) (B.floor events.old) self.old.source)
+            (viewed_source (B.shows events.new) (B.made events.new) (B.looked events.new) (B.floor events.new)
             self.new.source) }
         ensures ready { IsReady 1 by self.new }
         ensures floor { self.new.source.floor.pos ≤ B.floor events.new }
@@ -113,8 +113,8 @@ impl Book {
         requires floor { self.old.source.floor.pos ≤ B.floor events.old }
         requires can { ends ≡ true → CanMake (B.can events.old) Finish }
         ensures steps { Steps by (if ends then Finish ∷ [] else [])
-            (scene (B.tells events.old) (B.made events.old) (B.looked events.old) (B.floor events.old) self.old.source)
-            (scene (B.tells events.new) (B.made events.new) (B.looked events.new) (B.floor events.new)
+            (viewed_source (B.shows events.old) (B.made events.old) (B.looked events.old) (B.floor events.old) self.old.source)
+            (viewed_source (B.shows events.new) (B.made events.new) (B.looked events.new) (B.floor events.new)
             self.new.source) }
         ensures floor { self.new.source.floor.pos ≤ B.floor events.new }
         ensures can { CanGoOnAll (if ends then Finish ∷ [] else []) (B.can events.old) (B.can events.new) }

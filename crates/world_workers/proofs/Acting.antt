@@ -21,11 +21,11 @@ use Rattle.turn_lock.specs.Passes.{Token, made_of}
 use Rattle.run_laws.specs.Passes.{Noted}
 use Rattle.run_world.specs.declared.object.WorldObject.{WorldObject}
 use Rattle.run_world.specs.Objects.{IsWorldPass}
-use Rattle.run_world.specs.Told.{AfterCoreTurn, AfterReport, IsTurn}
+use Rattle.run_world.specs.Outcomes.{AfterCoreTurn, AfterReport, IsTurn}
 use Rattle.run_world.specs.declared.task.Task.{Task}
 use Rattle.run_world.specs.declared.task.Task.TheVariants as task
 use Rattle.run_world.specs.Acts.{Does, Nothing, Turns, Calls, Expires}
-use Rattle.world_workers.specs.Tries.{GoesIn, HasActed, HasMade, IsRangedTurn, IsTaskIn, told_call, told_expiry, told_turn}
+use Rattle.world_workers.specs.Tries.{GoesIn, HasActed, HasMade, IsRangedTurn, IsTaskIn, told_source, timer_after_call, told_core}
 
 few_more : (ends : Bool) (n : ℕ) → one_more ends n ≤ n + 1
 few_more true n = omega arith
@@ -61,7 +61,7 @@ module _ (m : Machine) (table locks : TableId) (moment : ℕ) (before after : To
 
   -- a turn of the machine that a job wanted
   pub acted_turn : (job : JobState) → IsTaskIn m (task.Acts job) → (answer : Result CoreTurn CoreFault) → IsWanted job want.Core → IsRangedTurn answer
-      → (past : List JournalEntry) → AfterCoreTurn m job.who job.calls job.floor moment past answer gains → HasActed m table locks moment (task.Acts job) (task.Acts (told_turn answer job)) before after
+      → (past : List JournalEntry) → AfterCoreTurn m job.who job.calls job.floor moment past answer gains → HasActed m table locks moment (task.Acts job) (task.Acts (told_core answer job)) before after
   acted_turn job is_in (Ok (Did stamp k attempt)) wants ranged past h = record {
     gains = gains;
     goes = record { pass = pass; is_in = is_in };
@@ -79,7 +79,7 @@ module _ (m : Machine) (table locks : TableId) (moment : ℕ) (before after : To
   pub acted_call : (job : JobState) → IsTaskIn m (task.Acts job) → (s : ℕ) (call : SourceCall) (answer : Result (Option Stamp) SourceFault) → s ≤ length m.sources
       → IsWanted job (want.Source s call) → is_ranged (note s call) ≡ true
       → (past : List SourceEntry) → AfterReport (record { actor = job.who; floor = job.floor; now = moment }) call s past answer gains
-      → HasActed m table locks moment (task.Acts job) (task.Acts (told_call answer job)) before after
+      → HasActed m table locks moment (task.Acts job) (task.Acts (told_source answer job)) before after
   acted_call job is_in s call (Ok (Some stamp)) there wants ranged past h = record {
     gains = gains;
     goes = record { pass = pass; is_in = is_in };
@@ -94,7 +94,7 @@ module _ (m : Machine) (table locks : TableId) (moment : ℕ) (before after : To
   -- the call of a timer
   pub acted_expiry : (timer : TimerState) → IsTaskIn m (task.Fires timer) → (answer : Result (Option Stamp) SourceFault) (past : List SourceEntry)
       → AfterReport (record { actor = actor.Timer timer.source; floor = timer.floor; now = moment }) calls.Expire timer.source past answer gains
-      → HasActed m table locks moment (task.Fires timer) (task.Fires (told_expiry answer timer)) before after
+      → HasActed m table locks moment (task.Fires timer) (task.Fires (timer_after_call answer timer)) before after
   acted_expiry timer is_in (Ok (Some stamp)) past h = record {
     gains = gains;
     goes = record { pass = pass; is_in = is_in };

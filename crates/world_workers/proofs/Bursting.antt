@@ -6,16 +6,16 @@ use Rattle.turn_lock.specs.declared.table.Pass.{Pass}
 use Rattle.turn_lock.specs.Passes.{AreAll, Token, first_of}
 use Rattle.turn_lock.specs.Passing.{made_lists, tokens}
 use Rattle.run_laws.specs.Passes.{Noted}
-use Rattle.run_objects.specs.Objects.{AreKept, SeatedCoreState, SeatedSourceState}
+use Rattle.run_objects.specs.Objects.{SourcesInvariant, SeatedCoreState, SeatedSourceState}
 use Rattle.run_world.specs.declared.object.WorldObject.{WorldObject}
-use Rattle.run_world.specs.Held.{AreAll as AreAllObjects, IsClosedWorld}
+use Rattle.run_world.specs.ObjectLists.{AreAll as AreAllObjects, IsClosedWorld}
 use Rattle.run_world.specs.Objects.{AreObjects}
 use Rattle.run_world.specs.declared.task.Task.{Task}
 use Rattle.run_world.specs.Bursts.{AllPlayed}
 use Rattle.world_workers.specs.declared.worker.Worker.{Worker}
 use Rattle.world_workers.specs.Opened.{Began, HasEnded, HasRun, IsOpened}
-use Rattle.world_workers.specs.Workers.{AreParts, AreWorkersOf, HaveGone}
-use Rattle.world_workers.proofs.Crews.{AreSame, actors_same, all_back, all_played, append_nil, fresh_workers, new_passes, tasks_back}
+use Rattle.world_workers.specs.Workers.{AreContents, AreWorkersOf, HaveTurned}
+use Rattle.world_workers.proofs.Pools.{AreSame, actors_same, all_back, all_played, append_nil, fresh_workers, new_passes, tasks_back}
 use Rattle.world_workers.proofs.Opening.{objects_are, those_count}
 use Rattle.world_workers.proofs.Closing.{ready_again}
 
@@ -38,12 +38,12 @@ module _ (b : Began) (own : Token WorldObject Noted) (locks : TableId) (workers 
 
   -- the workers go with the world
   pub start : AreWorkersOf b.machine b.table locks b.moment workers
-  start = fresh_workers b.machine b.table locks b.moment workers o.passes b.tasks o.parts o.fresh (new_passes b.machine b.table locks b.moment own o.objects o.passes o.place o.first world o.new) o.ready.tasks_in
+  start = fresh_workers b.machine b.table locks b.moment workers o.passes b.tasks o.contents o.fresh (new_passes b.machine b.table locks b.moment own o.objects o.passes o.place o.first world o.new) o.ready.tasks_in
 
 module _ (b : Began) (own : Token WorldObject Noted) (locks : TableId) (workers : List Worker) (r : HasRun b own locks workers) (backs : List (Pass WorldObject Noted)) (thens : List Task)
-    (after : AreParts workers backs thens) where
+    (after : AreContents workers backs thens) where
   played : AllPlayed (length b.machine.sources + 1) b.moment b.tasks (made_lists backs) thens × AreSame r.opened.passes backs
-  played = all_played b.machine b.table locks b.moment r.before workers r.did r.opened.passes backs b.tasks thens r.gone r.opened.parts r.opened.fresh
+  played = all_played b.machine b.table locks b.moment r.before workers r.did r.opened.passes backs b.tasks thens r.gone r.opened.contents r.opened.fresh
       (new_passes b.machine b.table locks b.moment own r.opened.objects r.opened.passes r.opened.place r.opened.first (world b own locks r.before r.opened) r.opened.new) after
 
   -- all passes come back
@@ -51,7 +51,7 @@ module _ (b : Began) (own : Token WorldObject Noted) (locks : TableId) (workers 
   passes_back = all_back b.machine b.table locks b.moment own r.opened.passes backs workers thens r.opened.place r.opened.new played.1 after r.goes
 
   -- what comes back with them makes a burst
-  pub ended : (core : SeatedCoreState) (sources : List SeatedSourceState) → IsClosedWorld (first_of own) (made_lists backs) core sources → AreKept sources → HasEnded b core sources thens
+  pub ended : (core : SeatedCoreState) (sources : List SeatedSourceState) → IsClosedWorld (first_of own) (made_lists backs) core sources → SourcesInvariant sources → HasEnded b core sources thens
   ended core sources closed kept = record {
     burst = record {
       first = r.opened.objects;
@@ -70,7 +70,7 @@ module _ (b : Began) (own : Token WorldObject Noted) (locks : TableId) (workers 
 
 -- the workers of a burst that was opened have run, all written over in their vector
 pub has_run : (b : Began) (own : Token WorldObject Noted) (locks : TableId) (len : ℕ) (given new olds : List Worker) (did : ℕ) → IsOpened b own locks olds
-    → given ≡ olds → length new ≡ length given → len ≡ length olds → HaveGone given new did → AreWorkersOf b.machine b.table locks b.moment new
+    → given ≡ olds → length new ≡ length given → len ≡ length olds → HaveTurned given new did → AreWorkersOf b.machine b.table locks b.moment new
     → HasRun b own locks (take len (new ++ drop (length new) olds))
 has_run b own locks len given new olds did o same many count gone goes =
     let long : length new ≡ length olds = many ∙ ap (λ (l : List Worker). length l) same in
@@ -78,7 +78,7 @@ has_run b own locks len given new olds did o same many count gone goes =
       before = olds;
       opened = o;
       did = did;
-      gone = subst (λ (l : List Worker). HaveGone l new did) same gone;
+      gone = subst (λ (l : List Worker). HaveTurned l new did) same gone;
       goes = goes;
     })
 

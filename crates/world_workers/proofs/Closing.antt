@@ -8,15 +8,15 @@ use Rattle.atomic_table.specs.Seated.{TableId}
 use Rattle.event_word.specs.Seats.{Token}
 use Rattle.turn_lock.specs.declared.view.Made.{Made}
 use Rattle.run_laws.specs.Passes.{Noted}
-use Rattle.run_objects.specs.Objects.{AreKept, SeatedCoreState, SeatedSourceState}
+use Rattle.run_objects.specs.Objects.{SourcesInvariant, SeatedCoreState, SeatedSourceState}
 use Rattle.run_world.specs.declared.object.WorldObject.{WorldObject}
 use Rattle.run_world.specs.declared.object.WorldObject.TheVariants as object
-use Rattle.run_world.specs.Held.{IsClosedWorld}
+use Rattle.run_world.specs.ObjectLists.{IsClosedWorld}
 use Rattle.run_world.specs.Roots.{WorldRoot, machine_root, source_root}
 use Rattle.run_world.specs.Objects.{AreObjects}
 use Rattle.run_world.specs.declared.task.Task.{Task}
 use Rattle.world_workers.specs.Bursts.{AreReady, AreTasksIn}
-use Rattle.world_workers.proofs.Opening.{kept_at, seat_at, that_at, those_count}
+use Rattle.world_workers.proofs.Opening.{preserved_at, seat_at, that_at, those_count}
 
 machines_same : (a b : Machine) → Some a ≡ Some b → a ≡ b
 machines_same a b e = cc
@@ -42,7 +42,7 @@ module _ (m : Machine) (table : TableId) (moment : ℕ) (first : List WorldObjec
       omega (arith, all, values, closed.closed.counted, world.count)
 
   -- what comes back may go in again
-  pub ready_again : AreKept sources → (tasks : List Task) → AreTasksIn m tasks → AreReady m table core sources tasks
+  pub ready_again : SourcesInvariant sources → (tasks : List Task) → AreTasksIn m tasks → AreReady m table core sources tasks
   ready_again kept tasks tasks_in = record {
     machine = machines_same core.core.machine m (ap (λ (r : WorldRoot). r.machine) machine_back);
     table_is = ap (λ (r : WorldRoot). r.table) machine_back;
@@ -52,7 +52,7 @@ module _ (m : Machine) (table : TableId) (moment : ℕ) (first : List WorldObjec
           let x = seat_at sources k t at in
           let back = source_back k x.0 x.1 in
           let place : x.0.seat.table_id ≡ core.seat.table_id = ap (λ (r : WorldRoot). r.table) back ∙ sym (ap (λ (r : WorldRoot). r.table) machine_back) in
-          let number = (kept_at sources kept k x.0 x.1).number ∙ ap (λ (r : WorldRoot). Some r.number) back in
+          let number = (preserved_at sources kept k x.0 x.1).number ∙ ap (λ (r : WorldRoot). Some r.number) back in
           subst (λ (y : Token). (y.table_id ≡ core.seat.table_id) × (y.me.0.number ≡ Some k)) (sym x.2) (place, number);
     };
     count = sources_count;

@@ -1,6 +1,6 @@
 pub mod Acting
 pub mod Going
-pub mod Crews
+pub mod Pools
 pub mod Opening
 pub mod Closing
 pub mod Bursting

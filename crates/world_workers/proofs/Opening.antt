@@ -6,10 +6,10 @@ use lib.ListN.{get_elem?}
 use Rattle.sleep_model.specs.declared.machine.Machine.{Machine}
 use Rattle.atomic_table.specs.Seated.{TableId}
 use Rattle.event_word.specs.Seats.{Token, sources_of}
-use Rattle.run_objects.specs.Objects.{AreKept, IsSeatedSource, SeatedCoreState, SeatedSourceState, seats_of}
+use Rattle.run_objects.specs.Objects.{SourcesInvariant, IsSeatedSource, SeatedCoreState, SeatedSourceState, seats_of}
 use Rattle.run_world.specs.declared.object.WorldObject.{WorldObject}
 use Rattle.run_world.specs.declared.object.WorldObject.TheVariants as object
-use Rattle.run_world.specs.Held.{AreAll, AreAt, AreThose}
+use Rattle.run_world.specs.ObjectLists.{AreAll, AreAt, AreThose}
 use Rattle.run_world.specs.Roots.{machine_root, source_root}
 use Rattle.run_world.specs.Objects.{AreObjects, root_of}
 use Rattle.run_world.specs.declared.task.Task.{Task}
@@ -33,10 +33,10 @@ seat_of [] k x at = absurd (let e : none ≡ some x = at in cc)
 seat_of (y ∷ sources) zero x at = ap (λ (s : SeatedSourceState). some s.seat) (some_same y x at)
 seat_of (y ∷ sources) (suc k) x at = seat_of sources k x at
 
-pub kept_at : (sources : List SeatedSourceState) → AreKept sources → (k : ℕ) (x : SeatedSourceState) → get_elem? sources k ≡ some x → IsSeatedSource x
-kept_at [] are k x at = absurd (let e : none ≡ some x = at in cc)
-kept_at (y ∷ sources) are zero x at = subst IsSeatedSource (some_same y x at) are.0
-kept_at (y ∷ sources) are (suc k) x at = kept_at sources are.1 k x at
+pub preserved_at : (sources : List SeatedSourceState) → SourcesInvariant sources → (k : ℕ) (x : SeatedSourceState) → get_elem? sources k ≡ some x → IsSeatedSource x
+preserved_at [] are k x at = absurd (let e : none ≡ some x = at in cc)
+preserved_at (y ∷ sources) are zero x at = subst IsSeatedSource (some_same y x at) are.0
+preserved_at (y ∷ sources) are (suc k) x at = preserved_at sources are.1 k x at
 
 -- ---- objects and sources
 
@@ -73,11 +73,11 @@ numbers_same : (a b : ℕ) → Some a ≡ Some b → a ≡ b
 numbers_same a b e = cc
 
 module _ (m : Machine) (table : TableId) (moment : ℕ) (core : SeatedCoreState) (sources : List SeatedSourceState) (tasks : List Task) where
-  module _ (ready : AreReady m table core sources tasks) (kept : AreKept sources) where
+  module _ (ready : AreReady m table core sources tasks) (kept : SourcesInvariant sources) where
     source_is : (s : ℕ) (x : SeatedSourceState) → get_elem? sources s ≡ some x → source_root x moment ≡ record { machine = None; table = table; number = s; moment = moment }
     source_is s x at =
         let seat = ready.seats.each_is s x.seat (seat_of sources s x at) in
-        let number : x.source.id ≡ s = numbers_same x.source.id s (sym (kept_at sources kept s x at).number ∙ seat.1) in
+        let number : x.source.id ≡ s = numbers_same x.source.id s (sym (preserved_at sources kept s x at).number ∙ seat.1) in
         let place : x.seat.table_id ≡ table = seat.0 ∙ ready.table_is in
         ap (λ (t : TableId). record { machine = None; table = t; number = x.source.id; moment = moment }) place
         ∙ ap (λ (n : ℕ). record { machine = None; table = table; number = n; moment = moment }) number

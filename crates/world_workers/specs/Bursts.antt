@@ -17,7 +17,7 @@ abbrev pub HaveTurns : List Task → Type 0
 HaveTurns [] = Unit {0}
 HaveTurns (t ∷ tasks) = (turns_of t + 1000 < 2 ^ 63) × HaveTurns tasks
 
--- what may go into a burst, and is so again behind it: that machine's core, its sources with all seats of that table, and tasks of it
+-- what may go into a burst, and is so again after it: that machine's core, its sources with all seats of that table, and tasks of it
 pub record AreReady (m : Machine) (table : TableId) (core : SeatedCoreState) (sources : List SeatedSourceState) (tasks : List Task) : Type 0 where
   pub machine : core.core.machine ≡ m
   pub table_is : core.seat.table_id ≡ table

@@ -7,15 +7,15 @@ use Rattle.turn_lock.specs.declared.table.Pass.{Pass}
 use Rattle.turn_lock.specs.Passes.{AreNew, Token, first_of}
 use Rattle.turn_lock.specs.Passing.{tokens}
 use Rattle.run_laws.specs.Passes.{Noted}
-use Rattle.run_objects.specs.Objects.{AreKept, SeatedCoreState, SeatedSourceState}
+use Rattle.run_objects.specs.Objects.{SourcesInvariant, SeatedCoreState, SeatedSourceState}
 use Rattle.run_world.specs.declared.object.WorldObject.{WorldObject}
-use Rattle.run_world.specs.Held.{AreAll}
+use Rattle.run_world.specs.ObjectLists.{AreAll}
 use Rattle.run_world.specs.declared.task.Task.{Task}
 use Rattle.run_world.specs.Acts.{actor_of}
 use Rattle.run_world.specs.Bursts.{IsBurst}
 use Rattle.world_workers.specs.declared.worker.Worker.{Worker}
 use Rattle.world_workers.specs.Bursts.{AreReady}
-use Rattle.world_workers.specs.Workers.{AreFresh, AreParts, AreWorkersOf, HaveGone}
+use Rattle.world_workers.specs.Workers.{AreFresh, AreContents, AreWorkersOf, HaveTurned}
 
 -- what a burst begins with: a machine's core, its sources and tasks, at that moment
 pub record Began : Type 0 where
@@ -32,12 +32,12 @@ pub record IsOpened (b : Began) (own : Token WorldObject Noted) (locks : TableId
   pub passes : List (Pass WorldObject Noted)
   pub timed : is_word64 b.moment ≡ true
   pub ready : AreReady b.machine b.table b.core b.sources b.tasks
-  pub kept : AreKept b.sources
+  pub kept : SourcesInvariant b.sources
   pub all : AreAll b.moment b.core b.sources objects
   pub first : first_of own ≡ objects
   pub place : own.table_id ≡ locks
   pub new : AreNew own (tokens passes)
-  pub parts : AreParts workers passes b.tasks
+  pub contents : AreContents workers passes b.tasks
   pub fresh : AreFresh b.moment workers
 
 -- the workers of a burst that was opened went on
@@ -45,7 +45,7 @@ pub record HasRun (b : Began) (own : Token WorldObject Noted) (locks : TableId) 
   pub before : List Worker
   pub opened : IsOpened b own locks before
   pub did : ℕ
-  pub gone : HaveGone before workers did
+  pub gone : HaveTurned before workers did
   pub goes : AreWorkersOf b.machine b.table locks b.moment workers
 
 -- what comes back makes a burst, and may go into another: tasks of the same actors

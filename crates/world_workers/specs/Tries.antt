@@ -20,9 +20,9 @@ use Rattle.run_world.specs.declared.task.Task.TheVariants as task
 use Rattle.run_world.specs.Acts.{Does, actor_of}
 
 -- a job after what a turn of the machine came to
-abbrev pub told_turn : Result CoreTurn CoreFault → JobState → JobState
-told_turn (Ok (Did stamp k attempt)) job = after_turn stamp k attempt job
-told_turn _ job = job
+abbrev pub told_core : Result CoreTurn CoreFault → JobState → JobState
+told_core (Ok (Did stamp k attempt)) job = after_turn stamp k attempt job
+told_core _ job = job
 
 -- the kind of the entry that a turn made is in the ranges of its fields
 abbrev pub IsRangedTurn : Result CoreTurn CoreFault → Type 0
@@ -30,14 +30,14 @@ IsRangedTurn (Ok (Did stamp k attempt)) = is_ranged k ≡ true
 IsRangedTurn _ = Unit {0}
 
 -- a job after what a call on a source came to
-abbrev pub told_call : Result (Option Stamp) SourceFault → JobState → JobState
-told_call (Ok (Some stamp)) job = after_call stamp job
-told_call _ job = job
+abbrev pub told_source : Result (Option Stamp) SourceFault → JobState → JobState
+told_source (Ok (Some stamp)) job = after_call stamp job
+told_source _ job = job
 
 -- a timer after what its call came to (pm_wakeup_timer_fn)
-abbrev pub told_expiry : Result (Option Stamp) SourceFault → TimerState → TimerState
-told_expiry (Ok (Some stamp)) timer = after_expiry stamp timer
-told_expiry _ timer = timer
+abbrev pub timer_after_call : Result (Option Stamp) SourceFault → TimerState → TimerState
+timer_after_call (Ok (Some stamp)) timer = after_expiry stamp timer
+timer_after_call _ timer = timer
 
 -- the task is of that machine: the job of an actor of it, or the timer of a source of it
 abbrev pub IsTaskIn : Machine → Task → Type 0

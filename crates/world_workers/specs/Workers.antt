@@ -52,14 +52,14 @@ abbrev pub WentOn : Worker → List Turn → Worker → Type 0
 WentOn old turns new = (s : Moment) → Since s old → Since s new
 
 -- each worker went on by turns of its own, and n of all these turns did something
-abbrev pub HaveGone : List Worker → List Worker → ℕ → Type 0
-HaveGone olds news did = AllWent (Went WentOn left_of true 1000) olds news did
+abbrev pub HaveTurned : List Worker → List Worker → ℕ → Type 0
+HaveTurned olds news did = AllWent (Went WentOn left_of true 1000) olds news did
 
 -- the workers have these passes, and these tasks
-abbrev pub AreParts : List Worker → List (Pass WorldObject Noted) → List Task → Type 0
-AreParts [] [] [] = Unit {0}
-AreParts (w ∷ workers) (p ∷ passes) (t ∷ tasks) = ((w.pass ≡ Some p) × (w.task ≡ t)) × AreParts workers passes tasks
-AreParts _ _ _ = ⊥
+abbrev pub AreContents : List Worker → List (Pass WorldObject Noted) → List Task → Type 0
+AreContents [] [] [] = Unit {0}
+AreContents (w ∷ workers) (p ∷ passes) (t ∷ tasks) = ((w.pass ≡ Some p) × (w.task ≡ t)) × AreContents workers passes tasks
+AreContents _ _ _ = ⊥
 
 -- these passes are those, and that of one worker
 abbrev pub AreOneMore : Option (Pass WorldObject Noted) → List (Pass WorldObject Noted) → List (Pass WorldObject Noted) → Type 0

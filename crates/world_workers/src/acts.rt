@@ -7,15 +7,15 @@ ghost use Rattle.sleep_script.specs.Jobs.{IsWanted};
 ghost use Rattle.fit_laws.specs.Ranged.{is_ranged};
 ghost use Rattle.run_world.specs.declared.task.Task.TheVariants as variant;
 ghost use Rattle.run_world.specs.Acts.{actor_of};
-ghost use Rattle.world_workers.specs.Tries.{GoesIn, HasActed, IsRangedTurn, told_call, told_expiry, told_turn, turns_of};
+ghost use Rattle.world_workers.specs.Tries.{GoesIn, HasActed, IsRangedTurn, told_source, timer_after_call, told_core, turns_of};
 
-use crate::parts::Stop;
+use crate::contents::Stop;
 use fit_laws::{calls_are_ranged, kinds_are_ranged};
 use run_world::{Gate, Reply, Task, World, WorldPass};
 use sleep_core::{CoreFault, CoreTurn};
 use sleep_model::{Actor, DeviceFlags, Machine, SourceCall, Stamp, Want};
 use sleep_pool::Turn;
-use sleep_script::{Job, TimerJob};
+use sleep_script::{ActorJob, TimerJob};
 use std::sync::Wait;
 use wakeup_source::{CallBy, SourceFault};
 
@@ -23,10 +23,10 @@ use wakeup_source::{CallBy, SourceFault};
 pub type Tried<'m> = Reply<'m, Result<Turn, Stop>>;
 
 /// Tells a job what its turn of the machine came to.
-fn tell_turn(job: &mut Job<'_>, answer: Result<CoreTurn, CoreFault>) -> Result<Turn, Stop>
+fn pass_turn(job: &mut ActorJob<'_>, answer: Result<CoreTurn, CoreFault>) -> Result<Turn, Stop>
     requires made { job.old.pending ≡ [] }
     requires few { job.old.turns < 2 ^ 63 }
-    ensures told { job.new ≡ told_turn answer job.old }
+    ensures shown { job.new ≡ told_core answer job.old }
     ensures ranged { IsRangedTurn answer }
 {
     match answer {
@@ -38,7 +38,7 @@ fn tell_turn(job: &mut Job<'_>, answer: Result<CoreTurn, CoreFault>) -> Result<T
             },
         ) => {
             kinds_are_ranged(kind);
-            job.told_turn(stamp, kind, attempt);
+            job.told_core(stamp, kind, attempt);
             Ok(Turn::Did)
         }
         Ok(CoreTurn::NotYet(_)) => Ok(Turn::NotYet),
@@ -48,14 +48,14 @@ fn tell_turn(job: &mut Job<'_>, answer: Result<CoreTurn, CoreFault>) -> Result<T
 }
 
 /// Tells a job what its call on that source came to.
-fn tell_call(
-    job: &mut Job<'_>,
+fn pass_call(
+    job: &mut ActorJob<'_>,
     source: u32,
     answer: Result<Option<Stamp>, SourceFault>,
 ) -> Result<Turn, Stop>
     requires left { 0 < length job.old.pending }
     requires few { job.old.calls + 1 < 2 ^ 32 }
-    ensures { job.new ≡ told_call answer job.old }
+    ensures { job.new ≡ told_source answer job.old }
 {
     match answer {
         Ok(Some(stamp)) => {
@@ -69,12 +69,12 @@ fn tell_call(
 }
 
 /// Tells the timer of that source what its call came to (`pm_wakeup_timer_fn`).
-fn tell_expiry(
+fn pass_expiry(
     timer: &mut TimerJob,
     source: u32,
     answer: Result<Option<Stamp>, SourceFault>,
 ) -> Result<Turn, Stop>
-    ensures { timer.new ≡ told_expiry answer timer.old }
+    ensures { timer.new ≡ timer_after_call answer timer.old }
 {
     match answer {
         Ok(Some(stamp)) => {
@@ -102,16 +102,16 @@ fn is_synchronous(machine: &Machine, who: Actor) -> bool {
 fn turn<'m, R: Wait, G: Gate>(
     world: &World<'_, 'm, R, G>,
     pass: WorldPass<'m>,
-    job: &mut Job<'m>,
+    job: &mut ActorJob<'m>,
     who: Actor,
 ) -> Tried<'m>
-    requires goes { GoesIn world.now.machine.now world.now.table.now.desk.shared.table_id
-        world.now.desk.now.shared.table_id world.now.moment (variant.Acts job.old) pass.token }
+    requires goes { GoesIn world.now.machine.now world.now.table.now.cells.shared.table_id
+        world.now.cells.now.shared.table_id world.now.moment (variant.Acts job.old) pass.token }
     requires who { who ≡ job.old.who }
     requires wants { IsWanted job.old want.Core }
     requires few { job.old.turns < 2 ^ 63 }
-    ensures { HasActed world.now.machine.now world.now.table.now.desk.shared.table_id
-        world.now.desk.now.shared.table_id world.now.moment (variant.Acts job.old) (variant.Acts job.new)
+    ensures { HasActed world.now.machine.now world.now.table.now.cells.shared.table_id
+        world.now.cells.now.shared.table_id world.now.moment (variant.Acts job.old) (variant.Acts job.new)
         pass.entry.token result.pass.token }
 {
     if is_synchronous(world.machine, who) {
@@ -121,7 +121,7 @@ fn turn<'m, R: Wait, G: Gate>(
         };
     }
     let reply = world.core_turn(pass, who, job.calls(), job.floor(), world.moment);
-    let answer = tell_turn(job, reply.answer);
+    let answer = pass_turn(job, reply.answer);
     Reply {
         pass: reply.pass,
         answer,
@@ -132,17 +132,17 @@ fn turn<'m, R: Wait, G: Gate>(
 fn call<'m, R: Wait, G: Gate>(
     world: &World<'_, 'm, R, G>,
     pass: WorldPass<'m>,
-    job: &mut Job<'m>,
+    job: &mut ActorJob<'m>,
     who: Actor,
     source: u32,
     call: SourceCall,
 ) -> Tried<'m>
-    requires goes { GoesIn world.now.machine.now world.now.table.now.desk.shared.table_id
-        world.now.desk.now.shared.table_id world.now.moment (variant.Acts job.old) pass.token }
+    requires goes { GoesIn world.now.machine.now world.now.table.now.cells.shared.table_id
+        world.now.cells.now.shared.table_id world.now.moment (variant.Acts job.old) pass.token }
     requires who { who ≡ job.old.who }
     requires wants { IsWanted job.old (want.Source source call) }
-    ensures { HasActed world.now.machine.now world.now.table.now.desk.shared.table_id
-        world.now.desk.now.shared.table_id world.now.moment (variant.Acts job.old) (variant.Acts job.new)
+    ensures { HasActed world.now.machine.now world.now.table.now.cells.shared.table_id
+        world.now.cells.now.shared.table_id world.now.moment (variant.Acts job.old) (variant.Acts job.new)
         pass.entry.token result.pass.token }
 {
     if source as usize > world.machine.sources.len() || job.calls() == u32::MAX {
@@ -158,7 +158,7 @@ fn call<'m, R: Wait, G: Gate>(
         now: world.moment,
     };
     let reported = world.report(pass, source, call, by);
-    let answer = tell_call(job, source, reported.answer);
+    let answer = pass_call(job, source, reported.answer);
     Reply {
         pass: reported.pass,
         answer,
@@ -172,11 +172,11 @@ fn expire<'m, R: Wait, G: Gate>(
     timer: &mut TimerJob,
     source: u32,
 ) -> Tried<'m>
-    requires goes { GoesIn world.now.machine.now world.now.table.now.desk.shared.table_id
-        world.now.desk.now.shared.table_id world.now.moment (variant.Fires timer.old) pass.token }
+    requires goes { GoesIn world.now.machine.now world.now.table.now.cells.shared.table_id
+        world.now.cells.now.shared.table_id world.now.moment (variant.Fires timer.old) pass.token }
     requires source { source ≡ timer.old.source }
-    ensures { HasActed world.now.machine.now world.now.table.now.desk.shared.table_id
-        world.now.desk.now.shared.table_id world.now.moment (variant.Fires timer.old) (variant.Fires timer.new)
+    ensures { HasActed world.now.machine.now world.now.table.now.cells.shared.table_id
+        world.now.cells.now.shared.table_id world.now.moment (variant.Fires timer.old) (variant.Fires timer.new)
         pass.entry.token result.pass.token }
 {
     let by = CallBy {
@@ -185,7 +185,7 @@ fn expire<'m, R: Wait, G: Gate>(
         now: world.moment,
     };
     let reported = world.report(pass, source, SourceCall::Expire, by);
-    let answer = tell_expiry(timer, source, reported.answer);
+    let answer = pass_expiry(timer, source, reported.answer);
     Reply {
         pass: reported.pass,
         answer,
@@ -196,15 +196,15 @@ fn expire<'m, R: Wait, G: Gate>(
 fn act_job<'m, R: Wait, G: Gate>(
     world: &World<'_, 'm, R, G>,
     pass: WorldPass<'m>,
-    job: &mut Job<'m>,
+    job: &mut ActorJob<'m>,
     who: Actor,
 ) -> Tried<'m>
-    requires goes { GoesIn world.now.machine.now world.now.table.now.desk.shared.table_id
-        world.now.desk.now.shared.table_id world.now.moment (variant.Acts job.old) pass.token }
+    requires goes { GoesIn world.now.machine.now world.now.table.now.cells.shared.table_id
+        world.now.cells.now.shared.table_id world.now.moment (variant.Acts job.old) pass.token }
     requires who { who ≡ job.old.who }
     requires few { job.old.turns < 2 ^ 63 }
-    ensures { HasActed world.now.machine.now world.now.table.now.desk.shared.table_id
-        world.now.desk.now.shared.table_id world.now.moment (variant.Acts job.old) (variant.Acts job.new)
+    ensures { HasActed world.now.machine.now world.now.table.now.cells.shared.table_id
+        world.now.cells.now.shared.table_id world.now.moment (variant.Acts job.old) (variant.Acts job.new)
         pass.entry.token result.pass.token }
 {
     match job.next() {
@@ -223,10 +223,10 @@ fn act_timer<'m, R: Wait, G: Gate>(
     pass: WorldPass<'m>,
     timer: &mut TimerJob,
 ) -> Tried<'m>
-    requires goes { GoesIn world.now.machine.now world.now.table.now.desk.shared.table_id
-        world.now.desk.now.shared.table_id world.now.moment (variant.Fires timer.old) pass.token }
-    ensures { HasActed world.now.machine.now world.now.table.now.desk.shared.table_id
-        world.now.desk.now.shared.table_id world.now.moment (variant.Fires timer.old) (variant.Fires timer.new)
+    requires goes { GoesIn world.now.machine.now world.now.table.now.cells.shared.table_id
+        world.now.cells.now.shared.table_id world.now.moment (variant.Fires timer.old) pass.token }
+    ensures { HasActed world.now.machine.now world.now.table.now.cells.shared.table_id
+        world.now.cells.now.shared.table_id world.now.moment (variant.Fires timer.old) (variant.Fires timer.new)
         pass.entry.token result.pass.token }
 {
     match timer.next() {
@@ -243,12 +243,12 @@ pub fn act<'m, R: Wait, G: Gate>(
     task: &mut Task<'m>,
     who: Actor,
 ) -> Tried<'m>
-    requires goes { GoesIn world.now.machine.now world.now.table.now.desk.shared.table_id
-        world.now.desk.now.shared.table_id world.now.moment task.old pass.token }
+    requires goes { GoesIn world.now.machine.now world.now.table.now.cells.shared.table_id
+        world.now.cells.now.shared.table_id world.now.moment task.old pass.token }
     requires who { who ≡ actor_of task.old }
     requires few { turns_of task.old < 2 ^ 63 }
-    ensures { HasActed world.now.machine.now world.now.table.now.desk.shared.table_id
-        world.now.desk.now.shared.table_id world.now.moment task.old task.new pass.entry.token result.pass.token }
+    ensures { HasActed world.now.machine.now world.now.table.now.cells.shared.table_id
+        world.now.cells.now.shared.table_id world.now.moment task.old task.new pass.entry.token result.pass.token }
 {
     match task {
         Task::Acts(job) => act_job(world, pass, job, who),

@@ -4,20 +4,20 @@ ghost use Rattle.std.specs.Prelude.{◌≡◌, ◌≤◌, ◌<◌, ◌^◌, leng
 ghost use Rattle.sleep_model.specs.declared.machine.Machine.{Machine};
 ghost use Rattle.atomic_table.specs.Seated.{TableId};
 ghost use Rattle.sleep_model.specs.Numbers.{time_of};
-ghost use Rattle.sleep_state.specs.Places.{entries};
-ghost use Rattle.run_objects.specs.Objects.{AreKept};
-ghost use Rattle.run_world.specs.Held.{AreTimely};
+ghost use Rattle.sleep_state.specs.JournalRooms.{entries};
+ghost use Rattle.run_objects.specs.Objects.{SourcesInvariant};
+ghost use Rattle.run_world.specs.ObjectLists.{AreTimely};
 ghost use Rattle.run_world.specs.Acts.{actor_of};
 ghost use Rattle.run_world.specs.Bursts.{IsBurst};
 ghost use Rattle.world_workers.specs.Bursts.{AreReady, HaveTurns};
 ghost use Rattle.world_workers.specs.Opened.{Began, HasEnded, HasRun, IsOpened};
-ghost use Rattle.world_workers.specs.Workers.{AreFresh, AreWorkersOf, HaveGone};
+ghost use Rattle.world_workers.specs.Workers.{AreFresh, AreWorkersOf, HaveTurned};
 
-use crate::crew::{Brought, came_to, taken_apart, workers_of};
-use crate::parts::{Burst, BurstParts, BurstPlan};
+use crate::contents::{Burst, BurstContents, BurstPlan};
+use crate::pool::{Brought, came_to, taken_apart, workers_of};
 use crate::worker::Worker;
 use fit_laws::moments_are_ranged;
-use run_world::{Gate, World, WorldDesk, WorldObject, close_world, world_objects};
+use run_world::{Gate, SharedWorld, World, WorldObject, close_world, world_objects};
 use sleep_base::{Mem, lost};
 use sleep_model::Actor;
 use sleep_pool::burst;
@@ -33,26 +33,26 @@ type WorldLocks<'m> = LockTable<WorldObject<'m>>;
 /// there is no memory; all that went in is lost then.
 fn open_burst<'m>(
     alloc: Global,
-    parts: BurstParts<'m>,
+    contents: BurstContents<'m>,
     actors: &[Actor],
     moment: u64,
 ) -> Result<(WorldLocks<'m>, Vec<Worker<'m>>), Mem>
-    requires timely { AreTimely moment parts.sources.items }
+    requires timely { AreTimely moment contents.sources.items }
     requires small { moment ≤ 2 ^ 63 }
-    requires actors { actors.now ≡ map actor_of parts.tasks.items }
-    requires turns { HaveTurns parts.tasks.items }
-    requires few { (length parts.tasks.items ≤ 2000) × (length parts.sources.items ≤ 256) }
-    requires some { 1 ≤ length parts.tasks.items }
-    ensures opened { IfOk result (λ opened. (m : Machine) (table : TableId) → AreReady m table parts.entry.core parts.entry.sources.items parts.entry.tasks.items
-        → IsOpened (record { machine = m; table = table; moment = moment; core = parts.entry.core; sources = parts.entry.sources.items; tasks = parts.entry.tasks.items })
-        opened.0.own opened.0.desk.shared.table_id opened.1.items) }
+    requires actors { actors.now ≡ map actor_of contents.tasks.items }
+    requires turns { HaveTurns contents.tasks.items }
+    requires few { (length contents.tasks.items ≤ 2000) × (length contents.sources.items ≤ 256) }
+    requires some { 1 ≤ length contents.tasks.items }
+    ensures opened { IfOk result (λ opened. (m : Machine) (table : TableId) → AreReady m table contents.entry.core contents.entry.sources.items contents.entry.tasks.items
+        → IsOpened (record { machine = m; table = table; moment = moment; core = contents.entry.core; sources = contents.entry.sources.items; tasks = contents.entry.tasks.items })
+        opened.0.own opened.0.cells.shared.table_id opened.1.items) }
 {
     moments_are_ranged(moment);
-    let BurstParts {
+    let BurstContents {
         core,
         sources,
         tasks,
-    } = parts;
+    } = contents;
     let count = tasks.len() as u32;
     let Ok(objects) = world_objects(alloc, core, sources, moment) else {
         return Err(lost(tasks));
@@ -70,29 +70,29 @@ fn open_burst<'m>(
 fn run_workers<'m, R: Threads + Sync + Wait, G: Gate + Sync>(
     rt: &R,
     plan: &BurstPlan<'_, 'm, G>,
-    desk: &WorldDesk<'m>,
+    cells: &SharedWorld<'m>,
     workers: &mut [Worker<'m>],
     moment: u64,
 ) -> u64
     requires some { 0 < plan.now.workers }
-    requires goes { AreWorkersOf plan.now.machine.now plan.now.table.now.desk.shared.table_id desk.now.shared.table_id moment workers.old }
+    requires goes { AreWorkersOf plan.now.machine.now plan.now.table.now.cells.shared.table_id cells.now.shared.table_id moment workers.old }
     requires fresh { AreFresh moment workers.old }
     requires short { length workers.old < 2 ^ 32 }
-    ensures went { HaveGone workers.old workers.new result }
-    ensures goes { AreWorkersOf plan.now.machine.now plan.now.table.now.desk.shared.table_id desk.now.shared.table_id moment workers.new }
+    ensures went { HaveTurned workers.old workers.new result }
+    ensures goes { AreWorkersOf plan.now.machine.now plan.now.table.now.cells.shared.table_id cells.now.shared.table_id moment workers.new }
 {
     let world = World {
         rt,
         gate: plan.gate,
         machine: plan.machine,
         table: plan.table,
-        desk,
+        cells,
         moment,
     };
     burst(rt, workers, &world, moment, plan.workers)
 }
 
-/// Closes a burst in which so many turns did something: all come back with what the workers made. `Mem` where there is no
+/// Closes a burst in which so many turns did something: all come back with what the workers made. `Mem` if there is no
 /// memory; all that went in is lost then.
 fn close_burst<'m>(
     alloc: Global,
@@ -100,10 +100,10 @@ fn close_burst<'m>(
     workers: Vec<Worker<'m>>,
     did: u64,
 ) -> Result<Burst<'m>, Mem>
-    requires ran { (b : Began) × HasRun b locks.own locks.desk.shared.table_id workers.items }
-    ensures ended { IfOk result (λ made. (b : Began) → HasRun b locks.entry.own locks.entry.desk.shared.table_id workers.entry.items
-        → HasEnded b made.parts.core made.parts.sources.items made.parts.tasks.items) }
-    ensures kept { IfOk result (λ made. AreKept made.parts.sources.items) }
+    requires ran { (b : Began) × HasRun b locks.own locks.cells.shared.table_id workers.items }
+    ensures ended { IfOk result (λ made. (b : Began) → HasRun b locks.entry.own locks.entry.cells.shared.table_id workers.entry.items
+        → HasEnded b made.contents.core made.contents.sources.items made.contents.tasks.items) }
+    ensures kept { IfOk result (λ made. SourcesInvariant made.contents.sources.items) }
 {
     let (stop, beside) = came_to(workers.as_slice());
     let Ok(brought) = taken_apart(alloc, workers) else {
@@ -114,7 +114,7 @@ fn close_burst<'m>(
         return Err(lost(tasks));
     };
     Ok(Burst {
-        parts: BurstParts {
+        contents: BurstContents {
             core,
             sources,
             tasks,
@@ -126,29 +126,29 @@ fn close_burst<'m>(
 }
 
 /// One burst: the machine and its sources go under locks, each task goes to a worker, and all come back with what the
-/// workers made. Time stands still in it. That it is over says nothing of who could go on. `Mem` where there is no memory;
+/// workers made. Time stands still in it. That it is over says nothing of who could go on. `Mem` if there is no memory;
 /// all that went in is lost then.
 pub fn make_burst<'m, R: Threads + Sync + Wait, G: Gate + Sync>(
     rt: &R,
     alloc: Global,
     plan: &BurstPlan<'_, 'm, G>,
-    parts: BurstParts<'m>,
+    contents: BurstContents<'m>,
 ) -> Result<Burst<'m>, Mem>
-    requires ready { AreReady plan.now.machine.now plan.now.table.now.desk.shared.table_id parts.core parts.sources.items parts.tasks.items }
-    requires timely { AreTimely (time_of (entries parts.core.core.past)) parts.sources.items }
-    requires actors { plan.now.actors.now ≡ map actor_of parts.tasks.items }
-    requires turns { HaveTurns parts.tasks.items }
-    requires some { (0 < plan.now.workers) × (1 ≤ length parts.tasks.items) }
-    requires few { (length parts.tasks.items ≤ 2000) × (length plan.now.machine.now.sources ≤ 255) }
-    ensures burst { IfOk result (λ made. IsBurst (time_of (entries parts.entry.core.core.past))
-        parts.entry.core parts.entry.sources.items parts.entry.tasks.items made.parts.core made.parts.sources.items made.parts.tasks.items) }
-    ensures ready { IfOk result (λ made. AreReady plan.now.machine.now plan.now.table.now.desk.shared.table_id
-        made.parts.core made.parts.sources.items made.parts.tasks.items) }
-    ensures kept { IfOk result (λ made. AreKept made.parts.sources.items) }
-    ensures actors { IfOk result (λ made. map actor_of made.parts.tasks.items ≡ plan.now.actors.now) }
+    requires ready { AreReady plan.now.machine.now plan.now.table.now.cells.shared.table_id contents.core contents.sources.items contents.tasks.items }
+    requires timely { AreTimely (time_of (entries contents.core.core.past)) contents.sources.items }
+    requires actors { plan.now.actors.now ≡ map actor_of contents.tasks.items }
+    requires turns { HaveTurns contents.tasks.items }
+    requires some { (0 < plan.now.workers) × (1 ≤ length contents.tasks.items) }
+    requires few { (length contents.tasks.items ≤ 2000) × (length plan.now.machine.now.sources ≤ 255) }
+    ensures burst { IfOk result (λ made. IsBurst (time_of (entries contents.entry.core.core.past))
+        contents.entry.core contents.entry.sources.items contents.entry.tasks.items made.contents.core made.contents.sources.items made.contents.tasks.items) }
+    ensures ready { IfOk result (λ made. AreReady plan.now.machine.now plan.now.table.now.cells.shared.table_id
+        made.contents.core made.contents.sources.items made.contents.tasks.items) }
+    ensures kept { IfOk result (λ made. SourcesInvariant made.contents.sources.items) }
+    ensures actors { IfOk result (λ made. map actor_of made.contents.tasks.items ≡ plan.now.actors.now) }
 {
-    let moment = parts.core.core().time();
-    let (locks, mut workers) = open_burst(alloc, parts, plan.actors, moment)?;
-    let did = run_workers(rt, plan, &locks.desk, workers.as_mut_slice(), moment);
+    let moment = contents.core.core().time();
+    let (locks, mut workers) = open_burst(alloc, contents, plan.actors, moment)?;
+    let did = run_workers(rt, plan, &locks.cells, workers.as_mut_slice(), moment);
     close_burst(alloc, locks, workers, did)
 }

@@ -17,13 +17,13 @@
 
 mod acts;
 mod burst;
-mod crew;
-mod parts;
+mod contents;
 mod pause;
+mod pool;
 mod turns;
 mod worker;
 
 pub use acts::{Tried, act};
 pub use burst::make_burst;
-pub use parts::{Burst, BurstParts, BurstPlan, Stop};
+pub use contents::{Burst, BurstContents, BurstPlan, Stop};
 pub use worker::Worker;

@@ -22,7 +22,7 @@ impl Pause {
     }
 
     /// Whether it takes no lock in this round.
-    pub(crate) fn rests(&mut self) -> bool {
+    pub(crate) fn skips_round(&mut self) -> bool {
         if self.left == 0 {
             return false;
         }

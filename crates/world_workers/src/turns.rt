@@ -4,7 +4,7 @@ ghost use Rattle.std.specs.Prelude.{◌≡◌, Some, IsSome};
 ghost use Rattle.world_workers.specs.Workers.{IsWorkerOf, WentOn, left_of};
 
 use crate::acts::act;
-use crate::parts::Stop;
+use crate::contents::Stop;
 use crate::worker::Worker;
 use run_world::{Gate, Reply, World, WorldPass};
 use sleep_pool::{Job as Work, Turn};
@@ -32,15 +32,15 @@ fn taken<'m>(place: &mut Option<WorldPass<'m>>) -> WorldPass<'m>
 impl<'w, 'm, R: Wait, G: Gate> Work<World<'w, 'm, R, G>> for Worker<'m> {
     ghost left = { left_of };
 
-    ghost goes = { λ w world now. IsWorkerOf world.machine.now world.table.now.desk.shared.table_id
-        world.desk.now.shared.table_id world.moment w };
+    ghost goes = { λ w world now. IsWorkerOf world.machine.now world.table.now.cells.shared.table_id
+        world.cells.now.shared.table_id world.moment w };
 
     ghost made = { WentOn };
 
     fn turn(&mut self, shared: &World<'w, 'm, R, G>, now: u64) -> Turn {
         self.left -= 1;
         shared.gate.pass(self.place);
-        if self.pause.rests() {
+        if self.pause.skips_round() {
             return Turn::NotYet;
         }
         let pass = taken(&mut self.pass);

@@ -4,7 +4,7 @@ ghost use Rattle.std.specs.Prelude.{◌≡◌, ◌<◌, ◌+◌, ◌^◌, Some, 
 ghost use Rattle.run_world.specs.Acts.{actor_of};
 ghost use Rattle.world_workers.specs.Tries.{turns_of};
 
-use crate::parts::Stop;
+use crate::contents::Stop;
 use crate::pause::Pause;
 use run_world::{Task, WorldPass};
 use sleep_model::Actor;
@@ -12,7 +12,7 @@ use sleep_model::Actor;
 /// A worker's own in a burst: a task, and the pass by which it takes the locks of the world.
 #[derive(Drop)]
 pub struct Worker<'m> {
-    // The pass is out within a turn alone.
+    // The pass is out only within a turn.
     pub(crate) pass: Option<WorldPass<'m>>,
     pub(crate) task: Task<'m>,
     /// Whose task it is.
@@ -64,7 +64,7 @@ impl<'m> Worker<'m> {
     }
 
     /// The pass, and the task, when the burst is over.
-    pub(crate) fn into_parts(self) -> (WorldPass<'m>, Task<'m>)
+    pub(crate) fn into_components(self) -> (WorldPass<'m>, Task<'m>)
         requires { IsSome self.pass }
         ensures pass { self.entry.pass ≡ Some result.0 }
         ensures task { self.entry.task ≡ result.1 }

@@ -123,7 +123,7 @@ class Machine:
         return f"answer {self.thing(given)} {optional(given.get('attempt'))} {ret} {reports}"
 
     def term(self):
-        """The machine as a change of the bare one."""
+        """The machine as a change of the empty_machine one."""
         tree = self.tree
         members = [f"{name} = {tree[name]}" for name in ("alarm_ms", "cpus", "auto_cycles") if name in tree]
         for name, term in [("devices", self.device_term), ("links", self.link_term)]:
@@ -135,8 +135,8 @@ class Machine:
         members += self.member("actors", [self.script_term(given) for given in tree.get("actors", [])])
         members += self.member("answers", [self.answer_term(given) for given in tree.get("answers", [])])
         if not members:
-            return "bare"
-        return "record bare {\n" + "".join(f"  {member};\n" for member in members) + "}"
+            return "empty_machine"
+        return "record empty_machine {\n" + "".join(f"  {member};\n" for member in members) + "}"
 
     @staticmethod
     def member(name, items):

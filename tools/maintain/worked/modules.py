@@ -24,7 +24,7 @@ USES = [
     ("phase", "use Rattle.phase_table.specs.declared.phase.Phase.TheVariants as phase"),
 ]
 PRELUDE = ["◌++◌", "true", "false", "List", "[]", "◌∷◌", "codes", "pos", "negsuc", "Some", "None"]
-TERMS = "entry word device link dormant notifier script once times answer report bare stats unused log_of stuck_log waiting".split()
+TERMS = "entry word device link dormant notifier script once times answer report empty_machine stats unused log_of stuck_log waiting".split()
 
 
 def list_text(name, comment, items):

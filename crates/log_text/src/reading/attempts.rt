@@ -3,14 +3,14 @@ ghost use Rattle.sleep_model.specs.Fits.{fits_kind, fits_froze};
 ghost use Rattle.sleep_model.specs.declared.machine.Machine.{Machine};
 ghost use Rattle.log_text.specs.Reading.{attempt_kind, over_kind, notify_kind, failed_in, froze_in, froze_kind, platform_kind, cpu_kind, syscore_down, syscore_kind};
 
-use crate::reading::book::NameBook;
 use crate::reading::cut::{first_word, is};
+use crate::reading::machine_names::MachineNames;
 use crate::reading::meaning::{answer_in, down_in, group_in};
 use crate::reading::number::word32;
 use crate::spelling::fixed::{CHECK, NO_ERROR, OFF, ON, POST, RESUME, TIMEOUT};
 use sleep_model::{FrozeEnd, Kind, PlatUndo};
 
-/// What stands behind `attempt`.
+/// What stands after `attempt`.
 pub fn attempt_kind(text: &[u8]) -> Option<Kind>
     ensures kind { result ≡ attempt_kind text.now }
     ensures fits { (m : Machine) → IfSome result (λ k. fits_kind m k ≡ true) }
@@ -22,7 +22,7 @@ pub fn attempt_kind(text: &[u8]) -> Option<Kind>
     Some(Kind::Attempt { n, guarded })
 }
 
-/// What stands behind `over`.
+/// What stands after `over`.
 pub fn over_kind(text: &[u8]) -> Option<Kind>
     ensures kind { result ≡ over_kind text.now }
     ensures fits { (m : Machine) → IfSome result (λ k. fits_kind m k ≡ true) }
@@ -33,13 +33,13 @@ pub fn over_kind(text: &[u8]) -> Option<Kind>
     Some(Kind::Over { n, r })
 }
 
-/// What stands behind `notify`.
-pub fn notify_kind(book: &NameBook, text: &[u8]) -> Option<Kind>
-    ensures kind { result ≡ notify_kind book.now text.now }
-    ensures fits { IfSome result (λ k. fits_kind book.now k ≡ true) }
+/// What stands after `notify`.
+pub fn notify_kind(machine_names: &MachineNames, text: &[u8]) -> Option<Kind>
+    ensures kind { result ≡ notify_kind machine_names.now text.now }
+    ensures fits { IfSome result (λ k. fits_kind machine_names.now k ≡ true) }
 {
     let (notifier, rest) = first_word(text);
-    let notifier = book.notifier(notifier)?;
+    let notifier = machine_names.notifier(notifier)?;
     if is(rest, POST) {
         return Some(Kind::NotifyPost(notifier));
     }
@@ -48,14 +48,14 @@ pub fn notify_kind(book: &NameBook, text: &[u8]) -> Option<Kind>
 }
 
 /// How a freeze failed, and the tasks that it left.
-fn failed_in(book: &NameBook, text: &[u8]) -> Option<FrozeEnd>
-    ensures end { result ≡ failed_in book.now text.now }
-    ensures fits { IfSome result (λ e. fits_froze book.now e ≡ true) }
+fn failed_in(machine_names: &MachineNames, text: &[u8]) -> Option<FrozeEnd>
+    ensures end { result ≡ failed_in machine_names.now text.now }
+    ensures fits { IfSome result (λ e. fits_froze machine_names.now e ≡ true) }
 {
     let (why, rest) = first_word(text);
     let (left, first) = first_word(rest);
     let left = word32(left)?;
-    let first = book.script(first)?;
+    let first = machine_names.script(first)?;
     if is(why, TIMEOUT) {
         return Some(FrozeEnd::Timeout { left, first });
     }
@@ -63,29 +63,29 @@ fn failed_in(book: &NameBook, text: &[u8]) -> Option<FrozeEnd>
 }
 
 /// How a freeze ended.
-fn froze_in(book: &NameBook, text: &[u8]) -> Option<FrozeEnd>
-    ensures end { result ≡ froze_in book.now text.now }
-    ensures fits { IfSome result (λ e. fits_froze book.now e ≡ true) }
+fn froze_in(machine_names: &MachineNames, text: &[u8]) -> Option<FrozeEnd>
+    ensures end { result ≡ froze_in machine_names.now text.now }
+    ensures fits { IfSome result (λ e. fits_froze machine_names.now e ≡ true) }
 {
     if is(text, NO_ERROR) {
         return Some(FrozeEnd::AllFrozen);
     }
     let (_, rest) = first_word(text);
-    failed_in(book, rest)
+    failed_in(machine_names, rest)
 }
 
-/// What stands behind `froze`.
-pub fn froze_kind(book: &NameBook, text: &[u8]) -> Option<Kind>
-    ensures kind { result ≡ froze_kind book.now text.now }
-    ensures fits { IfSome result (λ k. fits_kind book.now k ≡ true) }
+/// What stands after `froze`.
+pub fn froze_kind(machine_names: &MachineNames, text: &[u8]) -> Option<Kind>
+    ensures kind { result ≡ froze_kind machine_names.now text.now }
+    ensures fits { IfSome result (λ k. fits_kind machine_names.now k ≡ true) }
 {
     let (group, rest) = first_word(text);
-    let end = froze_in(book, rest)?;
+    let end = froze_in(machine_names, rest)?;
     Some(Kind::Froze(group_in(group), end))
 }
 
-/// What stands behind `platform`.
-#[tactic(auto, using(crate::proofs::WordsTold::up_told, crate::proofs::WordsTold::up_untold))]
+/// What stands after `platform`.
+#[tactic(auto, using(crate::proofs::WordsInjective::up_injective, crate::proofs::WordsInjective::up_untold))]
 pub fn platform_kind(text: &[u8]) -> Kind
     ensures kind { result ≡ platform_kind text.now }
     ensures fits { (m : Machine) → fits_kind m result ≡ true }
@@ -99,7 +99,7 @@ pub fn platform_kind(text: &[u8]) -> Kind
     }
 }
 
-/// What stands behind `cpu`.
+/// What stands after `cpu`.
 pub fn cpu_kind(text: &[u8]) -> Option<Kind>
     ensures kind { result ≡ cpu_kind text.now }
     ensures fits { (m : Machine) → IfSome result (λ k. fits_kind m k ≡ true) }
@@ -115,27 +115,27 @@ pub fn cpu_kind(text: &[u8]) -> Option<Kind>
     Some(Kind::CpuBusy(cpu))
 }
 
-/// What stands behind `syscore suspend`.
-fn syscore_down(book: &NameBook, text: &[u8]) -> Option<Kind>
-    ensures kind { result ≡ syscore_down book.now text.now }
-    ensures fits { IfSome result (λ k. fits_kind book.now k ≡ true) }
+/// What stands after `syscore suspend`.
+fn syscore_down(machine_names: &MachineNames, text: &[u8]) -> Option<Kind>
+    ensures kind { result ≡ syscore_down machine_names.now text.now }
+    ensures fits { IfSome result (λ k. fits_kind machine_names.now k ≡ true) }
 {
     let (step, answer) = first_word(text);
-    let step = book.syscore(step)?;
+    let step = machine_names.syscore(step)?;
     Some(Kind::SyscoreSuspend(step, answer_in(answer)))
 }
 
-/// What stands behind `syscore`.
-pub fn syscore_kind(book: &NameBook, text: &[u8]) -> Option<Kind>
-    ensures kind { result ≡ syscore_kind book.now text.now }
-    ensures fits { IfSome result (λ k. fits_kind book.now k ≡ true) }
+/// What stands after `syscore`.
+pub fn syscore_kind(machine_names: &MachineNames, text: &[u8]) -> Option<Kind>
+    ensures kind { result ≡ syscore_kind machine_names.now text.now }
+    ensures fits { IfSome result (λ k. fits_kind machine_names.now k ≡ true) }
 {
     let (what, rest) = first_word(text);
     if is(what, CHECK) {
         return Some(Kind::SyscoreCheck(answer_in(rest)));
     }
     if is(what, RESUME) {
-        return Some(Kind::SyscoreResume(book.syscore(rest)?));
+        return Some(Kind::SyscoreResume(machine_names.syscore(rest)?));
     }
-    syscore_down(book, rest)
+    syscore_down(machine_names, rest)
 }

@@ -2,13 +2,13 @@ ghost use Rattle.std.specs.Prelude.{◌≡◌, true, IfSome};
 ghost use Rattle.sleep_model.specs.Fits.{fits_stats, fits_script, fits_cause, is_word32};
 ghost use Rattle.log_text.specs.Reading.{times_in, stats_in, why_in, waiting_in};
 
-use crate::reading::book::NameBook;
 use crate::reading::cut::{cut, first_word, is};
+use crate::reading::machine_names::MachineNames;
 use crate::reading::number::{word32, word64};
 use crate::spelling::verb::Verb;
 use sleep_model::{Actor, Stats, Waiting, Why};
 
-/// The statistics with these counts, by the text of the times behind them.
+/// The statistics with these counts, by the text of the times after them.
 fn times_in(active_count: u32, event_count: u32, expire_count: u32, text: &[u8]) -> Option<Stats>
     requires active { is_word32 active_count ≡ true }
     requires event { is_word32 event_count ≡ true }
@@ -34,7 +34,7 @@ fn times_in(active_count: u32, event_count: u32, expire_count: u32, text: &[u8])
     })
 }
 
-/// The statistics that the text behind a source's name has to spell, if it spells any.
+/// The statistics that the text after a source's name has to spell, if it spells any.
 pub fn stats_in(text: &[u8]) -> Option<Stats>
     ensures stats { result ≡ stats_in text.now }
     ensures fits { IfSome result (λ s. fits_stats s ≡ true) }
@@ -49,27 +49,27 @@ pub fn stats_in(text: &[u8]) -> Option<Stats>
 }
 
 /// What a script that never exits waits for.
-fn why_in(book: &NameBook, text: &[u8]) -> Option<Why>
-    ensures why { result ≡ why_in book.now text.now }
-    ensures fits { IfSome result (λ w. fits_cause book.now w ≡ true) }
+fn why_in(machine_names: &MachineNames, text: &[u8]) -> Option<Why>
+    ensures why { result ≡ why_in machine_names.now text.now }
+    ensures fits { IfSome result (λ w. fits_cause machine_names.now w ≡ true) }
 {
     if is(text, Verb::Read.word()) {
         return Some(Why::InProgress);
     }
     let (_, mark) = first_word(text);
-    Some(Why::Mark(book.mark(mark)?))
+    Some(Why::Mark(machine_names.mark(mark)?))
 }
 
-/// The script that never exits that the text behind `stuck` has to spell, if it spells one.
-pub fn waiting_in(book: &NameBook, text: &[u8]) -> Option<Waiting>
-    ensures waiting { result ≡ waiting_in book.now text.now }
-    ensures script { IfSome result (λ w. fits_script book.now w.actor ≡ true) }
-    ensures cause { IfSome result (λ w. fits_cause book.now w.why ≡ true) }
+/// The script that never exits that the text after `stuck` has to spell, if it spells one.
+pub fn waiting_in(machine_names: &MachineNames, text: &[u8]) -> Option<Waiting>
+    ensures waiting { result ≡ waiting_in machine_names.now text.now }
+    ensures script { IfSome result (λ w. fits_script machine_names.now w.actor ≡ true) }
+    ensures cause { IfSome result (λ w. fits_cause machine_names.now w.why ≡ true) }
 {
     let (actor, rest) = first_word(text);
     let (_, name) = cut(actor, b':');
-    let script = book.script(name)?;
-    let why = why_in(book, rest)?;
+    let script = machine_names.script(name)?;
+    let why = why_in(machine_names, rest)?;
     Some(Waiting {
         actor: Actor::Script(script),
         why,

@@ -1,7 +1,7 @@
 //! The things that a log names, by their names.
 
 ghost use Rattle.std.specs.Prelude.{◌≡◌, ◌<◌, ◌^◌, length, nat_lt, true, IfOk, IfSome};
-ghost use Rattle.log_text.specs.Cutting.{place_in};
+ghost use Rattle.log_text.specs.Cutting.{index_in};
 
 use key_index::KeyIndex;
 use sleep_base::Mem;
@@ -11,30 +11,30 @@ use std::alloc::Global;
 /// Names of things, each of which is found at once by its bytes.
 #[derive(Drop)]
 pub struct NameIndex {
-    places: KeyIndex<Name>,
-    ghost few: { length places < 2 ^ 32 },
+    indices: KeyIndex<Name>,
+    ghost few: { length indices < 2 ^ 32 },
 }
 
 impl NameIndex {
     /// The index of these names. `Mem` if there is no memory for it, or no number for each.
     pub fn new(alloc: Global, names: Vec<Name>) -> Result<Self, Mem>
-        ensures { IfOk result (λ n. n.places ≡ names.items) }
+        ensures { IfOk result (λ n. n.indices ≡ names.items) }
     {
         if names.len() > u32::MAX as usize {
             return Err(Mem);
         }
-        let places = KeyIndex::new(alloc, names)?;
-        Ok(NameIndex { places })
+        let indices = KeyIndex::new(alloc, names)?;
+        Ok(NameIndex { indices })
     }
 
-    /// The number of the first thing of that name. None where there is none.
+    /// The number of the first thing of that name. None if there is none.
     #[tactic(auto, using(crate::proofs::SameNames::found_is))]
     pub fn find(&self, word: &[u8]) -> Option<u32>
-        ensures place { result ≡ place_in self.now.places word.now }
-        ensures within { IfSome result (λ i. nat_lt i (length self.now.places) ≡ true) }
+        ensures place { result ≡ index_in self.now.indices word.now }
+        ensures within { IfSome result (λ i. nat_lt i (length self.now.indices) ≡ true) }
     {
         match Name::of_bytes(word) {
-            Some(name) => match self.places.place(&name) {
+            Some(name) => match self.indices.place(&name) {
                 Some(place) => Some(place as u32),
                 None => None,
             },

@@ -5,9 +5,9 @@ ghost use Rattle.log_text.specs.Reading.{kind_in, kind_by, task_by, auto_by, sou
 use crate::reading::attempts::{
     attempt_kind, cpu_kind, froze_kind, notify_kind, over_kind, platform_kind, syscore_kind,
 };
-use crate::reading::book::NameBook;
 use crate::reading::cut::{first_word, is};
 use crate::reading::devices::{begin_kind, end_kind, prepare_kind, schedule_kind, skip_kind};
+use crate::reading::machine_names::MachineNames;
 use crate::reading::meaning::{answer_in, group_in, phase_in, thaw_in};
 use crate::reading::number::{word32, word64};
 use crate::reading::steps::{
@@ -20,39 +20,39 @@ use sleep_base::Errno;
 use sleep_model::Kind;
 
 /// What an entry says, if the text says it at all: read leniently. The numbers fit the machine.
-pub fn kind_in(book: &NameBook, text: &[u8]) -> Option<Kind>
-    ensures kind { result ≡ kind_in book.now text.now }
-    ensures fits { IfSome result (λ k. fits_kind book.now k ≡ true) }
+pub fn kind_in(machine_names: &MachineNames, text: &[u8]) -> Option<Kind>
+    ensures kind { result ≡ kind_in machine_names.now text.now }
+    ensures fits { IfSome result (λ k. fits_kind machine_names.now k ≡ true) }
 {
     let (word, rest) = first_word(text);
     let verb = Verb::of_bytes(word)?;
-    kind_by(book, verb, rest)
+    kind_by(machine_names, verb, rest)
 }
 
-/// What stands behind a verb.
-fn kind_by(book: &NameBook, verb: Verb, text: &[u8]) -> Option<Kind>
-    ensures kind { result ≡ kind_by book.now verb text.now }
-    ensures fits { IfSome result (λ k. fits_kind book.now k ≡ true) }
+/// What stands after a verb.
+fn kind_by(machine_names: &MachineNames, verb: Verb, text: &[u8]) -> Option<Kind>
+    ensures kind { result ≡ kind_by machine_names.now verb text.now }
+    ensures fits { IfSome result (λ k. fits_kind machine_names.now k ≡ true) }
 {
     match verb {
-        Verb::Begin => begin_kind(book, text),
-        Verb::End => end_kind(book, text),
-        Verb::Prepare => prepare_kind(book, text),
-        Verb::Complete => Some(Kind::Complete(book.device(text)?)),
-        Verb::Schedule => schedule_kind(book, text),
-        Verb::Skip => skip_kind(book, text),
+        Verb::Begin => begin_kind(machine_names, text),
+        Verb::End => end_kind(machine_names, text),
+        Verb::Prepare => prepare_kind(machine_names, text),
+        Verb::Complete => Some(Kind::Complete(machine_names.device(text)?)),
+        Verb::Schedule => schedule_kind(machine_names, text),
+        Verb::Skip => skip_kind(machine_names, text),
         Verb::Done => {
             let (phase, answer) = first_word(text);
             Some(Kind::Done(phase_in(phase), answer_in(answer)))
         }
-        _ => task_by(book, verb, text),
+        _ => task_by(machine_names, verb, text),
     }
 }
 
-/// What stands behind a verb of a task, and of all but devices.
-fn task_by(book: &NameBook, verb: Verb, text: &[u8]) -> Option<Kind>
-    ensures kind { result ≡ task_by book.now verb text.now }
-    ensures fits { IfSome result (λ k. fits_kind book.now k ≡ true) }
+/// What stands after a verb of a task, and of all but devices.
+fn task_by(machine_names: &MachineNames, verb: Verb, text: &[u8]) -> Option<Kind>
+    ensures kind { result ≡ task_by machine_names.now verb text.now }
+    ensures fits { IfSome result (λ k. fits_kind machine_names.now k ≡ true) }
 {
     match verb {
         Verb::Frozen => Some(Kind::Frozen),
@@ -64,20 +64,20 @@ fn task_by(book: &NameBook, verb: Verb, text: &[u8]) -> Option<Kind>
         Verb::SleepD => Some(Kind::SleepD(word64(text)?)),
         Verb::Slept => Some(Kind::Slept),
         Verb::Pass => Some(Kind::Pass),
-        Verb::Post => Some(Kind::Post(book.mark(text)?)),
-        Verb::Got => Some(Kind::Got(book.mark(text)?)),
+        Verb::Post => Some(Kind::Post(machine_names.mark(text)?)),
+        Verb::Got => Some(Kind::Got(machine_names.mark(text)?)),
         Verb::Exit => Some(Kind::Exit),
-        Verb::Runtime => runtime_kind(book, text),
-        Verb::Link => link_kind(book, text),
-        Verb::LinkState => link_state_kind(book, text),
-        _ => auto_by(book, verb, text),
+        Verb::Runtime => runtime_kind(machine_names, text),
+        Verb::Link => link_kind(machine_names, text),
+        Verb::LinkState => link_state_kind(machine_names, text),
+        _ => auto_by(machine_names, verb, text),
     }
 }
 
-/// What stands behind a verb of the autosleep work, and of all but tasks and devices.
-fn auto_by(book: &NameBook, verb: Verb, text: &[u8]) -> Option<Kind>
-    ensures kind { result ≡ auto_by book.now verb text.now }
-    ensures fits { IfSome result (λ k. fits_kind book.now k ≡ true) }
+/// What stands after a verb of the autosleep work, and of all but tasks and devices.
+fn auto_by(machine_names: &MachineNames, verb: Verb, text: &[u8]) -> Option<Kind>
+    ensures kind { result ≡ auto_by machine_names.now verb text.now }
+    ensures fits { IfSome result (λ k. fits_kind machine_names.now k ≡ true) }
 {
     match verb {
         Verb::Run => Some(Kind::AutoRun),
@@ -86,44 +86,44 @@ fn auto_by(book: &NameBook, verb: Verb, text: &[u8]) -> Option<Kind>
         Verb::After => Some(Kind::AutoAfter(word32(text))),
         Verb::Again => Some(Kind::AutoAgain),
         Verb::Off => Some(Kind::AutoOff),
-        _ => source_by(book, verb, text),
+        _ => source_by(machine_names, verb, text),
     }
 }
 
-/// What stands behind a verb of a source or of time, and of an attempt.
-fn source_by(book: &NameBook, verb: Verb, text: &[u8]) -> Option<Kind>
-    ensures kind { result ≡ source_by book.now verb text.now }
-    ensures fits { IfSome result (λ k. fits_kind book.now k ≡ true) }
+/// What stands after a verb of a source or of time, and of an attempt.
+fn source_by(machine_names: &MachineNames, verb: Verb, text: &[u8]) -> Option<Kind>
+    ensures kind { result ≡ source_by machine_names.now verb text.now }
+    ensures fits { IfSome result (λ k. fits_kind machine_names.now k ≡ true) }
 {
     match verb {
-        Verb::Awake => Some(Kind::Awake(book.source(text)?)),
-        Verb::Relax => Some(Kind::Relax(book.source(text)?)),
-        Verb::Event => event_kind(book, text),
-        Verb::Expire => Some(Kind::Expire(book.source(text)?)),
-        Verb::Start => Some(Kind::Start(book.source(text)?)),
-        Verb::Finish => Some(Kind::Finish(book.source(text)?)),
-        Verb::Hard => Some(Kind::Hard(book.source(text)?)),
+        Verb::Awake => Some(Kind::Awake(machine_names.source(text)?)),
+        Verb::Relax => Some(Kind::Relax(machine_names.source(text)?)),
+        Verb::Event => event_kind(machine_names, text),
+        Verb::Expire => Some(Kind::Expire(machine_names.source(text)?)),
+        Verb::Start => Some(Kind::Start(machine_names.source(text)?)),
+        Verb::Finish => Some(Kind::Finish(machine_names.source(text)?)),
+        Verb::Hard => Some(Kind::Hard(machine_names.source(text)?)),
         Verb::Jump => Some(Kind::Jump),
-        _ => attempt_by(book, verb, text),
+        _ => attempt_by(machine_names, verb, text),
     }
 }
 
-/// What stands behind a verb of an attempt.
-fn attempt_by(book: &NameBook, verb: Verb, text: &[u8]) -> Option<Kind>
-    ensures kind { result ≡ attempt_by book.now verb text.now }
-    ensures fits { IfSome result (λ k. fits_kind book.now k ≡ true) }
+/// What stands after a verb of an attempt.
+fn attempt_by(machine_names: &MachineNames, verb: Verb, text: &[u8]) -> Option<Kind>
+    ensures kind { result ≡ attempt_by machine_names.now verb text.now }
+    ensures fits { IfSome result (λ k. fits_kind machine_names.now k ≡ true) }
 {
     match verb {
         Verb::Attempt => attempt_kind(text),
         Verb::Over => over_kind(text),
-        Verb::Notify => notify_kind(book, text),
+        Verb::Notify => notify_kind(machine_names, text),
         Verb::Freeze => Some(Kind::Freeze(group_in(text))),
-        Verb::Froze => froze_kind(book, text),
+        Verb::Froze => froze_kind(machine_names, text),
         Verb::Thaw => Some(Kind::Thaw(thaw_in(text))),
         Verb::Platform => Some(platform_kind(text)),
         Verb::Cpu => cpu_kind(text),
         Verb::Irqs => Some(Kind::Irqs { on: is(text, ON) }),
-        Verb::Syscore => syscore_kind(book, text),
+        Verb::Syscore => syscore_kind(machine_names, text),
         Verb::Enter => Some(Kind::Enter {
             busy: is(text, Errno::EBUSY.name()),
         }),

@@ -7,7 +7,7 @@ use crate::reading::cut::cut;
 use sleep_base::Mem;
 
 /// The first line of a text that is not empty, with its newline, if it has one, and what stands
-/// behind it.
+/// after it.
 #[tactic(auto, using(crate::proofs::FirstLines::line_cut, crate::proofs::FirstLines::line_whole))]
 pub fn first_line(text: &[u8]) -> (&[u8], &[u8])
     requires { text.now ≢ [] }
@@ -24,7 +24,7 @@ pub fn first_line(text: &[u8]) -> (&[u8], &[u8])
     }
 }
 
-/// The number of the next line. `Mem` where there is none.
+/// The number of the next line. `Mem` if there is none.
 pub fn next_number(line: u32) -> Result<u32, Mem>
     ensures { IfOk result (λ n. n ≡ line + 1) }
 {

@@ -52,7 +52,7 @@ pub fn phase_in(word: &[u8]) -> Phase
 }
 
 /// Why a device was skipped; any other word stands for direct-complete.
-#[tactic(auto, using(crate::proofs::WordsTold::cause_told))]
+#[tactic(auto, using(crate::proofs::WordsInjective::cause_injective))]
 pub fn cause_in(word: &[u8]) -> SkipCause
     ensures { result ≡ cause_in word.now }
 {
@@ -60,7 +60,7 @@ pub fn cause_in(word: &[u8]) -> SkipCause
 }
 
 /// Whom a freeze asks; any other word stands for kernel threads.
-#[tactic(auto, using(crate::proofs::WordsTold::group_told))]
+#[tactic(auto, using(crate::proofs::WordsInjective::group_injective))]
 pub fn group_in(word: &[u8]) -> Group
     ensures { result ≡ group_in word.now }
 {
@@ -88,7 +88,7 @@ pub fn state_in(word: &[u8]) -> State
 }
 
 /// The platform's step on the way down; any other word stands for the last.
-#[tactic(auto, using(crate::proofs::WordsTold::down_told))]
+#[tactic(auto, using(crate::proofs::WordsInjective::down_injective))]
 pub fn down_in(word: &[u8]) -> PlatDo
     ensures { result ≡ down_in word.now }
 {

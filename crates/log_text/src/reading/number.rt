@@ -2,7 +2,7 @@ ghost use Rattle.std.specs.Prelude.{◌≡◌, IfSome, true};
 ghost use Rattle.sleep_model.specs.Fits.{is_word32, is_word64};
 ghost use Rattle.log_text.specs.Cutting.{digit_after, word32, word64};
 
-/// The number with one digit more. None where the byte is no digit, and where the number leaves 64
+/// The number with one digit more. None if the byte is no digit, and where the number leaves 64
 /// bits.
 fn with_digit(number: u64, byte: u8) -> Option<u64>
     ensures number { result ≡ digit_after number byte }
@@ -14,7 +14,7 @@ fn with_digit(number: u64, byte: u8) -> Option<u64>
     number.checked_mul(10)?.checked_add(u64::from(byte - b'0'))
 }
 
-/// The number of 64 bits that the digits spell. None where there is no digit, or another byte.
+/// The number of 64 bits that the digits spell. None if there is no digit, or another byte.
 pub fn word64(text: &[u8]) -> Option<u64>
     ensures number { result ≡ word64 text.now }
     ensures fits { IfSome result (λ n. is_word64 n ≡ true) }

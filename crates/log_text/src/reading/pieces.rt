@@ -6,10 +6,10 @@ ghost use Rattle.sleep_model.specs.Text.{newline, space};
 
 use sleep_model::Phase;
 
-/// What stands behind a piece at the beginning of a text. None where the text begins otherwise.
+/// What stands after a piece at the beginning of a text. None if the text begins otherwise.
 #[inline(always)]
 #[tactic(auto, using(crate::proofs::Pieces::front_is))]
-pub fn behind<'a>(text: &'a [u8], piece: &[u8]) -> Option<&'a [u8]>
+pub fn after_piece<'a>(text: &'a [u8], piece: &[u8]) -> Option<&'a [u8]>
     ensures { IfSome result (λ rest. text.now ≡ piece.now ++ rest.now) }
 {
     match text.strip_prefix(piece) {
@@ -18,9 +18,9 @@ pub fn behind<'a>(text: &'a [u8], piece: &[u8]) -> Option<&'a [u8]>
     }
 }
 
-/// What stands behind a byte.
+/// What stands after a byte.
 #[inline(always)]
-pub fn behind_byte(text: &[u8], byte: u8) -> Option<&[u8]>
+pub fn after_byte(text: &[u8], byte: u8) -> Option<&[u8]>
     ensures { IfSome result (λ rest. text.now ≡ byte ∷ rest.now) }
 {
     match text.split_first() {
@@ -29,28 +29,28 @@ pub fn behind_byte(text: &[u8], byte: u8) -> Option<&[u8]>
     }
 }
 
-/// What stands behind a word and a space.
+/// What stands after a word and a space.
 #[inline(always)]
-pub fn behind_word<'a>(text: &'a [u8], word: &str) -> Option<&'a [u8]>
+pub fn after_word<'a>(text: &'a [u8], word: &str) -> Option<&'a [u8]>
     ensures { IfSome result (λ rest. text.now ≡ word.now ++ space ++ rest.now) }
 {
-    behind_byte(behind(text, word.as_bytes())?, b' ')
+    after_byte(after_piece(text, word.as_bytes())?, b' ')
 }
 
-/// What stands behind a word that ends a line.
+/// What stands after a word that ends a line.
 #[inline(always)]
-pub fn behind_last<'a>(text: &'a [u8], word: &str) -> Option<&'a [u8]>
+pub fn after_last_word<'a>(text: &'a [u8], word: &str) -> Option<&'a [u8]>
     ensures { IfSome result (λ rest. text.now ≡ word.now ++ newline ++ rest.now) }
 {
-    behind_byte(behind(text, word.as_bytes())?, b'\n')
+    after_byte(after_piece(text, word.as_bytes())?, b'\n')
 }
 
-/// The phase, and what stands behind its name and a space. None where the text begins otherwise.
+/// The phase, and what stands after its name and a space. None if the text begins otherwise.
 #[inline(always)]
-fn behind_phase(phase: Phase, text: &[u8]) -> Option<(Phase, &[u8])>
+fn after_phase(phase: Phase, text: &[u8]) -> Option<(Phase, &[u8])>
     ensures { IfSome result (λ r. text.now ≡ phase_name r.0 ++ space ++ r.1.now) }
 {
-    let rest = behind_word(text, phase.name())?;
+    let rest = after_word(text, phase.name())?;
     Some((phase, rest))
 }
 
@@ -59,25 +59,25 @@ fn behind_phase(phase: Phase, text: &[u8]) -> Option<(Phase, &[u8])>
 fn resume_first(text: &[u8]) -> Option<(Phase, &[u8])>
     ensures { IfSome result (λ r. text.now ≡ phase_name r.0 ++ space ++ r.1.now) }
 {
-    match behind_phase(Phase::Resume, text) {
-        None => behind_phase(Phase::ResumeNoirq, text),
+    match after_phase(Phase::Resume, text) {
+        None => after_phase(Phase::ResumeNoirq, text),
         found => found,
     }
 }
 
-/// A phase of devices at the beginning of a text, and what stands behind its space. None where the text begins otherwise.
+/// A phase of devices at the beginning of a text, and what stands after its space. None if the text begins otherwise.
 #[inline]
 pub fn phase_first(text: &[u8]) -> Option<(Phase, &[u8])>
     ensures { IfSome result (λ r. text.now ≡ phase_name r.0 ++ space ++ r.1.now) }
 {
     // One look at the first byte leaves one or two names to compare.
     match text.first() {
-        Some(b's') => behind_phase(Phase::Suspend, text),
-        Some(b'l') => behind_phase(Phase::Late, text),
-        Some(b'n') => behind_phase(Phase::Noirq, text),
-        Some(b'e') => behind_phase(Phase::Early, text),
-        Some(b'p') => behind_phase(Phase::Prepare, text),
-        Some(b'c') => behind_phase(Phase::Complete, text),
+        Some(b's') => after_phase(Phase::Suspend, text),
+        Some(b'l') => after_phase(Phase::Late, text),
+        Some(b'n') => after_phase(Phase::Noirq, text),
+        Some(b'e') => after_phase(Phase::Early, text),
+        Some(b'p') => after_phase(Phase::Prepare, text),
+        Some(b'c') => after_phase(Phase::Complete, text),
         Some(b'r') => resume_first(text),
         _ => None,
     }

@@ -10,37 +10,37 @@ ghost use Rattle.log_text.specs.Faults.{AtLine, IsNoSource};
 ghost use Rattle.log_text.specs.Named.{AreNamed};
 
 use crate::fault::LogFault;
-use crate::reading::book::NameBook;
 use crate::reading::cut::is;
 use crate::reading::lines::{first_line, next_number};
+use crate::reading::machine_names::MachineNames;
 use crate::reading::reader::LineReader;
 use crate::spelling::fixed::FINISHED;
 use sleep_base::{Mem, lost};
 use sleep_model::{AUTOSLEEP, EntryList, ListOf, Log, LogEnd, Machine, Stats, Waiting};
 use std::alloc::Global;
 
-/// The entries at the beginning of a log's text, what stands behind their lines, and the number of
+/// The entries at the beginning of a log's text, what stands after their lines, and the number of
 /// the line there.
-#[tactic(auto, using(crate::proofs::NextEntry::shorter_behind))]
+#[tactic(auto, using(crate::proofs::NextEntry::shorter_after))]
 fn read_entries<'a>(
     alloc: Global,
-    book: &NameBook,
+    machine_names: &MachineNames,
     reader: &mut LineReader,
     bytes: &'a [u8],
 ) -> Result<(EntryList, &'a [u8], u32), Mem>
-    ensures text { IfOk result (λ r. bytes.now ≡ flat_map (entry_line book.now) r.0 ++ r.1.now) }
-    ensures fits { IfOk result (λ r. list_all (fits_entry book.now) r.0 ≡ true) }
-    ensures bad { IfOk result (λ r. AreNamed book.now → (bad : ℕ) →
-        IsBadSource book.now (source_names book.now) (lines r.1.now) r.2 bad → IsFirstBad book.now bytes.now bad) }
+    ensures text { IfOk result (λ r. bytes.now ≡ flat_map (entry_line machine_names.now) r.0 ++ r.1.now) }
+    ensures fits { IfOk result (λ r. list_all (fits_entry machine_names.now) r.0 ≡ true) }
+    ensures bad { IfOk result (λ r. AreNamed machine_names.now → (bad : ℕ) →
+        IsBadSource machine_names.now (source_names machine_names.now) (lines r.1.now) r.2 bad → IsFirstBad machine_names.now bytes.now bad) }
 {
     let mut entries = EntryList::new(alloc);
     let mut left = bytes;
     let mut number = 1;
     while !left.is_empty() {
-        let Ok(next) = reader.next_entry(book, left) else {
+        let Ok(next) = reader.next_entry(machine_names, left) else {
             return Err(lost(entries));
         };
-        let Some((entry, behind)) = next else {
+        let Some((entry, after_piece)) = next else {
             return Ok((entries, left, number));
         };
         let Ok(()) = entries.push(entry) else {
@@ -50,12 +50,12 @@ fn read_entries<'a>(
             return Err(lost(entries));
         };
         number = following;
-        left = behind;
+        left = after_piece;
     }
     Ok((entries, left, number))
 }
 
-/// The statistics of the source of that name at the beginning of a text, and what stands behind
+/// The statistics of the source of that name at the beginning of a text, and what stands after
 /// their line.
 fn read_source<'a>(
     reader: &mut LineReader,
@@ -72,14 +72,14 @@ fn read_source<'a>(
     if bytes.is_empty() {
         return Err(LogFault::Line(number));
     }
-    let (line, behind) = first_line(bytes);
+    let (line, after_piece) = first_line(bytes);
     match reader.source(name, line)? {
-        Some(stats) => Ok((stats, behind)),
+        Some(stats) => Ok((stats, after_piece)),
         None => Err(LogFault::Line(number)),
     }
 }
 
-/// The statistics of each source, `autosleep` last, at the beginning of a text, what stands behind
+/// The statistics of each source, `autosleep` last, at the beginning of a text, what stands after
 /// their lines, and the number of the line there.
 fn read_sources<'a>(
     alloc: Global,
@@ -101,18 +101,18 @@ fn read_sources<'a>(
     let mut number = first;
     for i in 0..names.len() {
         match read_source(reader, names[i].bytes(), left, number) {
-            Ok((stats, behind)) => {
+            Ok((stats, after_piece)) => {
                 all.push(stats)?;
                 number = next_number(number)?;
-                left = behind;
+                left = after_piece;
             }
             Err(fault) => return Err(fault),
         }
     }
     match read_source(reader, AUTOSLEEP.as_bytes(), left, number) {
-        Ok((stats, behind)) => {
+        Ok((stats, after_piece)) => {
             all.push(stats)?;
-            Ok((all, behind, next_number(number)?))
+            Ok((all, after_piece, next_number(number)?))
         }
         Err(fault) => Err(fault),
     }
@@ -121,28 +121,28 @@ fn read_sources<'a>(
 /// The scripts that never exit, to the end of a text that is not empty.
 fn read_stuck(
     alloc: Global,
-    book: &NameBook,
+    machine_names: &MachineNames,
     reader: &mut LineReader,
     bytes: &[u8],
     first: u32,
 ) -> Result<Vec<Waiting>, LogFault>
     requires { bytes.now ≢ [] }
-    ensures text { IfOk result (λ v. bytes.now ≡ flat_map (waiting_line book.now) v.items) }
+    ensures text { IfOk result (λ v. bytes.now ≡ flat_map (waiting_line machine_names.now) v.items) }
     ensures filled { IfOk result (λ v. is_filled v.items ≡ true) }
-    ensures fits { IfOk result (λ v. list_all (λ w. fits_script book.now w.actor && fits_cause book.now w.why) v.items ≡ true) }
-    ensures fault { IfErr result (λ e. AtLine e (λ n. AreNamed book.now → IsBadStuck book.now (lines bytes.now) first n)) }
+    ensures fits { IfOk result (λ v. list_all (λ w. fits_script machine_names.now w.actor && fits_cause machine_names.now w.why) v.items ≡ true) }
+    ensures fault { IfErr result (λ e. AtLine e (λ n. AreNamed machine_names.now → IsBadStuck machine_names.now (lines bytes.now) first n)) }
 {
     let mut all = Vec::new(alloc);
     let mut left = bytes;
     let mut number = first;
     while !left.is_empty() {
-        let (line, behind) = first_line(left);
-        let Some(waiting) = reader.stuck(book, line)? else {
+        let (line, after_piece) = first_line(left);
+        let Some(waiting) = reader.stuck(machine_names, line)? else {
             return Err(LogFault::Line(number));
         };
         all.push(waiting)?;
         number = next_number(number)?;
-        left = behind;
+        left = after_piece;
     }
     Ok(all)
 }
@@ -150,49 +150,49 @@ fn read_stuck(
 /// How the run ended, to the end of the text.
 fn read_end(
     alloc: Global,
-    book: &NameBook,
+    machine_names: &MachineNames,
     reader: &mut LineReader,
     bytes: &[u8],
     number: u32,
 ) -> Result<LogEnd, LogFault>
-    ensures text { IfOk result (λ e. bytes.now ≡ end_text book.now e) }
-    ensures fits { IfOk result (λ e. fits_end book.now e ≡ true) }
-    ensures fault { IfErr result (λ e. AtLine e (λ n. AreNamed book.now → IsBadEnd book.now (lines bytes.now) number n)) }
+    ensures text { IfOk result (λ e. bytes.now ≡ end_text machine_names.now e) }
+    ensures fits { IfOk result (λ e. fits_end machine_names.now e ≡ true) }
+    ensures fault { IfErr result (λ e. AtLine e (λ n. AreNamed machine_names.now → IsBadEnd machine_names.now (lines bytes.now) number n)) }
 {
     if bytes.is_empty() {
         return Err(LogFault::Line(number));
     }
-    let (line, behind) = first_line(bytes);
+    let (line, after_piece) = first_line(bytes);
     if is(line, FINISHED) {
-        if behind.is_empty() {
+        if after_piece.is_empty() {
             return Ok(LogEnd::Finished);
         }
         return Err(LogFault::Line(next_number(number)?));
     }
-    match read_stuck(alloc, book, reader, bytes, number) {
+    match read_stuck(alloc, machine_names, reader, bytes, number) {
         Ok(waiting) => Ok(LogEnd::Stuck(ListOf::of_vec(waiting))),
         Err(fault) => Err(fault),
     }
 }
 
-/// The log of these entries, by the text behind their lines.
-fn read_behind(
+/// The log of these entries, by the text after their lines.
+fn read_closing(
     alloc: Global,
-    book: &NameBook,
+    machine_names: &MachineNames,
     reader: &mut LineReader,
     entries: EntryList,
     bytes: &[u8],
     first: u32,
 ) -> Result<Log, LogFault>
     ensures entries { IfOk result (λ log. log.entries ≡ entries) }
-    ensures text { IfOk result (λ log. bytes.now ≡ source_lines (source_names book.now) log.stats ++ end_text book.now log.end) }
-    ensures count { IfOk result (λ log. length log.stats ≡ length book.now.sources + 1) }
+    ensures text { IfOk result (λ log. bytes.now ≡ source_lines (source_names machine_names.now) log.stats ++ end_text machine_names.now log.end) }
+    ensures count { IfOk result (λ log. length log.stats ≡ length machine_names.now.sources + 1) }
     ensures counts { IfOk result (λ log. list_all fits_stats log.stats ≡ true) }
-    ensures end { IfOk result (λ log. fits_end book.now log.end ≡ true) }
-    ensures fault { IfErr result (λ e. AtLine e (λ n. AreNamed book.now → IsBadSource book.now (source_names book.now) (lines bytes.now) first n)) }
+    ensures end { IfOk result (λ log. fits_end machine_names.now log.end ≡ true) }
+    ensures fault { IfErr result (λ e. AtLine e (λ n. AreNamed machine_names.now → IsBadSource machine_names.now (source_names machine_names.now) (lines bytes.now) first n)) }
 {
-    match read_sources(alloc, book.machine(), reader, bytes, first) {
-        Ok((stats, left, number)) => match read_end(alloc, book, reader, left, number) {
+    match read_sources(alloc, machine_names.machine(), reader, bytes, first) {
+        Ok((stats, left, number)) => match read_end(alloc, machine_names, reader, left, number) {
             Ok(end) => Ok(Log {
                 entries,
                 stats: ListOf::of_vec(stats),
@@ -205,15 +205,15 @@ fn read_behind(
 }
 
 /// The log of a text, by the machine's book.
-fn read_whole(alloc: Global, book: &NameBook, bytes: &[u8]) -> Result<Log, LogFault>
-    ensures text { IfOk result (λ log. text book.now log ≡ bytes.now) }
-    ensures fits { IfOk result (λ log. IsWritable book.now log) }
-    ensures line { IfErr result (λ e. AtLine e (λ n. AreNamed book.now → IsFirstBad book.now bytes.now n)) }
+fn read_whole(alloc: Global, machine_names: &MachineNames, bytes: &[u8]) -> Result<Log, LogFault>
+    ensures text { IfOk result (λ log. text machine_names.now log ≡ bytes.now) }
+    ensures fits { IfOk result (λ log. IsWritable machine_names.now log) }
+    ensures line { IfErr result (λ e. AtLine e (λ n. AreNamed machine_names.now → IsFirstBad machine_names.now bytes.now n)) }
 {
     match LineReader::new(alloc) {
-        Ok(mut reader) => match read_entries(alloc, book, &mut reader, bytes) {
+        Ok(mut reader) => match read_entries(alloc, machine_names, &mut reader, bytes) {
             Ok((entries, left, number)) => {
-                read_behind(alloc, book, &mut reader, entries, left, number)
+                read_closing(alloc, machine_names, &mut reader, entries, left, number)
             }
             Err(_) => Err(LogFault::Mem),
         },
@@ -227,7 +227,7 @@ fn read_whole(alloc: Global, book: &NameBook, bytes: &[u8]) -> Result<Log, LogFa
 /// `Line(n)` where they are the text of no log that fits the machine: n counts from 1 to the first line
 /// that the grammar has not, or that is missing. A fitting log's text is read back as that
 /// very log. For both the machine's names have to be spelled as names and told apart, as the rules on
-/// machine files ask. `Mem` comes for want of memory, and where lines or things of a kind are more
+/// machine files ask. `Mem` comes if it is out of memory, and where lines or things of a kind are more
 /// than have numbers.
 pub fn read_log(alloc: Global, machine: &Machine, bytes: &[u8]) -> Result<Log, LogFault>
     ensures text { IfOk result (λ log. text machine.now log ≡ bytes.now) }
@@ -240,10 +240,10 @@ pub fn read_log(alloc: Global, machine: &Machine, bytes: &[u8]) -> Result<Log, L
     ensures taken { (log : Log) → AreNamed machine.now → IsWritable machine.now log → text machine.now log ≡ bytes.now →
         IsOkUnless result LogFault.Mem }
 {
-    match NameBook::new(alloc, machine) {
-        Ok(book) => {
-            let read = read_whole(alloc, &book, bytes);
-            drop(book);
+    match MachineNames::new(alloc, machine) {
+        Ok(machine_names) => {
+            let read = read_whole(alloc, &machine_names, bytes);
+            drop(machine_names);
             read
         }
         Err(_) => Err(LogFault::Mem),

@@ -10,17 +10,17 @@ ghost use Rattle.log_text.specs.Cutting.{without_last};
 ghost use Rattle.log_text.specs.Grammar.{lines, IsBadEntry, IsBadSource, IsEntryLine, IsSourceLine, IsStuckLine};
 ghost use Rattle.log_text.specs.Named.{AreNamed};
 
-use crate::reading::book::NameBook;
 use crate::reading::cut::first_word;
 use crate::reading::ends::{stats_in, waiting_in};
 use crate::reading::entries::{entry_in, now_in};
 use crate::reading::kinds::kind_in;
 use crate::reading::lines::first_line;
+use crate::reading::machine_names::MachineNames;
 use crate::reading::number::word64;
-use crate::reading::pieces::behind;
+use crate::reading::pieces::after_piece;
 use crate::reading::quick::{actor_first, kind_first};
 use crate::spelling::front::LineFront;
-use crate::writing::writer::{LineWriter, put_entry, put_said, put_source, put_waiting};
+use crate::writing::writer::{LineWriter, put_entry, put_entry_text, put_source, put_waiting};
 use sleep_base::Mem;
 use sleep_model::{Actor, Entry, Kind, Stats, Waiting};
 use std::alloc::Global;
@@ -70,38 +70,43 @@ impl LineReader {
     }
 
     /// Whether the entry spells the line.
-    fn is_entry(&mut self, book: &NameBook, entry: Entry, line: &[u8]) -> Result<bool, Mem>
-        ensures { IfOk result (λ b. b ≡ bytes_eq (entry_line book.now entry) line.now) }
+    fn is_entry(
+        &mut self,
+        machine_names: &MachineNames,
+        entry: Entry,
+        line: &[u8],
+    ) -> Result<bool, Mem>
+        ensures { IfOk result (λ b. b ≡ bytes_eq (entry_line machine_names.now entry) line.now) }
     {
         self.spelled.clear();
         self.front.move_to(entry.time, entry.now);
-        put_entry(&mut self.spelled, book.names(), &self.front, entry)?;
+        put_entry(&mut self.spelled, machine_names.names(), &self.front, entry)?;
         self.spelled.is(line)
     }
 
-    /// The entry of a line, which fits the machine. None where it is no entry's line.
+    /// The entry of a line, which fits the machine. None if it is no entry's line.
     #[tactic(auto, using(crate::proofs::Readable::no_entry, crate::proofs::Readable::other_entry, crate::proofs::Readable::same_bytes))]
-    pub fn entry(&mut self, book: &NameBook, line: &[u8]) -> Result<Option<Entry>, Mem>
-        ensures fits { IfOk result (λ o. IfSome o (λ e. fits_entry book.now e ≡ true)) }
-        ensures line { IfOk result (λ o. IfSome o (λ e. line.now ≡ entry_line book.now e)) }
-        ensures none { IfOk result (λ o. IfNone o (AreNamed book.now → IsEntryLine book.now line.now → ⊥)) }
+    pub fn entry(&mut self, machine_names: &MachineNames, line: &[u8]) -> Result<Option<Entry>, Mem>
+        ensures fits { IfOk result (λ o. IfSome o (λ e. fits_entry machine_names.now e ≡ true)) }
+        ensures line { IfOk result (λ o. IfSome o (λ e. line.now ≡ entry_line machine_names.now e)) }
+        ensures none { IfOk result (λ o. IfNone o (AreNamed machine_names.now → IsEntryLine machine_names.now line.now → ⊥)) }
     {
         let text = without_last(line);
-        match entry_in(book, text) {
+        match entry_in(machine_names, text) {
             None => Ok(None),
             Some(entry) => {
-                let same = self.is_entry(book, entry, line)?;
+                let same = self.is_entry(machine_names, entry, line)?;
                 if same { Ok(Some(entry)) } else { Ok(None) }
             }
         }
     }
 
-    /// What stands behind the moment and the word that a text begins with, which the front then has: mostly those of the
-    /// line before. None where the text begins otherwise.
-    fn behind_front<'a>(&mut self, text: &'a [u8]) -> Option<&'a [u8]>
+    /// What stands after the moment and the word that a text begins with, which the front then has: mostly those of the
+    /// line before. None if the text begins otherwise.
+    fn after_front<'a>(&mut self, text: &'a [u8]) -> Option<&'a [u8]>
         ensures { IfSome result (λ rest. text.now ≡ front_text self.new.front.time self.new.front.word ++ rest.now) }
     {
-        if let Some(rest) = behind(text, self.front.text().as_bytes()) {
+        if let Some(rest) = after_piece(text, self.front.text().as_bytes()) {
             return Some(rest);
         }
         let (time, rest) = first_word(text);
@@ -109,36 +114,41 @@ impl LineReader {
         let time = word64(time)?;
         let now = now_in(now)?;
         self.front.move_to(time, now);
-        behind(text, self.front.text().as_bytes())
+        after_piece(text, self.front.text().as_bytes())
     }
 
     /// Whether what an entry says spells a line's end.
-    fn is_said(&mut self, book: &NameBook, kind: Kind, text: &[u8]) -> Result<bool, Mem>
-        ensures { IfOk result (λ b. b ≡ bytes_eq (body book.now kind ++ newline) text.now) }
+    fn is_same_text(
+        &mut self,
+        machine_names: &MachineNames,
+        kind: Kind,
+        text: &[u8],
+    ) -> Result<bool, Mem>
+        ensures { IfOk result (λ b. b ≡ bytes_eq (body machine_names.now kind ++ newline) text.now) }
     {
         self.spelled.clear();
-        put_said(&mut self.spelled, book.names(), kind)?;
+        put_entry_text(&mut self.spelled, machine_names.names(), kind)?;
         self.spelled.is(text)
     }
 
-    /// What a text tells first, to the end of its line, and what stands behind it. None where it tells nothing.
+    /// What a text tells first, to the end of its line, and what stands after it. None if it tells nothing.
     #[tactic(auto, using(crate::proofs::Readable::same_bytes))]
     fn other_first<'a>(
         &mut self,
-        book: &NameBook,
+        machine_names: &MachineNames,
         text: &'a [u8],
     ) -> Result<Option<(Kind, &'a [u8])>, Mem>
-        ensures text { IfOk result (λ o. IfSome o (λ r. text.now ≡ body book.now r.0 ++ newline ++ r.1.now)) }
-        ensures fits { IfOk result (λ o. IfSome o (λ r. fits_kind book.now r.0 ≡ true)) }
+        ensures text { IfOk result (λ o. IfSome o (λ r. text.now ≡ body machine_names.now r.0 ++ newline ++ r.1.now)) }
+        ensures fits { IfOk result (λ o. IfSome o (λ r. fits_kind machine_names.now r.0 ≡ true)) }
     {
         if text.is_empty() {
             return Ok(None);
         }
         let (line, rest) = first_line(text);
-        match kind_in(book, without_last(line)) {
+        match kind_in(machine_names, without_last(line)) {
             None => Ok(None),
             Some(kind) => {
-                let same = self.is_said(book, kind, line)?;
+                let same = self.is_same_text(machine_names, kind, line)?;
                 if same {
                     Ok(Some((kind, rest)))
                 } else {
@@ -148,17 +158,17 @@ impl LineReader {
         }
     }
 
-    /// What a text tells first, to the end of its line, and what stands behind it: mostly something of a device.
-    fn said_first<'a>(
+    /// What a text tells first, to the end of its line, and what stands after it: mostly something of a device.
+    fn first_of_text<'a>(
         &mut self,
-        book: &NameBook,
+        machine_names: &MachineNames,
         text: &'a [u8],
     ) -> Result<Option<(Kind, &'a [u8])>, Mem>
-        ensures text { IfOk result (λ o. IfSome o (λ r. text.now ≡ body book.now r.0 ++ newline ++ r.1.now)) }
-        ensures fits { IfOk result (λ o. IfSome o (λ r. fits_kind book.now r.0 ≡ true)) }
+        ensures text { IfOk result (λ o. IfSome o (λ r. text.now ≡ body machine_names.now r.0 ++ newline ++ r.1.now)) }
+        ensures fits { IfOk result (λ o. IfSome o (λ r. fits_kind machine_names.now r.0 ≡ true)) }
     {
-        match kind_first(book, self.device, text) {
-            None => self.other_first(book, text),
+        match kind_first(machine_names, self.device, text) {
+            None => self.other_first(machine_names, text),
             Some((kind, rest)) => {
                 self.device = device_of(kind, self.device);
                 Ok(Some((kind, rest)))
@@ -166,23 +176,23 @@ impl LineReader {
         }
     }
 
-    /// The entry of a text's first line behind its front, and what stands behind the line.
-    #[tactic(auto, using(crate::proofs::NextEntry::entry_told))]
+    /// The entry of a text's first line after its front, and what stands after the line.
+    #[tactic(auto, using(crate::proofs::NextEntry::entry_injective))]
     fn made_first<'a>(
         &mut self,
-        book: &NameBook,
+        machine_names: &MachineNames,
         text: &'a [u8],
     ) -> Result<Option<(Entry, &'a [u8])>, Mem>
         ensures text { IfOk result (λ o. IfSome o (λ r.
-            front_text self.old.front.time self.old.front.word ++ text.now ≡ entry_line book.now r.0 ++ r.1.now)) }
-        ensures fits { IfOk result (λ o. IfSome o (λ r. fits_entry book.now r.0 ≡ true)) }
+            front_text self.old.front.time self.old.front.word ++ text.now ≡ entry_line machine_names.now r.0 ++ r.1.now)) }
+        ensures fits { IfOk result (λ o. IfSome o (λ r. fits_entry machine_names.now r.0 ≡ true)) }
     {
         let (time, now) = (self.front.time(), self.front.word());
-        let Some((actor, said)) = actor_first(book, self.actor, text) else {
+        let Some((actor, entry_text)) = actor_first(machine_names, self.actor, text) else {
             return Ok(None);
         };
         self.actor = actor;
-        match self.said_first(book, said)? {
+        match self.first_of_text(machine_names, entry_text)? {
             None => Ok(None),
             Some((kind, rest)) => Ok(Some((
                 Entry {
@@ -196,59 +206,59 @@ impl LineReader {
         }
     }
 
-    /// The entry of a text's first line, and what stands behind the line, read at one go. None also for some lines that
+    /// The entry of a text's first line, and what stands after the line, read at one go. None also for some lines that
     /// few logs have.
     fn entry_first<'a>(
         &mut self,
-        book: &NameBook,
+        machine_names: &MachineNames,
         text: &'a [u8],
     ) -> Result<Option<(Entry, &'a [u8])>, Mem>
-        ensures text { IfOk result (λ o. IfSome o (λ r. text.now ≡ entry_line book.now r.0 ++ r.1.now)) }
-        ensures fits { IfOk result (λ o. IfSome o (λ r. fits_entry book.now r.0 ≡ true)) }
+        ensures text { IfOk result (λ o. IfSome o (λ r. text.now ≡ entry_line machine_names.now r.0 ++ r.1.now)) }
+        ensures fits { IfOk result (λ o. IfSome o (λ r. fits_entry machine_names.now r.0 ≡ true)) }
     {
-        let Some(made) = self.behind_front(text) else {
+        let Some(made) = self.after_front(text) else {
             return Ok(None);
         };
-        match self.made_first(book, made)? {
+        match self.made_first(machine_names, made)? {
             None => Ok(None),
             Some((entry, rest)) => Ok(Some((entry, rest))),
         }
     }
 
-    /// The same by the whole line, also for lines that few logs have. None where it is no entry's.
+    /// The same by the whole line, also for lines that few logs have. None if it is no entry's.
     #[tactic(auto, using(crate::proofs::NextEntry::no_entry_next))]
     fn entry_of_line<'a>(
         &mut self,
-        book: &NameBook,
+        machine_names: &MachineNames,
         text: &'a [u8],
     ) -> Result<Option<(Entry, &'a [u8])>, Mem>
         requires { text.now ≢ [] }
-        ensures text { IfOk result (λ o. IfSome o (λ r. text.now ≡ entry_line book.now r.0 ++ r.1.now)) }
-        ensures fits { IfOk result (λ o. IfSome o (λ r. fits_entry book.now r.0 ≡ true)) }
-        ensures none { IfOk result (λ o. IfNone o (AreNamed book.now → (n bad : ℕ) →
-            IsBadSource book.now (source_names book.now) (lines text.now) n bad → IsBadEntry book.now (lines text.now) n bad)) }
+        ensures text { IfOk result (λ o. IfSome o (λ r. text.now ≡ entry_line machine_names.now r.0 ++ r.1.now)) }
+        ensures fits { IfOk result (λ o. IfSome o (λ r. fits_entry machine_names.now r.0 ≡ true)) }
+        ensures none { IfOk result (λ o. IfNone o (AreNamed machine_names.now → (n bad : ℕ) →
+            IsBadSource machine_names.now (source_names machine_names.now) (lines text.now) n bad → IsBadEntry machine_names.now (lines text.now) n bad)) }
     {
         let (line, rest) = first_line(text);
-        match self.entry(book, line)? {
+        match self.entry(machine_names, line)? {
             None => Ok(None),
             Some(entry) => Ok(Some((entry, rest))),
         }
     }
 
-    /// The entry of a text's first line, and what stands behind the line. None where it is no entry's.
+    /// The entry of a text's first line, and what stands after the line. None if it is no entry's.
     pub fn next_entry<'a>(
         &mut self,
-        book: &NameBook,
+        machine_names: &MachineNames,
         text: &'a [u8],
     ) -> Result<Option<(Entry, &'a [u8])>, Mem>
         requires { text.now ≢ [] }
-        ensures text { IfOk result (λ o. IfSome o (λ r. text.now ≡ entry_line book.now r.0 ++ r.1.now)) }
-        ensures fits { IfOk result (λ o. IfSome o (λ r. fits_entry book.now r.0 ≡ true)) }
-        ensures none { IfOk result (λ o. IfNone o (AreNamed book.now → (n bad : ℕ) →
-            IsBadSource book.now (source_names book.now) (lines text.now) n bad → IsBadEntry book.now (lines text.now) n bad)) }
+        ensures text { IfOk result (λ o. IfSome o (λ r. text.now ≡ entry_line machine_names.now r.0 ++ r.1.now)) }
+        ensures fits { IfOk result (λ o. IfSome o (λ r. fits_entry machine_names.now r.0 ≡ true)) }
+        ensures none { IfOk result (λ o. IfNone o (AreNamed machine_names.now → (n bad : ℕ) →
+            IsBadSource machine_names.now (source_names machine_names.now) (lines text.now) n bad → IsBadEntry machine_names.now (lines text.now) n bad)) }
     {
-        match self.entry_first(book, text)? {
-            None => self.entry_of_line(book, text),
+        match self.entry_first(machine_names, text)? {
+            None => self.entry_of_line(machine_names, text),
             Some((entry, rest)) => Ok(Some((entry, rest))),
         }
     }
@@ -262,7 +272,7 @@ impl LineReader {
         self.spelled.is(line)
     }
 
-    /// The statistics of a line of the source of that name. None where it is no such line.
+    /// The statistics of a line of the source of that name. None if it is no such line.
     #[tactic(auto, using(crate::proofs::Readable::no_source, crate::proofs::Readable::other_source, crate::proofs::Readable::short_source, crate::proofs::Readable::same_bytes))]
     pub fn source(&mut self, name: &[u8], line: &[u8]) -> Result<Option<Stats>, Mem>
         ensures fits { IfOk result (λ o. IfSome o (λ s. fits_stats s ≡ true)) }
@@ -284,30 +294,39 @@ impl LineReader {
     }
 
     /// Whether the script that never exits spells the line.
-    fn is_stuck(&mut self, book: &NameBook, waiting: &Waiting, line: &[u8]) -> Result<bool, Mem>
-        ensures { IfOk result (λ b. b ≡ bytes_eq (waiting_line book.now waiting.now) line.now) }
+    fn is_stuck(
+        &mut self,
+        machine_names: &MachineNames,
+        waiting: &Waiting,
+        line: &[u8],
+    ) -> Result<bool, Mem>
+        ensures { IfOk result (λ b. b ≡ bytes_eq (waiting_line machine_names.now waiting.now) line.now) }
     {
         self.spelled.clear();
-        put_waiting(&mut self.spelled, book.names(), waiting)?;
+        put_waiting(&mut self.spelled, machine_names.names(), waiting)?;
         self.spelled.is(line)
     }
 
-    /// The script of the machine that never exits that a line names. None where it is no such line.
+    /// The script of the machine that never exits that a line names. None if it is no such line.
     #[tactic(auto, using(crate::proofs::Readable::no_stuck, crate::proofs::Readable::other_stuck, crate::proofs::Readable::short_stuck, crate::proofs::Readable::same_bytes))]
-    pub fn stuck(&mut self, book: &NameBook, line: &[u8]) -> Result<Option<Waiting>, Mem>
-        ensures script { IfOk result (λ o. IfSome o (λ w. fits_script book.now w.actor ≡ true)) }
-        ensures cause { IfOk result (λ o. IfSome o (λ w. fits_cause book.now w.why ≡ true)) }
-        ensures line { IfOk result (λ o. IfSome o (λ w. line.now ≡ waiting_line book.now w)) }
-        ensures none { IfOk result (λ o. IfNone o (AreNamed book.now → IsStuckLine book.now line.now → ⊥)) }
+    pub fn stuck(
+        &mut self,
+        machine_names: &MachineNames,
+        line: &[u8],
+    ) -> Result<Option<Waiting>, Mem>
+        ensures script { IfOk result (λ o. IfSome o (λ w. fits_script machine_names.now w.actor ≡ true)) }
+        ensures cause { IfOk result (λ o. IfSome o (λ w. fits_cause machine_names.now w.why ≡ true)) }
+        ensures line { IfOk result (λ o. IfSome o (λ w. line.now ≡ waiting_line machine_names.now w)) }
+        ensures none { IfOk result (λ o. IfNone o (AreNamed machine_names.now → IsStuckLine machine_names.now line.now → ⊥)) }
     {
         if line.len() < 6 {
             return Ok(None);
         }
         let (_, text) = line.split_at(6);
-        match waiting_in(book, without_last(text)) {
+        match waiting_in(machine_names, without_last(text)) {
             None => Ok(None),
             Some(waiting) => {
-                let same = self.is_stuck(book, &waiting, line)?;
+                let same = self.is_stuck(machine_names, &waiting, line)?;
                 if same { Ok(Some(waiting)) } else { Ok(None) }
             }
         }

@@ -4,15 +4,15 @@ ghost use Rattle.sleep_model.specs.declared.machine.Machine.{Machine};
 ghost use Rattle.log_text.specs.Cutting.{word, rest, word32};
 ghost use Rattle.log_text.specs.Reading.{read_kind, save_kind, state_kind, autosleep_kind, runtime_kind, link_kind, link_state_kind, event_kind};
 
-use crate::reading::book::NameBook;
 use crate::reading::cut::{first_word, is};
+use crate::reading::machine_names::MachineNames;
 use crate::reading::meaning::{answer_in, errno_in, state_in};
 use crate::reading::number::word32;
 use crate::spelling::fixed::{DONE, HARD, OK, UNSAVED, WAIT};
 use sleep_base::Errno;
 use sleep_model::{Kind, link_word, runtime_word};
 
-/// What stands behind `read`.
+/// What stands after `read`.
 pub fn read_kind(text: &[u8]) -> Kind
     ensures kind { result ≡ read_kind text.now (word32 text.now) }
     ensures fits { (m : Machine) → fits_kind m result ≡ true }
@@ -24,7 +24,7 @@ pub fn read_kind(text: &[u8]) -> Kind
     }
 }
 
-/// What stands behind `save`.
+/// What stands after `save`.
 pub fn save_kind(text: &[u8]) -> Option<Kind>
     ensures kind { result ≡ option_map (save_kind (rest text.now)) (word32 (word text.now)) }
     ensures fits { (m : Machine) → IfSome result (λ k. fits_kind m k ≡ true) }
@@ -40,7 +40,7 @@ pub fn save_kind(text: &[u8]) -> Option<Kind>
     Some(Kind::SaveErr(count, errno_in(rest)))
 }
 
-/// What stands behind `state`.
+/// What stands after `state`.
 pub fn state_kind(text: &[u8]) -> Kind
     ensures kind { result ≡ state_kind text.now }
     ensures fits { (m : Machine) → fits_kind m result ≡ true }
@@ -54,7 +54,7 @@ pub fn state_kind(text: &[u8]) -> Kind
     Kind::StateErr(errno_in(text))
 }
 
-/// What stands behind `autosleep`.
+/// What stands after `autosleep`.
 pub fn autosleep_kind(text: &[u8]) -> Kind
     ensures kind { result ≡ autosleep_kind text.now }
     ensures fits { (m : Machine) → fits_kind m result ≡ true }
@@ -69,14 +69,14 @@ pub fn autosleep_kind(text: &[u8]) -> Kind
     Kind::AutoSet(state_in(state))
 }
 
-/// What stands behind `runtime`.
-pub fn runtime_kind(book: &NameBook, text: &[u8]) -> Option<Kind>
-    ensures kind { result ≡ runtime_kind book.now text.now }
-    ensures fits { IfSome result (λ k. fits_kind book.now k ≡ true) }
+/// What stands after `runtime`.
+pub fn runtime_kind(machine_names: &MachineNames, text: &[u8]) -> Option<Kind>
+    ensures kind { result ≡ runtime_kind machine_names.now text.now }
+    ensures fits { IfSome result (λ k. fits_kind machine_names.now k ≡ true) }
 {
     let (device, rest) = first_word(text);
     let (to, answer) = first_word(rest);
-    let device = book.device(device)?;
+    let device = machine_names.device(device)?;
     Some(Kind::RuntimeAsk {
         device,
         to_suspended: is(to, runtime_word(true)),
@@ -84,15 +84,15 @@ pub fn runtime_kind(book: &NameBook, text: &[u8]) -> Option<Kind>
     })
 }
 
-/// What stands behind `link`.
-pub fn link_kind(book: &NameBook, text: &[u8]) -> Option<Kind>
-    ensures kind { result ≡ link_kind book.now text.now }
-    ensures fits { IfSome result (λ k. fits_kind book.now k ≡ true) }
+/// What stands after `link`.
+pub fn link_kind(machine_names: &MachineNames, text: &[u8]) -> Option<Kind>
+    ensures kind { result ≡ link_kind machine_names.now text.now }
+    ensures fits { IfSome result (λ k. fits_kind machine_names.now k ≡ true) }
 {
     let (supplier, rest) = first_word(text);
     let (consumer, answer) = first_word(rest);
-    let supplier = book.device(supplier)?;
-    let consumer = book.device(consumer)?;
+    let supplier = machine_names.device(supplier)?;
+    let consumer = machine_names.device(consumer)?;
     Some(Kind::LinkAdd {
         supplier,
         consumer,
@@ -100,16 +100,16 @@ pub fn link_kind(book: &NameBook, text: &[u8]) -> Option<Kind>
     })
 }
 
-/// What stands behind `link_state`.
-pub fn link_state_kind(book: &NameBook, text: &[u8]) -> Option<Kind>
-    ensures kind { result ≡ link_state_kind book.now text.now }
-    ensures fits { IfSome result (λ k. fits_kind book.now k ≡ true) }
+/// What stands after `link_state`.
+pub fn link_state_kind(machine_names: &MachineNames, text: &[u8]) -> Option<Kind>
+    ensures kind { result ≡ link_state_kind machine_names.now text.now }
+    ensures fits { IfSome result (λ k. fits_kind machine_names.now k ≡ true) }
 {
     let (supplier, rest) = first_word(text);
     let (consumer, rest) = first_word(rest);
     let (to, answer) = first_word(rest);
-    let supplier = book.device(supplier)?;
-    let consumer = book.device(consumer)?;
+    let supplier = machine_names.device(supplier)?;
+    let consumer = machine_names.device(consumer)?;
     Some(Kind::LinkState {
         supplier,
         consumer,
@@ -118,14 +118,14 @@ pub fn link_state_kind(book: &NameBook, text: &[u8]) -> Option<Kind>
     })
 }
 
-/// What stands behind `event`.
-pub fn event_kind(book: &NameBook, text: &[u8]) -> Option<Kind>
-    ensures kind { result ≡ event_kind book.now text.now }
-    ensures fits { IfSome result (λ k. fits_kind book.now k ≡ true) }
+/// What stands after `event`.
+pub fn event_kind(machine_names: &MachineNames, text: &[u8]) -> Option<Kind>
+    ensures kind { result ≡ event_kind machine_names.now text.now }
+    ensures fits { IfSome result (λ k. fits_kind machine_names.now k ≡ true) }
 {
     let (source, rest) = first_word(text);
     let (ms, hard) = first_word(rest);
-    let source = book.source(source)?;
+    let source = machine_names.source(source)?;
     let ms = word32(ms)?;
     let hard = is(hard, HARD);
     Some(Kind::Event { source, ms, hard })

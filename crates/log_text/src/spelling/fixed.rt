@@ -30,7 +30,7 @@ pub const GUARDED: &str = "guarded";
 /// A notifier's call before an attempt.
 pub const PREPARE: &str = "prepare";
 
-/// A notifier's call behind it.
+/// A notifier's call after it.
 pub const POST: &str = "post";
 
 /// A freeze failed by time.

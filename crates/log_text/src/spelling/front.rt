@@ -93,7 +93,7 @@ fn word_of(inpr: u32, count: u32, hard: u32) -> EventNow
     EventNow { inpr, count, hard }
 }
 
-/// Spells the moment and the word, each with the space behind it, in place of what the text was.
+/// Spells the moment and the word, each with the space after it, in place of what the text was.
 #[inline(always)]
 #[tactic(auto, using(std::proofs::Common::append_assoc, crate::proofs::Decimals::decimal_short, crate::proofs::Decimals::decimal_short32))]
 fn spell(text: &mut ShortText, time: u64, word: EventNow)

@@ -53,7 +53,7 @@ impl Piece {
         Piece::of(b"\n               ", 1)
     }
 
-    /// The answer 0 behind a space, and the end of the line.
+    /// The answer 0 after a space, and the end of the line.
     #[inline(always)]
     pub fn success() -> Self
         ensures { result ≡ space ++ answer_text None ++ newline }
@@ -61,7 +61,7 @@ impl Piece {
         Piece::of(b" 0\n             ", 3)
     }
 
-    /// The bytes with all of the room behind them.
+    /// The bytes with all of the room after them.
     #[inline(always)]
     pub fn room(&self) -> &'static [u8; 16]
         ensures text { take (length self.now) result.now ≡ self.now }
@@ -80,7 +80,7 @@ impl Piece {
     }
 }
 
-/// The phase, with the space behind it.
+/// The phase, with the space after it.
 #[inline(always)]
 pub fn phase_piece(phase: Phase) -> Piece
     ensures { result ≡ phase_name phase ++ space }
@@ -99,7 +99,7 @@ pub fn phase_piece(phase: Phase) -> Piece
     }
 }
 
-/// Why a device was skipped, behind a space, at the end of a line.
+/// Why a device was skipped, after a space, at the end of a line.
 #[inline(always)]
 pub fn cause_piece(cause: SkipCause) -> Piece
     ensures { result ≡ space ++ cause_text cause ++ newline }

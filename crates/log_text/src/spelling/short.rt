@@ -38,7 +38,7 @@ impl ShortText {
         }
     }
 
-    /// Puts these bytes behind the text.
+    /// Puts these bytes after the text.
     pub fn push(&mut self, bytes: &[u8])
         requires { length self.old + length bytes.now ≤ 56 }
         ensures { self.new ≡ self.old ++ bytes.now }
@@ -56,7 +56,7 @@ impl ShortText {
         self.len = 0;
     }
 
-    /// Puts a byte behind the text.
+    /// Puts a byte after the text.
     #[inline(always)]
     pub fn push_byte(&mut self, byte: u8)
         requires { length self.old + 1 ≤ 56 }
@@ -67,7 +67,7 @@ impl ShortText {
         self.len += 1;
     }
 
-    /// Puts the number in decimal behind the text.
+    /// Puts the number in decimal after the text.
     #[inline(always)]
     pub fn push_number(&mut self, number: u64)
         requires { length self.old + length (decimal number) ≤ 56 }
@@ -84,7 +84,7 @@ impl ShortText {
         &self.room[..self.len]
     }
 
-    /// The text with all of its room behind it.
+    /// The text with all of its room after it.
     #[inline(always)]
     pub fn room(&self) -> &[u8; 56]
         ensures text { take (length self.now) result.now ≡ self.now }

@@ -2,7 +2,7 @@
 
 ghost use Rattle.std.specs.Prelude.{◌∷◌, [], decimal, length};
 
-use crate::spelling::held::HeldBytes;
+use crate::spelling::buffer::ByteBuffer;
 use crate::spelling::short::ShortText;
 
 /// What has one spelling in a log.
@@ -14,8 +14,8 @@ pub trait Spelled {
     /// The most bytes that the spelling has.
     ghost most: { Self → ℕ };
 
-    /// Puts it behind what is held.
-    fn put_on(self, out: &mut HeldBytes)
+    /// Puts it after what is held.
+    fn put_on(self, out: &mut ByteBuffer)
         requires short { most self ≤ 64 }
         requires room { length out.old + 64 ≤ 32768 }
         ensures text { out.new ≡ out.old ++ spelling self }
@@ -28,7 +28,7 @@ impl Spelled for &str {
     ghost most = { λ text. length text.now };
 
     #[inline(always)]
-    fn put_on(self, out: &mut HeldBytes) {
+    fn put_on(self, out: &mut ByteBuffer) {
         out.put_text(self);
     }
 }
@@ -39,7 +39,7 @@ impl Spelled for &[u8] {
     ghost most = { λ bytes. length bytes.now };
 
     #[inline(always)]
-    fn put_on(self, out: &mut HeldBytes) {
+    fn put_on(self, out: &mut ByteBuffer) {
         out.put(self);
     }
 }
@@ -50,7 +50,7 @@ impl Spelled for &ShortText {
     ghost most = { λ _. 56 };
 
     #[inline(always)]
-    fn put_on(self, out: &mut HeldBytes) {
+    fn put_on(self, out: &mut ByteBuffer) {
         out.put_short(self);
     }
 }
@@ -61,7 +61,7 @@ impl Spelled for u8 {
     ghost most = { λ _. 1 };
 
     #[inline(always)]
-    fn put_on(self, out: &mut HeldBytes) {
+    fn put_on(self, out: &mut ByteBuffer) {
         out.put_byte(self);
     }
 }
@@ -72,7 +72,7 @@ impl Spelled for u32 {
     ghost most = { λ _. 10 };
 
     #[inline(always)]
-    fn put_on(self, out: &mut HeldBytes) {
+    fn put_on(self, out: &mut ByteBuffer) {
         out.put_number(u64::from(self));
     }
 }
@@ -83,19 +83,19 @@ impl Spelled for u64 {
     ghost most = { λ _. 20 };
 
     #[inline(always)]
-    fn put_on(self, out: &mut HeldBytes) {
+    fn put_on(self, out: &mut ByteBuffer) {
         out.put_number(self);
     }
 }
 
-/// Puts each part in turn behind what is held, as `put!(out; "source ", name)`.
+/// Puts each part in turn after what is held, as `put!(out; "source ", name)`.
 macro_rules! put {
     ($out:expr; $($part:expr),+) => {{
         $(Spelled::put_on($part, $out);)+
     }};
 }
 
-/// Puts each word in turn behind what is held, with a space between two, as `put_words!(out; Verb::Save, count, OK)`.
+/// Puts each word in turn after what is held, with a space between two, as `put_words!(out; Verb::Save, count, OK)`.
 macro_rules! put_words {
     ($out:expr; $first:expr $(, $word:expr)*) => {{
         Spelled::put_on($first, $out);

@@ -138,7 +138,7 @@ impl Verb {
         bytes == self.word().as_bytes()
     }
 
-    /// The verb whose word these bytes are. None where there is none.
+    /// The verb whose word these bytes are. None if there is none.
     pub fn of_bytes(bytes: &[u8]) -> Option<Verb>
         ensures { result ≡ verb_of bytes.now }
     {

@@ -4,8 +4,8 @@ ghost use Rattle.phase_table.specs.Phases.{phase_name};
 ghost use Rattle.log_text.specs.Verbs.{verb_word};
 ghost use Rattle.sleep_model.specs.Text.{answer_text, cause_text, script_word, state_word, group_word, down_word, up_word};
 
+use crate::spelling::buffer::ByteBuffer;
 use crate::spelling::fixed::NO_ERROR;
-use crate::spelling::held::HeldBytes;
 use crate::spelling::spelled::Spelled;
 use crate::spelling::verb::Verb;
 use sleep_base::Errno;
@@ -18,7 +18,7 @@ impl Spelled for Verb {
 
     #[inline(always)]
     #[tactic(auto, using(crate::proofs::Lengths::verb_short))]
-    fn put_on(self, out: &mut HeldBytes) {
+    fn put_on(self, out: &mut ByteBuffer) {
         out.put_text(self.word());
     }
 }
@@ -30,7 +30,7 @@ impl Spelled for Errno {
 
     #[inline(always)]
     #[tactic(auto, using(crate::proofs::Lengths::error_short))]
-    fn put_on(self, out: &mut HeldBytes) {
+    fn put_on(self, out: &mut ByteBuffer) {
         out.put_text(self.name());
     }
 }
@@ -42,7 +42,7 @@ impl Spelled for Option<Errno> {
 
     #[inline(always)]
     #[tactic(auto, using(crate::proofs::Lengths::error_short))]
-    fn put_on(self, out: &mut HeldBytes) {
+    fn put_on(self, out: &mut ByteBuffer) {
         match self {
             None => out.put_text(NO_ERROR),
             Some(error) => out.put_text(error.name()),
@@ -57,7 +57,7 @@ impl Spelled for Phase {
 
     #[inline(always)]
     #[tactic(auto, using(crate::proofs::Lengths::phase_short))]
-    fn put_on(self, out: &mut HeldBytes) {
+    fn put_on(self, out: &mut ByteBuffer) {
         out.put_text(self.name());
     }
 }
@@ -69,7 +69,7 @@ impl Spelled for SkipCause {
 
     #[inline(always)]
     #[tactic(auto, using(crate::proofs::Lengths::cause_short))]
-    fn put_on(self, out: &mut HeldBytes) {
+    fn put_on(self, out: &mut ByteBuffer) {
         out.put_text(self.name());
     }
 }
@@ -81,7 +81,7 @@ impl Spelled for State {
 
     #[inline(always)]
     #[tactic(auto, using(crate::proofs::Lengths::state_short))]
-    fn put_on(self, out: &mut HeldBytes) {
+    fn put_on(self, out: &mut ByteBuffer) {
         out.put_text(state_word(self));
     }
 }
@@ -93,7 +93,7 @@ impl Spelled for Group {
 
     #[inline(always)]
     #[tactic(auto, using(crate::proofs::Lengths::group_short))]
-    fn put_on(self, out: &mut HeldBytes) {
+    fn put_on(self, out: &mut ByteBuffer) {
         out.put_text(self.name());
     }
 }
@@ -105,7 +105,7 @@ impl Spelled for PlatDo {
 
     #[inline(always)]
     #[tactic(auto, using(crate::proofs::Lengths::down_short))]
-    fn put_on(self, out: &mut HeldBytes) {
+    fn put_on(self, out: &mut ByteBuffer) {
         out.put_text(self.name());
     }
 }
@@ -117,7 +117,7 @@ impl Spelled for PlatUndo {
 
     #[inline(always)]
     #[tactic(auto, using(crate::proofs::Lengths::up_short))]
-    fn put_on(self, out: &mut HeldBytes) {
+    fn put_on(self, out: &mut ByteBuffer) {
         out.put_text(self.name());
     }
 }

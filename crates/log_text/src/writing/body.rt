@@ -3,11 +3,11 @@ ghost use Rattle.log_text.specs.Words.{is_negative};
 ghost use Rattle.sleep_model.specs.declared.entry.Kind.TheVariants as kind;
 ghost use Rattle.sleep_model.specs.Text.{answer_text, body, device, link_word, space, step_body, auto_body, source_body, phase_body, attempt_body, platform_body, froze_text, prepare_text};
 
+use crate::spelling::buffer::ByteBuffer;
 use crate::spelling::fixed::{
     ALARM, ALL, BUSY, CHECK, DONE, EVENT, GUARDED, HARD, NO_ERROR, OFF, OK, ON, PLAIN, POST,
     PREPARE, RESUME, SET, SOFT, SUSPEND, TIMEOUT, UNSAVED, WAIT, WAKEUP,
 };
-use crate::spelling::held::HeldBytes;
 use crate::spelling::spelled::{Spelled, put, put_words};
 use crate::spelling::verb::Verb;
 use crate::writing::ready::ReadyNames;
@@ -17,7 +17,7 @@ use sleep_model::{FrozeEnd, Group, Kind, Thaw, link_word, runtime_word};
 /// Writes what an entry says.
 #[tactic(auto, using(std::proofs::Common::append_assoc))]
 #[inline(always)]
-pub fn put_body(out: &mut HeldBytes, names: &ReadyNames, kind: Kind)
+pub fn put_body(out: &mut ByteBuffer, names: &ReadyNames, kind: Kind)
     requires { length out.old + 512 ≤ 32768 }
     ensures text { out.new ≡ out.old ++ body names.now kind }
     ensures few { length out.new ≤ length out.old + 512 }
@@ -42,7 +42,7 @@ pub fn put_body(out: &mut HeldBytes, names: &ReadyNames, kind: Kind)
 
 /// Writes which consumer's link was set, to which state, and the answer.
 #[tactic(auto, using(std::proofs::Common::append_assoc))]
-fn put_set(out: &mut HeldBytes, names: &ReadyNames, consumer: u32, active: bool, r: Option<Errno>)
+fn put_set(out: &mut ByteBuffer, names: &ReadyNames, consumer: u32, active: bool, r: Option<Errno>)
     requires { length out.old + 320 ≤ 32768 }
     ensures text { out.new ≡ out.old ++ (device names.now consumer ++ space ++ link_word active ++ space ++ answer_text r) }
     ensures few { length out.new ≤ length out.old + 320 }
@@ -53,7 +53,7 @@ fn put_set(out: &mut HeldBytes, names: &ReadyNames, consumer: u32, active: bool,
 /// Writes what an entry that sets the state of a link says.
 #[tactic(auto, using(std::proofs::Common::append_assoc))]
 fn put_link_state(
-    out: &mut HeldBytes,
+    out: &mut ByteBuffer,
     names: &ReadyNames,
     supplier: u32,
     consumer: u32,
@@ -72,7 +72,7 @@ fn put_link_state(
 /// Writes what an entry of a task's other steps says.
 #[tactic(auto, using(std::proofs::Common::append_assoc))]
 #[inline(always)]
-fn put_step(out: &mut HeldBytes, names: &ReadyNames, kind: Kind)
+fn put_step(out: &mut ByteBuffer, names: &ReadyNames, kind: Kind)
     requires { length out.old + 512 ≤ 32768 }
     ensures text { out.new ≡ out.old ++ step_body names.now kind }
     ensures few { length out.new ≤ length out.old + 512 }
@@ -108,7 +108,7 @@ fn put_step(out: &mut HeldBytes, names: &ReadyNames, kind: Kind)
 /// Writes what an entry of the autosleep work says.
 #[tactic(auto, using(std::proofs::Common::append_assoc))]
 #[inline(always)]
-fn put_auto(out: &mut HeldBytes, names: &ReadyNames, kind: Kind)
+fn put_auto(out: &mut ByteBuffer, names: &ReadyNames, kind: Kind)
     requires { length out.old + 512 ≤ 32768 }
     ensures text { out.new ≡ out.old ++ auto_body names.now kind }
     ensures few { length out.new ≤ length out.old + 512 }
@@ -128,7 +128,7 @@ fn put_auto(out: &mut HeldBytes, names: &ReadyNames, kind: Kind)
 /// Writes what an entry of a wakeup source or of time says.
 #[tactic(auto, using(std::proofs::Common::append_assoc))]
 #[inline(always)]
-fn put_source(out: &mut HeldBytes, names: &ReadyNames, kind: Kind)
+fn put_source(out: &mut ByteBuffer, names: &ReadyNames, kind: Kind)
     requires { length out.old + 512 ≤ 32768 }
     ensures text { out.new ≡ out.old ++ source_body names.now kind }
     ensures few { length out.new ≤ length out.old + 512 }
@@ -152,7 +152,7 @@ fn put_source(out: &mut HeldBytes, names: &ReadyNames, kind: Kind)
 /// Writes what an entry of a device phase says.
 #[tactic(auto, using(std::proofs::Common::append_assoc))]
 #[inline(always)]
-fn put_phase(out: &mut HeldBytes, names: &ReadyNames, kind: Kind)
+fn put_phase(out: &mut ByteBuffer, names: &ReadyNames, kind: Kind)
     requires { length out.old + 512 ≤ 32768 }
     ensures text { out.new ≡ out.old ++ phase_body names.now kind }
     ensures few { length out.new ≤ length out.old + 512 }
@@ -175,7 +175,7 @@ fn put_phase(out: &mut HeldBytes, names: &ReadyNames, kind: Kind)
 }
 
 /// The name of the error that a number below 0 means; of one that callbacks do not know, EINVAL.
-#[tactic(auto, using(crate::proofs::WordsTold::failed_told, crate::proofs::Lengths::error_short))]
+#[tactic(auto, using(crate::proofs::WordsInjective::failed_injective, crate::proofs::Lengths::error_short))]
 fn failed_prepare(r: i32) -> &'static str
     requires { is_negative r ≡ true }
     ensures text { result.now ≡ prepare_text r }
@@ -185,7 +185,7 @@ fn failed_prepare(r: i32) -> &'static str
 }
 
 /// Writes what a device's prepare answered: 0, 1, or an error's name.
-fn put_prepare_answer(out: &mut HeldBytes, r: i32)
+fn put_prepare_answer(out: &mut ByteBuffer, r: i32)
     requires { length out.old + 64 ≤ 32768 }
     ensures text { out.new ≡ out.old ++ prepare_text r }
     ensures few { length out.new ≤ length out.old + 64 }
@@ -199,7 +199,7 @@ fn put_prepare_answer(out: &mut HeldBytes, r: i32)
 
 /// Writes what an entry of an attempt's start, of its end, of the notifiers or of the freezer says.
 #[tactic(auto, using(std::proofs::Common::append_assoc))]
-fn put_attempt(out: &mut HeldBytes, names: &ReadyNames, kind: Kind)
+fn put_attempt(out: &mut ByteBuffer, names: &ReadyNames, kind: Kind)
     requires { length out.old + 512 ≤ 32768 }
     ensures text { out.new ≡ out.old ++ attempt_body names.now kind }
     ensures few { length out.new ≤ length out.old + 512 }
@@ -227,7 +227,7 @@ fn put_attempt(out: &mut HeldBytes, names: &ReadyNames, kind: Kind)
 }
 
 /// Writes how a freeze ended.
-fn put_froze_end(out: &mut HeldBytes, names: &ReadyNames, end: FrozeEnd)
+fn put_froze_end(out: &mut ByteBuffer, names: &ReadyNames, end: FrozeEnd)
     requires { length out.old + 256 ≤ 32768 }
     ensures text { out.new ≡ out.old ++ froze_text names.now end }
     ensures few { length out.new ≤ length out.old + 256 }
@@ -243,7 +243,7 @@ fn put_froze_end(out: &mut HeldBytes, names: &ReadyNames, end: FrozeEnd)
 
 /// Writes what an entry of the platform, of a processor or of a syscore step says.
 #[tactic(auto, using(std::proofs::Common::append_assoc))]
-fn put_platform(out: &mut HeldBytes, names: &ReadyNames, kind: Kind)
+fn put_platform(out: &mut ByteBuffer, names: &ReadyNames, kind: Kind)
     requires { length out.old + 512 ≤ 32768 }
     ensures text { out.new ≡ out.old ++ platform_body names.now kind }
     ensures few { length out.new ≤ length out.old + 512 }

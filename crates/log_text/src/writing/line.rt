@@ -2,9 +2,9 @@ ghost use Rattle.std.specs.Prelude.{◌≡◌, ◌+◌, ◌≤◌, ◌++◌, cod
 ghost use Rattle.log_text.specs.Front.{front_text, maker_text};
 ghost use Rattle.sleep_model.specs.Text.{body, hard_word, newline, space, script_text, waiting_text, entry_line, source_line, counts_text, times_text, waiting_line};
 
+use crate::spelling::buffer::ByteBuffer;
 use crate::spelling::fixed::{AUTO, DEVICE, TIME, TIMER};
 use crate::spelling::front::LineFront;
-use crate::spelling::held::HeldBytes;
 use crate::spelling::piece::Piece;
 use crate::spelling::short::ShortText;
 use crate::spelling::spelled::{Spelled, put};
@@ -15,9 +15,9 @@ use crate::writing::device_words::device_words;
 use crate::writing::ready::ReadyNames;
 use sleep_model::{Actor, Entry, Kind, Stats, Waiting, Why};
 
-/// Writes who makes an entry, with the space behind it.
+/// Writes who makes an entry, with the space after it.
 #[inline(always)]
-fn put_maker(out: &mut HeldBytes, names: &ReadyNames, actor: Actor)
+fn put_maker(out: &mut ByteBuffer, names: &ReadyNames, actor: Actor)
     requires { length out.old + 192 ≤ 32768 }
     ensures text { out.new ≡ out.old ++ maker_text names.now actor }
     ensures few { length out.new ≤ length out.old + 192 }
@@ -39,7 +39,7 @@ fn put_maker(out: &mut HeldBytes, names: &ReadyNames, actor: Actor)
 }
 
 /// Writes which script it is.
-fn put_script(out: &mut HeldBytes, names: &ReadyNames, index: u32)
+fn put_script(out: &mut ByteBuffer, names: &ReadyNames, index: u32)
     requires { length out.old + 128 ≤ 32768 }
     ensures text { out.new ≡ out.old ++ script_text (slice_get names.now.actors index) }
     ensures few { length out.new ≤ length out.old + 128 }
@@ -53,7 +53,7 @@ fn put_script(out: &mut HeldBytes, names: &ReadyNames, index: u32)
 /// Writes the line of an entry part by part, whose front is given.
 #[cold]
 #[inline(never)]
-fn put_parts(out: &mut HeldBytes, names: &ReadyNames, front: &LineFront, actor: Actor, kind: Kind)
+fn put_fields(out: &mut ByteBuffer, names: &ReadyNames, front: &LineFront, actor: Actor, kind: Kind)
     requires room { length out.old + 1024 ≤ 32768 }
     ensures text { out.new ≡ out.old ++ (front_text front.now.time front.now.word ++ maker_text names.now actor ++ body names.now kind ++ newline) }
     ensures few { length out.new ≤ length out.old + 1024 }
@@ -66,7 +66,7 @@ fn put_parts(out: &mut HeldBytes, names: &ReadyNames, front: &LineFront, actor: 
 
 /// Writes what an entry says, to the end of its line.
 #[inline(never)]
-fn put_said(out: &mut HeldBytes, names: &ReadyNames, kind: Kind)
+fn put_entry_text(out: &mut ByteBuffer, names: &ReadyNames, kind: Kind)
     requires room { length out.old + 576 ≤ 32768 }
     ensures text { out.new ≡ out.old ++ (body names.now kind ++ newline) }
     ensures few { length out.new ≤ length out.old + 576 }
@@ -77,7 +77,7 @@ fn put_said(out: &mut HeldBytes, names: &ReadyNames, kind: Kind)
 
 /// Writes what an entry of an event says, to the end of its line.
 #[inline(always)]
-fn put_event(out: &mut HeldBytes, source: &ShortText, ms: u32, hard: bool)
+fn put_event(out: &mut ByteBuffer, source: &ShortText, ms: u32, hard: bool)
     requires room { length out.old + 140 ≤ 32768 }
     ensures text { out.new ≡ out.old ++ (codes "event " ++ source.now ++ space ++ decimal ms ++ space ++ hard_word hard ++ newline) }
     ensures few { length out.new ≤ length out.old + 140 }
@@ -97,7 +97,7 @@ fn put_event(out: &mut HeldBytes, source: &ShortText, ms: u32, hard: bool)
 
 /// Writes what an entry says, to the end of its line: of sleeping, of sources and of time what is ready, else part by part.
 #[inline(always)]
-fn put_rest(out: &mut HeldBytes, names: &ReadyNames, entry: Entry)
+fn put_rest(out: &mut ByteBuffer, names: &ReadyNames, entry: Entry)
     requires room { length out.old + 576 ≤ 32768 }
     ensures text { out.new ≡ out.old ++ (body names.now entry.kind ++ newline) }
     ensures few { length out.new ≤ length out.old + 576 }
@@ -131,13 +131,13 @@ fn put_rest(out: &mut HeldBytes, names: &ReadyNames, entry: Entry)
             &Piece::newline(),
         ),
         Kind::Jump => out.put_piece(&Piece::of(b"jump\n           ", 5)),
-        _ => put_said(out, names, entry.kind),
+        _ => put_entry_text(out, names, entry.kind),
     }
 }
 
 /// Writes the line of an entry, whose front is given.
 #[inline(always)]
-pub fn spell_entry(out: &mut HeldBytes, names: &ReadyNames, front: &LineFront, entry: Entry)
+pub fn spell_entry(out: &mut ByteBuffer, names: &ReadyNames, front: &LineFront, entry: Entry)
     requires time { front.now.time ≡ entry.time }
     requires word { front.now.word ≡ entry.now }
     requires room { length out.old + 1024 ≤ 32768 }
@@ -145,7 +145,7 @@ pub fn spell_entry(out: &mut HeldBytes, names: &ReadyNames, front: &LineFront, e
     ensures few { length out.new ≤ length out.old + 1024 }
 {
     let Some(maker) = names.maker(entry.actor) else {
-        return put_parts(out, names, front, entry.actor, entry.kind);
+        return put_fields(out, names, front, entry.actor, entry.kind);
     };
     if let Some(words) = device_words(entry.kind)
         && let Some(device) = names.known_device(words.device)
@@ -158,7 +158,7 @@ pub fn spell_entry(out: &mut HeldBytes, names: &ReadyNames, front: &LineFront, e
 }
 
 /// Writes the line of a wakeup source.
-pub fn spell_source(out: &mut HeldBytes, name: &[u8], stats: &Stats)
+pub fn spell_source(out: &mut ByteBuffer, name: &[u8], stats: &Stats)
     requires name { length name.now ≤ 64 }
     requires room { length out.old + 1152 ≤ 32768 }
     ensures text { out.new ≡ out.old ++ source_line name.now stats.now }
@@ -171,7 +171,7 @@ pub fn spell_source(out: &mut HeldBytes, name: &[u8], stats: &Stats)
 }
 
 /// Writes a source's counts, each after a space.
-fn put_counts(out: &mut HeldBytes, stats: &Stats)
+fn put_counts(out: &mut ByteBuffer, stats: &Stats)
     requires { length out.old + 384 ≤ 32768 }
     ensures text { out.new ≡ out.old ++ counts_text stats.now }
     ensures few { length out.new ≤ length out.old + 384 }
@@ -180,7 +180,7 @@ fn put_counts(out: &mut HeldBytes, stats: &Stats)
 }
 
 /// Writes a source's times, each after a space.
-fn put_times(out: &mut HeldBytes, stats: &Stats)
+fn put_times(out: &mut ByteBuffer, stats: &Stats)
     requires { length out.old + 512 ≤ 32768 }
     ensures text { out.new ≡ out.old ++ times_text stats.now }
     ensures few { length out.new ≤ length out.old + 512 }
@@ -190,7 +190,7 @@ fn put_times(out: &mut HeldBytes, stats: &Stats)
 }
 
 /// Writes the line of a script that never exits.
-pub fn spell_waiting(out: &mut HeldBytes, names: &ReadyNames, waiting: &Waiting)
+pub fn spell_waiting(out: &mut ByteBuffer, names: &ReadyNames, waiting: &Waiting)
     requires { length out.old + 512 ≤ 32768 }
     ensures text { out.new ≡ out.old ++ waiting_line names.now waiting.now }
     ensures few { length out.new ≤ length out.old + 512 }
@@ -202,7 +202,7 @@ pub fn spell_waiting(out: &mut HeldBytes, names: &ReadyNames, waiting: &Waiting)
 }
 
 /// Writes what such a script waits for.
-fn put_why(out: &mut HeldBytes, names: &ReadyNames, why: Why)
+fn put_why(out: &mut ByteBuffer, names: &ReadyNames, why: Why)
     requires { length out.old + 128 ≤ 32768 }
     ensures text { out.new ≡ out.old ++ waiting_text names.now why }
     ensures few { length out.new ≤ length out.old + 128 }

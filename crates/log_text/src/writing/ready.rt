@@ -149,7 +149,7 @@ impl<'a> ReadyNames<'a> {
         name_at(self.tasks.as_slice(), &self.none, index)
     }
 
-    /// Who makes an entry, with the space behind it, where it is ready.
+    /// Who makes an entry, with the space after it, where it is ready.
     #[inline(always)]
     pub fn maker(&self, who: Actor) -> Option<&ShortText>
         ensures { IfSome result (λ t. t.now ≡ maker_text self.now who) }
@@ -179,7 +179,7 @@ fn name_at<'a>(names: &'a [ShortText], none: &'a ShortText, index: u32) -> &'a S
     }
 }
 
-/// These names. `Mem` also where one has more bytes than a name may have, which no name has.
+/// These names. `Mem` also if one has more bytes than a name may have, which no name has.
 fn name_texts(alloc: Global, names: &[Name]) -> Result<Vec<ShortText>, Mem>
     ensures { IfOk result (λ v. v.items ≡ names.now) }
 {
@@ -258,7 +258,7 @@ fn texts_of_tasks(alloc: Global, machine: &Machine) -> Result<ThreeTexts, Mem>
     Ok((sources, marks, tasks))
 }
 
-/// Who makes an entry, of that kind and that name, with the space behind it.
+/// Who makes an entry, of that kind and that name, with the space after it.
 fn maker(kind: &[u8], name: &[u8]) -> ShortText
     requires kind { length kind.now ≤ 6 }
     requires name { length name.now ≤ 32 }
@@ -286,7 +286,7 @@ fn makers_of(alloc: Global, machine: &Machine) -> Result<ThreeTexts, Mem>
     Ok((makers, scripts, timers))
 }
 
-/// Devices as who makes an entry. `Mem` also where a name has more bytes than a name may have.
+/// Devices as who makes an entry. `Mem` also if a name has more bytes than a name may have.
 fn device_makers(alloc: Global, devices: &[Device]) -> Result<Vec<ShortText>, Mem>
     ensures { IfOk result (λ v. (i : ℕ) → ForSome (slice_get v.items i)
         (λ t. t ≡ (codes "dev:" ++ device_name (slice_get devices.now i)) ++ space)) }
@@ -302,7 +302,7 @@ fn device_makers(alloc: Global, devices: &[Device]) -> Result<Vec<ShortText>, Me
     Ok(texts)
 }
 
-/// Scripts as who makes an entry. `Mem` also where a name has more bytes than a name may have.
+/// Scripts as who makes an entry. `Mem` also if a name has more bytes than a name may have.
 fn script_makers(alloc: Global, scripts: &[Script]) -> Result<Vec<ShortText>, Mem>
     ensures { IfOk result (λ v. (i : ℕ) → ForSome (slice_get v.items i)
         (λ t. t ≡ script_text (slice_get scripts.now i) ++ space)) }
@@ -319,7 +319,7 @@ fn script_makers(alloc: Global, scripts: &[Script]) -> Result<Vec<ShortText>, Me
     Ok(texts)
 }
 
-/// The timers of sources as who makes an entry. `Mem` also where a name has more bytes than a name may have.
+/// The timers of sources as who makes an entry. `Mem` also if a name has more bytes than a name may have.
 fn timer_makers(alloc: Global, machine: &Machine) -> Result<Vec<ShortText>, Mem>
     ensures { IfOk result (λ v. (i : ℕ) → ForSome (slice_get v.items i) (λ t. t ≡ maker_text machine.now (actor.Timer i))) }
 {
@@ -327,7 +327,7 @@ fn timer_makers(alloc: Global, machine: &Machine) -> Result<Vec<ShortText>, Mem>
     timer_texts(alloc, names.as_slice())
 }
 
-/// The timers of sources of these names as who makes an entry. `Mem` also where a name has more bytes than a name may have.
+/// The timers of sources of these names as who makes an entry. `Mem` also if a name has more bytes than a name may have.
 fn timer_texts(alloc: Global, names: &[Name]) -> Result<Vec<ShortText>, Mem>
     ensures { IfOk result (λ v. (i : ℕ) → ForSome (slice_get v.items i)
         (λ t. t ≡ (codes "timer:" ++ name_in (slice_get names.now i)) ++ space)) }

@@ -31,7 +31,7 @@ fn put_referred(
     Ok(())
 }
 
-/// The lines of these entries of sources, in the order in which they are given. `Mem` where there is no memory for them
+/// The lines of these entries of sources, in the order in which they are given. `Mem` if there is no memory for them
 /// (own: Linux keeps no such log).
 pub fn write_entries(
     alloc: Global,

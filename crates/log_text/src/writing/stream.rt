@@ -5,8 +5,8 @@ ghost use Rattle.sleep_base.specs.Whole.{WriteAll};
 ghost use Rattle.sleep_model.specs.Text.{entry_line, end_text, source_lines, source_names};
 ghost use Rattle.log_text.specs.Passing.{Passes};
 
+use crate::spelling::buffer::ByteBuffer;
 use crate::spelling::front::LineFront;
-use crate::spelling::held::HeldBytes;
 use crate::writing::line::spell_entry;
 use crate::writing::log::{put_end, put_sources};
 use crate::writing::ready::ReadyNames;
@@ -21,7 +21,7 @@ use std::marker::Model;
 pub struct LogText<'a> {
     names: ReadyNames<'a>,
     entries: &'a EntryList,
-    /// The lines behind those of the entries.
+    /// The lines after those of the entries.
     behind: Vec<u8>,
 }
 
@@ -39,13 +39,13 @@ impl<'a> LogText<'a> {
     ghost use Rattle.sleep_base.specs.Whole.{WriteAll};
     ghost use Rattle.sleep_model.specs.Text.{text};
 
-    /// The text of the log that this machine made. `Mem` if there is no memory for its names, or for the lines behind
+    /// The text of the log that this machine made. `Mem` if there is no memory for its names, or for the lines after
     /// those of the entries.
     pub fn new(alloc: Global, machine: &'a Machine, log: &'a Log) -> Result<Self, Mem>
         ensures { IfOk result (λ t. t ≡ text machine.now log.now) }
     {
         let names = ReadyNames::new(alloc, machine)?;
-        let behind = lines_behind(alloc, &names, log)?;
+        let behind = closing_lines(alloc, &names, log)?;
         Ok(LogText {
             names,
             entries: &log.entries,
@@ -62,8 +62,8 @@ impl<'a> LogText<'a> {
     }
 }
 
-/// The lines behind those of the entries: the sources', and the end.
-fn lines_behind(alloc: Global, names: &ReadyNames, log: &Log) -> Result<Vec<u8>, Mem>
+/// The lines after those of the entries: the sources', and the end.
+fn closing_lines(alloc: Global, names: &ReadyNames, log: &Log) -> Result<Vec<u8>, Mem>
     ensures { IfOk result (λ v. v.items ≡ source_lines (source_names names.now) log.now.stats ++ end_text names.now log.now.end) }
 {
     let mut out = LineWriter::with_room(alloc, 0)?;
@@ -76,48 +76,52 @@ fn lines_behind(alloc: Global, names: &ReadyNames, log: &Log) -> Result<Vec<u8>,
 #[cold]
 #[inline(never)]
 #[tactic(auto, using(crate::proofs::Passed::passes_all))]
-fn pass_on<K: ByteSink>(sink: &mut K, held: &mut HeldBytes) -> Result<(), Failed>
-    ensures passes { OnOk result (Passes (K.written sink.old) (K.written sink.new) (K.faults sink.old) (K.faults sink.new) held.old held.new) }
-    ensures none_held { OnOk result (held.new ≡ []) }
-    ensures fails { OnErr result (WriteAll (K.written sink.old) (K.written sink.new) (K.faults sink.old) (K.faults sink.new) held.old result) }
+fn pass_on<K: ByteSink>(sink: &mut K, buffer: &mut ByteBuffer) -> Result<(), Failed>
+    ensures passes { OnOk result (Passes (K.written sink.old) (K.written sink.new) (K.faults sink.old) (K.faults sink.new) buffer.old buffer.new) }
+    ensures none_buffered { OnOk result (buffer.new ≡ []) }
+    ensures fails { OnErr result (WriteAll (K.written sink.old) (K.written sink.new) (K.faults sink.old) (K.faults sink.new) buffer.old result) }
     ensures faults { K.faults sink.old ≤ K.faults sink.new }
 {
-    write_all(sink, held.as_bytes())?;
-    held.clear();
+    write_all(sink, buffer.as_bytes())?;
+    buffer.clear();
     Ok(())
 }
 
 /// Writes what is held, where there is no room for one more line.
 #[tactic(auto, using(crate::proofs::Passed::passes_none))]
 #[inline(always)]
-fn make_room<K: ByteSink>(sink: &mut K, held: &mut HeldBytes) -> Result<(), Failed>
-    ensures passes { OnOk result (Passes (K.written sink.old) (K.written sink.new) (K.faults sink.old) (K.faults sink.new) held.old held.new) }
-    ensures room { OnOk result (length held.new + 2048 ≤ 32768) }
-    ensures fails { OnErr result (WriteAll (K.written sink.old) (K.written sink.new) (K.faults sink.old) (K.faults sink.new) held.old result) }
+fn make_room<K: ByteSink>(sink: &mut K, buffer: &mut ByteBuffer) -> Result<(), Failed>
+    ensures passes { OnOk result (Passes (K.written sink.old) (K.written sink.new) (K.faults sink.old) (K.faults sink.new) buffer.old buffer.new) }
+    ensures room { OnOk result (length buffer.new + 2048 ≤ 32768) }
+    ensures fails { OnErr result (WriteAll (K.written sink.old) (K.written sink.new) (K.faults sink.old) (K.faults sink.new) buffer.old result) }
     ensures faults { K.faults sink.old ≤ K.faults sink.new }
 {
-    if held.left() >= LINE {
+    if buffer.left() >= LINE {
         return Ok(());
     }
-    pass_on(sink, held)
+    pass_on(sink, buffer)
 }
 
-/// Writes what is held and the bytes behind it, in one piece where there is room for them.
+/// Writes what is held and the bytes after it, in one piece where there is room for them.
 #[tactic(auto, using(sleep_base::proofs::Written::one_failed, sleep_base::proofs::Written::both_written))]
-fn write_last<K: ByteSink>(sink: &mut K, held: &mut HeldBytes, behind: &[u8]) -> Result<(), Failed>
-    ensures bytes { WriteAll (K.written sink.old) (K.written sink.new) (K.faults sink.old) (K.faults sink.new) (held.old ++ behind.now) result }
+fn write_last<K: ByteSink>(
+    sink: &mut K,
+    buffer: &mut ByteBuffer,
+    behind: &[u8],
+) -> Result<(), Failed>
+    ensures bytes { WriteAll (K.written sink.old) (K.written sink.new) (K.faults sink.old) (K.faults sink.new) (buffer.old ++ behind.now) result }
     ensures faults { K.faults sink.old ≤ K.faults sink.new }
 {
-    if behind.len() <= held.left() {
-        held.put(behind);
-        return write_all(sink, held.as_bytes());
+    if behind.len() <= buffer.left() {
+        buffer.put(behind);
+        return write_all(sink, buffer.as_bytes());
     }
-    write_all(sink, held.as_bytes())?;
+    write_all(sink, buffer.as_bytes())?;
     write_all(sink, behind)
 }
 
-/// Writes a line for each entry, and then those behind them.
-#[tactic(auto, using(crate::proofs::Passed::told_first, crate::proofs::Passed::told_on, crate::proofs::Passed::told_failed, crate::proofs::Passed::told_behind))]
+/// Writes a line for each entry, and then those after them.
+#[tactic(auto, using(crate::proofs::Passed::taken_first, crate::proofs::Passed::taken_on, crate::proofs::Passed::taken_failed, crate::proofs::Passed::taken_after))]
 fn write_lines<K: ByteSink>(
     sink: &mut K,
     names: &ReadyNames,
@@ -127,13 +131,13 @@ fn write_lines<K: ByteSink>(
     ensures bytes { WriteAll (K.written sink.old) (K.written sink.new) (K.faults sink.old) (K.faults sink.new) (flat_map (entry_line names.now) entries.now ++ behind.now) result }
     ensures faults { K.faults sink.old ≤ K.faults sink.new }
 {
-    let mut held = HeldBytes::new();
+    let mut buffer = ByteBuffer::new();
     let mut front = LineFront::start();
     let mut reader = entries.reader();
     while let Some(entry) = reader.next() {
-        make_room(sink, &mut held)?;
+        make_room(sink, &mut buffer)?;
         front.move_to(entry.time, entry.now);
-        spell_entry(&mut held, names, &front, entry);
+        spell_entry(&mut buffer, names, &front, entry);
     }
-    write_last(sink, &mut held, behind)
+    write_last(sink, &mut buffer, behind)
 }

@@ -1,9 +1,9 @@
 ghost use Rattle.std.specs.Prelude.{◌≡◌, ◌+◌, ◌≤◌, ◌++◌, [], OnOk, codes, length};
 ghost use Rattle.sleep_model.specs.Text.{body, entry_line, newline, source_line, waiting_line};
 
+use crate::spelling::buffer::ByteBuffer;
 use crate::spelling::fixed::FINISHED;
 use crate::spelling::front::LineFront;
-use crate::spelling::held::HeldBytes;
 use crate::spelling::spelled::{Spelled, put};
 use crate::writing::body::put_body;
 use crate::writing::line::{spell_entry, spell_source, spell_waiting};
@@ -16,12 +16,12 @@ use std::marker::Model;
 /// The room that any line has where it is put together.
 pub const LINE: usize = 2048;
 
-/// Lines that are written one behind the other, and that contracts see as the list of their bytes. The last ones are held
+/// Lines that are written one after the other, and that contracts see as the list of their bytes. The last ones are held
 /// in place, where a line takes no memory.
 #[derive(Drop)]
 pub struct LineWriter {
     bytes: Vec<u8>,
-    held: HeldBytes,
+    buffer: ByteBuffer,
 }
 
 impl Model for LineWriter {
@@ -29,29 +29,29 @@ impl Model for LineWriter {
 
     ghost Value = { List ℕ };
 
-    ghost view = { λ w. w.bytes.items ++ w.held };
+    ghost view = { λ w. w.bytes.items ++ w.buffer };
 }
 
-/// Puts the bytes that are held behind the others.
+/// Puts the bytes that are held after the others.
 #[cold]
 #[inline(never)]
-fn pass_on(bytes: &mut Vec<u8>, held: &mut HeldBytes) -> Result<(), Mem>
-    ensures joined { OnOk result (bytes.new.items ≡ bytes.old.items ++ held.old) }
-    ensures none_held { OnOk result (held.new ≡ []) }
+fn pass_on(bytes: &mut Vec<u8>, buffer: &mut ByteBuffer) -> Result<(), Mem>
+    ensures joined { OnOk result (bytes.new.items ≡ bytes.old.items ++ buffer.old) }
+    ensures none_buffered { OnOk result (buffer.new ≡ []) }
 {
-    bytes.extend_from_slice(held.as_bytes())?;
-    held.clear();
+    bytes.extend_from_slice(buffer.as_bytes())?;
+    buffer.clear();
     Ok(())
 }
 
 /// Makes room for one more line.
 #[inline(always)]
-fn make_room(bytes: &mut Vec<u8>, held: &mut HeldBytes) -> Result<(), Mem>
-    ensures joined { OnOk result (bytes.new.items ++ held.new ≡ bytes.old.items ++ held.old) }
-    ensures room { OnOk result (length held.new + 2048 ≤ 32768) }
+fn make_room(bytes: &mut Vec<u8>, buffer: &mut ByteBuffer) -> Result<(), Mem>
+    ensures joined { OnOk result (bytes.new.items ++ buffer.new ≡ bytes.old.items ++ buffer.old) }
+    ensures room { OnOk result (length buffer.new + 2048 ≤ 32768) }
 {
-    if held.left() < LINE {
-        pass_on(bytes, held)?;
+    if buffer.left() < LINE {
+        pass_on(bytes, buffer)?;
     }
     Ok(())
 }
@@ -67,7 +67,7 @@ impl LineWriter {
         let bytes = Vec::with_capacity(alloc, room)?;
         Ok(LineWriter {
             bytes,
-            held: HeldBytes::new(),
+            buffer: ByteBuffer::new(),
         })
     }
 
@@ -76,7 +76,7 @@ impl LineWriter {
         ensures { self.new ≡ [] }
     {
         self.bytes.clear();
-        self.held.clear();
+        self.buffer.clear();
     }
 
     /// Whether just these bytes were written.
@@ -84,9 +84,9 @@ impl LineWriter {
         ensures { IfOk result (λ b. b ≡ bytes_eq self.old bytes.now) }
     {
         if self.bytes.is_empty() {
-            return Ok(self.held.as_bytes() == bytes);
+            return Ok(self.buffer.as_bytes() == bytes);
         }
-        pass_on(&mut self.bytes, &mut self.held)?;
+        pass_on(&mut self.bytes, &mut self.buffer)?;
         Ok(self.bytes.as_slice() == bytes)
     }
 
@@ -94,9 +94,9 @@ impl LineWriter {
     pub fn into_vec(self) -> Result<Vec<u8>, Mem>
         ensures { IfOk result (λ v. v.items ≡ self) }
     {
-        let LineWriter { bytes, held } = self;
+        let LineWriter { bytes, buffer } = self;
         let mut all = bytes;
-        all.extend_from_slice(held.as_bytes())?;
+        all.extend_from_slice(buffer.as_bytes())?;
         Ok(all)
     }
 }
@@ -113,31 +113,31 @@ pub fn put_entry(
     requires word { front.now.word ≡ entry.now }
     ensures { OnOk result (out.new ≡ out.old ++ entry_line names.now entry) }
 {
-    make_room(&mut out.bytes, &mut out.held)?;
-    spell_entry(&mut out.held, names, front, entry);
+    make_room(&mut out.bytes, &mut out.buffer)?;
+    spell_entry(&mut out.buffer, names, front, entry);
     Ok(())
 }
 
 /// Writes what an entry says, to the end of its line.
-pub fn put_said(out: &mut LineWriter, names: &ReadyNames, kind: Kind) -> Result<(), Mem>
+pub fn put_entry_text(out: &mut LineWriter, names: &ReadyNames, kind: Kind) -> Result<(), Mem>
     ensures { OnOk result (out.new ≡ out.old ++ (body names.now kind ++ newline)) }
 {
-    make_room(&mut out.bytes, &mut out.held)?;
-    let held = &mut out.held;
-    put_body(held, names, kind);
-    put!(held; "\n");
+    make_room(&mut out.bytes, &mut out.buffer)?;
+    let buffer = &mut out.buffer;
+    put_body(buffer, names, kind);
+    put!(buffer; "\n");
     Ok(())
 }
 
-/// Writes the line of a wakeup source. `Mem` also where the name has more bytes than a name may have.
+/// Writes the line of a wakeup source. `Mem` also if the name has more bytes than a name may have.
 pub fn put_source(out: &mut LineWriter, name: &[u8], stats: &Stats) -> Result<(), Mem>
     ensures { OnOk result (out.new ≡ out.old ++ source_line name.now stats.now) }
 {
     if name.len() > LONGEST {
         return Err(Mem);
     }
-    make_room(&mut out.bytes, &mut out.held)?;
-    spell_source(&mut out.held, name, stats);
+    make_room(&mut out.bytes, &mut out.buffer)?;
+    spell_source(&mut out.buffer, name, stats);
     Ok(())
 }
 
@@ -145,8 +145,8 @@ pub fn put_source(out: &mut LineWriter, name: &[u8], stats: &Stats) -> Result<()
 pub fn put_waiting(out: &mut LineWriter, names: &ReadyNames, waiting: &Waiting) -> Result<(), Mem>
     ensures { OnOk result (out.new ≡ out.old ++ waiting_line names.now waiting.now) }
 {
-    make_room(&mut out.bytes, &mut out.held)?;
-    spell_waiting(&mut out.held, names, waiting);
+    make_room(&mut out.bytes, &mut out.buffer)?;
+    spell_waiting(&mut out.buffer, names, waiting);
     Ok(())
 }
 
@@ -154,8 +154,8 @@ pub fn put_waiting(out: &mut LineWriter, names: &ReadyNames, waiting: &Waiting) 
 pub fn put_finished(out: &mut LineWriter) -> Result<(), Mem>
     ensures { OnOk result (out.new ≡ out.old ++ (codes "finished" ++ newline)) }
 {
-    make_room(&mut out.bytes, &mut out.held)?;
-    let held = &mut out.held;
-    put!(held; FINISHED);
+    make_room(&mut out.bytes, &mut out.buffer)?;
+    let buffer = &mut out.buffer;
+    put!(buffer; FINISHED);
     Ok(())
 }

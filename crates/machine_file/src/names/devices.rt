@@ -5,14 +5,14 @@ ghost use Rattle.borrowed_json.specs.View.{view};
 ghost use Rattle.machine_file.specs.Broken.{broken_view};
 ghost use Rattle.machine_file.specs.Devices.{whole_devices};
 ghost use Rattle.machine_file.specs.Fitting.{HasShortName};
-ghost use Rattle.machine_file.specs.Kept.{broken_devices, broken_form};
+ghost use Rattle.machine_file.specs.ValidFiles.{broken_devices, broken_form};
 ghost use Rattle.machine_file.specs.Knows.{names};
 ghost use Rattle.machine_file.specs.Look.{text_at};
 ghost use Rattle.machine_file.specs.Members.{list_in};
 ghost use Rattle.machine_file.specs.Names.{is_among_names};
 ghost use Rattle.machine_file.specs.Places.{item_place};
-ghost use Rattle.machine_file.specs.Registered.{AreRegistered, Stops, device_behind, parent_behind};
-ghost use Rattle.machine_file.specs.Spelled.{place_among};
+ghost use Rattle.machine_file.specs.Registered.{AreRegistered, Stops, device_after, parent_after};
+ghost use Rattle.machine_file.specs.Spelled.{index_among};
 ghost use Rattle.machine_file.specs.Whole.{broken_at};
 
 use crate::names::known::repeated;
@@ -48,7 +48,7 @@ impl Model for Devices {
 
 impl Devices {
     ghost use Rattle.std.specs.Prelude.{◌≡◌, ◌++◌, ◌∷◌, [], bytes_eq, length, OnOk, position};
-    ghost use Rattle.device_tree.specs.Refusal.{refusal, Refuses};
+    ghost use Rattle.device_tree.specs.Refusal.{refusal, RefusesDevice};
     ghost use Rattle.machine_file.specs.Fitting.{IsShort};
     ghost use Rattle.machine_file.specs.Knows.{names};
 
@@ -61,7 +61,7 @@ impl Devices {
 
     fn register(&mut self, device: Device) -> Result<u32, TreeFault>
         requires { IsShort device.name }
-        ensures refused { Refuses result (refusal self.old device) }
+        ensures refused { RefusesDevice result (refusal self.old device) }
         ensures ok { OnOk result (self.new ≡ self.old ++ device ∷ []) }
     {
         self.tree.register(device)
@@ -98,9 +98,9 @@ pub(crate) fn is_device(devices: &Devices, name: &str) -> bool
     devices.find(name).is_some()
 }
 
-/// The number of the device that is named at a member, and 0 where it is none.
+/// The number of the device that is named at a member, and 0 if it is none.
 pub(crate) fn device_named(value: &Value<'_>, member: &str, devices: &Devices) -> u32
-    ensures { result ≡ place_among (names devices.now) (text_at member.now (view value.now)) }
+    ensures { result ≡ index_among (names devices.now) (text_at member.now (view value.now)) }
 {
     devices.find(text_at(value, member)).unwrap_or(0)
 }
@@ -108,7 +108,7 @@ pub(crate) fn device_named(value: &Value<'_>, member: &str, devices: &Devices) -
 /// The number of a device's parent. Where the parent is none of these devices, it is one that none of them has, and the
 /// tree refuses it.
 fn parent_of(device: &Value<'_>, devices: &Devices) -> Option<u32>
-    ensures { result ≡ parent_behind (names devices.now) (view device.now) }
+    ensures { result ≡ parent_after (names devices.now) (view device.now) }
 {
     let parent = word_at(device, "parent")?;
     match devices.find(parent) {
@@ -117,10 +117,10 @@ fn parent_of(device: &Value<'_>, devices: &Devices) -> Option<u32>
     }
 }
 
-/// A device as it is registered behind these.
+/// A device as it is registered after these.
 fn device_of(device: &Value<'_>, devices: &Devices) -> Device
     requires { HasShortName (view device.now) }
-    ensures { result ≡ device_behind (names devices.now) (view device.now) }
+    ensures { result ≡ device_after (names devices.now) (view device.now) }
 {
     Device {
         name: name_of_text(text_at(device, "name")),
@@ -161,7 +161,7 @@ fn at(rule: u8, number: usize) -> Broken
     Broken { rule, place }
 }
 
-/// The rule that is broken where a device was refused: one whose parent is not registered leaves those behind it unasked for
+/// The rule that is broken where a device was refused: one whose parent is not registered leaves those after it unasked for
 /// their names.
 fn rule_broken(alloc: Global, tree: &Value<'_>, refused: Refused) -> Result<Broken, Mem>
     requires { Stops refused.fault refused.number (list_in (codes "devices") (view tree.now)) }

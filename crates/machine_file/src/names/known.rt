@@ -40,7 +40,7 @@ fn named_in<'v>(alloc: Global, tree: &Value<'v>, list: Member) -> Result<KeyInde
 }
 
 // The names of a list of names, each with its place.
-fn told_in<'v>(alloc: Global, tree: &Value<'v>, list: Member) -> Result<KeyIndex<&'v str>, Mem>
+fn listed_names<'v>(alloc: Global, tree: &Value<'v>, list: Member) -> Result<KeyIndex<&'v str>, Mem>
     ensures { IfOk result (λ p. texts p ≡ texts_in (member_name list) (view tree.now)) }
 {
     let names = texts_in(alloc, tree, list)?;
@@ -64,13 +64,13 @@ pub(crate) fn known_in<'v>(
     requires { devices ≡ whole_devices (view tree.now) }
     ensures { IfOk result (λ k. Knows k (view tree.now)) }
 {
-    let Ok(syscore) = told_in(alloc, tree, Member::Syscore) else {
+    let Ok(syscore) = listed_names(alloc, tree, Member::Syscore) else {
         return Err(lost(devices));
     };
     let Ok(notifiers) = named_in(alloc, tree, Member::Notifiers) else {
         return Err(lost((devices, syscore)));
     };
-    let Ok(sources) = told_in(alloc, tree, Member::Sources) else {
+    let Ok(sources) = listed_names(alloc, tree, Member::Sources) else {
         return Err(lost((devices, syscore, notifiers)));
     };
     let Ok(marks) = marked_in(alloc, tree) else {
@@ -160,7 +160,7 @@ pub(crate) fn repeated(alloc: Global, tree: &Value<'_>, list: Member) -> Result<
 }
 
 /// The place of a name among these.
-pub(crate) fn place_of_name(names: &KeyIndex<&str>, name: &str) -> Option<usize>
+pub(crate) fn index_of_name(names: &KeyIndex<&str>, name: &str) -> Option<usize>
     ensures place { result ≡ position (bytes_eq name.now) (texts names.now) }
     ensures within { IfSome result (λ i. i < length names.now) }
 {
@@ -171,5 +171,5 @@ pub(crate) fn place_of_name(names: &KeyIndex<&str>, name: &str) -> Option<usize>
 pub(crate) fn contains(names: &KeyIndex<&str>, name: &str) -> bool
     ensures { result ≡ is_among_names (texts names.now) name.now }
 {
-    place_of_name(names, name).is_some()
+    index_of_name(names, name).is_some()
 }

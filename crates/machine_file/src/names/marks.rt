@@ -4,11 +4,11 @@ ghost use Rattle.std.specs.Prelude.{◌≡◌, ◌++◌, [], map, IfOk, OnOk};
 ghost use Rattle.std.specs.List.{flat_map};
 ghost use Rattle.borrowed_json.specs.View.{view};
 ghost use Rattle.machine_file.specs.Members.{list_in};
-ghost use Rattle.machine_file.specs.Operations.{marks_of, first_places, whole_marks};
+ghost use Rattle.machine_file.specs.Operations.{marks_of, first_occurrences, whole_marks};
 ghost use Rattle.machine_file.specs.Knows.{texts};
 ghost use Rattle.machine_file.specs.Marks.{marks_of_script};
 
-use crate::names::places::is_before;
+use crate::names::ranks::is_before;
 use crate::value::look::{list_in, word_at};
 use crate::value::place::{Member, items};
 use borrowed_json::Value;
@@ -39,8 +39,8 @@ fn marks_of<'v>(alloc: Global, actors: &[Value<'v>]) -> Result<Vec<&'v str>, Mem
 }
 
 // Each name at its first place alone.
-fn first_places<'v>(alloc: Global, names: &KeyIndex<&'v str>) -> Result<Vec<&'v str>, Mem>
-    ensures { IfOk result (λ v. texts v.items ≡ first_places [] (texts names.now)) }
+fn first_occurrences<'v>(alloc: Global, names: &KeyIndex<&'v str>) -> Result<Vec<&'v str>, Mem>
+    ensures { IfOk result (λ v. texts v.items ≡ first_occurrences [] (texts names.now)) }
 {
     let mut first = Vec::new(alloc);
     for (i, name) in names.keys().iter().enumerate() {
@@ -57,5 +57,5 @@ pub(crate) fn marks_in<'v>(alloc: Global, tree: &Value<'v>) -> Result<Vec<&'v st
 {
     let marks = marks_of(alloc, items(tree, Member::Actors))?;
     let marks = KeyIndex::new(alloc, marks)?;
-    first_places(alloc, &marks)
+    first_occurrences(alloc, &marks)
 }

@@ -7,13 +7,13 @@ ghost use Rattle.machine_file.specs.Members.{list_in};
 ghost use Rattle.machine_file.specs.Places.{first_not_after};
 ghost use Rattle.machine_file.specs.Devices.{closes_no_cycle};
 ghost use Rattle.machine_file.specs.Knows.{Knows};
-ghost use Rattle.machine_file.specs.Kept.{IsSound, first_in_order, broken_form, broken_devices, broken_ends, broken_cycle, broken_rest};
-ghost use Rattle.machine_file.specs.Seen.{AreEnds, ArePlaced};
+ghost use Rattle.machine_file.specs.ValidFiles.{IsSound, first_in_order, broken_form, broken_devices, broken_ends, broken_cycle, broken_rest};
+ghost use Rattle.machine_file.specs.Seen.{AreEnds, AreNumbersOf};
 ghost use Rattle.machine_file.specs.Broken.{broken_view};
 
 use crate::names::known::Known;
 use crate::rules::cycles::{Linking, linking_of};
-use crate::rules::pairs::{EndPlaces, Ends, ends_in, places_in};
+use crate::rules::pairs::{EndNumbers, LinkEnds, ends_in, numbers_in};
 use crate::rules::{
     Broken, answer_broken, end_broken, form_broken, operation_broken, thing_broken,
 };
@@ -34,11 +34,11 @@ pub(crate) fn first_of_form(tree: &Value<'_>) -> Option<Broken>
 fn first_of_ends(
     alloc: Global,
     tree: &Value<'_>,
-    ends: &[Ends<'_>],
-    places: &[EndPlaces],
+    ends: &[LinkEnds<'_>],
+    places: &[EndNumbers],
 ) -> Result<Option<Broken>, Mem>
     requires ends { AreEnds ends.now (view tree.now) }
-    requires placed { ArePlaced places.now (view tree.now) }
+    requires placed { AreNumbersOf places.now (view tree.now) }
     ensures { IfOk result (λ b. option_map broken_view b ≡ broken_ends (view tree.now)) }
 {
     end_broken(alloc, tree, ends, places)
@@ -68,8 +68,8 @@ fn first_of_rest(alloc: Global, tree: &Value<'_>, known: &Known<'_>) -> Result<O
     Ok(thing.or(operation_broken(tree, known)).or(answer))
 }
 
-/// The first rule behind those on devices that is broken.
-fn first_behind(
+/// The first rule after those on devices that is broken.
+fn first_after(
     alloc: Global,
     tree: &Value<'_>,
     known: &Known<'_>,
@@ -85,7 +85,7 @@ fn first_behind(
     }
 }
 
-/// The links of a file, or the first rule behind those on form that is broken.
+/// The links of a file, or the first rule after those on form that is broken.
 pub(crate) fn linked(
     alloc: Global,
     tree: &Value<'_>,
@@ -108,39 +108,39 @@ fn ends_of_links(
     alloc: Global,
     tree: &Value<'_>,
     known: &Known<'_>,
-) -> Result<Result<Vec<EndPlaces>, Broken>, Mem>
+) -> Result<Result<Vec<EndNumbers>, Broken>, Mem>
     requires form { broken_form (view tree.now) ≡ None }
     requires devices { broken_devices (view tree.now) ≡ None }
     requires knows { Knows known.now (view tree.now) }
-    ensures placed { IfOk result (λ r. IfOk r (λ places. ArePlaced places.items (view tree.now))) }
+    ensures placed { IfOk result (λ r. IfOk r (λ places. AreNumbersOf places.items (view tree.now))) }
     ensures sound { IfOk result (λ r. IfOk r (λ _. broken_ends (view tree.now) ≡ None)) }
     ensures broken { IfOk result (λ r. IfErr r (λ b. broken_ends (view tree.now) ≡ Some (broken_view b))) }
 {
     let ends = ends_in(alloc, tree)?;
-    let places = places_in(alloc, tree, known, &ends)?;
+    let places = numbers_in(alloc, tree, known, &ends)?;
     match first_of_ends(alloc, tree, &ends, &places)? {
         Some(broken) => Ok(Err(broken)),
         None => Ok(Ok(places)),
     }
 }
 
-/// The links between these places, or the first rule behind those on devices that is broken.
+/// The links between these places, or the first rule after those on devices that is broken.
 fn linked_by(
     alloc: Global,
     tree: &Value<'_>,
     known: &Known<'_>,
-    places: &[EndPlaces],
+    places: &[EndNumbers],
 ) -> Result<Result<Linking, Broken>, Mem>
     requires form { broken_form (view tree.now) ≡ None }
     requires devices { broken_devices (view tree.now) ≡ None }
     requires ends { broken_ends (view tree.now) ≡ None }
     requires knows { Knows known.now (view tree.now) }
-    requires placed { ArePlaced places.now (view tree.now) }
+    requires placed { AreNumbersOf places.now (view tree.now) }
     ensures sound { IfOk result (λ r. IfOk r (IsSound (view tree.now) known.now)) }
     ensures broken { IfOk result (λ r. IfErr r (λ b. first_in_order (view tree.now) ≡ Some (broken_view b))) }
 {
     let linking = linking_of(alloc, tree, known, places)?;
-    let Ok(broken) = first_behind(alloc, tree, known, linking.added.cycle) else {
+    let Ok(broken) = first_after(alloc, tree, known, linking.added.cycle) else {
         return Err(lost(linking));
     };
     match broken {

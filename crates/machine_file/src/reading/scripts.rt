@@ -10,13 +10,13 @@ ghost use Rattle.machine_file.specs.Operations.{ms_of, says, whole_op, whole_ste
 ghost use Rattle.machine_file.specs.declared.rules.operations.Word.TheVariants as word;
 ghost use Rattle.machine_file.specs.OperationRows.{op_spelled};
 ghost use Rattle.machine_file.specs.Fitting.{FitsAt, FitsStep, FitsScript};
-ghost use Rattle.machine_file.specs.Spelled.{place_among};
+ghost use Rattle.machine_file.specs.Spelled.{index_among};
 ghost use Rattle.machine_file.specs.Knows.{texts, AreFew, known_seen};
 
 use crate::names::devices::device_named;
 use crate::names::known::Known;
 use crate::reading::texts::{name_of_text, text_from};
-use crate::rules::cycles::place_among;
+use crate::rules::cycles::index_among;
 use crate::rules::operations::{Word, by_operation, word_of};
 use crate::value::look::{has_text, list_in, number_at, text_at, truth_at};
 use crate::value::words::kind_in;
@@ -63,9 +63,9 @@ pub(crate) fn says(value: &Value<'_>, name: &str) -> bool
 /// The number of the thing that is named there.
 pub(crate) fn thing_at(value: &Value<'_>, name: &str, names: &KeyIndex<&str>) -> u32
     requires { length names.now ≤ 200000 }
-    ensures { result ≡ place_among (texts names.now) (text_at name.now (view value.now)) }
+    ensures { result ≡ index_among (texts names.now) (text_at name.now (view value.now)) }
 {
-    place_among(names, text_at(value, name)) as u32
+    index_among(names, text_at(value, name)) as u32
 }
 
 fn text_in(alloc: Global, operation: &Value<'_>) -> Result<Text, Mem>
@@ -128,7 +128,7 @@ fn op_as(alloc: Global, word: Word, operation: &Value<'_>, known: &Known<'_>) ->
     Ok(op)
 }
 
-/// An operation; `Read` where its word is none of the table, which the rules refuse.
+/// An operation; `Read` if its word is none of the table, which the rules refuse.
 fn op_of(alloc: Global, operation: &Value<'_>, known: &Known<'_>) -> Result<Op, Mem>
     requires few { AreFew known.now }
     requires marks { length known.now.marks ≤ 200000 }

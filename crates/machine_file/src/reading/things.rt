@@ -4,7 +4,7 @@ ghost use Rattle.std.specs.Prelude.{◌≡◌, ◌≤◌, All, Some, map, length
 ghost use Rattle.borrowed_json.specs.View.{view};
 ghost use Rattle.serde_json.specs.Find.{as_number, as_integer};
 ghost use Rattle.machine_file.specs.Members.{may_have};
-ghost use Rattle.machine_file.specs.Form.{is_near};
+ghost use Rattle.machine_file.specs.Form.{is_bounded};
 ghost use Rattle.machine_file.specs.Devices.{bit, flags_of};
 ghost use Rattle.machine_file.specs.Whole.{priority_of, whole_notifier};
 ghost use Rattle.machine_file.specs.Fitting.{FitsNotifier};
@@ -34,8 +34,8 @@ pub(crate) fn flags_of(device: &Value<'_>) -> DeviceFlags
 }
 
 // A number from -1000 to 1000.
-fn near_of(value: &Value<'_>) -> i32
-    requires { is_near 1000 (view value.now) ≡ true }
+fn bounded_of(value: &Value<'_>) -> i32
+    requires { is_bounded 1000 (view value.now) ≡ true }
     ensures { option_and_then as_integer (as_number (view value.now)) ≡ Some result }
 {
     match as_i64(value) {
@@ -45,11 +45,11 @@ fn near_of(value: &Value<'_>) -> i32
 }
 
 fn priority_of(notifier: &Value<'_>) -> i32
-    requires { may_have (codes "priority") (is_near 1000) (view notifier.now) ≡ true }
+    requires { may_have (codes "priority") (is_bounded 1000) (view notifier.now) ≡ true }
     ensures { result ≡ priority_of (view notifier.now) }
 {
     match get(notifier, "priority") {
-        Some(value) => near_of(value),
+        Some(value) => bounded_of(value),
         None => 0,
     }
 }

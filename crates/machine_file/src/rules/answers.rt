@@ -20,7 +20,7 @@ ghost use Rattle.machine_file.specs.Broken.{place_of};
 
 use crate::names::devices::is_device;
 use crate::names::known::{Known, contains, item};
-use crate::names::places::first_repeated;
+use crate::names::ranks::first_repeated;
 use crate::rules::operations::names_one_of;
 use crate::value::look::{has_text, is_number, is_text, list_in, number_at, text_at};
 use crate::value::place::{Member, Place, items};
@@ -100,7 +100,7 @@ fn is_error(ret: &Value<'_>, error: Errno) -> bool
 }
 
 // Whether it is an error that everything may answer.
-#[tactic(auto, using(crate::proofs::Namings::common_said))]
+#[tactic(auto, using(crate::proofs::Namings::common_named))]
 fn is_common_error(ret: &Value<'_>) -> bool
     ensures { result ≡ is_one_of common_errors (view ret.now) }
 {

@@ -2,18 +2,18 @@
 
 ghost use Rattle.std.specs.Prelude.{◌≡◌, ◌≤◌, [], map, reverse, length, position, bytes_eq, codes, IfOk, None};
 ghost use Rattle.borrowed_json.specs.View.{view};
-ghost use Rattle.machine_file.specs.Spelled.{place_among};
+ghost use Rattle.machine_file.specs.Spelled.{index_among};
 ghost use Rattle.sleep_model.specs.Order.{EachAfterParent, parents_of};
 ghost use Rattle.machine_file.specs.Members.{list_in};
 ghost use Rattle.machine_file.specs.Devices.{whole_devices, whole_links, closes_no_cycle};
 ghost use Rattle.machine_file.specs.Joined.{AreJoined};
 ghost use Rattle.machine_file.specs.Places.{first_not_after};
 ghost use Rattle.machine_file.specs.Fresh.{AreFresh, closes_nothing};
-ghost use Rattle.machine_file.specs.Seen.{ArePlaced, link_at, links_between};
+ghost use Rattle.machine_file.specs.Seen.{AreNumbersOf, link_at, links_between};
 ghost use Rattle.machine_file.specs.Knows.{Knows, texts};
 
-use crate::names::known::{Known, place_of_name};
-use crate::rules::pairs::EndPlaces;
+use crate::names::known::{Known, index_of_name};
+use crate::rules::pairs::EndNumbers;
 use crate::value::look::has_text;
 use crate::value::place::{Member, items};
 use borrowed_json::Value;
@@ -23,16 +23,16 @@ use sleep_base::{Mem, lost};
 use sleep_model::{Link, link_word, parents_of};
 use std::alloc::Global;
 
-/// The place of a name among these, and 0 where it is none of them.
-pub(crate) fn place_among(names: &KeyIndex<&str>, name: &str) -> usize
-    ensures place { result ≡ place_among (texts names.now) name.now }
+/// The place of a name among these, and 0 if it is none of them.
+pub(crate) fn index_among(names: &KeyIndex<&str>, name: &str) -> usize
+    ensures place { result ≡ index_among (texts names.now) name.now }
     ensures within { result ≤ length names.now }
 {
-    place_of_name(names, name).unwrap_or(0)
+    index_of_name(names, name).unwrap_or(0)
 }
 
 /// A link between these places.
-fn link_of(link: &Value<'_>, places: EndPlaces) -> Link
+fn link_of(link: &Value<'_>, places: EndNumbers) -> Link
     ensures { result ≡ link_at places (view link.now) }
 {
     Link {
@@ -46,7 +46,7 @@ fn link_of(link: &Value<'_>, places: EndPlaces) -> Link
 pub(crate) fn links_of(
     alloc: Global,
     links: &[Value<'_>],
-    places: &[EndPlaces],
+    places: &[EndNumbers],
 ) -> Result<Vec<Link>, Mem>
     requires { length places.now ≡ length links.now }
     ensures { IfOk result (λ v. v.items ≡ links_between places.now (map view links.now)) }
@@ -116,10 +116,10 @@ pub(crate) fn linking_of(
     alloc: Global,
     tree: &Value<'_>,
     known: &Known<'_>,
-    places: &[EndPlaces],
+    places: &[EndNumbers],
 ) -> Result<Linking, Mem>
     requires knows { Knows known.now (view tree.now) }
-    requires placed { ArePlaced places.now (view tree.now) }
+    requires placed { AreNumbersOf places.now (view tree.now) }
     requires joined { AreJoined (view tree.now) }
     ensures links { IfOk result (λ l. l.links.items ≡ whole_links (view tree.now)) }
     ensures cycle { IfOk result (λ l. l.added.cycle ≡
@@ -133,8 +133,8 @@ pub(crate) fn linking_of(
     Ok(Linking { links, added })
 }
 
-fn links_in(alloc: Global, tree: &Value<'_>, places: &[EndPlaces]) -> Result<Vec<Link>, Mem>
-    requires { ArePlaced places.now (view tree.now) }
+fn links_in(alloc: Global, tree: &Value<'_>, places: &[EndNumbers]) -> Result<Vec<Link>, Mem>
+    requires { AreNumbersOf places.now (view tree.now) }
     ensures { IfOk result (λ v. v.items ≡ whole_links (view tree.now)) }
 {
     let links = links_of(alloc, items(tree, Member::Links), places)?;

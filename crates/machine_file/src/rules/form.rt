@@ -10,7 +10,7 @@ ghost use Rattle.machine_file.specs.Operations.{has_ends_named};
 ghost use Rattle.machine_file.specs.Broken.{place_of};
 
 use crate::value::look::{
-    has_only, has_text, is_number, is_string, list_in, may_be_list, may_be_near, may_be_one_of,
+    has_only, has_text, is_number, is_string, list_in, may_be_bounded, may_be_list, may_be_one_of,
     may_be_text, may_be_truth, may_be_within, must_be_one_of, must_be_text,
 };
 use crate::value::place::{Member, Place};
@@ -116,7 +116,7 @@ pub(crate) fn is_notifier_form(value: &Value<'_>) -> bool
 {
     has_only(value, &["name", "priority"])
         && must_be_text(value, "name")
-        && may_be_near(value, "priority", 1000)
+        && may_be_bounded(value, "priority", 1000)
 }
 
 // Whether a kind of task is given.

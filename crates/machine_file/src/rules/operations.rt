@@ -10,7 +10,7 @@ ghost use Rattle.machine_file.specs.Members.{must_have, may_have, list_in, word_
 ghost use Rattle.machine_file.specs.Places.{first_not, first_operation, first_operation_of};
 ghost use Rattle.machine_file.specs.Names.{is_among_names};
 ghost use Rattle.machine_file.specs.Operations.{is_formed, is_allowed, has_count, has_short_text, is_state_form, has_length, has_mark, is_runtime_form, has_ends_named, is_link_state_form, changes_links, has_source, is_event_form, row_of, fits_row, names_source, names_device, unformed_operation, forbidden_operation, sourceless_operation, deviceless_operation};
-ghost use Rattle.machine_file.specs.OperationRows.{op_row, first_version, is_kept, word_changes_links, word_names_device, word_names_source, row_named, operation_test};
+ghost use Rattle.machine_file.specs.OperationRows.{operation_of_word, first_version, is_in_journal, word_changes_links, word_names_device, word_names_source, row_named, operation_test};
 ghost use Rattle.machine_file.specs.Knows.{Knows, names, texts};
 ghost use Rattle.machine_file.specs.Broken.{place_of};
 
@@ -209,25 +209,25 @@ const EVERYONE: [TaskKind; 4] = [
 
 impl Word {
     ghost use Rattle.std.specs.Prelude.{◌≡◌, bytes_eq, find};
-    ghost use Rattle.machine_file.specs.OperationRows.{op_row, words};
+    ghost use Rattle.machine_file.specs.OperationRows.{operation_of_word, words};
 
     /// The word as a file spells it, such as `link_state`.
     fn name(self) -> &'static str
-        ensures { result.now ≡ (op_row self).word }
+        ensures { result.now ≡ (operation_of_word self).word }
     {
         by_operation!(name of self)
     }
 
     /// Whether a text is the word.
     fn is(self, text: &str) -> bool
-        ensures { result ≡ bytes_eq text.now (op_row self).word }
+        ensures { result ≡ bytes_eq text.now (operation_of_word self).word }
     {
         is_same(text, self.name())
     }
 
-    /// The word that a text is. None where it is none of the table.
+    /// The word that a text is. None if it is none of the table.
     fn of_text(text: &str) -> Option<Word>
-        ensures { result ≡ find (λ w. bytes_eq text.now (op_row w).word) words }
+        ensures { result ≡ find (λ w. bytes_eq text.now (operation_of_word w).word) words }
     {
         by_operation!(named of text)
     }
@@ -235,7 +235,7 @@ impl Word {
 
 /// The word of an operation, where it is of the table.
 pub(crate) fn word_of(operation: &Value<'_>) -> Option<Word>
-    ensures { option_map op_row result ≡ row_of (view operation.now) }
+    ensures { option_map operation_of_word result ≡ row_of (view operation.now) }
 {
     match word_at(operation, "op") {
         Some(text) => Word::of_text(text),
@@ -245,7 +245,7 @@ pub(crate) fn word_of(operation: &Value<'_>) -> Option<Word>
 
 // Whether the operation has no members but those of its word.
 fn has_members(operation: &Value<'_>, word: Word) -> bool
-    ensures { result ≡ has_only (codes "op" ∷ codes "times" ∷ (op_row word).members) (view operation.now) }
+    ensures { result ≡ has_only (codes "op" ∷ codes "times" ∷ (operation_of_word word).members) (view operation.now) }
 {
     has_only(operation, by_operation!(members of word))
 }
@@ -304,13 +304,13 @@ fn names_one_device(operation: &Value<'_>, member: &str, devices: &Devices) -> b
 
 // Whether what the word asks for is given.
 fn has_form(operation: &Value<'_>, word: Word) -> bool
-    ensures { result ≡ (op_row word).form (view operation.now) }
+    ensures { result ≡ (operation_of_word word).form (view operation.now) }
 {
     by_operation!(form of word, operation)
 }
 
 fn is_formed(operation: &Value<'_>, word: Word) -> bool
-    ensures { result ≡ fits_row (view operation.now) (op_row word) }
+    ensures { result ≡ fits_row (view operation.now) (operation_of_word word) }
 {
     has_members(operation, word)
         && may_be_within(operation, "times", 1, MOST_TIMES)
@@ -320,8 +320,8 @@ fn is_formed(operation: &Value<'_>, word: Word) -> bool
 // Whether the operation, of that word, is one of the table, in form, in a file of version 2 or of version 1.
 #[tactic(auto, using(crate::proofs::Worded::changes))]
 fn is_formed_as(second: bool, word: Word, operation: &Value<'_>) -> bool
-    requires { Some (op_row word) ≡ row_of (view operation.now) }
-    ensures { result ≡ ((second || not (changes_links (view operation.now))) && fits_row (view operation.now) (op_row word)) }
+    requires { Some (operation_of_word word) ≡ row_of (view operation.now) }
+    ensures { result ≡ ((second || not (changes_links (view operation.now))) && fits_row (view operation.now) (operation_of_word word)) }
 {
     is_of_version(second, word) && is_formed(operation, word)
 }
@@ -345,7 +345,7 @@ fn names_kind(text: &str, kinds: &[TaskKind]) -> bool
 
 // Whether an actor of that kind may make the operation.
 fn is_allowed(kind: &str, word: Word) -> bool
-    ensures { result ≡ is_among_names (op_row word).makers kind.now }
+    ensures { result ≡ is_among_names (operation_of_word word).makers kind.now }
 {
     by_operation!(makers of (word, kind))
 }
@@ -376,7 +376,7 @@ fn word_names_device(word: Word) -> bool
 
 // Whether the source that an operation of that word names, if it names one, is known.
 fn names_its_source(word: Word, operation: &Value<'_>, sources: &KeyIndex<&str>) -> bool
-    requires { fits_row (view operation.now) (op_row word) ≡ true }
+    requires { fits_row (view operation.now) (operation_of_word word) ≡ true }
     ensures { result ≡ names_source (texts sources.now) (view operation.now) }
 {
     if !word_names_source(word) {
@@ -387,7 +387,7 @@ fn names_its_source(word: Word, operation: &Value<'_>, sources: &KeyIndex<&str>)
 
 // Whether the devices that an operation of that word names, if it names any, are known.
 fn names_its_devices(word: Word, operation: &Value<'_>, devices: &Devices) -> bool
-    requires { fits_row (view operation.now) (op_row word) ≡ true }
+    requires { fits_row (view operation.now) (operation_of_word word) ≡ true }
     ensures { result ≡ names_device (names devices.now) (view operation.now) }
 {
     if !word_names_device(word) {
@@ -397,8 +397,8 @@ fn names_its_devices(word: Word, operation: &Value<'_>, devices: &Devices) -> bo
 }
 
 // Whether an operation keeps each rule on one operation.
-fn is_kept(second: bool, known: &Known<'_>, actor: &Value<'_>, operation: &Value<'_>) -> bool
-    ensures { result ≡ is_kept second (texts known.now.sources) (names known.now.devices) (view actor.now) (view operation.now) }
+fn is_in_journal(second: bool, known: &Known<'_>, actor: &Value<'_>, operation: &Value<'_>) -> bool
+    ensures { result ≡ is_in_journal second (texts known.now.sources) (names known.now.devices) (view actor.now) (view operation.now) }
 {
     let Some(word) = word_of(operation) else {
         return false;
@@ -415,7 +415,7 @@ fn passes(test: OperationTest, known: &Known<'_>, actor: &Value<'_>, operation: 
     ensures { result ≡ operation_test test known.now (view actor.now) (view operation.now) }
 {
     match test {
-        OperationTest::Kept(second) => is_kept(second, known, actor, operation),
+        OperationTest::Kept(second) => is_in_journal(second, known, actor, operation),
         OperationTest::Formed(second) => is_of_table(second, operation),
         OperationTest::Allowed => match word_of(operation) {
             Some(word) => is_allowed(text_at(actor, "kind"), word),

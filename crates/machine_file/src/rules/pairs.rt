@@ -7,7 +7,7 @@ ghost use Rattle.machine_file.specs.Look.{is_none_or, text_at};
 ghost use Rattle.machine_file.specs.Places.{first_not, first_not_after};
 ghost use Rattle.machine_file.specs.Devices.{loose_link, repeated_link};
 ghost use Rattle.machine_file.specs.Knows.{Knows, names};
-ghost use Rattle.machine_file.specs.Seen.{ends_seen, ends_written, differ, same_ends, end_places, are_devices, AreEnds, ArePlaced};
+ghost use Rattle.machine_file.specs.Seen.{ends_seen, ends_written, differ, same_ends, end_numbers, are_devices, AreEnds, AreNumbersOf};
 ghost use Rattle.machine_file.specs.Broken.{place_of};
 
 use crate::names::devices::Devices;
@@ -21,17 +21,17 @@ use std::alloc::Global;
 
 /// The ends of a link, by name.
 #[derive(Clone, Copy, PartialEq, Eq, Hash)]
-pub(crate) struct Ends<'v> {
+pub(crate) struct LinkEnds<'v> {
     pub(crate) supplier: &'v str,
     pub(crate) consumer: &'v str,
 }
 
-fn ends_of<'v>(alloc: Global, links: &[Value<'v>]) -> Result<Vec<Ends<'v>>, Mem>
+fn ends_of<'v>(alloc: Global, links: &[Value<'v>]) -> Result<Vec<LinkEnds<'v>>, Mem>
     ensures { IfOk result (λ v. map ends_seen v.items ≡ map ends_written (map view links.now)) }
 {
     let mut ends = Vec::with_capacity(alloc, links.len())?;
     for link in links {
-        ends.push(Ends {
+        ends.push(LinkEnds {
             supplier: text_at(link, "supplier"),
             consumer: text_at(link, "consumer"),
         })?;
@@ -40,7 +40,7 @@ fn ends_of<'v>(alloc: Global, links: &[Value<'v>]) -> Result<Vec<Ends<'v>>, Mem>
 }
 
 /// The ends of the links of a file.
-pub(crate) fn ends_in<'v>(alloc: Global, tree: &Value<'v>) -> Result<Vec<Ends<'v>>, Mem>
+pub(crate) fn ends_in<'v>(alloc: Global, tree: &Value<'v>) -> Result<Vec<LinkEnds<'v>>, Mem>
     ensures { IfOk result (λ v. AreEnds v.items (view tree.now)) }
 {
     let ends = ends_of(alloc, items(tree, Member::Links))?;
@@ -49,22 +49,26 @@ pub(crate) fn ends_in<'v>(alloc: Global, tree: &Value<'v>) -> Result<Vec<Ends<'v
 
 /// The numbers of the devices that are a link's ends, where they are devices.
 #[derive(Clone, Copy)]
-pub(crate) struct EndPlaces {
+pub(crate) struct EndNumbers {
     pub(crate) supplier: Option<u32>,
     pub(crate) consumer: Option<u32>,
 }
 
-fn place_of(ends: &Ends<'_>, devices: &Devices) -> EndPlaces
-    ensures { result ≡ end_places (names devices.now) (ends_seen ends.now) }
+fn place_of(ends: &LinkEnds<'_>, devices: &Devices) -> EndNumbers
+    ensures { result ≡ end_numbers (names devices.now) (ends_seen ends.now) }
 {
-    EndPlaces {
+    EndNumbers {
         supplier: devices.find(ends.supplier),
         consumer: devices.find(ends.consumer),
     }
 }
 
-fn places_of(alloc: Global, ends: &[Ends<'_>], devices: &Devices) -> Result<Vec<EndPlaces>, Mem>
-    ensures { IfOk result (λ v. v.items ≡ map (end_places (names devices.now)) (map ends_seen ends.now)) }
+fn numbers_of_all(
+    alloc: Global,
+    ends: &[LinkEnds<'_>],
+    devices: &Devices,
+) -> Result<Vec<EndNumbers>, Mem>
+    ensures { IfOk result (λ v. v.items ≡ map (end_numbers (names devices.now)) (map ends_seen ends.now)) }
 {
     let mut places = Vec::with_capacity(alloc, ends.len())?;
     for link in ends {
@@ -74,49 +78,49 @@ fn places_of(alloc: Global, ends: &[Ends<'_>], devices: &Devices) -> Result<Vec<
 }
 
 /// The numbers of the devices that are the ends of a file's links.
-pub(crate) fn places_in(
+pub(crate) fn numbers_in(
     alloc: Global,
     _tree: &Value<'_>,
     known: &Known<'_>,
-    ends: &[Ends<'_>],
-) -> Result<Vec<EndPlaces>, Mem>
+    ends: &[LinkEnds<'_>],
+) -> Result<Vec<EndNumbers>, Mem>
     requires knows { Knows known.now (view _tree.now) }
     requires ends { AreEnds ends.now (view _tree.now) }
-    ensures { IfOk result (λ v. ArePlaced v.items (view _tree.now)) }
+    ensures { IfOk result (λ v. AreNumbersOf v.items (view _tree.now)) }
 {
-    let places = places_of(alloc, ends, &known.devices)?;
+    let places = numbers_of_all(alloc, ends, &known.devices)?;
     Ok(places)
 }
 
-fn are_devices(places: &EndPlaces) -> bool
+fn are_devices(places: &EndNumbers) -> bool
     ensures { result ≡ are_devices places.now }
 {
     places.supplier.is_some() && places.consumer.is_some()
 }
 
-fn first_loose(places: &[EndPlaces]) -> Option<usize>
+fn first_loose(places: &[EndNumbers]) -> Option<usize>
     ensures { result ≡ position (λ p. not (are_devices p)) places.now }
 {
     places.iter().position(|link| !are_devices(link))
 }
 
 /// The first link of which an end is no device.
-pub(crate) fn loose_link(_tree: &Value<'_>, places: &[EndPlaces]) -> Option<Place>
-    requires { ArePlaced places.now (view _tree.now) }
+pub(crate) fn loose_link(_tree: &Value<'_>, places: &[EndNumbers]) -> Option<Place>
+    requires { AreNumbersOf places.now (view _tree.now) }
     ensures { place_of result ≡ loose_link (view _tree.now) }
 {
     item(Member::Links, first_loose(places))
 }
 
 // Whether the ends are one, or have been seen before.
-fn is_again(key: &Ends, before: Option<usize>) -> bool
+fn is_again(key: &LinkEnds, before: Option<usize>) -> bool
     ensures { result ≡ not (differ (ends_seen key.now) && not (is_some before)) }
 {
     key.supplier == key.consumer || before.is_some()
 }
 
 // The first ends that are one, or that stand before.
-fn first_again(alloc: Global, ends: &[Ends]) -> Result<Option<usize>, Mem>
+fn first_again(alloc: Global, ends: &[LinkEnds]) -> Result<Option<usize>, Mem>
     ensures { IfOk result (λ n. n ≡ first_not_after (λ before e. differ (ends_seen e)
         && not (list_any (λ f. same_ends (ends_seen e) (ends_seen f)) before)) [] 0 ends.now) }
 {
@@ -139,7 +143,7 @@ fn first_again(alloc: Global, ends: &[Ends]) -> Result<Option<usize>, Mem>
 pub(crate) fn repeated_link(
     alloc: Global,
     _tree: &Value<'_>,
-    ends: &[Ends],
+    ends: &[LinkEnds],
 ) -> Result<Option<Place>, Mem>
     requires { AreEnds ends.now (view _tree.now) }
     ensures { IfOk result (λ p. place_of p ≡ repeated_link (view _tree.now)) }

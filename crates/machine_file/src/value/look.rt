@@ -6,7 +6,7 @@ ghost use Rattle.serde_json.specs.Find.{as_array, get};
 ghost use Rattle.borrowed_json.specs.View.{view, items_view};
 ghost use Rattle.machine_file.specs.Look.{is_some_and, is_none_or, is_number, is_text, is_list, has_only, text_of, text_at, list_at};
 ghost use Rattle.machine_file.specs.Members.{must_have, may_have, has_text, list_in, number_at, word_at, truth_at};
-ghost use Rattle.machine_file.specs.Form.{is_string, is_truth, is_within, is_near, is_one_of};
+ghost use Rattle.machine_file.specs.Form.{is_string, is_truth, is_within, is_bounded, is_one_of};
 
 use borrowed_json::{Value, as_array, as_bool, as_i64, as_object, as_str, as_u64, get};
 
@@ -45,8 +45,8 @@ pub(crate) fn is_within(value: &Value<'_>, least: u64, most: u64) -> bool
     }
 }
 
-fn is_near(value: &Value<'_>, most: u64) -> bool
-    ensures { result ≡ is_near most (view value.now) }
+fn is_bounded(value: &Value<'_>, most: u64) -> bool
+    ensures { result ≡ is_bounded most (view value.now) }
 {
     match as_u64(value) {
         Some(number) => number <= most,
@@ -178,11 +178,11 @@ pub(crate) fn may_be_within(value: &Value<'_>, name: &str, least: u64, most: u64
 }
 
 // Whether nothing is at the name, or a whole number at most so far from 0.
-pub(crate) fn may_be_near(value: &Value<'_>, name: &str, most: u64) -> bool
-    ensures { result ≡ may_have name.now (is_near most) (view value.now) }
+pub(crate) fn may_be_bounded(value: &Value<'_>, name: &str, most: u64) -> bool
+    ensures { result ≡ may_have name.now (is_bounded most) (view value.now) }
 {
     match get(value, name) {
-        Some(found) => is_near(found, most),
+        Some(found) => is_bounded(found, most),
         None => true,
     }
 }

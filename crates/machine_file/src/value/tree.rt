@@ -8,7 +8,7 @@ use borrowed_json::{Scratch, Value, read_value};
 use sleep_base::Mem;
 use std::alloc::Global;
 
-/// The JSON value that the bytes are. None exactly where they are none.
+/// The JSON value that the bytes are. None exactly if they are none.
 pub(crate) fn tree_of<'v>(
     alloc: Global,
     bytes: &'v [u8],

@@ -6,7 +6,7 @@ ghost use Rattle.json.specs.Print.{escape_byte, escape_letter, quoted};
 
 use sleep_base::Mem;
 
-/// Writes a text in quotes, behind what was written.
+/// Writes a text in quotes, after what was written.
 pub(crate) fn push_quoted(out: &mut Vec<u8>, text: &[u8]) -> Result<(), Mem>
     ensures { OnOk result (out.new.items ≡ out.old.items ++ quoted text.now) }
 {
@@ -41,7 +41,7 @@ fn push_byte(out: &mut Vec<u8>, byte: u8) -> Result<(), Mem>
     Ok(())
 }
 
-// The letter of a byte's escape, or 0 where it has none.
+// The letter of a byte's escape, or 0 if it has none.
 fn letter_of(byte: u8) -> u8
     ensures { result ≡ escape_letter byte }
 {

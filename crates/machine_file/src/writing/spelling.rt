@@ -6,7 +6,7 @@ ghost use Rattle.serde_json.specs.Data.{string};
 ghost use Rattle.sleep_model.specs.Runtime.{has_bit};
 ghost use Rattle.sleep_model.specs.Text.{device};
 ghost use Rattle.machine_file.specs.Form.{row};
-ghost use Rattle.machine_file.specs.Spelling.{always, count, text_row, integer_unless_zero, device_value, link_value, notifier_value, op_row, times as times_row, op_rows, step_value, script_value, report_rows, report_value};
+ghost use Rattle.machine_file.specs.Spelling.{always, count, text_row, integer_unless_zero, device_value, link_value, notifier_value, op_member, times as times_row, op_rows, step_value, script_value, report_rows, report_value};
 ghost use Rattle.machine_file.specs.Writing.{with_row};
 
 use crate::rules::operations::by_operation;
@@ -115,7 +115,7 @@ impl Written for Step {
 
 // An operation's word, and how often it is made.
 fn put_word(out: &mut JsonWriter, word: &str, times: u32) -> Result<(), Mem>
-    ensures { OnOk result (out.new ≡ fold with_row out.old (op_row word.now ∷ times_row times ∷ [])) }
+    ensures { OnOk result (out.new ≡ fold with_row out.old (op_member word.now ∷ times_row times ∷ [])) }
 {
     out.text("op", word.as_bytes())?;
     out.number_unless("times", 1, u64::from(times))
@@ -137,7 +137,7 @@ fn put_link(
     consumer: u32,
     times: u32,
 ) -> Result<(), Mem>
-    ensures { OnOk result (out.new ≡ fold with_row out.old (text_row (codes "consumer") (device machine.now consumer) ∷ op_row word.now ∷ text_row (codes "supplier") (device machine.now supplier) ∷ times_row times ∷ [])) }
+    ensures { OnOk result (out.new ≡ fold with_row out.old (text_row (codes "consumer") (device machine.now consumer) ∷ op_member word.now ∷ text_row (codes "supplier") (device machine.now supplier) ∷ times_row times ∷ [])) }
 {
     out.text("consumer", machine.device_name(consumer))?;
     out.text("op", word.as_bytes())?;
@@ -147,7 +147,7 @@ fn put_link(
 
 // A write of a text.
 fn put_text(out: &mut JsonWriter, word: &str, text: &[u8], times: u32) -> Result<(), Mem>
-    ensures { OnOk result (out.new ≡ fold with_row out.old (op_row word.now ∷ text_row (codes "text") text.now ∷ times_row times ∷ [])) }
+    ensures { OnOk result (out.new ≡ fold with_row out.old (op_member word.now ∷ text_row (codes "text") text.now ∷ times_row times ∷ [])) }
 {
     out.text("op", word.as_bytes())?;
     out.text("text", text)?;
@@ -155,14 +155,14 @@ fn put_text(out: &mut JsonWriter, word: &str, text: &[u8], times: u32) -> Result
 }
 
 fn put_sleep(out: &mut JsonWriter, word: &str, ms: u32, times: u32) -> Result<(), Mem>
-    ensures { OnOk result (out.new ≡ fold with_row out.old (always (codes "ms") (count ms) ∷ op_row word.now ∷ times_row times ∷ [])) }
+    ensures { OnOk result (out.new ≡ fold with_row out.old (always (codes "ms") (count ms) ∷ op_member word.now ∷ times_row times ∷ [])) }
 {
     out.number("ms", u64::from(ms))?;
     put_word(out, word, times)
 }
 
 fn put_mark(out: &mut JsonWriter, word: &str, mark: &[u8], times: u32) -> Result<(), Mem>
-    ensures { OnOk result (out.new ≡ fold with_row out.old (text_row (codes "mark") mark.now ∷ op_row word.now ∷ times_row times ∷ [])) }
+    ensures { OnOk result (out.new ≡ fold with_row out.old (text_row (codes "mark") mark.now ∷ op_member word.now ∷ times_row times ∷ [])) }
 {
     out.text("mark", mark)?;
     put_word(out, word, times)
@@ -170,7 +170,7 @@ fn put_mark(out: &mut JsonWriter, word: &str, mark: &[u8], times: u32) -> Result
 
 // A call of a source.
 fn put_source(out: &mut JsonWriter, word: &str, source: &[u8], times: u32) -> Result<(), Mem>
-    ensures { OnOk result (out.new ≡ fold with_row out.old (op_row word.now ∷ text_row (codes "source") source.now ∷ times_row times ∷ [])) }
+    ensures { OnOk result (out.new ≡ fold with_row out.old (op_member word.now ∷ text_row (codes "source") source.now ∷ times_row times ∷ [])) }
 {
     out.text("op", word.as_bytes())?;
     out.text("source", source)?;

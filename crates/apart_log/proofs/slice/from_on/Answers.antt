@@ -3,10 +3,10 @@ use Rattle.std.proofs.lemmas.List.{length-drop, take_all}
 use Rattle.std.proofs.lemmas.List.Sorted.{IsNonDecreasingBy-drop, IsPartitionPoint-from_clause, IsPartitionedBy-ltb}
 use Rattle.std.specs.List.Sorted.{IsNonDecreasingBy}
 use Rattle.sleep_model.specs.declared.entry.SourceEntry.{SourceEntry}
-use Rattle.apart_log.proofs.Parting.{back_kept, is_from, not_from}
+use Rattle.apart_log.proofs.Parting.{back_preserved, is_from, not_from}
 use Rattle.apart_log.proofs.slice.from_on.Goals as goal
 
--- all that is left behind the first n
+-- all that is left after the first n
 rest : (n : ℕ) (h : List SourceEntry) → take (length h - n) (drop n h) ≡ drop n h
 rest n h = take_all (length h - n) (drop n h) (simp length-drop (omega arith))
 
@@ -18,7 +18,7 @@ returns-clause-those c =
     let parted = IsPartitionedBy-ltb (λ (one : SourceEntry). one.stamp.pos) history c.args.pos c.requires in
     let point = IsPartitionPoint-from_clause test history _ c.partition_point-begin.ensures.partitioned parted (λ a r q k. search rules) in
     rest n history
-    ∙ back_kept (λ (one : SourceEntry). nat_le c.args.pos one.stamp.pos) history n
+    ∙ back_preserved (λ (one : SourceEntry). nat_le c.args.pos one.stamp.pos) history n
     (λ k d low lt. not_from _ c.args.pos (point.0 k d low lt), λ k d low lt. is_from _ c.args.pos (point.1 k d low lt))
 
 pub returns-clause-rising : goal.returns-clause-rising

@@ -1,5 +1,5 @@
 use Rattle.std.proofs.Common.{◌≡◌, ◌++◌, filter, take}
-use Rattle.log_merge.specs.Rests.{seen, sources_entries}
+use Rattle.log_merge.specs.Remainders.{seen, sources_entries}
 use Rattle.apart_log.specs.Slices.{is_in}
 use Rattle.apart_log.proofs.slice.gathered.Given as goal
 

@@ -9,10 +9,10 @@ use Rattle.apart_log.proofs.slice.slice_text.Goals as goal
 
 pub returns : goal.returns
 returns c =
-    let parts = c.args.parts.now in
-    let m = parts.machine.now in
+    let source = c.args.source.now in
+    let m = source.machine.now in
     let told = flat_map (entry_line m) (referred c.as_slice.result.now) in
-    let lines = slice_lines m c.args.range (all_entries (map of_source c.args.journal.now) parts.histories.now) in
+    let lines = slice_lines m c.args.range (all_entries (map of_source c.args.journal.now) source.histories.now) in
     IfOk-weaker c.write_entries.result (λ v. v.items ≡ told) (λ v. v.items ≡ lines)
-    (λ v is. is ∙ slice_told m c.args.range (map of_source c.args.journal.now) parts.histories.now _ _ c.in_ok-entries.ensures c.as_slice.ensures.value)
+    (λ v is. is ∙ slice_told m c.args.range (map of_source c.args.journal.now) source.histories.now _ _ c.in_ok-entries.ensures c.as_slice.ensures.value)
     c.write_entries.ensures

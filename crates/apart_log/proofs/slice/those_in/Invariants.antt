@@ -1,6 +1,6 @@
 use Rattle.std.proofs.Common.{◌≡◌, filter, map, take}
 use Rattle.sleep_model.specs.Merge.{of_source}
-use Rattle.log_merge.specs.Rests.{seen}
+use Rattle.log_merge.specs.Remainders.{seen}
 use Rattle.apart_log.specs.Slices.{is_in}
 use Rattle.apart_log.proofs.slice.those_in.Given as goal
 

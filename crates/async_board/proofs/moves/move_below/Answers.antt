@@ -3,7 +3,7 @@ use Rattle.std.proofs.Common.{◌∙◌, List, ℕ, sym, ap, subst}
 use Rattle.sleep_model.specs.Links.{IsOrder}
 use Rattle.sleep_model.specs.Order.{active_of, is_among, dependents, superiors}
 use Rattle.sleep_model.proofs.Changing.{active_dependents, fewer_order}
-use Rattle.sleep_model.specs.Stands.{is_not_down}
+use Rattle.sleep_model.specs.PhaseStates.{is_not_down}
 use Rattle.async_board.proofs.Waiting.{first_different}
 use Rattle.async_board.proofs.Layouts.{below_few, below_moved, below_same}
 use Rattle.async_board.proofs.moves.move_below.Goals as goal
@@ -13,7 +13,7 @@ shift-requires-clause-apart c = rw c.above-above.ensures (first_different (super
 
 pub shift-requires-clause-few : goal.shift-requires-clause-few
 shift-requires-clause-few c w i x l m =
-    below_few c.args.links.now.parents c.args.links.now.links c.args.stands.now c.args.device c.args.after c.args.counts.now.items c.requires.size c.requires.within
+    below_few c.args.links.now.parents c.args.links.now.links c.args.states.now c.args.device c.args.after c.args.counts.now.items c.requires.size c.requires.within
     (fewer_order (dependents c.args.links.now.parents c.args.links.now.links) (dependents c.args.links.now.parents (active_of c.args.links.now.links)) (active_dependents c.args.links.now.parents c.args.links.now.links) _
     (subst (λ (xs : List ℕ). IsOrder (dependents c.args.links.now.parents c.args.links.now.links) xs) c.order-order.ensures.order c.order-order.ensures.ranked))
     (λ y k. ap (λ xs. is_among xs y) (sym c.order-order.ensures.order) ∙ c.order-order.ensures.covers y k)
@@ -23,10 +23,10 @@ shift-requires-clause-few c w i x l m =
 
 pub returns-then-was-is : goal.returns-then-was-is
 returns-then-was-is c =
-    below_moved c.args.links.now.parents c.args.links.now.links c.args.stands.now c.args.device c.args.after c.args.counts.now.items c.requires.size c.requires.within c.requires.known
+    below_moved c.args.links.now.parents c.args.links.now.links c.args.states.now c.args.device c.args.after c.args.counts.now.items c.requires.size c.requires.within c.requires.known
     c.above-above.result.now c.is_not_down-was.result c.is_not_down-is.result c.shift.new.counts.items c.above-above.ensures (c.is_not_down-was.ensures ∙ ap is_not_down c.requires.before) c.is_not_down-is.ensures c.shift.ensures
 
 pub returns-else-was-is : goal.returns-else-was-is
 returns-else-was-is c =
-    below_same c.args.links.now.parents c.args.links.now.links c.args.stands.now c.args.device c.args.after c.args.counts.now.items c.requires.size c.requires.within c.requires.known
+    below_same c.args.links.now.parents c.args.links.now.links c.args.states.now c.args.device c.args.after c.args.counts.now.items c.requires.size c.requires.within c.requires.known
     c.is_not_down-was.result c.is_not_down-is.result (c.is_not_down-was.ensures ∙ ap is_not_down c.requires.before) c.is_not_down-is.ensures c.if-was-is.false

@@ -1,5 +1,5 @@
 use Rattle.std.proofs.Common.{◌≡◌, subst, sym}
-use Rattle.sleep_model.specs.declared.place.Stage.{Stage}
+use Rattle.sleep_model.specs.declared.progress.Stage.{Stage}
 use Rattle.sleep_model.specs.Attempt.{stage_due}
 use Rattle.check_past.specs.Passing.{journal_of}
 use Rattle.check_due.proofs.attempt.stage_due.Goals as goal

@@ -1,6 +1,6 @@
 use Rattle.std.proofs.Common.{length, List, ℕ, ◌+◌, take, sym, subst}
 use Rattle.sleep_model.specs.Order.{children_from}
-use Rattle.check_order.specs.Kept.{IsTableOf}
+use Rattle.check_order.specs.Graphs.{IsTableOf}
 use Rattle.check_order.proofs.Tabling.{child_next, no_children, parent_below}
 use Rattle.check_order.proofs.tables.children.Goals as goal
 

@@ -1,6 +1,6 @@
 use Rattle.std.proofs.Common.{length, take}
 use Rattle.sleep_model.specs.Order.{children_from}
-use Rattle.check_order.specs.Kept.{IsTableOf}
+use Rattle.check_order.specs.Graphs.{IsTableOf}
 use Rattle.check_order.proofs.tables.children.Given as goal
 
 abbrev pub invariant-loop-number : goal.invariant-loop-number

@@ -12,10 +12,10 @@ visit-requires t c =
     let k = c.loop-i.i - 1 in
     let x = get_or row k 0 in
     let within : k < length row = omega arith in
-    let stands : is_among (row_at c.args.table.now c.args.device) x ≡ true = ap (λ xs. is_among xs x) (sym c.row-row.ensures) ∙ among_at row k within in (
+    let is_among_links : is_among (row_at c.args.table.now c.args.device) x ≡ true = ap (λ xs. is_among xs x) (sym c.row-row.ensures) ∙ among_at row k within in (
       omega arith,
       (
         (λ d y i. subst (λ (j : ℕ). y < j) (sym m.count) (c.requires.within d y i)),
-        (marked_as n c.loop-i.visits m, subst (λ (j : ℕ). x < j) (sym m.count) (c.requires.within c.args.device x stands)),
+        (marked_as n c.loop-i.visits m, subst (λ (j : ℕ). x < j) (sym m.count) (c.requires.within c.args.device x is_among_links)),
       ),
     )

@@ -5,6 +5,6 @@ use Rattle.check_past.proofs.tasks.left_among.Given as goal
 
 abbrev pub invariant-loop-i : goal.invariant-loop-i
 invariant-loop-i l = record {
-  left : l.left ≡ left_is (left_from l.group l.i (drop l.i l.scripts) (drop l.i l.freezings) (drop l.i l.seats));
+  left : l.left ≡ left_is (left_from l.group l.i (drop l.i l.scripts) (drop l.i l.freezings) (drop l.i l.positions));
   few : l.left.count + l.i ≤ length l.scripts;
 }

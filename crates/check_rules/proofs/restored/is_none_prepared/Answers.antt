@@ -4,6 +4,6 @@ use Rattle.check_rules.proofs.restored.is_none_prepared.Goals as goal
 
 pub returns : goal.returns
 returns c = (
-  λ h. all_unprepared c.args.stands.now (sym c.are_unprepared.ensures ∙ h),
-  λ h. c.are_unprepared.ensures ∙ unprepared_all c.args.stands.now h,
+  λ h. all_unprepared c.args.phase_states.now (sym c.are_unprepared.ensures ∙ h),
+  λ h. c.are_unprepared.ensures ∙ unprepared_all c.args.phase_states.now h,
 )

@@ -1,5 +1,5 @@
 use Rattle.std.proofs.Common.{◌≡◌, ◌∙◌, ap, sym}
-use Rattle.sleep_model.specs.declared.place.Due.TheVariants.{Makes}
+use Rattle.sleep_model.specs.declared.progress.Due.TheVariants.{Makes}
 use Rattle.check_rules.proofs.same.makes.Goals as goal
 
 pub returns-in-Makes : goal.returns-in-Makes

@@ -1,5 +1,5 @@
 use Rattle.std.proofs.Common.{◌↔◌, IsTrue, Option, subst}
-use Rattle.sleep_model.specs.declared.place.Callback.{Callback}
+use Rattle.sleep_model.specs.declared.progress.Callback.{Callback}
 use Rattle.rule_definitions.specs.Walk.{IsInside}
 use Rattle.check_past.specs.Passing.{journal_of}
 use Rattle.check_rules.proofs.Owning.{own_callback}

@@ -1,6 +1,6 @@
 use Rattle.std.proofs.Common.{◌==◌, ◌∙◌, ℕ, Option, sym, ap}
 use Rattle.std.specs.List.{list_any}
-use Rattle.sleep_model.proofs.FirstPlaces.{list_any_among}
+use Rattle.sleep_model.proofs.FirstOccurrences.{list_any_among}
 use Rattle.device_chain.specs.Chains.{below_of, may_follow}
 use Rattle.device_chain.proofs.certificate.may_follow.Goals as goal
 

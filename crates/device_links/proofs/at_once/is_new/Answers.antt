@@ -1,8 +1,8 @@
 use Rattle.std.proofs.Common.{◌<◌, ◌==◌, ◌∙◌, ap, arith}
 use Rattle.std.specs.List.{list_any}
-use Rattle.sleep_model.proofs.FirstPlaces.{list_any_among}
+use Rattle.sleep_model.proofs.FirstOccurrences.{list_any_among}
 use Rattle.device_rows.specs.Table.{row_at}
-use Rattle.device_links.proofs.Tabulating.{tells_new}
+use Rattle.device_links.proofs.Tabulating.{decides_new}
 use Rattle.device_links.proofs.at_once.is_new.Goals as goal
 
 pub returns : goal.returns
@@ -11,5 +11,5 @@ returns c =
     let t = c.args.suppliers.now in
     let s : l.supplier < c.args.count = omega arith in
     let d : l.consumer < c.args.count = omega arith in
-    tells_new c.args.count t l s d c.contains.result
+    decides_new c.args.count t l s d c.contains.result
     (c.contains.ensures.value ∙ (ap (list_any (λ y. y == l.supplier)) c.row.ensures ∙ list_any_among (row_at t l.consumer) l.supplier))

@@ -1,6 +1,6 @@
 use Rattle.std.proofs.Common.{◌<◌, ◌≤◌, [], length, take, get_or, sym, arith}
 use Rattle.std.proofs.lemmas.List.{take_more, take_all, length-take-le}
-use Rattle.device_rows.specs.Table.{places_at}
+use Rattle.device_rows.specs.Table.{room_at}
 use Rattle.device_links.proofs.InPlace.{has_room, refill_first, refilled_row, refilled_more, refilled_as}
 use Rattle.device_links.proofs.states.push_children.Goals as goal
 
@@ -18,7 +18,7 @@ push-requires c =
     let t = c.loop-child.table in
     let within = c.loop-child-test.true in
     let few : length (take i xs) < length xs = let n = length-take-le i xs (omega arith) in omega (arith, n, within) in
-    let most : length xs ≤ places_at t d = let p = c.requires.places in let q = c.loop-child.invariant.places d in omega (arith, p, q) in
+    let most : length xs ≤ room_at t d = let p = c.requires.places in let q = c.loop-child.invariant.places d in omega (arith, p, q) in
     has_room t d (length xs) (take i xs) (refilled_row c.args.table.now.rows t.rows d (take i xs) c.requires.within c.loop-child.invariant.rows) few most
 
 pub loop-child-preserved : goal.loop-child-preserved

@@ -1,9 +1,9 @@
 use Rattle.std.proofs.Common.{◌≡◌, ◌≤◌, ◌∙◌, ◌==◌, ◌++◌, ◌∷◌, [], true, length, take, reverse, get_or, sym, ap, subst, cond, arith}
 use Rattle.sleep_model.specs.Order.{dependents}
-use Rattle.device_rows.specs.Table.{places_at}
-use Rattle.device_links.specs.Kept.{near_below, is_shown_below}
+use Rattle.device_rows.specs.Table.{room_at}
+use Rattle.device_links.specs.Invariant.{active_below, is_shown_below}
 use Rattle.device_links.proofs.InPlace.{IsRefilled, has_room, refill_first, refilled_row, refilled_more, refilled_as}
-use Rattle.device_links.proofs.Near.{below_none}
+use Rattle.device_links.proofs.ActiveLinks.{below_none}
 use Rattle.device_links.proofs.Numbering.{picked, number_within}
 use Rattle.device_links.proofs.Refilling.{consumer_here, below_all, below_step, below_fits}
 use Rattle.device_links.proofs.Tabulating.{no_link}
@@ -15,7 +15,7 @@ loop-number-init c =
     let first = c.args.table.now in
     let d = c.args.device in
     record {
-      rows = refill_first first.rows d (near_below c.args.parents.now [] d) (c.requires.children ∙ sym (below_none c.args.parents.now d));
+      rows = refill_first first.rows d (active_below c.args.parents.now [] d) (c.requires.children ∙ sym (below_none c.args.parents.now d));
       places = λ x. omega arith;
     }
 
@@ -37,9 +37,9 @@ push-requires c =
     let d = c.args.device in
     let i = c.loop-number.number-index in
     let t = c.loop-number.table in
-    let row = near_below ps (reverse (take i (picked ls ns))) d in
+    let row = active_below ps (reverse (take i (picked ls ns))) d in
     let is : is_shown_below ps (get_or ls (get_or ns i 0) no_link) d ≡ true = sym c.is_shown_below.ensures ∙ c.if-is_shown_below.true in
-    let most : length (dependents ps (reverse ls) d) ≤ places_at t d = let p = c.requires.places in let q = c.loop-number.invariant.places d in omega (arith, p, q) in
+    let most : length (dependents ps (reverse ls) d) ≤ room_at t d = let p = c.requires.places in let q = c.loop-number.invariant.places d in omega (arith, p, q) in
     has_room t d (length (dependents ps (reverse ls) d)) row (refilled_row c.args.table.now.rows t.rows d row c.requires.within c.loop-number.invariant.rows) (below_fits ps ls d ns c.requires.supplied c.requires.apart i c.loop-number-test.true is) most
 
 pub loop-number-preserved : goal.loop-number-preserved
@@ -52,7 +52,7 @@ loop-number-preserved c =
     let t = c.loop-number.table in
     let first = c.args.table.now in
     let l = get_or ls (get_or ns i 0) no_link in
-    let row = near_below ps (reverse (take i (picked ls ns))) d in
+    let row = active_below ps (reverse (take i (picked ls ns))) d in
     let next = below_step ps ls d ns c.requires.supplied c.requires.apart i c.loop-number-test.true ∙ ap (λ b. cond b (row ++ l.consumer ∷ []) row) (sym c.is_shown_below.ensures) in
     elim c.if-is_shown_below.branch [
       | then-is_shown_below w ↦ subst (IsRefilled first d _) (sym w.table-is)

@@ -1,8 +1,8 @@
 use Rattle.std.proofs.Common.{take, reverse}
-use Rattle.device_links.specs.Kept.{near_above}
+use Rattle.device_links.specs.Invariant.{active_above}
 use Rattle.device_links.proofs.InPlace.{IsRefilled}
 use Rattle.device_links.proofs.Numbering.{picked}
 use Rattle.device_links.proofs.states.push_suppliers.Given as goal
 
 abbrev pub invariant-loop-number : goal.invariant-loop-number
-invariant-loop-number l = IsRefilled l.fn.table l.device (near_above l.parents (reverse (take l.number-index (picked l.links l.consumed))) l.device) l.table
+invariant-loop-number l = IsRefilled l.fn.table l.device (active_above l.parents (reverse (take l.number-index (picked l.links l.consumed))) l.device) l.table

@@ -1,9 +1,9 @@
 use Rattle.std.proofs.Common.{[], reverse}
-use Rattle.device_links.specs.Kept.{near_below}
+use Rattle.device_links.specs.Invariant.{active_below}
 use Rattle.device_links.proofs.InPlace.{last_refilled}
 use Rattle.device_links.proofs.states.refill_below.Goals as goal
 
 pub returns-clause-rows : goal.returns-clause-rows
 returns-clause-rows c =
-    last_refilled c.args.table.now.rows c.clear.new.self.rows c.push_children.new.table.rows c.push_consumers.new.table.rows c.args.device [] c.args.children.now (near_below c.args.parents.now (reverse c.args.links.now) c.args.device)
+    last_refilled c.args.table.now.rows c.clear.new.self.rows c.push_children.new.table.rows c.push_consumers.new.table.rows c.args.device [] c.args.children.now (active_below c.args.parents.now (reverse c.args.links.now) c.args.device)
     c.clear.ensures.rows c.push_children.ensures.rows c.push_consumers.ensures.rows

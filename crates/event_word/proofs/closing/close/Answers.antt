@@ -3,7 +3,7 @@ use Rattle.std.proofs.Common.{subst}
 use Rattle.sleep_model.specs.declared.word.EventNow.{EventNow}
 use Rattle.event_word.specs.Steps.{MadeStep}
 use Rattle.event_word.specs.Histories.{AreClosed, unpacked}
-use Rattle.event_word.proofs.Keeping.{ends}
+use Rattle.event_word.proofs.Invariance.{ends}
 use Rattle.event_word.proofs.Seating.{all_in}
 use Rattle.event_word.proofs.closing.close.Goals as goal
 

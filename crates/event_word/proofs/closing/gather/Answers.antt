@@ -1,5 +1,5 @@
 use Rattle.std.proofs.Common.{rules, ap, sym, ◌∙◌, Some, ℕ}
-use Rattle.event_word.proofs.Keeping.{may_join_source}
+use Rattle.event_word.proofs.Invariance.{may_join_source}
 use Rattle.event_word.proofs.Seating.{came, known_length}
 use Rattle.event_word.proofs.closing.gather.Goals as goal
 

@@ -6,7 +6,7 @@ abbrev pub invariant-loop : goal.invariant-loop
 invariant-loop g l = record {
   can_next : (goal.iterator-loop g).can_next l.iterator';
   ends : (goal.iterator-loop g).is_finite l.iterator';
-  tells : g.E.Events.tells l.events ≡ g.E.Events.tells l.fn.events;
+  shows : g.E.Events.shows l.events ≡ g.E.Events.shows l.fn.events;
   made : g.E.Events.made l.events ≡ g.E.Events.made l.fn.events;
   can : g.E.Events.can l.events ≡ g.E.Events.can l.fn.events;
   root : g.E.Events.root l.events ≡ g.E.Events.root l.fn.events;

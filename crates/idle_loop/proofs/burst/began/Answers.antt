@@ -1,12 +1,12 @@
 use Rattle.std.proofs.Common.{◌∙◌}
-use Rattle.idle_loop.proofs.Crewing.{began_at, manned_left, manned_long}
+use Rattle.idle_loop.proofs.Crewing.{began_at, workers_left, workers_long}
 use Rattle.idle_loop.proofs.burst.began.Goals as goal
 
 pub returns-clause-at : goal.returns-clause-at
-returns-clause-at c = λ table crew. began_at c.args.sizes table c.in_ok-locks.locks.own c.args.crew.book _ _ c.in_ok-workers.workers.items crew.sizes crew.book (c.in_ok-locks.ensures.first ∙ c.in_ok-books.ensures.items) c.in_ok-locks.ensures.passes c.in_ok-workers.ensures crew.parts
+returns-clause-at c = λ table pool. began_at c.args.sizes table c.in_ok-locks.locks.own c.args.pool.gate_log _ _ c.in_ok-workers.workers.items pool.sizes pool.gate_log (c.in_ok-locks.ensures.first ∙ c.in_ok-gate_logs.ensures.items) c.in_ok-locks.ensures.passes c.in_ok-workers.ensures pool.roles
 
 pub returns-clause-left : goal.returns-clause-left
-returns-clause-left c = manned_left 0 _ _ c.in_ok-workers.workers.items c.in_ok-workers.ensures
+returns-clause-left c = workers_left 0 _ _ c.in_ok-workers.workers.items c.in_ok-workers.ensures
 
 pub returns-clause-long : goal.returns-clause-long
-returns-clause-long c = (manned_long 0 _ _ c.in_ok-workers.workers.items c.in_ok-workers.ensures).0 ∙ c.requires.1.count
+returns-clause-long c = (workers_long 0 _ _ c.in_ok-workers.workers.items c.in_ok-workers.ensures).0 ∙ c.requires.1.count

@@ -16,7 +16,7 @@ merged_log-requires-clause-made c =
     let closed = c.in_ok-now.ensures.closed in
     let ms = makers_in closed.history in
     let same : c.in_ok-makers.makers.items ≡ reverse ms = c.in_ok-makers.ensures.made ms (left_makers c.args.sizes _ c.args.left c.requires _ c.in_ok-now.now closed) in
-    made_back c.args.sizes ms c.deref.result.now c.args.left.book.journal (c.deref.ensures.value ∙ same) (left_made c.args.sizes _ c.args.left c.requires _ c.in_ok-now.now closed)
+    made_back c.args.sizes ms c.deref.result.now c.args.left.gate_log.journal (c.deref.ensures.value ∙ same) (left_made c.args.sizes _ c.args.left c.requires _ c.in_ok-now.now closed)
 
 pub merged_log-requires-clause-few : goal.merged_log-requires-clause-few
 merged_log-requires-clause-few c = rw (c.deref.ensures.value) c.in_ok-makers.ensures.few

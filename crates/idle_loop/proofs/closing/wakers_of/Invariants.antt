@@ -1,5 +1,5 @@
 use Rattle.idle_loop.specs.Ends.{AreOff, AreWakes}
 use Rattle.idle_loop.proofs.closing.wakers_of.Given as goal
 
-abbrev pub invariant-loop-part : goal.invariant-loop-part
-invariant-loop-part l = AreOff l.yielded l.seats.items l.places.items × AreWakes l.part-iterator.rest.items
+abbrev pub invariant-loop-role : goal.invariant-loop-role
+invariant-loop-role l = AreOff l.yielded l.seats.items l.ranks.items × AreWakes l.role-iterator.rest.items

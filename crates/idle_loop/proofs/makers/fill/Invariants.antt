@@ -3,4 +3,4 @@ use Rattle.idle_loop.specs.Makers.{filled}
 use Rattle.idle_loop.proofs.makers.fill.Given as goal
 
 abbrev pub invariant-loop-place : goal.invariant-loop-place
-invariant-loop-place l = (filled l.who (drop l.place-index l.places) l.makers.items ≡ filled l.who l.places l.fn.makers.items) × (vec_len l.makers ≡ vec_len l.fn.makers)
+invariant-loop-place l = (filled l.who (drop l.place-index l.ranks) l.makers.items ≡ filled l.who l.ranks l.fn.makers.items) × (vec_len l.makers ≡ vec_len l.fn.makers)

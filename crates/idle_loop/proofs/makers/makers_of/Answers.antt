@@ -5,7 +5,7 @@ use Rattle.idle_loop.proofs.makers.makers_of.Goals as goal
 
 pub fill-requires : goal.fill-requires
 fill-requires c =
-    let lists = c.args.places.now.items in
+    let lists = c.args.ranks.now.items in
     let v = c.own-item.result in
     let low : c.loop-own.own-index < length lists = omega (arith, c.loop-own-test.true, ap length c.deref-own-items.ensures.value) in
     let is : v ≡ get_or lists c.loop-own.own-index v = subst (λ (l : List (Vec ℕ _)). v ≡ get_or l c.loop-own.own-index v) c.deref-own-items.ensures.value c.own-item.is in
@@ -15,7 +15,7 @@ fill-requires c =
 
 pub loop-own-preserved : goal.loop-own-preserved
 loop-own-preserved c =
-    let lists = c.args.places.now.items in
+    let lists = c.args.ranks.now.items in
     let v = c.own-item.result in
     let low : c.loop-own.own-index < length lists = omega (arith, c.loop-own-test.true, ap length c.deref-own-items.ensures.value) in
     let is : v ≡ get_or lists c.loop-own.own-index v = subst (λ (l : List (Vec ℕ _)). v ≡ get_or l c.loop-own.own-index v) c.deref-own-items.ensures.value c.own-item.is in
@@ -28,8 +28,8 @@ loop-own-preserved c =
 pub returns-clause-made : goal.returns-clause-made
 returns-clause-made c = λ ms are.
     let who : c.loop-own.who ≡ c.loop-own.own-index = c.loop-own.invariant.0 in
-    let same : length c.deref-own-items.result.now ≡ length c.args.places.now.items = ap length c.deref-own-items.ensures.value in
-    lists_filled ms c.args.count c.loop-own.who c.args.places.now.items c.loop-own.makers.items are (omega (arith, c.loop-own-test.false, same, who)) (omega (arith, c.loop-own.auto.own-index-end, same, who)) (c.loop-own.invariant.1 ms are)
+    let same : length c.deref-own-items.result.now ≡ length c.args.ranks.now.items = ap length c.deref-own-items.ensures.value in
+    lists_filled ms c.args.count c.loop-own.who c.args.ranks.now.items c.loop-own.makers.items are (omega (arith, c.loop-own-test.false, same, who)) (omega (arith, c.loop-own.auto.own-index-end, same, who)) (c.loop-own.invariant.1 ms are)
 
 pub returns-clause-few : goal.returns-clause-few
 returns-clause-few c =

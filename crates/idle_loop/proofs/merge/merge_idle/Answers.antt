@@ -13,8 +13,8 @@ none = record { hard = 0; who = 0; what = Hard }
 pub loop-entry-init : goal.loop-entry-init
 loop-entry-init c = subst (IsPlaced c.args.makers.now c.args.journal.now 0 0) (sym c.new-log.ensures.items) (record { sees = c.requires.order; merges = Nothing })
 
-pub place_hards-requires : goal.place_hards-requires
-place_hards-requires c =
+pub put_hards-requires : goal.put_hards-requires
+put_hards-requires c =
     let journal = c.args.journal.now in
     let i = c.loop-entry.entry-index in
     let e = get_or journal i none in
@@ -34,5 +34,5 @@ loop-entry-preserved c =
     record {
       sees = next.2;
       merges = subst (λ (es : List IdleEntry). Merges (reverse (take e.hard makers)) (reverse (take (i + 1) journal)) (reverse es)) (sym c.in_ok-push.ensures.items)
-          (entry_next makers journal i e c.place_hards.new.log.items low is next.1 (c.in_ok-place_hards.ensures (reverse (take i journal)) c.loop-entry.invariant.merges));
+          (entry_next makers journal i e c.put_hards.new.log.items low is next.1 (c.in_ok-put_hards.ensures (reverse (take i journal)) c.loop-entry.invariant.merges));
     }

@@ -1,4 +1,4 @@
 use Rattle.idle_loop.proofs.run.to_end.Goals as goal
 
 pub leave-requires : goal.leave-requires
-leave-requires g c = (c.args.sizes, _, c.loop.invariant.crew)
+leave-requires g c = (c.args.sizes, _, c.loop.invariant.pool)

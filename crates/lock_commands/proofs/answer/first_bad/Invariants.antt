@@ -1,6 +1,6 @@
 use Rattle.std.proofs.Common.{◌≡◌, ◌≤◌, ◌+◌, length}
 use Rattle.lock_commands.specs.Lines.{lines}
-use Rattle.lock_commands.specs.Told.{first_bad}
+use Rattle.lock_commands.specs.TextAnswers.{first_bad}
 use Rattle.lock_commands.proofs.answer.first_bad.Given as goal
 
 abbrev pub invariant-loop-left : goal.invariant-loop-left

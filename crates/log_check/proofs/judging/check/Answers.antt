@@ -2,9 +2,9 @@ use Rattle.std.proofs.Common.{◌∙◌, sym, subst}
 use Rattle.std.proofs.lemmas.Result.{IfOk-weaker}
 use Rattle.sleep_model.specs.declared.machine.Machine.{Machine}
 use Rattle.rule_definitions.specs.Entry.{KeepsEach}
-use Rattle.sleep_model.specs.Woven.{unread}
+use Rattle.sleep_model.specs.Interleaved.{unread}
 use Rattle.check_past.specs.Passing.{past_of}
-use Rattle.log_check.proofs.Entries.{all_kept, bad_entry, fits_here, here, kept_then, left_then, may_link, same_entries, same_machine, whole}
+use Rattle.log_check.proofs.Entries.{all_preserved, bad_entry, fits_here, here, preserved_then, left_then, may_link, same_entries, same_machine, whole}
 use Rattle.log_check.proofs.judging.check.Goals as goal
 
 pub broken-requires-clause-fits : goal.broken-requires-clause-fits
@@ -47,7 +47,7 @@ loop-e-preserved c =
     record {
       machine = same_machine m log p i.machine i.entries i.kept e rest left c.in-Ok-None.field-0 c.in-Ok-None.ensures c.in-Ok-None.field-0-is q c.in_ok-past-in-Ok-None.ensures;
       entries = same_entries m log p i.machine i.entries i.kept e rest left c.in-Ok-None.field-0 c.in-Ok-None.ensures c.in-Ok-None.field-0-is q c.in_ok-past-in-Ok-None.ensures;
-      kept = kept_then m log p i.machine i.entries i.kept e rest left c.in-Ok-None.field-0 c.in-Ok-None.ensures c.in-Ok-None.field-0-is q c.in_ok-past-in-Ok-None.ensures;
+      kept = preserved_then m log p i.machine i.entries i.kept e rest left c.in-Ok-None.field-0 c.in-Ok-None.ensures c.in-Ok-None.field-0-is q c.in_ok-past-in-Ok-None.ensures;
       left = left_then m log p i.machine i.entries i.kept e rest left c.in-Ok-None.field-0 c.in-Ok-None.ensures c.in-Ok-None.field-0-is q c.in_ok-past-in-Ok-None.ensures;
     }
 
@@ -59,4 +59,4 @@ judge_end-verdict-requires-clause-all c =
 pub judge_end-verdict-requires-clause-kept : goal.judge_end-verdict-requires-clause-kept
 judge_end-verdict-requires-clause-kept c =
     let i = c.loop-e.invariant in
-    all_kept c.args.machine.now c.args.log.now c.loop-e.past i.machine i.entries i.kept (sym c.in_default.ensures.0 ∙ i.left)
+    all_preserved c.args.machine.now c.args.log.now c.loop-e.past i.machine i.entries i.kept (sym c.in_default.ensures.0 ∙ i.left)

@@ -1,5 +1,5 @@
 use Rattle.std.proofs.Common.{◌≡◌, length, drop}
-use Rattle.sleep_model.specs.Woven.{unread}
+use Rattle.sleep_model.specs.Interleaved.{unread}
 use Rattle.rule_definitions.specs.Entry.{KeepsEach}
 use Rattle.check_past.specs.Passing.{past_of}
 use Rattle.log_check.proofs.judging.check.Given as goal

@@ -1,7 +1,7 @@
 use Rattle.std.proofs.Common.{◌≡◌, length, reverse}
-use Rattle.sleep_model.specs.Woven.{unread}
+use Rattle.sleep_model.specs.Interleaved.{unread}
 use Rattle.sleep_stats.specs.Linked.{added_by}
-use Rattle.log_commands.specs.Taking.{AllWithin, Stands, refusal_of}
+use Rattle.log_commands.specs.Taking.{AllWithin, LinksAreOrdered, refusal_of}
 use Rattle.log_commands.proofs.links.take_links.Given as goal
 
 -- what is left to read is refused as the whole is, and leaves the same links
@@ -11,7 +11,7 @@ invariant-loop-entry l = record {
   added : added_by (reverse l.links.links) (unread l.reader) ≡ added_by (reverse l.fn.links.links) l.fn.log.entries;
   parents : l.links.parents ≡ l.fn.links.parents;
   within : AllWithin (length l.fn.links.parents) (unread l.reader);
-  stands : Stands l.links;
+  stands : LinksAreOrdered l.links;
 }
 
 abbrev pub decreases-loop-entry : goal.decreases-loop-entry

@@ -4,7 +4,7 @@ use Rattle.log_merge.proofs.journal.rises.Goals as goal
 
 pub loop-i-preserved : goal.loop-i-preserved
 loop-i-preserved c =
-    rises_on c.loop-i.i c.args.journal.now _ c.loop-i.auto.i c.loop-i-test.true (sym c.follows.ensures ∙ c.if-not-follows.false)
+    rises_on c.loop-i.i c.args.journal.now _ c.loop-i.auto.i c.loop-i-test.true (sym c.rises_on_entry.ensures ∙ c.if-not-rises_on_entry.false)
     c.loop-i.invariant
 
 pub returns : goal.returns

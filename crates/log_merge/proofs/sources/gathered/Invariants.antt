@@ -1,5 +1,5 @@
 use Rattle.std.proofs.Common.{◌≡◌, take}
-use Rattle.log_merge.specs.Rests.{seen, sources_entries}
+use Rattle.log_merge.specs.Remainders.{seen, sources_entries}
 use Rattle.log_merge.proofs.sources.gathered.Given as goal
 
 abbrev pub invariant-loop-history : goal.invariant-loop-history

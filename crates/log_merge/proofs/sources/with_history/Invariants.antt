@@ -1,6 +1,6 @@
 use Rattle.std.proofs.Common.{◌≡◌, ◌++◌, map, take}
 use Rattle.sleep_model.specs.Merge.{of_source}
-use Rattle.log_merge.specs.Rests.{seen}
+use Rattle.log_merge.specs.Remainders.{seen}
 use Rattle.log_merge.proofs.sources.with_history.Given as goal
 
 abbrev pub invariant-loop-entry : goal.invariant-loop-entry

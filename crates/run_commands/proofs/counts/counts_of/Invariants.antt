@@ -1,5 +1,5 @@
 use Rattle.std.proofs.Common.{◌≡◌, ◌+◌, ◌≤◌, length}
-use Rattle.sleep_model.specs.Woven.{unread}
+use Rattle.sleep_model.specs.Interleaved.{unread}
 use Rattle.run_commands.specs.Counting.{attempts_in, entered_in}
 use Rattle.run_commands.proofs.counts.counts_of.Given as goal
 

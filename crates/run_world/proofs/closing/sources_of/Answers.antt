@@ -1,7 +1,7 @@
 use Rattle.std.proofs.Common.{List, subst}
-use Rattle.run_objects.proofs.Laying.{kept_more}
+use Rattle.run_objects.proofs.Laying.{preserved_more}
 use Rattle.run_world.specs.declared.object.WorldObject.{WorldObject}
-use Rattle.run_world.specs.Held.{AreAt}
+use Rattle.run_world.specs.ObjectLists.{AreAt}
 use Rattle.run_world.proofs.Worlds.{those_more}
 use Rattle.run_world.proofs.closing.sources_of.Goals as goal
 
@@ -15,5 +15,5 @@ loop-object-preserved c =
     let is = c.loop-object.invariant in (
       rw (c.in_ok-push.ensures.items) (those_more c.loop-object.sources.items c.source_of.result c.loop-object.yielded c.in-Some.object is.0 c.source_of.ensures.that),
       (is.1.0, (subst (λ (l : List WorldObject). AreAt is.1.0 l) c.in-Some.ensures.steps.0 is.1.1).1),
-      rw (c.in_ok-push.ensures.items) (kept_more c.loop-object.sources.items c.source_of.result is.2 c.source_of.ensures.kept),
+      rw (c.in_ok-push.ensures.items) (preserved_more c.loop-object.sources.items c.source_of.result is.2 c.source_of.ensures.kept),
     )

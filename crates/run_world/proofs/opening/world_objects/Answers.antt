@@ -1,9 +1,9 @@
 use Rattle.std.proofs.Common.{rules, ◌≡◌, ◌∙◌, List, [], ◌∷◌, ◌++◌, ap, subst}
 use Rattle.run_objects.specs.Objects.{SeatedSourceState}
-use Rattle.run_objects.proofs.Laying.{kept_more}
+use Rattle.run_objects.proofs.Laying.{preserved_more}
 use Rattle.run_world.specs.declared.object.WorldObject.{WorldObject}
 use Rattle.run_world.specs.declared.object.WorldObject.TheVariants as object
-use Rattle.run_world.specs.Held.{AreTimely}
+use Rattle.run_world.specs.ObjectLists.{AreTimely}
 use Rattle.run_world.proofs.Worlds.{at_more, those_more}
 use Rattle.run_world.proofs.opening.world_objects.Goals as goal
 
@@ -24,5 +24,5 @@ loop-source-preserved c =
         at = at_more c.args.moment is.rest one is.at c.new.ensures.1;
       },
       (subst (λ (l : List SeatedSourceState). AreTimely c.args.moment l) c.in-Some.ensures.steps.0 c.loop-source.invariant.1).1,
-      kept_more c.loop-source.yielded c.in-Some.source c.loop-source.invariant.2 c.source-kept.ensures.kept,
+      preserved_more c.loop-source.yielded c.in-Some.source c.loop-source.invariant.2 c.source-kept.ensures.kept,
     )

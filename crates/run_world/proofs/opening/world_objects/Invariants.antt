@@ -1,6 +1,6 @@
-use Rattle.run_objects.specs.Objects.{AreKept}
-use Rattle.run_world.specs.Held.{AreAll, AreTimely}
+use Rattle.run_objects.specs.Objects.{SourcesInvariant}
+use Rattle.run_world.specs.ObjectLists.{AreAll, AreTimely}
 use Rattle.run_world.proofs.opening.world_objects.Given as goal
 
 abbrev pub invariant-loop-source : goal.invariant-loop-source
-invariant-loop-source l = AreAll l.fn.moment l.fn.machine l.yielded l.objects.items × AreTimely l.fn.moment l.source-iterator.rest.items × AreKept l.yielded
+invariant-loop-source l = AreAll l.fn.moment l.fn.machine l.yielded l.objects.items × AreTimely l.fn.moment l.source-iterator.rest.items × SourcesInvariant l.yielded

@@ -1,5 +1,5 @@
 use Rattle.std.proofs.Common.{◌≡◌, ◌≤◌, ◌-◌, length}
-use Rattle.sleep_model.specs.Woven.{unread}
+use Rattle.sleep_model.specs.Interleaved.{unread}
 use Rattle.sleep_stats.specs.Counting.{AreAtMost, counted, counts_of}
 use Rattle.sleep_stats.proofs.counts.count.Given as goal
 

@@ -1,8 +1,8 @@
 use Rattle.std.proofs.Common.{◌≡◌, ◌∙◌, ℕ, List, Option, sym, ap, subst}
 use Rattle.sleep_model.specs.Order.{parents_of}
-use Rattle.device_links.specs.Passes.{CanStand, Makes}
+use Rattle.device_links.specs.Passes.{CanBeAdded, Makes}
 use Rattle.sleep_stats.specs.Linked.{added_links, last_links}
-use Rattle.sleep_stats.proofs.Standing.{stand_last}
+use Rattle.sleep_stats.proofs.LinkIndexes.{stand_last}
 use Rattle.sleep_stats.proofs.linked.last_linked.Goals as goal
 
 pub unreachable-requires : goal.unreachable-requires
@@ -13,4 +13,4 @@ unreachable-requires c =
     let parents : c.deref.result.now ≡ parents_of m.devices = c.deref.ensures.value ∙ (c.in_ok-parents.ensures ∙ ap parents_of c.as_slice.ensures) in
     let links : c.deref-2.result.now ≡ last_links m log = c.deref-2.ensures.value ∙ c.in_ok-links.ensures in
     let made = subst (Makes c.deref.result.now c.deref-2.result.now) c.in-None.is c.in_ok-links-2.ensures in
-    made (subst (λ (ps : List (Option ℕ)). CanStand ps c.deref-2.result.now) (sym parents) (subst (CanStand (parents_of m.devices)) (sym links) stand))
+    made (subst (λ (ps : List (Option ℕ)). CanBeAdded ps c.deref-2.result.now) (sym parents) (subst (CanBeAdded (parents_of m.devices)) (sym links) stand))

@@ -9,4 +9,4 @@ use Rattle.sleep_stats.proofs.linked.put_link.Goals as goal
 pub returns-clause-marked : goal.returns-clause-marked
 returns-clause-marked c =
     subst (λ (ls : List Link). AreMarked ls (get eq-value.it c.insert.new.self)) (sym c.in_ok-push.ensures.items)
-    (marked_more c.args.standing.now.links.items c.args.link (get eq-value.it c.args.standing.now.ends) (get eq-value.it c.insert.new.self) c.requires c.in_ok-insert.ensures.updates.0)
+    (marked_more c.args.link_index.now.links.items c.args.link (get eq-value.it c.args.link_index.now.ends) (get eq-value.it c.insert.new.self) c.requires c.in_ok-insert.ensures.updates.0)

@@ -1,7 +1,7 @@
 use Rattle.std.proofs.Common.{rules, subst, List}
 use Rattle.turn_lock.specs.Locks.{AreClosed}
 use Rattle.turn_lock.specs.Passing.{made_lists}
-use Rattle.turn_lock.proofs.Keeping.{ends}
+use Rattle.turn_lock.proofs.Invariance.{ends}
 use Rattle.turn_lock.proofs.LastPasses.{all_in, all_full, closes}
 use Rattle.turn_lock.proofs.closing.close_locks.Goals as goal
 

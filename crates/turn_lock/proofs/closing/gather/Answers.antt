@@ -1,5 +1,5 @@
 use Rattle.std.proofs.Common.{rules, ap, sym, ◌∙◌, Some, ℕ}
-use Rattle.turn_lock.proofs.Keeping.{may_join}
+use Rattle.turn_lock.proofs.Invariance.{may_join}
 use Rattle.turn_lock.proofs.LastPasses.{came, known_length}
 use Rattle.turn_lock.proofs.closing.gather.Goals as goal
 

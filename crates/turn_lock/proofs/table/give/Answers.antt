@@ -1,7 +1,7 @@
 use Rattle.std.proofs.Common.{rules, ◌∷◌, ◌++◌, ◌∙◌, sym, ap, Some}
 use lib.ListN.{get_elem?}
 use Rattle.atomic_table.specs.Table.{rest}
-use Rattle.turn_lock.proofs.Keeping.{may_give}
+use Rattle.turn_lock.proofs.Invariance.{may_give}
 use Rattle.turn_lock.proofs.table.give.Goals as goal
 
 pub store-requires : goal.store-requires

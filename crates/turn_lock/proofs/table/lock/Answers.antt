@@ -1,5 +1,5 @@
 use Rattle.std.proofs.Common.{rules, ◌<◌, sym, ap, ◌∙◌, subst, length, List}
-use Rattle.turn_lock.proofs.Keeping.{may_take}
+use Rattle.turn_lock.proofs.Invariance.{may_take}
 use Rattle.turn_lock.proofs.table.lock.Goals as goal
 
 pub compare_exchange-found-requires : goal.compare_exchange-found-requires

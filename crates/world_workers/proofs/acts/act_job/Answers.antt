@@ -5,4 +5,4 @@ use Rattle.world_workers.proofs.acts.act_job.Goals as goal
 pub returns-in-Nothing : goal.returns-in-Nothing
 returns-in-Nothing g c =
     let w = c.args.world.now in
-    acted_still w.machine.now w.table.now.desk.shared.table_id w.desk.now.shared.table_id w.moment (task.Acts c.args.job.now) c.args.pass.token c.requires.goes
+    acted_still w.machine.now w.table.now.cells.shared.table_id w.cells.now.shared.table_id w.moment (task.Acts c.args.job.now) c.args.pass.token c.requires.goes

@@ -5,5 +5,5 @@ use Rattle.world_workers.proofs.burst.open_burst.Goals as goal
 pub new-requires-clause-values : goal.new-requires-clause-values
 new-requires-clause-values c =
     let objects = c.in-Ok.objects in
-    let n = world_count c.args.moment c.args.parts.core c.args.parts.sources.items objects.items c.in-Ok.ensures.all in
+    let n = world_count c.args.moment c.args.contents.core c.args.contents.sources.items objects.items c.in-Ok.ensures.all in
     (omega (arith, n, objects.ok.0), omega (arith, n, objects.ok.0, c.requires.few.1))

@@ -3,20 +3,20 @@ use Rattle.std.proofs.Common.{◌≡◌, ◌∙◌, List, ℕ, sym, ap, subst}
 use Rattle.std.specs.Bool.{OnTrue}
 use Rattle.sleep_model.specs.Order.{is_among}
 use Rattle.sleep_model.proofs.Ordering.{order_by_different}
-use Rattle.async_board.specs.Walks.{IsPlaced, order_of}
-use Rattle.async_board.proofs.Places.{placed_still}
+use Rattle.async_board.specs.Walks.{AreIndices, order_of}
+use Rattle.async_board.proofs.Indices.{placed_still}
 use Rattle.async_board.proofs.Rested.{rested_added}
 use Rattle.async_board.proofs.board.Board.add_link.Goals as goal
 
-pub refill_places-requires-clause-different : goal.refill_places-requires-clause-different
-refill_places-requires-clause-different c = rw c.order.ensures.order (order_by_different c.add_telling.new.self.parents c.add_telling.new.self.links)
+pub refill_indices-requires-clause-different : goal.refill_indices-requires-clause-different
+refill_indices-requires-clause-different c = rw c.order.ensures.order (order_by_different c.add_noting_order.new.self.parents c.add_noting_order.new.self.links)
 
-pub refill_places-requires-clause-kept : goal.refill_places-requires-clause-kept
-refill_places-requires-clause-kept c =
+pub refill_indices-requires-clause-kept : goal.refill_indices-requires-clause-kept
+refill_indices-requires-clause-kept c =
     let old = c.self.inside.layout in
     let stays = c.in-Ok.stays in
-    subst (λ (places : List ℕ). OnTrue stays (IsPlaced c.order.result.now places)) (sym c.deref_mut.ensures.value)
-    (placed_still stays c.order.result.now (order_of old) old.places.items (subst (λ (o : List ℕ). OnTrue stays (o ≡ order_of old)) (sym c.order.ensures.order) c.in-Ok.ensures.order) c.self.invariant.laid)
+    subst (λ (indices : List ℕ). OnTrue stays (AreIndices c.order.result.now indices)) (sym c.deref_mut.ensures.value)
+    (placed_still stays c.order.result.now (order_of old) old.indices.items (subst (λ (o : List ℕ). OnTrue stays (o ≡ order_of old)) (sym c.order.ensures.order) c.in-Ok.ensures.order) c.self.invariant.closed_over)
 
 pub begin_anew-requires-clause-suspend : goal.begin_anew-requires-clause-suspend
 begin_anew-requires-clause-suspend c =

@@ -1,9 +1,9 @@
 -- The links have changed right below the supplier alone.
 use Rattle.std.proofs.Common.{◌∙◌, List, ℕ, sym, ap, subst}
 use Rattle.sleep_model.specs.Order.{is_among, with_state}
-use Rattle.sleep_model.proofs.Changing.{same_supplier, same_consumer, order_kept}
+use Rattle.sleep_model.proofs.Changing.{same_supplier, same_consumer, order_preserved}
 use Rattle.device_links.specs.Linked.{Linked}
-use Rattle.async_board.specs.Walks.{IsLayout, IsPlaced}
+use Rattle.async_board.specs.Walks.{IsLayout, AreIndices}
 use Rattle.async_board.proofs.Rested.{rested_set}
 use Rattle.async_board.proofs.board.Board.set_link.Goals as goal
 
@@ -28,9 +28,9 @@ invariant_of-self c =
     let d = c.args.consumer in
     let layout = c.self.inside.layout in
     record {
-      laid = subst (λ (k : Linked). IsLayout (record { links = k; places = layout.places; asynchronous = layout.asynchronous })) (sym c.in-Ok.ensures.ok)
-          (subst (λ (xs : List ℕ). IsPlaced xs layout.places.items)
-          (sym (order_kept (with_state s d c.args.active) (same_supplier s d c.args.active) (same_consumer s d c.args.active) layout.links.parents layout.links.links)) c.self.invariant.laid);
+      closed_over = subst (λ (k : Linked). IsLayout (record { links = k; indices = layout.indices; asynchronous = layout.asynchronous })) (sym c.in-Ok.ensures.ok)
+          (subst (λ (xs : List ℕ). AreIndices xs layout.indices.items)
+          (sym (order_preserved (with_state s d c.args.active) (same_supplier s d c.args.active) (same_consumer s d c.args.active) layout.links.parents layout.links.links)) c.self.invariant.closed_over);
       suspend = c.begin_anew.ensures.suspend;
       late = c.begin_anew.ensures.late;
       noirq = c.begin_anew.ensures.noirq;

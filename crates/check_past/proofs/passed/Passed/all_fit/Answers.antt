@@ -1,4 +1,4 @@
-use Rattle.check_past.proofs.Telling.{all_passed}
+use Rattle.check_past.proofs.Answers.{all_passed}
 use Rattle.check_past.proofs.passed.Passed.all_fit.Goals as goal
 
 pub returns : goal.returns

@@ -1,12 +1,12 @@
 use Rattle.std.proofs.Common.{◌∙◌, ap}
-use Rattle.check_past.specs.declared.kept.Kept.{Kept}
+use Rattle.check_past.specs.declared.past_state.PastState.{PastState}
 use Rattle.check_past.specs.PassedFields.{passage}
 use Rattle.check_past.specs.Passing.{past_of}
-use Rattle.check_past.proofs.Telling.{made_is, all_passed}
+use Rattle.check_past.proofs.Answers.{made_is, all_passed}
 use Rattle.check_past.proofs.passed.Passed.made.Goals as goal
 
 pub returns : goal.returns
 returns c =
     let f = c.self.inside in
     let fits = all_passed f.machine.now f.passed f.entries.now c.self.invariant.passage.fits in
-    rw (← c.self.view_is) (c.made.ensures ∙ made_is f.machine.now (past_of (passage f)) c.args.who c.deref.result.now.calls (ap (λ (k : Kept). k.calls) c.deref.ensures ∙ c.self.invariant.holds.calls) fits (rw (← c.self.view_is) at c.requires))
+    rw (← c.self.view_is) (c.made.ensures ∙ made_is f.machine.now (past_of (passage f)) c.args.who c.deref.result.now.calls (ap (λ (k : PastState). k.calls) c.deref.ensures ∙ c.self.invariant.holds.calls) fits (rw (← c.self.view_is) at c.requires))

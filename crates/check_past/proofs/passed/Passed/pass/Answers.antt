@@ -1,19 +1,19 @@
 use Rattle.std.proofs.Common.{◌∙◌, List, ap, sym, subst, length}
 use Rattle.sleep_model.specs.declared.entry.Entry.{Entry}
-use Rattle.sleep_model.specs.Parts.{journal}
+use Rattle.sleep_model.specs.EntryClasses.{journal}
 use Rattle.check_account.proofs.Following.{placed}
-use Rattle.check_past.specs.declared.journal.JournalParts.{JournalParts}
-use Rattle.check_past.specs.declared.kept.Kept.{Kept}
+use Rattle.check_past.specs.declared.journal.JournalState.{JournalState}
+use Rattle.check_past.specs.declared.past_state.PastState.{PastState}
 use Rattle.check_past.specs.PassedFields.{passage}
-use Rattle.check_past.specs.Passing.{Holds, kept_after, past_of}
+use Rattle.check_past.specs.Passing.{Holds, past_state_after, past_of}
 use Rattle.check_past.proofs.Passing.{holds, more, then_next}
 use Rattle.check_past.proofs.passed.Passed.pass.Goals as goal
 
 pub pass-requires-clause-all : goal.pass-requires-clause-all
 pass-requires-clause-all c =
     let f = c.self.inside in
-    ap (λ (k : Kept). length k.journal.tasks.freezings) c.deref_mut.ensures.value
-    ∙ ap (λ (x : JournalParts). length x.tasks.freezings) c.self.invariant.holds.state ∙ placed f.machine.now.actors (journal (past_of (passage f)))
+    ap (λ (k : PastState). length k.journal.tasks.freezings) c.deref_mut.ensures.value
+    ∙ ap (λ (x : JournalState). length x.tasks.freezings) c.self.invariant.holds.state ∙ placed f.machine.now.actors (journal (past_of (passage f)))
 
 pub invariant_of-result : goal.invariant_of-result
 invariant_of-result c =
@@ -22,8 +22,8 @@ invariant_of-result c =
     record {
       holds = subst (λ (p : List Entry). Holds f.machine.now p c.pass.new.self)
           (sym (then_next f.passed c.in_ok-passed.passed f.entries.now c.args.e there c.in_ok-passed.ensures))
-          (holds f.machine.now (past_of (passage f)) c.args.e f.kept.value c.pass.new.self c.self.invariant.holds
-          (c.in_ok-pass.ensures ∙ ap (λ (k : Kept). kept_after f.machine.now c.args.e k) c.deref_mut.ensures.value));
+          (holds f.machine.now (past_of (passage f)) c.args.e f.past_state.value c.pass.new.self c.self.invariant.holds
+          (c.in_ok-pass.ensures ∙ ap (λ (k : PastState). past_state_after f.machine.now c.args.e k) c.deref_mut.ensures.value));
       call_order = c.self.invariant.call_order;
       has_async = c.self.invariant.has_async;
       passage = record {

@@ -4,7 +4,7 @@ use Rattle.sleep_model.proofs.Acyclic.{order_length}
 use Rattle.device_rows.specs.Table.{row_at}
 use Rattle.device_links.specs.Linked.{Linked}
 use Rattle.device_links.specs.Walks.{Finds}
-use Rattle.device_links.proofs.Kept.{walkable, dependents_is}
+use Rattle.device_links.proofs.Invariant.{walkable, dependents_is}
 use Rattle.device_links.proofs.links.Links.find.Goals as goal
 
 pub walk-requires-clause-sized : goal.walk-requires-clause-sized

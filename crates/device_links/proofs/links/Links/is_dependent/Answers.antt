@@ -5,8 +5,8 @@ use Rattle.sleep_model.specs.Order.{dependents}
 use Rattle.std.specs.Bool.{OnTrue}
 use Rattle.device_links.specs.Linked.{Linked}
 use Rattle.device_links.specs.Spread.{spread}
-use Rattle.device_links.proofs.Kept.{dependents_is}
-use Rattle.device_links.specs.Moves.{StandsFirst}
+use Rattle.device_links.proofs.Invariant.{dependents_is}
+use Rattle.device_links.specs.Moves.{Precedes}
 use Rattle.device_links.proofs.Moving.{apart_by}
 use Rattle.device_links.proofs.Spreading.{comes}
 use Rattle.device_links.proofs.links.Links.is_dependent.Goals as goal
@@ -27,14 +27,14 @@ returns-else-consumer-supplier c =
     ∙ (ap (λ (ds : List ℕ). get_or (spread (dependents ps ls) ds (set (replicate 1024 false) from true)) to false) (c.deref-else-consumer-supplier.ensures.value ∙ k.ordered)
     ∙ comes ps k.after ls k.linked 1024 from to few apart)))
 
-pub returns-then-stands_first : goal.returns-then-stands_first
-returns-then-stands_first c =
+pub returns-then-precedes : goal.returns-then-precedes
+returns-then-precedes c =
     let old = c.self.inside in
     let k = c.self.invariant.kept in
     let ps = old.parents.items in
     let ls = reverse old.links.items in
     let from = c.args.consumer in
     let to = c.args.supplier in
-    let first = subst (λ (o : List ℕ). OnTrue c.stands_first.result (StandsFirst o to from)) (c.deref.ensures.value ∙ k.ordered) c.stands_first.ensures in
+    let first = subst (λ (o : List ℕ). OnTrue c.precedes.result (Precedes o to from)) (c.deref.ensures.value ∙ k.ordered) c.precedes.ensures in
     subst (λ (v : Linked). false ≡ is_dependent v.parents v.links from to) c.self.view_is
-    (sym (apart_by ps k.after ls k.linked to from c.stands_first.result first c.if-stands_first.true))
+    (sym (apart_by ps k.after ls k.linked to from c.precedes.result first c.if-precedes.true))

@@ -1,6 +1,6 @@
 use Rattle.std.proofs.Common.{◌<◌, ◌^◌, [], length, ap, sym, reverse, arith}
-use Rattle.device_links.specs.Kept.{IsKept, IsWhole}
-use Rattle.device_links.proofs.Kept.{whole_as}
+use Rattle.device_links.specs.Invariant.{LinksInvariant, IsWhole}
+use Rattle.device_links.proofs.Invariant.{whole_as}
 use Rattle.device_links.proofs.links.Links.new.Goals as goal
 
 pub invariant_of-result : goal.invariant_of-result
@@ -9,7 +9,7 @@ invariant_of-result c =
     let fits : length ps < 2 ^ 32 = omega arith in
     let t = c.in_ok-without_links.field-0 in
     let made = c.in_ok-without_links.ensures in
-    let kept : IsKept ps [] t.dependents.rows t.below.rows t.suppliers.rows t.above.rows c.in_ok-registered.field-0.items =
+    let kept : LinksInvariant ps [] t.dependents.rows t.below.rows t.suppliers.rows t.above.rows c.in_ok-registered.field-0.items =
     record {
       numbered = fits;
       after = c.requires;

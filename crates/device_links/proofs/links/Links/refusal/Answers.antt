@@ -2,7 +2,7 @@ use Rattle.std.proofs.Common.{◌≡◌, ◌<◌, ◌∙◌, length, sym, subst,
 use Rattle.std.proofs.lemmas.List.{length-reverse}
 use Rattle.sleep_model.specs.Links.{is_linked}
 use Rattle.device_links.specs.Linked.{Linked}
-use Rattle.device_links.specs.Adds.{IsOpen, Stand}
+use Rattle.device_links.specs.Adds.{IsOpen, AreRegistered}
 use Rattle.device_links.proofs.links.Links.refusal.Goals as goal
 
 pub returns-then-is_linked : goal.returns-then-is_linked
@@ -16,7 +16,7 @@ returns-then-is_linked c =
     let few : length ls < 4000 = omega (arith, length-reverse c.self.inside.links.items) in
     let sup : s < length ps = omega arith in
     let con : d < length ps = omega arith in
-    subst (λ (v : Linked). Stand v s d × (length v.links < 4000) × (is_linked v.links s d ≡ true)) c.self.view_is ((sup, con), few, linked')
+    subst (λ (v : Linked). AreRegistered v s d × (length v.links < 4000) × (is_linked v.links s d ≡ true)) c.self.view_is ((sup, con), few, linked')
 
 pub returns : goal.returns
 returns c =

@@ -2,7 +2,7 @@ use Rattle.std.proofs.Common.{◌∙◌, List, Some, length, reverse, get_or, ap
 use Rattle.std.proofs.lemmas.List.{get_or_default, take_all}
 use Rattle.sleep_model.specs.declared.machine.Link.{Link}
 use Rattle.device_rows.specs.Table.{with_number}
-use Rattle.device_links.specs.Kept.{AreNumbered}
+use Rattle.device_links.specs.Invariant.{AreNumbered}
 use Rattle.device_links.proofs.Numbering.{numbered_next}
 use Rattle.device_links.proofs.Tabulating.{no_link, supplier_at, consumer_at}
 use Rattle.device_links.proofs.numbers.LinkNumbers.of_links.Goals as goal

@@ -1,5 +1,5 @@
 use Rattle.std.proofs.Common.{length, take, reverse}
-use Rattle.device_links.specs.Kept.{AreNumbered}
+use Rattle.device_links.specs.Invariant.{AreNumbered}
 use Rattle.device_links.proofs.numbers.LinkNumbers.of_links.Given as goal
 
 abbrev pub invariant-loop-number : goal.invariant-loop-number

@@ -1,7 +1,7 @@
 use Rattle.std.proofs.Common.{◌≡◌, ◌<◌, ◌≤◌, ◌+◌, ◌-◌, ◌++◌, ◌∷◌, ◌∙◌, [], ℕ, length, map, get_or, sym, ap, ap₂, set, subst, arith, length-append}
 use Rattle.std.specs.Vec.{vec_capacity, vec_len}
-use Rattle.device_rows.specs.Table.{Table, places_at}
-use Rattle.device_rows.proofs.Edits.{seen_at, seen_kept, seen_set, within_seen, places_more, on_err}
+use Rattle.device_rows.specs.Table.{Table, room_at}
+use Rattle.device_rows.proofs.Edits.{seen_at, seen_preserved, seen_set, within_seen, room_more, on_err}
 use Rattle.device_rows.proofs.rows.Rows.append.Goals as goal
 
 pub returns-in_err-push-clause-places : goal.returns-in_err-push-clause-places
@@ -13,8 +13,8 @@ returns-in_err-push-clause-places c =
     let seen = ap (λ t. t.rows) c.self.view_is in
     let within : i < length xs = within_seen (λ w. w.items) xs c.args.self.now.rows i seen c.requires in
     let more : length v.items + (vec_capacity v - vec_len v) ≤ length y.items + (vec_capacity y - vec_len y) = omega (arith, ap length c.in_err-push.ensures.items, c.push.ensures.len, c.push.ensures.capacity, y.ok.0, y.ok.1, v.ok.0, v.ok.1) in
-    subst (λ (t : Table). (d : ℕ) → places_at t d ≤ length (get_or (map (λ w. w.items) (set xs i y)) d []) + get_or (map (λ w. vec_capacity w - vec_len w) (set xs i y)) d 0) c.self.view_is
-    (places_more (λ w. w.items) (λ w. vec_capacity w - vec_len w) xs i v y within c.index_mut-row.ensures.value more)
+    subst (λ (t : Table). (d : ℕ) → room_at t d ≤ length (get_or (map (λ w. w.items) (set xs i y)) d []) + get_or (map (λ w. vec_capacity w - vec_len w) (set xs i y)) d 0) c.self.view_is
+    (room_more (λ w. w.items) (λ w. vec_capacity w - vec_len w) xs i v y within c.index_mut-row.ensures.value more)
 
 pub returns-in_err-push-clause-err : goal.returns-in_err-push-clause-err
 returns-in_err-push-clause-err c =
@@ -24,7 +24,7 @@ returns-in_err-push-clause-err c =
     let y = c.push.new.self in
     let seen = ap (λ t. t.rows) c.self.view_is in
     let within : i < length xs = within_seen (λ w. w.items) xs c.args.self.now.rows i seen c.requires in
-    on_err c.from_residual.result (seen_kept (λ w. w.items) xs i v y within c.index_mut-row.ensures.value c.in_err-push.ensures.items ∙ seen)
+    on_err c.from_residual.result (seen_preserved (λ w. w.items) xs i v y within c.index_mut-row.ensures.value c.in_err-push.ensures.items ∙ seen)
 
 pub returns-clause-ok : goal.returns-clause-ok
 returns-clause-ok c =
@@ -47,5 +47,5 @@ returns-clause-places c =
     let seen = ap (λ t. t.rows) c.self.view_is in
     let within : i < length xs = within_seen (λ w. w.items) xs c.args.self.now.rows i seen c.requires in
     let more : length v.items + (vec_capacity v - vec_len v) ≤ length y.items + (vec_capacity y - vec_len y) = omega (arith, ap length c.in_ok-push.ensures.items, length-append v.items (c.args.number ∷ []), c.push.ensures.len, c.push.ensures.capacity, y.ok.0, y.ok.1, v.ok.0, v.ok.1) in
-    subst (λ (t : Table). (d : ℕ) → places_at t d ≤ length (get_or (map (λ w. w.items) (set xs i y)) d []) + get_or (map (λ w. vec_capacity w - vec_len w) (set xs i y)) d 0) c.self.view_is
-    (places_more (λ w. w.items) (λ w. vec_capacity w - vec_len w) xs i v y within c.index_mut-row.ensures.value more)
+    subst (λ (t : Table). (d : ℕ) → room_at t d ≤ length (get_or (map (λ w. w.items) (set xs i y)) d []) + get_or (map (λ w. vec_capacity w - vec_len w) (set xs i y)) d 0) c.self.view_is
+    (room_more (λ w. w.items) (λ w. vec_capacity w - vec_len w) xs i v y within c.index_mut-row.ensures.value more)

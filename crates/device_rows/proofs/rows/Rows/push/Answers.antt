@@ -1,8 +1,8 @@
 use Rattle.std.proofs.Common.{◌≡◌, ◌<◌, ◌≤◌, ◌+◌, ◌-◌, ◌++◌, ◌∷◌, ◌∙◌, [], ℕ, length, map, get_or, sym, ap, ap₂, set, subst, arith, length-append}
 use Rattle.std.proofs.lemmas.List.{length-map}
 use Rattle.std.specs.Vec.{vec_capacity, vec_len}
-use Rattle.device_rows.specs.Table.{Table, places_at}
-use Rattle.device_rows.proofs.Edits.{seen_at, seen_set, above_zero, places_more}
+use Rattle.device_rows.specs.Table.{Table, room_at}
+use Rattle.device_rows.proofs.Edits.{seen_at, seen_set, above_zero, room_more}
 use Rattle.device_rows.proofs.rows.Rows.push.Goals as goal
 
 pub returns-clause-rows : goal.returns-clause-rows
@@ -27,5 +27,5 @@ returns-clause-places c =
     let in_room : i < length c.args.self.now.room = above_zero c.args.self.now.room i c.requires in
     let within : i < length xs = omega (arith, length-map xs (λ v. vec_capacity v - vec_len v), ap length (ap (λ t. t.room) c.self.view_is)) in
     let more : length v.items + (vec_capacity v - vec_len v) ≤ length y.items + (vec_capacity y - vec_len y) = omega (arith, ap length c.push_reserved.ensures.items, length-append v.items (c.args.number ∷ []), c.push_reserved.ensures.len, c.push_reserved.ensures.capacity) in
-    subst (λ (t : Table). (d : ℕ) → places_at t d ≤ length (get_or (map (λ w. w.items) (set xs i y)) d []) + get_or (map (λ w. vec_capacity w - vec_len w) (set xs i y)) d 0) c.self.view_is
-    (places_more (λ w. w.items) (λ w. vec_capacity w - vec_len w) xs i v y within c.index_mut-row.ensures.value more)
+    subst (λ (t : Table). (d : ℕ) → room_at t d ≤ length (get_or (map (λ w. w.items) (set xs i y)) d []) + get_or (map (λ w. vec_capacity w - vec_len w) (set xs i y)) d 0) c.self.view_is
+    (room_more (λ w. w.items) (λ w. vec_capacity w - vec_len w) xs i v y within c.index_mut-row.ensures.value more)

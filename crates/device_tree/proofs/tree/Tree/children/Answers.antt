@@ -1,6 +1,6 @@
 use Rattle.std.proofs.Common.{ap, ◌∙◌}
 use Rattle.sleep_model.specs.Order.{children_from, parents_of}
-use Rattle.device_tree.proofs.Kept.{row_is}
+use Rattle.device_tree.proofs.Invariant.{row_is}
 use Rattle.device_tree.proofs.tree.Tree.children.Goals as goal
 
 pub returns : goal.returns

@@ -2,7 +2,7 @@ use Rattle.std.proofs.Common.{◌≡◌, ◌++◌, ◌∷◌, [], length, cond, 
 use Rattle.std.specs.List.{list_any}
 use Rattle.device_tree.specs.Refusal.{refusal}
 use Rattle.device_rows.specs.Table.{with_number}
-use Rattle.device_tree.proofs.Kept.{free_of, kept_more, kept_as}
+use Rattle.device_tree.proofs.Invariant.{free_of, preserved_more, kept_as}
 use Rattle.device_tree.proofs.Names.{taken_is}
 use Rattle.sleep_model.specs.contracts.name.NamePartialEq.TheImpl.{eq-value}
 use Rattle.device_tree.proofs.tree.Tree.register.Goals as goal
@@ -19,4 +19,4 @@ invariant_of-self-2 c =
     let devices = c.in-Ok-push.ensures.items ∙ ap (λ xs. xs ++ d ∷ []) c.make_room.ensures.devices in
     let names = c.in-Ok.ensures.keys ∙ ap (λ (xs : List (List ℕ)). cond (list_any (eq-value.it d.name) xs) xs (xs ++ d.name ∷ [])) c.make_room.ensures.names ∙ ap (λ b. cond b ks (ks ++ d.name ∷ [])) new_name in
     let rows = c.add_child.ensures ∙ ap (λ xs. with_number xs d.parent c.len-number.result) (c.in_ok-add_row.ensures.ok ∙ ap (λ xs. xs ++ [] ∷ []) c.make_room.ensures.children) ∙ ap (with_number (old.children.rows ++ [] ∷ []) d.parent) count in
-    kept_as (sym devices) (sym names) (sym rows) (kept_more ds ks old.children.rows d c.self.invariant free)
+    kept_as (sym devices) (sym names) (sym rows) (preserved_more ds ks old.children.rows d c.self.invariant free)

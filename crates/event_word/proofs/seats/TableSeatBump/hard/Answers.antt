@@ -1,6 +1,6 @@
 use Rattle.std.proofs.Common.{rules}
 use Rattle.sleep_model.specs.declared.word.WordKind.TheVariants.{Hard}
-use Rattle.event_word.proofs.Keeping.{may_step, some_number}
+use Rattle.event_word.proofs.Invariance.{may_step, some_number}
 use Rattle.event_word.proofs.Seating.{can_step}
 use Rattle.event_word.proofs.seats.TableSeatBump.hard.Goals as goal
 

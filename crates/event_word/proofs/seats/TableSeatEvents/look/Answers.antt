@@ -1,5 +1,5 @@
 use Rattle.std.proofs.Common.{rules}
-use Rattle.event_word.proofs.Keeping.{may_look}
+use Rattle.event_word.proofs.Invariance.{may_look}
 use Rattle.event_word.proofs.seats.TableSeatEvents.look.Goals as goal
 
 pub load-requires : goal.load-requires

@@ -1,5 +1,5 @@
 use Rattle.std.proofs.Common.{rules}
-use Rattle.event_word.proofs.Keeping.{may_split_source}
+use Rattle.event_word.proofs.Invariance.{may_split_source}
 use Rattle.event_word.proofs.table.EventTable.source.Goals as goal
 
 pub split_seat-token-requires : goal.split_seat-token-requires

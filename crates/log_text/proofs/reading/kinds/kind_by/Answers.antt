@@ -6,7 +6,7 @@ pub returns-in_default-clause-kind : goal.returns-in_default-clause-kind
 returns-in_default-clause-kind c =
     let w = c.in_default in
     c.task_by.ensures.kind
-    ∙ no_device c.args.book.now c.args.verb c.args.text.now w.not-Begin w.not-End w.not-Prepare w.not-Complete w.not-Schedule w.not-Skip w.not-Done
+    ∙ no_device c.args.machine_names.now c.args.verb c.args.text.now w.not-Begin w.not-End w.not-Prepare w.not-Complete w.not-Schedule w.not-Skip w.not-Done
 
 pub returns-in_default-clause-fits : goal.returns-in_default-clause-fits
 returns-in_default-clause-fits c = c.task_by.ensures.fits

@@ -6,7 +6,7 @@ pub returns-in_default-clause-kind : goal.returns-in_default-clause-kind
 returns-in_default-clause-kind c =
     let w = c.in_default in
     c.attempt_by.ensures.kind
-    ∙ no_source c.args.book.now c.args.verb c.args.text.now w.not-Awake w.not-Relax w.not-Event w.not-Expire w.not-Start w.not-Finish w.not-Hard w.not-Jump
+    ∙ no_source c.args.machine_names.now c.args.verb c.args.text.now w.not-Awake w.not-Relax w.not-Event w.not-Expire w.not-Start w.not-Finish w.not-Hard w.not-Jump
 
 pub returns-in_default-clause-fits : goal.returns-in_default-clause-fits
 returns-in_default-clause-fits c = c.attempt_by.ensures.fits

@@ -13,4 +13,4 @@ returns-then-is_empty-2-clause-text c =
 pub returns-then-is-clause-fault : goal.returns-then-is-clause-fault
 returns-then-is-clause-fault c = λ named.
     let line : bytes_eq c.first_line.result.0.now finished_line ≡ true = sym c.is.ensures ∙ c.if-is.true in
-    finished_bad c.args.book.now c.first_line.result.0.now c.first_line.result.1.now c.args.bytes.now c.args.number c.in_ok-next_number.field-0 c.first_line.ensures.lines line (λ none. grind (arith, nat_tests)) c.in_ok-next_number.ensures
+    finished_bad c.args.machine_names.now c.first_line.result.0.now c.first_line.result.1.now c.args.bytes.now c.args.number c.in_ok-next_number.field-0 c.first_line.ensures.lines line (λ none. grind (arith, nat_tests)) c.in_ok-next_number.ensures

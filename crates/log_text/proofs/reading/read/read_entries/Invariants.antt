@@ -9,9 +9,9 @@ use Rattle.log_text.proofs.reading.read.read_entries.Given as goal
 -- the entries so far are the text up to what is left, and the first bad line is the first bad one there
 abbrev pub invariant-loop-reader : goal.invariant-loop-reader
 invariant-loop-reader l =
-    (l.bytes ≡ flat_map (entry_line l.book) l.entries ++ l.left)
-    × (list_all (fits_entry l.book) l.entries ≡ true)
-    × (AreNamed l.book → (n : ℕ) → IsBadEntry l.book (lines l.left) l.number n → IsBadEntry l.book (lines l.bytes) 1 n)
+    (l.bytes ≡ flat_map (entry_line l.machine_names) l.entries ++ l.left)
+    × (list_all (fits_entry l.machine_names) l.entries ≡ true)
+    × (AreNamed l.machine_names → (n : ℕ) → IsBadEntry l.machine_names (lines l.left) l.number n → IsBadEntry l.machine_names (lines l.bytes) 1 n)
 
 abbrev pub decreases-loop-reader : goal.decreases-loop-reader
 decreases-loop-reader l = length l.left

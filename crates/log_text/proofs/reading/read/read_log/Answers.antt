@@ -23,11 +23,11 @@ returns-in-Ok-clause-back c =
     let read = c.read_whole-read.result in
     let e = c.read_whole-read.ensures in
     subst (λ (m : Machine). (log : Log) → AreNamed m → IsWritable m log → text m log ≡ bytes → IfOk read (λ r. r ≡ log)) c.in-Ok.ensures
-    (same_log c.in-Ok.book bytes read e.text e.fits)
+    (same_log c.in-Ok.machine_names bytes read e.text e.fits)
 
 pub returns-in-Ok-clause-taken : goal.returns-in-Ok-clause-taken
 returns-in-Ok-clause-taken c =
     let bytes = c.args.bytes.now in
     let read = c.read_whole-read.result in
     subst (λ (m : Machine). (log : Log) → AreNamed m → IsWritable m log → text m log ≡ bytes → IsOkUnless read Mem) c.in-Ok.ensures
-    (no_fault c.in-Ok.book bytes read c.read_whole-read.ensures.line)
+    (no_fault c.in-Ok.machine_names bytes read c.read_whole-read.ensures.line)

@@ -14,7 +14,7 @@ loop-i-preserved c =
     let v = c.loop-i.invariant in
     let items : c.push.new.self.items ≡ c.loop-i.all.items ++ c.in-Ok.stats ∷ [] = c.in_ok-push-in-Ok.ensures.items in
     rw items
-    (one_source m c.loop-i.i name within at c.loop-i.all.items c.in-Ok.stats c.args.bytes.now c.loop-i.left.now c.in-Ok.behind.now c.args.first c.loop-i.number c.in_ok-number-in-Ok.number
+    (one_source m c.loop-i.i name within at c.loop-i.all.items c.in-Ok.stats c.args.bytes.now c.loop-i.left.now c.in-Ok.after_piece.now c.args.first c.loop-i.number c.in_ok-number-in-Ok.number
     v.0 v.1 v.2 v.3 c.in-Ok.ensures.text c.in-Ok.ensures.lines c.in-Ok.ensures.fits c.in_ok-number-in-Ok.ensures)
 
 pub returns-in-Err-clause-fault : goal.returns-in-Err-clause-fault
@@ -34,8 +34,8 @@ returns-in-Ok-read_source-clause-text c =
     let end : length m.sources ≤ c.loop-i.i = omega arith in
     let most : c.loop-i.i ≤ length m.sources = omega arith in
     rw c.in_ok-push-in-Ok-read_source.ensures.items
-    (last_source_text m c.loop-i.i end c.loop-i.all.items c.args.bytes.now c.loop-i.left.now c.args.first c.loop-i.number v.0 v.1 v.3 most c.in-Ok-read_source.stats c.in-Ok-read_source.behind.now
-    (c.in-Ok-read_source.ensures.text ∙ ap (λ (name : List ℕ). source_line name c.in-Ok-read_source.stats ++ c.in-Ok-read_source.behind.now) c.as_bytes.ensures.value))
+    (last_source_text m c.loop-i.i end c.loop-i.all.items c.args.bytes.now c.loop-i.left.now c.args.first c.loop-i.number v.0 v.1 v.3 most c.in-Ok-read_source.stats c.in-Ok-read_source.after_piece.now
+    (c.in-Ok-read_source.ensures.text ∙ ap (λ (name : List ℕ). source_line name c.in-Ok-read_source.stats ++ c.in-Ok-read_source.after_piece.now) c.as_bytes.ensures.value))
 
 pub returns-in-Ok-read_source-clause-bad : goal.returns-in-Ok-read_source-clause-bad
 returns-in-Ok-read_source-clause-bad c =
@@ -43,9 +43,9 @@ returns-in-Ok-read_source-clause-bad c =
     let v = c.loop-i.invariant in
     let l = ap length c.as_slice-names.ensures in
     let end : length m.sources ≤ c.loop-i.i = omega arith in
-    last_source_bad m c.loop-i.i end c.loop-i.all.items c.args.bytes.now c.loop-i.left.now c.args.first c.loop-i.number v.0 v.1 v.3 c.in-Ok-read_source.stats c.in-Ok-read_source.behind.now
+    last_source_bad m c.loop-i.i end c.loop-i.all.items c.args.bytes.now c.loop-i.left.now c.args.first c.loop-i.number v.0 v.1 v.3 c.in-Ok-read_source.stats c.in-Ok-read_source.after_piece.now
     c.in_ok-next_number-in-Ok-read_source.field-0
-    (c.in-Ok-read_source.ensures.lines ∙ ap (λ (name : List ℕ). source_line name c.in-Ok-read_source.stats ∷ lines c.in-Ok-read_source.behind.now) c.as_bytes.ensures.value)
+    (c.in-Ok-read_source.ensures.lines ∙ ap (λ (name : List ℕ). source_line name c.in-Ok-read_source.stats ∷ lines c.in-Ok-read_source.after_piece.now) c.as_bytes.ensures.value)
     c.in-Ok-read_source.ensures.fits c.in_ok-next_number-in-Ok-read_source.ensures
 
 pub returns-clause-fault : goal.returns-clause-fault

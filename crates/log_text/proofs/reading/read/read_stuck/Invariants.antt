@@ -8,9 +8,9 @@ use Rattle.log_text.proofs.reading.read.read_stuck.Given as goal
 -- the scripts so far are the text up to what is left, and the first bad line is the first bad one there
 abbrev pub invariant-loop-left : goal.invariant-loop-left
 invariant-loop-left l =
-    (l.bytes ≡ flat_map (waiting_line l.book) l.all.items ++ l.left)
-    × (list_all (λ w. fits_script l.book w.actor && fits_cause l.book w.why) l.all.items ≡ true)
-    × ((n : ℕ) → IsBadStuck l.book (lines l.left) l.number n → IsBadStuck l.book (lines l.bytes) l.first n)
+    (l.bytes ≡ flat_map (waiting_line l.machine_names) l.all.items ++ l.left)
+    × (list_all (λ w. fits_script l.machine_names w.actor && fits_cause l.machine_names w.why) l.all.items ≡ true)
+    × ((n : ℕ) → IsBadStuck l.machine_names (lines l.left) l.number n → IsBadStuck l.machine_names (lines l.bytes) l.first n)
 
 abbrev pub decreases-loop-left : goal.decreases-loop-left
 decreases-loop-left l = length l.left

@@ -1,6 +1,6 @@
--- The digits stand behind the first bytes.
+-- The digits stand after the first bytes.
 use Rattle.std.proofs.Common.{◌≡◌, ◌≤◌, length, decimal, arith}
-use Rattle.log_text.proofs.Holding.{held_digits}
+use Rattle.log_text.proofs.Buffering.{held_digits}
 use Rattle.log_text.proofs.spelling.digits.put_long.Goals as goal
 
 pub returns-clause-text : goal.returns-clause-text

@@ -1,7 +1,7 @@
 -- The table has the two digits.
 use Rattle.std.proofs.Common.{arith}
 use Rattle.log_text.proofs.Decimals.{pairs_at}
-use Rattle.log_text.proofs.Holding.{held_two}
+use Rattle.log_text.proofs.Buffering.{held_two}
 use Rattle.log_text.proofs.spelling.digits.put_pair.Goals as goal
 
 pub returns-clause-text : goal.returns-clause-text

@@ -1,13 +1,13 @@
--- What is told of the lines that are held, of those of the entries that are left and of those behind is told of all.
+-- What is told of the lines that are held, of those of the entries that are left and of those after is told of all.
 use Rattle.std.proofs.Common.{◌≤◌, ◌++◌, length, flat_map}
 use Rattle.sleep_model.specs.Text.{entry_line}
-use Rattle.sleep_model.specs.Woven.{unread}
-use Rattle.log_text.specs.Passing.{Tells}
+use Rattle.sleep_model.specs.Interleaved.{unread}
+use Rattle.log_text.specs.Passing.{Takes}
 use Rattle.log_text.proofs.writing.stream.write_lines.Given as goal
 
 abbrev pub invariant-loop-entry : goal.invariant-loop-entry
 invariant-loop-entry g l = record {
-  told : Tells (g.K.ByteSink.written l.initial.sink) (g.K.ByteSink.written l.sink) (g.K.ByteSink.faults l.initial.sink) (g.K.ByteSink.faults l.sink) (flat_map (entry_line l.names) l.entries ++ l.behind) (l.held ++ (flat_map (entry_line l.names) (unread l.reader) ++ l.behind));
+  told : Takes (g.K.ByteSink.written l.initial.sink) (g.K.ByteSink.written l.sink) (g.K.ByteSink.faults l.initial.sink) (g.K.ByteSink.faults l.sink) (flat_map (entry_line l.names) l.entries ++ l.after_piece) (l.buffer ++ (flat_map (entry_line l.names) (unread l.reader) ++ l.after_piece));
   later : g.K.ByteSink.faults l.initial.sink ≤ g.K.ByteSink.faults l.sink;
 }
 

@@ -2,7 +2,7 @@ use Rattle.std.proofs.Common.{◌<◌, ◌≤◌, ◌+◌, ◌∙◌, ◌++◌, 
 use Rattle.std.proofs.lemmas.List.{length-map}
 use Rattle.borrowed_json.specs.View.{view}
 use Rattle.sleep_model.specs.declared.machine.Device.{Device}
-use Rattle.device_tree.specs.Refusal.{refusal, Refuses}
+use Rattle.device_tree.specs.Refusal.{refusal, RefusesDevice}
 use Rattle.machine_file.specs.Fitting.{HasShortName}
 use Rattle.machine_file.proofs.Each.{value_each}
 use Rattle.machine_file.proofs.Registering.{Registering, registered, refused, all_registered, value_at}
@@ -21,7 +21,7 @@ returns-in-Err-clause-refused c =
     let within : i < length (map view vs) = omega arith in
     let few : length (map view vs) ≤ 1000 = let f = c.requires.few in omega arith in
     refused (map view vs) i (view v) within (value_at vs i v inside c.index-list-number.is) c.loop-number.devices c.loop-number.invariant few c.in-Err.fault
-    (subst (λ (d : Device). Refuses {T = ℕ} (Err c.in-Err.fault) (refusal c.loop-number.devices d)) c.device_of-device.ensures c.in-Err.ensures.refused)
+    (subst (λ (d : Device). RefusesDevice {T = ℕ} (Err c.in-Err.fault) (refusal c.loop-number.devices d)) c.device_of-device.ensures c.in-Err.ensures.refused)
 
 pub loop-number-preserved : goal.loop-number-preserved
 loop-number-preserved c =
@@ -34,7 +34,7 @@ loop-number-preserved c =
     let added = c.in_default.ensures.ok ∙ ap (λ (d : Device). c.loop-number.devices ++ d ∷ []) c.device_of-device.ensures in
     subst (Registering (map view vs) (i + 1)) (sym added)
     (registered (map view vs) i (view v) within (value_at vs i v inside c.index-list-number.is) c.loop-number.devices c.loop-number.invariant c.in_default.field-0
-    (subst (λ (d : Device). Refuses (Ok c.in_default.field-0) (refusal c.loop-number.devices d)) c.device_of-device.ensures c.in_default.ensures.refused))
+    (subst (λ (d : Device). RefusesDevice (Ok c.in_default.field-0) (refusal c.loop-number.devices d)) c.device_of-device.ensures c.in_default.ensures.refused))
 
 pub returns-clause-registered : goal.returns-clause-registered
 returns-clause-registered c =

@@ -4,4 +4,4 @@ use Rattle.machine_file.proofs.Placing.{some_position}
 use Rattle.machine_file.proofs.names.known.contains.Goals as goal
 
 pub returns : goal.returns
-returns c = c.is_some.ensures ∙ ap is_some c.place_of_name.ensures.place ∙ some_position (bytes_eq c.args.name.now) (texts c.args.names.now)
+returns c = c.is_some.ensures ∙ ap is_some c.index_of_name.ensures.place ∙ some_position (bytes_eq c.args.name.now) (texts c.args.names.now)

@@ -14,6 +14,6 @@ returns c =
       devices = ap names c.requires ∙ names_whole (devices_named file) (list_in (codes "devices") file);
       syscore = c.in-Ok.ensures;
       notifiers = c.in-Ok-named_in.ensures;
-      sources = c.in-Ok-told_in.ensures;
+      sources = c.in-Ok-listed_names.ensures;
       marks = c.in-Ok-marked_in.ensures;
     }

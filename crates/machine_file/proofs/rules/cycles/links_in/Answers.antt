@@ -1,6 +1,6 @@
 use Rattle.std.proofs.Common.{◌∙◌, List, length, sym, ap, codes}
 use Rattle.std.proofs.lemmas.List.{length-map}
-use Rattle.machine_file.specs.declared.rules.pairs.EndPlaces.{EndPlaces}
+use Rattle.machine_file.specs.declared.rules.pairs.EndNumbers.{EndNumbers}
 use Rattle.borrowed_json.specs.View.{view}
 use Rattle.serde_json.specs.Data.{Data}
 use Rattle.machine_file.specs.Members.{list_in}
@@ -17,4 +17,4 @@ returns c =
     let file = view c.args.tree.now in
     let names = devices_named file in
     let ds = list_in (codes "links") file in
-    c.in_ok-links.ensures ∙ ap (links_between c.args.places.now) c.items.ensures ∙ ap (λ (ps : List EndPlaces). links_between ps ds) c.requires ∙ all_between names ds
+    c.in_ok-links.ensures ∙ ap (links_between c.args.places.now) c.items.ensures ∙ ap (λ (ps : List EndNumbers). links_between ps ds) c.requires ∙ all_between names ds

@@ -2,16 +2,16 @@ use Rattle.std.proofs.Common.{◌<◌, ◌∙◌, ◌&&◌, Bool, [], List, ap, 
 use Rattle.std.specs.List.{list_any}
 use Rattle.std.proofs.lemmas.List.{get_or_default}
 use Rattle.indexmap.specs.IndexMap.{get}
-use Rattle.machine_file.specs.declared.rules.pairs.Ends.{Ends}
+use Rattle.machine_file.specs.declared.rules.pairs.LinkEnds.{LinkEnds}
 use Rattle.machine_file.specs.Seen.{ends_seen, differ}
 use Rattle.machine_file.proofs.Placing.{later_here, later_next}
 use Rattle.machine_file.proofs.Pairing.{twin, seen_more, again_test, flipped, kept}
 use Rattle.machine_file.proofs.rules.pairs.first_again.Goals as goal
 
-abbrev unset : Ends
+abbrev unset : LinkEnds
 unset = record { supplier = record { ref_ptr = (0, 0); now = [] }; consumer = record { ref_ptr = (0, 0); now = [] } }
 
-abbrev is_two : List Ends → Ends → Bool
+abbrev is_two : List LinkEnds → LinkEnds → Bool
 is_two before e = differ (ends_seen e) && not (list_any (twin e) before)
 
 pub returns-then-is_again : goal.returns-then-is_again

@@ -5,11 +5,11 @@ use Rattle.machine_file.specs.Members.{list_in}
 use Rattle.machine_file.specs.Names.{devices_named}
 use Rattle.machine_file.specs.Places.{item_place}
 use Rattle.machine_file.specs.Seen.{are_devices}
-use Rattle.machine_file.proofs.Pairing.{loose_told}
+use Rattle.machine_file.proofs.Pairing.{loose_in_file}
 use Rattle.machine_file.proofs.rules.pairs.loose_link.Goals as goal
 
 pub returns : goal.returns
 returns c =
     let file = view c.args._tree.now in
     c.item.ensures ∙ ap (option_map (item_place (codes "links"))) (c.first_loose.ensures ∙ ap (position (λ p. not (are_devices p))) c.requires
-    ∙ loose_told (devices_named file) (list_in (codes "links") file))
+    ∙ loose_in_file (devices_named file) (list_in (codes "links") file))

@@ -4,14 +4,14 @@ use Rattle.sleep_model.specs.declared.log.Want.TheVariants.{Core, Nothing}
 use Rattle.sleep_model.specs.Calls.{calls_due}
 use Rattle.sleep_model.specs.Due.{due}
 use Rattle.sleep_model.specs.Legal.{is_made}
-use Rattle.sleep_state.specs.Places.{entries}
+use Rattle.sleep_state.specs.JournalRooms.{entries}
 use Rattle.sleep_script.specs.Jobs.{IsWanted}
 use Rattle.sleep_script.proofs.Following.{wanted_source, wanted_core, wanted_nothing}
 use Rattle.running_laws.specs.Running.{calls_made}
-use Rattle.running_laws.proofs.Kept.{enabled_is}
+use Rattle.running_laws.proofs.Invariant.{enabled_is}
 use Rattle.machine_rounds.specs.JobsOf.{job_at}
 use Rattle.machine_rounds.proofs.Fields.{goes_on, has_all}
-use Rattle.machine_rounds.proofs.JobsKept.{has_job}
+use Rattle.machine_rounds.proofs.JobsPreserved.{has_job}
 use Rattle.machine_rounds.proofs.run.Run.act_by.Goals as goal
 
 pub next-requires : goal.next-requires

@@ -1,11 +1,11 @@
 use Rattle.std.proofs.Common.{subst}
-use Rattle.sleep_state.specs.Places.{entries}
+use Rattle.sleep_state.specs.JournalRooms.{entries}
 use Rattle.sleep_script.specs.Jobs.{IsWanted}
 use Rattle.sleep_script.proofs.Following.{wanted_source, wanted_core}
 use Rattle.running_laws.specs.Running.{calls_made}
 use Rattle.machine_rounds.specs.JobsOf.{job_at}
 use Rattle.machine_rounds.proofs.Fields.{goes_on, has_all}
-use Rattle.machine_rounds.proofs.JobsKept.{has_job}
+use Rattle.machine_rounds.proofs.JobsPreserved.{has_job}
 use Rattle.machine_rounds.proofs.run.Run.ask.Goals as goal
 
 pub next-requires : goal.next-requires

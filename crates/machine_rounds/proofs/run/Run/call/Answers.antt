@@ -4,25 +4,25 @@ use Rattle.sleep_model.specs.declared.entry.Actor.{Actor}
 use Rattle.sleep_model.specs.declared.machine.SourceCall.{SourceCall}
 use Rattle.sleep_model.specs.Numbers.{time_of}
 use Rattle.sleep_model.specs.Sources.{most_entries}
-use Rattle.sleep_state.specs.Places.{entries}
+use Rattle.sleep_state.specs.JournalRooms.{entries}
 use Rattle.sleep_core.specs.Cores.{CoreState, IsActor}
 use Rattle.sleep_script.specs.Jobs.{after_call}
 use Rattle.wakeup_source.specs.declared.call_by.CallBy.{CallBy}
 use Rattle.wakeup_source.specs.SourceStates.{SourceState}
-use Rattle.run_objects.specs.Objects.{SeatedSourceState, scene_of}
+use Rattle.run_objects.specs.Objects.{SeatedSourceState, viewed_source_of}
 use Rattle.running_laws.specs.Running.{CallsNext, IsRunning, of_sources}
 use Rattle.running_laws.proofs.Asked.{call_is, call_left, call_may, call_there}
 use Rattle.running_laws.proofs.Calls.{IsCalledNow, running_call}
-use Rattle.running_laws.proofs.Kept.{actor_told}
+use Rattle.running_laws.proofs.Invariant.{actor_told}
 use Rattle.running_laws.proofs.Rising.{call_longer}
 use Rattle.machine_rounds.specs.declared.run.Run.TheInside.{Inside}
 use Rattle.machine_rounds.specs.declared.run.RunFault.TheVariants as fault
 use Rattle.machine_rounds.specs.JobsOf.{AreAllJobs, JobsState, job_at, with_job}
-use Rattle.machine_rounds.specs.RunFields.{KeepsRun, sources_of, state}
+use Rattle.machine_rounds.specs.RunFields.{RunFieldsInvariant, sources_of, state}
 use Rattle.machine_rounds.specs.Runs.{RunState, entries_made}
 use Rattle.machine_rounds.proofs.Calling.{at_table, more_entries, not_later, old_is, put_running, put_seats, refused, refused_put, wanted, within}
-use Rattle.machine_rounds.proofs.JobsKept.{all_jobs_with, has_job, jobs_with}
-use Rattle.machine_rounds.proofs.SeatsKept.{seats_set, sources_set}
+use Rattle.machine_rounds.proofs.JobsPreserved.{all_jobs_with, has_job, jobs_with}
+use Rattle.machine_rounds.proofs.SeatsPreserved.{seats_set, sources_set}
 use Rattle.machine_rounds.proofs.run.Run.call.Goals as goal
 
 next : (r : Inside) (s : RunState) → state r ≡ s → (who : Actor) (source : ℕ) (call : SourceCall) → CallsNext s.machine s.journal s.sources who source call → CallsNext r.machine.now r.seated.core.past (sources_of r.sources.items) who source call
@@ -31,10 +31,10 @@ next r s same who source call h = subst (λ (x : RunState). CallsNext x.machine 
 actor : (r : Inside) (s : RunState) → state r ≡ s → (who : Actor) → IsActor s.machine who → IsActor r.machine.now who
 actor r s same who h = subst (λ (x : RunState). IsActor x.machine who) (sym same) h
 
-there : (r : Inside) → KeepsRun r → (s : RunState) → state r ≡ s → (who : Actor) (source : ℕ) (call : SourceCall) → CallsNext s.machine s.journal s.sources who source call → source ≤ length r.machine.now.sources
+there : (r : Inside) → RunFieldsInvariant r → (s : RunState) → state r ≡ s → (who : Actor) (source : ℕ) (call : SourceCall) → CallsNext s.machine s.journal s.sources who source call → source ≤ length r.machine.now.sources
 there r k s same who source call h = call_there r.machine.now r.seated.core.past (sources_of r.sources.items) (job_at r.jobs) k.running who source call (next r s same who source call h)
 
-left : (r : Inside) → KeepsRun r → (s : RunState) → state r ≡ s → (who : Actor) (source : ℕ) (call : SourceCall) → IsActor s.machine who → CallsNext s.machine s.journal s.sources who source call
+left : (r : Inside) → RunFieldsInvariant r → (s : RunState) → state r ≡ s → (who : Actor) (source : ℕ) (call : SourceCall) → IsActor s.machine who → CallsNext s.machine s.journal s.sources who source call
     → (0 < length (job_at r.jobs who).pending) × ((job_at r.jobs who).calls + 1 < 2 ^ 32)
 left r k s same who source call a h =
     call_left r.machine.now r.seated.core.past (sources_of r.sources.items) (job_at r.jobs) k.running who source call (actor r s same who a) (next r s same who source call h)
@@ -69,16 +69,16 @@ call-requires-clause-table g c =
     let t = there r k c.args.self.now c.self.view_is c.args.who c.args.source c.args.call c.requires.next in
     at_table r k c.args.source t c.index_mut-one.result.now c.index_mut-one.ensures.value
 
-pub told_call-requires-clause-job : goal.told_call-requires-clause-job
-told_call-requires-clause-job g c =
+pub told_source-requires-clause-job : goal.told_source-requires-clause-job
+told_source-requires-clause-job g c =
     let r = c.self.inside in
     has_job r.machine.now r.jobs c.args.who c.self.invariant.all_jobs (actor r c.args.self.now c.self.view_is c.args.who c.requires.actor)
 
-pub told_call-requires-clause-left : goal.told_call-requires-clause-left
-told_call-requires-clause-left g c = (left c.self.inside c.self.invariant c.args.self.now c.self.view_is c.args.who c.args.source c.args.call c.requires.actor c.requires.next).0
+pub told_source-requires-clause-left : goal.told_source-requires-clause-left
+told_source-requires-clause-left g c = (left c.self.inside c.self.invariant c.args.self.now c.self.view_is c.args.who c.args.source c.args.call c.requires.actor c.requires.next).0
 
-pub told_call-requires-clause-few : goal.told_call-requires-clause-few
-told_call-requires-clause-few g c = (left c.self.inside c.self.invariant c.args.self.now c.self.view_is c.args.who c.args.source c.args.call c.requires.actor c.requires.next).1
+pub told_source-requires-clause-few : goal.told_source-requires-clause-few
+told_source-requires-clause-few g c = (left c.self.inside c.self.invariant c.args.self.now c.self.view_is c.args.who c.args.source c.args.call c.requires.actor c.requires.next).1
 
 pub invariant_of-self : goal.invariant_of-self
 invariant_of-self g c =
@@ -97,7 +97,7 @@ invariant_of-self g c =
     let t = there r k c.args.self.now c.self.view_is who s c.args.call c.requires.next in
     let at = time r c.args.self.now c.self.view_is c.core.result.now c.time.result c.core.ensures.is c.time.ensures.time in
     let by : CallBy = record { actor = who; floor = r.floor; now = c.time.result } in
-    let now : IsCalledNow m journal sources (job_at r.jobs) k.running s by c.args.call (scene_of one) (scene_of new) = record {
+    let now : IsCalledNow m journal sources (job_at r.jobs) k.running s by c.args.call (viewed_source_of one) (viewed_source_of new) = record {
       there = t;
       old_is = old_is r k s t one is;
       next = call_is m journal sources (job_at r.jobs) k.running who s c.args.call a n;
@@ -114,11 +114,11 @@ invariant_of-self g c =
     record {
       machine_is = k.machine_is;
       running =
-          subst (λ (xs : List SourceState). IsRunning m journal xs (job_at c.told_call.new.self) c.in-Ok.stamp) (sym (sources_set r.sources.items s new))
-          (subst (λ (j : JobsState). IsRunning m journal (slice_set sources s new.source) (job_at j) c.in-Ok.stamp) (sym c.told_call.ensures)
-          (running_call m journal sources (job_at r.jobs) k.running s by c.args.call (scene_of one) (scene_of new) now (job_at jobs') c.in-Ok.stamp c.in-Ok.ensures.calls.0 a
+          subst (λ (xs : List SourceState). IsRunning m journal xs (job_at c.told_source.new.self) c.in-Ok.stamp) (sym (sources_set r.sources.items s new))
+          (subst (λ (j : JobsState). IsRunning m journal (slice_set sources s new.source) (job_at j) c.in-Ok.stamp) (sym c.told_source.ensures)
+          (running_call m journal sources (job_at r.jobs) k.running s by c.args.call (viewed_source_of one) (viewed_source_of new) now (job_at jobs') c.in-Ok.stamp c.in-Ok.ensures.calls.0 a
           (left r k c.args.self.now c.self.view_is who s c.args.call c.requires.actor c.requires.next).0 (jobs_with m r.jobs who (after_call c.in-Ok.stamp (job_at r.jobs who)) k.all_jobs a)));
-      all_jobs = subst (AreAllJobs m) (sym c.told_call.ensures) (all_jobs_with m r.jobs who (after_call c.in-Ok.stamp (job_at r.jobs who)) k.all_jobs);
+      all_jobs = subst (AreAllJobs m) (sym c.told_source.ensures) (all_jobs_with m r.jobs who (after_call c.in-Ok.stamp (job_at r.jobs who)) k.all_jobs);
       table = k.table;
       seats = seats_set r.seated.seat r.sources.items s one new k.seats (within r k s t one is) is c.in-Ok.ensures.table c.in-Ok.ensures.number.0;
     }
@@ -145,7 +145,7 @@ returns-in-Ok-clause-made g c =
     let new = c.call.new.self in
     let t = there r k c.args.self.now c.self.view_is c.args.who c.args.source c.args.call c.requires.next in
     let by : CallBy = record { actor = c.args.who; floor = r.floor; now = c.time.result } in
-    omega (arith, more_entries r k c.args.source t one c.index_mut-one.ensures.value new (call_longer by c.args.call (scene_of one) (scene_of new) c.in-Ok.ensures.calls.1), ap entries_made c.self.view_is)
+    omega (arith, more_entries r k c.args.source t one c.index_mut-one.ensures.value new (call_longer by c.args.call (viewed_source_of one) (viewed_source_of new) c.in-Ok.ensures.calls.1), ap entries_made c.self.view_is)
 
 pub returns-in-Err-clause-fault : goal.returns-in-Err-clause-fault
 returns-in-Err-clause-fault g c =

@@ -6,11 +6,11 @@ use Rattle.sleep_model.specs.declared.entry.Entry.{Entry}
 use Rattle.sleep_model.specs.declared.machine.SourceCall.TheVariants as call
 use Rattle.sleep_model.specs.Numbers.{time_of}
 use Rattle.sleep_model.specs.Sources.{expiry, has_expired, most_entries}
-use Rattle.sleep_state.specs.Places.{entries}
+use Rattle.sleep_state.specs.JournalRooms.{entries}
 use Rattle.sleep_core.specs.Cores.{CoreState}
 use Rattle.wakeup_source.specs.declared.call_by.CallBy.{CallBy}
-use Rattle.wakeup_source.specs.SourceStates.{SourceState, bare}
-use Rattle.run_objects.specs.Objects.{SeatedSourceState, scene_of}
+use Rattle.wakeup_source.specs.SourceStates.{SourceState, unstamped}
+use Rattle.run_objects.specs.Objects.{SeatedSourceState, viewed_source_of}
 use Rattle.running_laws.specs.Running.{IsRunning, histories, of_sources}
 use Rattle.running_laws.proofs.Calls.{IsCalledNow, running_expire}
 use Rattle.running_laws.proofs.Rising.{call_longer}
@@ -20,8 +20,8 @@ use Rattle.machine_rounds.specs.JobsOf.{job_at}
 use Rattle.machine_rounds.specs.RunFields.{sources_of, state}
 use Rattle.machine_rounds.specs.Runs.{RunState, entries_made}
 use Rattle.machine_rounds.proofs.Calling.{at_table, history_is, more_entries, not_later, old_is, put_running, put_seats, refused, refused_put, wanted, within}
-use Rattle.machine_rounds.proofs.JobsKept.{not_timer}
-use Rattle.machine_rounds.proofs.SeatsKept.{seats_set, sources_set}
+use Rattle.machine_rounds.proofs.JobsPreserved.{not_timer}
+use Rattle.machine_rounds.proofs.SeatsPreserved.{seats_set, sources_set}
 use Rattle.machine_rounds.proofs.run.Run.expire.Goals as goal
 
 there : (r : Inside) (s : RunState) → state r ≡ s → (source : ℕ) → source ≤ length s.machine.sources → source ≤ length r.machine.now.sources
@@ -30,12 +30,12 @@ there r s same source h = subst (λ (x : RunState). source ≤ length x.machine.
 time : (r : Inside) (s : RunState) → state r ≡ s → (core : CoreState) (at : ℕ) → core ≡ record { machine = s.machine; past = s.journal } → at ≡ time_of (entries core.past) → at ≡ time_of (entries r.seated.core.past)
 time r s same core at is now = now ∙ (ap (λ (x : CoreState). time_of (entries x.past)) is ∙ sym (ap (λ (x : RunState). time_of (entries x.journal)) same))
 
-due : (r : Inside) (s : RunState) → state r ≡ s → (source at : ℕ) (one : SourceState) → histories (sources_of r.sources.items) source ≡ bare one.past → at ≡ time_of (entries r.seated.core.past)
-    → has_expired (expiry (histories s.sources source)) (time_of (entries s.journal)) ≡ true → has_expired (expiry (bare one.past)) at ≡ true
+due : (r : Inside) (s : RunState) → state r ≡ s → (source at : ℕ) (one : SourceState) → histories (sources_of r.sources.items) source ≡ unstamped one.past → at ≡ time_of (entries r.seated.core.past)
+    → has_expired (expiry (histories s.sources source)) (time_of (entries s.journal)) ≡ true → has_expired (expiry (unstamped one.past)) at ≡ true
 due r s same source at one own now h =
     let mine : has_expired (expiry (histories (sources_of r.sources.items) source)) (time_of (entries r.seated.core.past)) ≡ true =
     subst (λ (x : RunState). has_expired (expiry (histories x.sources source)) (time_of (entries x.journal)) ≡ true) (sym same) h in
-    subst (λ (t : ℕ). has_expired (expiry (bare one.past)) t ≡ true) (sym now) (subst (λ (xs : List Entry). has_expired (expiry xs) (time_of (entries r.seated.core.past)) ≡ true) own mine)
+    subst (λ (t : ℕ). has_expired (expiry (unstamped one.past)) t ≡ true) (sym now) (subst (λ (xs : List Entry). has_expired (expiry xs) (time_of (entries r.seated.core.past)) ≡ true) own mine)
 
 pub index_mut-one-requires : goal.index_mut-one-requires
 index_mut-one-requires g c =
@@ -79,7 +79,7 @@ invariant_of-self g c =
     let t = there r c.args.self.now c.self.view_is s c.requires.there in
     let at = time r c.args.self.now c.self.view_is c.core.result.now c.time.result c.core.ensures.is c.time.ensures.time in
     let by : CallBy = record { actor = actor.Timer s; floor = r.floor; now = c.time.result } in
-    let now : IsCalledNow m journal sources (job_at r.jobs) k.running s by call.Expire (scene_of one) (scene_of new) = record {
+    let now : IsCalledNow m journal sources (job_at r.jobs) k.running s by call.Expire (viewed_source_of one) (viewed_source_of new) = record {
       there = t;
       old_is = old_is r k s t one is;
       next = refl;
@@ -96,7 +96,7 @@ invariant_of-self g c =
       machine_is = k.machine_is;
       running =
           subst (λ (xs : List SourceState). IsRunning m journal xs (job_at r.jobs) c.in-Ok.stamp) (sym (sources_set r.sources.items s new))
-          (running_expire m journal sources (job_at r.jobs) k.running s by call.Expire (scene_of one) (scene_of new) now c.in-Ok.stamp c.in-Ok.ensures.calls.0 (λ other b. not_timer m s other b));
+          (running_expire m journal sources (job_at r.jobs) k.running s by call.Expire (viewed_source_of one) (viewed_source_of new) now c.in-Ok.stamp c.in-Ok.ensures.calls.0 (λ other b. not_timer m s other b));
       all_jobs = k.all_jobs;
       table = k.table;
       seats = seats_set r.seated.seat r.sources.items s one new k.seats (within r k s t one is) is c.in-Ok.ensures.table c.in-Ok.ensures.number.0;
@@ -123,7 +123,7 @@ returns-in-Ok-clause-made g c =
     let new = c.call.new.self in
     let t = there r c.args.self.now c.self.view_is c.args.source c.requires.there in
     let by : CallBy = record { actor = actor.Timer c.args.source; floor = r.floor; now = c.time.result } in
-    omega (arith, more_entries r c.self.invariant c.args.source t one c.index_mut-one.ensures.value new (call_longer by call.Expire (scene_of one) (scene_of new) c.in-Ok.ensures.calls.1), ap entries_made c.self.view_is)
+    omega (arith, more_entries r c.self.invariant c.args.source t one c.index_mut-one.ensures.value new (call_longer by call.Expire (viewed_source_of one) (viewed_source_of new) c.in-Ok.ensures.calls.1), ap entries_made c.self.view_is)
 
 pub returns-in-Err-clause-fault : goal.returns-in-Err-clause-fault
 returns-in-Err-clause-fault g c =

@@ -1,5 +1,5 @@
-use Rattle.machine_rounds.proofs.Resting.{fault_is}
+use Rattle.machine_rounds.proofs.Idling.{fault_is}
 use Rattle.machine_rounds.proofs.run.Run.into_fault.Goals as goal
 
 pub returns : goal.returns
-returns g c = fault_is c.args.self c.look-word.new.self c.look-word.result c.args.fault c.look-word.ensures.same c.look-word.ensures.seen c.in_ok-_kept.ensures.laid c.requires
+returns g c = fault_is c.args.self c.look-word.new.self c.look-word.result c.args.fault c.look-word.ensures.same c.look-word.ensures.seen c.in_ok-_preserved.ensures.closed_over c.requires

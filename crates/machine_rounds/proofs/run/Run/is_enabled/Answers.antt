@@ -2,9 +2,9 @@ use Rattle.std.proofs.Common.{◌∙◌, ◌||◌, nat_lt, ap}
 use Rattle.sleep_model.specs.Calls.{calls_due}
 use Rattle.sleep_model.specs.Due.{due}
 use Rattle.sleep_model.specs.Legal.{is_made}
-use Rattle.sleep_state.specs.Places.{entries}
+use Rattle.sleep_state.specs.JournalRooms.{entries}
 use Rattle.sleep_core.specs.Cores.{CoreState}
-use Rattle.running_laws.proofs.Kept.{enabled_is}
+use Rattle.running_laws.proofs.Invariant.{enabled_is}
 use Rattle.machine_rounds.specs.JobsOf.{job_at}
 use Rattle.machine_rounds.proofs.Fields.{goes_on}
 use Rattle.machine_rounds.proofs.run.Run.is_enabled.Goals as goal

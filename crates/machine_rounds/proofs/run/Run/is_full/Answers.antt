@@ -2,7 +2,7 @@ use Rattle.std.proofs.Common.{◌≡◌, ◌<◌, ◌∙◌, List, length, slice
 use Rattle.std.proofs.lemmas.Bool.Decides.{nat_tests}
 use Rattle.wakeup_source.specs.SourceStates.{SourceState}
 use Rattle.run_objects.specs.Objects.{SeatedSourceState}
-use Rattle.machine_rounds.proofs.BurstParts.{fills_run}
+use Rattle.machine_rounds.proofs.BurstContents.{fills_run}
 use Rattle.machine_rounds.proofs.run.Run.is_full.Goals as goal
 
 pub returns-in-Some : goal.returns-in-Some

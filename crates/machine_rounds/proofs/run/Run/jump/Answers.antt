@@ -2,13 +2,13 @@ use Rattle.std.proofs.Common.{◌≡◌, ◌∙◌, List, ◌∷◌, sym, ap, su
 use Rattle.sleep_model.specs.declared.entry.Actor.TheVariants as actor
 use Rattle.sleep_model.specs.declared.entry.JournalEntry.{JournalEntry}
 use Rattle.sleep_model.specs.Legal.{JumpStep}
-use Rattle.sleep_state.specs.Places.{entries}
+use Rattle.sleep_state.specs.JournalRooms.{entries}
 use Rattle.event_word.specs.Seats.{AreAll, Token}
 use Rattle.sleep_core.specs.Cores.{CoreState, jump_entry}
 use Rattle.run_objects.specs.Objects.{seats_of}
 use Rattle.running_laws.specs.Running.{IsRunning, histories}
 use Rattle.running_laws.proofs.Few.{next_small, tick_small}
-use Rattle.running_laws.proofs.Kept.{last_known}
+use Rattle.running_laws.proofs.Invariant.{last_known}
 use Rattle.running_laws.proofs.Turns.{running_jump}
 use Rattle.machine_rounds.specs.JobsOf.{job_at}
 use Rattle.machine_rounds.specs.RunFields.{sources_of}

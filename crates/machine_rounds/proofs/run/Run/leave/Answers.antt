@@ -5,8 +5,8 @@ use Rattle.machine_rounds.specs.Runs.{RunState, entries_made}
 use Rattle.machine_rounds.specs.TasksOf.{tasks_of}
 use Rattle.machine_rounds.proofs.run.Run.leave.Goals as goal
 
-pub returns-clause-away : goal.returns-clause-away
-returns-clause-away c =
+pub returns-clause-during : goal.returns-clause-during
+returns-clause-during c =
     let r = c.self.inside in
     let k = c.self.invariant in
     let count : length r.sources.items ≡ length r.machine.now.sources + 1 = sym (length-map r.sources.items (λ (s : SeatedSourceState). s.source)) ∙ k.running.sources_are.count in

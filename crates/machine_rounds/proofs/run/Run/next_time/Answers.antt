@@ -1,12 +1,12 @@
 use Rattle.std.proofs.Common.{◌<◌, ◌∙◌, IfSome, Option, ℕ, sym, ap, subst}
 use Rattle.sleep_model.specs.Legal.{JournalPart, journal_time, sooner}
 use Rattle.sleep_model.specs.Numbers.{time_of}
-use Rattle.sleep_state.specs.Places.{entries}
+use Rattle.sleep_state.specs.JournalRooms.{entries}
 use Rattle.sleep_core.specs.Cores.{CoreState}
 use Rattle.end_laws.proofs.Moments.{lie_ahead}
 use Rattle.running_laws.specs.Running.{histories}
 use Rattle.running_laws.proofs.Asked.{closes}
-use Rattle.running_laws.proofs.Lists.{entries_bare}
+use Rattle.running_laws.proofs.Lists.{entries_unstamped}
 use Rattle.machine_rounds.proofs.run.Run.next_time.Goals as goal
 
 pub returns-clause-is : goal.returns-clause-is
@@ -25,5 +25,5 @@ returns-clause-closed c word none rests =
 pub returns-clause-ahead : goal.returns-clause-ahead
 returns-clause-ahead c word rests going =
     let s = c.args.self.now in
-    let legal = subst (JournalPart s.machine) (sym (entries_bare s.journal)) c.core.ensures.kept.running.held.of_journal in
+    let legal = subst (JournalPart s.machine) (sym (entries_unstamped s.journal)) c.core.ensures.kept.running.held.of_journal in
     subst (λ (o : Option ℕ). IfSome o (λ at. time_of (entries s.journal) < at)) (sym (returns-clause-is c)) (lie_ahead s.machine (entries s.journal) (histories s.sources) word legal rests going)

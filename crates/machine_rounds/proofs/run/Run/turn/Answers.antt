@@ -5,7 +5,7 @@ use Rattle.sleep_model.specs.Calls.{calls_due}
 use Rattle.sleep_model.specs.Fits.{is_word64}
 use Rattle.sleep_model.specs.Numbers.{time_of}
 use Rattle.sleep_model.specs.Path.{attempts}
-use Rattle.sleep_state.specs.Places.{entries}
+use Rattle.sleep_state.specs.JournalRooms.{entries}
 use Rattle.sleep_core.specs.declared.turns.CoreTurn.{CoreTurn}
 use Rattle.sleep_core.specs.Cores.{CoreState, IsActor, made_entry}
 use Rattle.sleep_core.specs.Turned.{AfterTurn}
@@ -16,7 +16,7 @@ use Rattle.machine_rounds.specs.declared.run.Run.TheInside.{Inside}
 use Rattle.machine_rounds.specs.JobsOf.{AreAllJobs, JobsState, job_at, with_job}
 use Rattle.machine_rounds.specs.RunFields.{sources_of, state}
 use Rattle.machine_rounds.specs.Runs.{RunState}
-use Rattle.machine_rounds.proofs.JobsKept.{all_jobs_with, jobs_with}
+use Rattle.machine_rounds.proofs.JobsPreserved.{all_jobs_with, jobs_with}
 use Rattle.machine_rounds.proofs.Turning.{few_turns, legal_after, looked_machine, looked_running, looked_seats, looked_table}
 use Rattle.machine_rounds.proofs.run.Run.turn.Goals as goal
 
@@ -27,8 +27,8 @@ own : (r : Inside) (s : RunState) → state r ≡ s → (who : Actor) → calls_
     → calls_made r.machine.now (sources_of r.sources.items) who ≡ calls_due r.machine.now who (entries r.seated.core.past)
 own r s same who h = subst (λ (x : RunState). calls_made x.machine x.sources who ≡ calls_due x.machine who (entries x.journal)) (sym same) h
 
-pub told_turn-requires-clause-few : goal.told_turn-requires-clause-few
-told_turn-requires-clause-few g c =
+pub told_core-requires-clause-few : goal.told_core-requires-clause-few
+told_core-requires-clause-few g c =
     let r = c.self.inside in
     omega (
       arith,
@@ -60,12 +60,12 @@ invariant_of-self-in-Did g c =
     record {
       machine_is = ap (λ (x : CoreState). x.machine) did.1 ∙ k.machine_is;
       running =
-          subst (λ (p : List JournalEntry). IsRunning m p sources (job_at c.told_turn.new.self) c.in-Did.stamp) (sym past)
-          (subst (λ (j : JobsState). IsRunning m (e ∷ journal) sources (job_at j) c.in-Did.stamp) (sym c.told_turn.ensures)
+          subst (λ (p : List JournalEntry). IsRunning m p sources (job_at c.told_core.new.self) c.in-Did.stamp) (sym past)
+          (subst (λ (j : JobsState). IsRunning m (e ∷ journal) sources (job_at j) c.in-Did.stamp) (sym c.told_core.ensures)
           (running_turn m journal sources (job_at r.jobs) k.running who t.0 kind a made t.1 t.2 (legal_after r k new.core e did.1 c.in_ok-turn.ensures.legal)
           (job_at (with_job r.jobs who job)) c.in-Did.stamp c.in-Did.attempt did.2 (did.3 ∙ ap (λ (p : List JournalEntry). attempts (entries p)) past)
           (jobs_with m r.jobs who job k.all_jobs a) timed c.kinds_are_ranged.ensures));
-      all_jobs = subst (AreAllJobs m) (sym c.told_turn.ensures) (all_jobs_with m r.jobs who job k.all_jobs);
+      all_jobs = subst (AreAllJobs m) (sym c.told_core.ensures) (all_jobs_with m r.jobs who job k.all_jobs);
       table = looked_table r k new c.in_ok-turn.ensures.table;
       seats = looked_seats r k new c.in_ok-turn.ensures.table c.in_ok-turn.ensures.sources;
     }

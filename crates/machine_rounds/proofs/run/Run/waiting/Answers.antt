@@ -3,13 +3,13 @@ use Rattle.std.proofs.lemmas.List.{append-nil}
 use Rattle.sleep_model.specs.declared.entry.Actor.TheVariants as actor
 use Rattle.sleep_model.specs.Due.{due}
 use Rattle.sleep_model.specs.Path.{maker}
-use Rattle.sleep_state.specs.Places.{entries}
+use Rattle.sleep_state.specs.JournalRooms.{entries}
 use Rattle.sleep_core.specs.Cores.{CoreState}
 use Rattle.running_laws.proofs.Asked.{closes}
 use Rattle.machine_rounds.specs.JobsOf.{job_at}
 use Rattle.machine_rounds.specs.Runs.{RunState}
 use Rattle.machine_rounds.proofs.Fields.{goes_on}
-use Rattle.machine_rounds.proofs.Resting.{waits_go_on, waits_none}
+use Rattle.machine_rounds.proofs.Idling.{waits_go_on, waits_none}
 use Rattle.machine_rounds.proofs.run.Run.waiting.Goals as goal
 
 pub loop-script-preserved : goal.loop-script-preserved

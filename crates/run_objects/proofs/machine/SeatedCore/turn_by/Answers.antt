@@ -14,8 +14,8 @@ pub invariant_of-self : goal.invariant_of-self
 invariant_of-self g c =
     let r = c.self.inside in
     let t = c.turn.ensures.turn in
-    let told : t.0 ≡ c.args.word = t.1 ∙ c.new-seen.ensures in
-    let after = subst (λ (w : EventNow). AfterTurn r.core c.turn.new.self c.args.who w c.args.floor c.turn.result) told t.4 in
+    let shown : t.0 ≡ c.args.word = t.1 ∙ c.new-seen.ensures in
+    let after = subst (λ (w : EventNow). AfterTurn r.core c.turn.new.self c.args.who w c.args.floor c.turn.result) shown t.4 in
     let seen = subst (λ (s : SeatedCoreState). list_any (is_word c.args.word) (looked_of s.seat) ≡ true) (sym c.self.view_is) c.requires.seen in
     let newest = subst (λ (s : SeatedCoreState). position c.args.word ≡ floor_of s.seat) (sym c.self.view_is) c.requires.newest in
     record {

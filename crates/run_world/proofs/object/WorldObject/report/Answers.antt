@@ -3,7 +3,7 @@ use Rattle.turn_lock.specs.Passes.{HasGrown, gained}
 use Rattle.run_world.specs.declared.object.WorldObject.{WorldObject}
 use Rattle.run_world.specs.declared.object.WorldObject.TheVariants as object
 use Rattle.run_world.specs.Objects.{notes_of, root_of}
-use Rattle.run_world.specs.Told.{AfterReport}
+use Rattle.run_world.specs.Outcomes.{AfterReport}
 use Rattle.run_world.proofs.Reports.{report_after, report_grown}
 use Rattle.run_world.proofs.object.WorldObject.report.Goals as goal
 

@@ -4,7 +4,7 @@ use Rattle.turn_lock.specs.Passes.{HasGrown, gained}
 use Rattle.run_world.specs.declared.object.WorldObject.{WorldObject}
 use Rattle.run_world.specs.declared.object.WorldObject.TheVariants as object
 use Rattle.run_world.specs.Objects.{notes_of, root_of}
-use Rattle.run_world.specs.Told.{AfterCoreTurn}
+use Rattle.run_world.specs.Outcomes.{AfterCoreTurn}
 use Rattle.run_world.proofs.Reports.{turn_after, turn_grown}
 use Rattle.run_world.proofs.object.WorldObject.turn.Goals as goal
 

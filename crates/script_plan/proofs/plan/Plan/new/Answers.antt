@@ -1,13 +1,13 @@
 use Rattle.std.proofs.Common.{◌≡◌, ◌∙◌, ◌<◌, ℕ, List, length, ap, arith}
 use Rattle.script_plan.specs.CallPlans.{calls_made}
-use Rattle.script_plan.specs.Plans.{expanded, entry_places, op_at, ops_of, turns_from, calls_after}
+use Rattle.script_plan.specs.Plans.{expanded, entry_indices, op_at, ops_of, turns_from, calls_after}
 use Rattle.sleep_model.specs.Scripts.{makes_entry}
 use Rattle.sleep_model.specs.declared.machine.Step.{Step}
 use Rattle.script_plan.proofs.Planned.{places_within, places_few, filter_within}
 use Rattle.script_plan.proofs.plan.Plan.new.Goals as goal
 
-pub entry_places-requires : goal.entry_places-requires
-entry_places-requires c =
+pub entry_indices-requires : goal.entry_indices-requires
+entry_indices-requires c =
     rw (c.as_slice-steps.ensures, c.deref.ensures.value, c.in_ok-places.ensures) (places_within c.args.script.now)
 
 pub calls_of-requires : goal.calls_of-requires
@@ -28,8 +28,8 @@ invariant_of-result c =
     let one : c.deref.result.now ≡ expanded s = c.deref.ensures.value ∙ c.in_ok-places.ensures in
     let between : c.deref-2.result.now ≡ expanded s = c.deref-2.ensures.value ∙ c.in_ok-places.ensures in
     let two : c.deref-3.result.now ≡ expanded s = c.deref-3.ensures.value ∙ c.in_ok-places.ensures in
-    let kept : c.in_ok-entry_places.field-0.items ≡ entry_places s.steps (expanded s) =
-    c.in_ok-entry_places.ensures ∙ (ap (λ (ss : List Step). entry_places ss c.deref.result.now) c.as_slice-steps.ensures ∙ ap (entry_places s.steps) one) in
+    let kept : c.in_ok-entry_indices.field-0.items ≡ entry_indices s.steps (expanded s) =
+    c.in_ok-entry_indices.ensures ∙ (ap (λ (ss : List Step). entry_indices ss c.deref.result.now) c.as_slice-steps.ensures ∙ ap (entry_indices s.steps) one) in
     record {
       entry_places_are = kept;
       within = rw (kept) (filter_within (λ (at : ℕ). at < length s.steps) (λ at. makes_entry (op_at s.steps at)) (expanded s) (places_within s));

@@ -2,7 +2,7 @@ use Rattle.std.proofs.Common.{◌∙◌, refl, ap}
 use Rattle.async_board.specs.Boards.{board_after}
 use Rattle.sleep_model.specs.declared.entry.Entry.{Entry}
 use Rattle.sleep_state.specs.DeviceStates.{devices_after}
-use Rattle.sleep_state.specs.Places.{entries}
+use Rattle.sleep_state.specs.JournalRooms.{entries}
 use Rattle.wakeup_guard.specs.Guarded.{guarded_after}
 use Rattle.sleep_core.specs.Histories.{guard_of}
 use Rattle.sleep_core.proofs.Counted.{guarded_24}

@@ -1,5 +1,5 @@
 use Rattle.std.proofs.Common.{◌∙◌, refl}
-use Rattle.sleep_state.specs.Places.{entries}
+use Rattle.sleep_state.specs.JournalRooms.{entries}
 use Rattle.sleep_core.proofs.Parting.{jumps}
 use Rattle.sleep_core.proofs.history.History.append_jump.Goals as goal
 

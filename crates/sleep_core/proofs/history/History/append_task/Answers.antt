@@ -1,7 +1,7 @@
 use Rattle.std.proofs.Common.{◌∙◌, refl, ap}
 use Rattle.sleep_model.specs.declared.entry.Entry.{Entry}
 use Rattle.autosleep_loop.specs.Autosleeps.{autosleep_after}
-use Rattle.sleep_state.specs.Places.{entries}
+use Rattle.sleep_state.specs.JournalRooms.{entries}
 use Rattle.sleep_state.specs.TaskStates.{tasks_after}
 use Rattle.sleep_core.proofs.Parting.{passes}
 use Rattle.sleep_core.proofs.history.History.append_task.Goals as goal

@@ -2,9 +2,9 @@ use Rattle.std.proofs.Common.{◌≡◌, ◌∙◌, ◌<◌, map, ap, sym, subst
 use Rattle.sleep_model.specs.declared.machine.Machine.{Machine}
 use Rattle.sleep_model.specs.Numbers.{time_of}
 use Rattle.sleep_model.specs.Runtime.{may_wake}
-use Rattle.sleep_state.specs.Places.{entries}
+use Rattle.sleep_state.specs.JournalRooms.{entries}
 use Rattle.sleep_core.specs.Cores.{CoreState}
-use Rattle.sleep_core.specs.Histories.{Kept}
+use Rattle.sleep_core.specs.Histories.{HistoryState}
 use Rattle.sleep_core.proofs.Reporting.{counts_more}
 use Rattle.sleep_core.proofs.Turning.{core_jumped}
 use Rattle.sleep_core.proofs.state.Core.jump.Goals as goal
@@ -12,7 +12,7 @@ use Rattle.sleep_core.proofs.state.Core.jump.Goals as goal
 pub invariant_of-self-2 : goal.invariant_of-self-2
 invariant_of-self-2 c =
     let h = c.self.inside.history in
-    let same : c.append_jump.new.self.machine ≡ h.machine = ap (λ (k : Kept). k.machine) c.append_jump.ensures ∙ c.in_ok-reserve.ensures.machine in
+    let same : c.append_jump.new.self.machine ≡ h.machine = ap (λ (k : HistoryState). k.machine) c.append_jump.ensures ∙ c.in_ok-reserve.ensures.machine in
     record {
       core = core_jumped h c.reserve.new.self c.append_jump.new.self _ c.args.to c.args.seen c.self.invariant.core c.in_ok-reserve.ensures.machine c.in_ok-reserve.ensures.past
           (omega (arith, c.in_ok-reserve.ensures.ok, c.room-places.ensures.room))

@@ -1,23 +1,23 @@
 use Rattle.std.proofs.Common.{◌≡◌, ◌∙◌, ◌<◌, ◌^◌, ◌||◌, List, length, map, ap, ap₂, refl, sym, subst, arith}
 use Rattle.sleep_model.specs.declared.entry.Entry.{Entry}
 use Rattle.sleep_model.specs.declared.entry.JournalEntry.{JournalEntry}
-use Rattle.sleep_model.specs.declared.place.Due.TheVariants.{Makes}
+use Rattle.sleep_model.specs.declared.progress.Due.TheVariants.{Makes}
 use Rattle.sleep_model.specs.declared.machine.Machine.{Machine}
 use Rattle.sleep_model.specs.Runtime.{may_wake}
-use Rattle.sleep_core.specs.Histories.{Kept, Settles}
+use Rattle.sleep_core.specs.Histories.{HistoryState, Settles}
 use Rattle.sleep_model.specs.Devices.{is_device}
 use Rattle.sleep_model.specs.Due.{due}
 use Rattle.sleep_model.specs.Numbers.{time_of}
 use Rattle.sleep_model.specs.Calls.{calls_due, report_calls}
 use Rattle.sleep_model.specs.Path.{attempts, is_actor, maker}
-use Rattle.sleep_state.specs.Places.{entries}
+use Rattle.sleep_state.specs.JournalRooms.{entries}
 use Rattle.sleep_core.specs.Cores.{CoreState, IsActor}
 use Rattle.sleep_core.specs.CoreFields.{IsCore}
 use Rattle.sleep_core.specs.Numbered.{Leaves}
 use Rattle.sleep_core.specs.Reports.{reported_by, counts_after, counts_of}
 use Rattle.sleep_core.proofs.Linked.{settles}
 use Rattle.sleep_core.proofs.Reporting.{reported_few, counts_more}
-use Rattle.sleep_core.proofs.Turning.{counted_outside, admits_more, core_more, core_kept, core_seen}
+use Rattle.sleep_core.proofs.Turning.{counted_outside, admits_more, core_more, core_preserved, core_seen}
 use Rattle.sleep_core.proofs.state.Core.make.Goals as goal
 
 pub returns-then-not-leaves-clause-err : goal.returns-then-not-leaves-clause-err
@@ -62,7 +62,7 @@ pub invariant_of-self-in-Ok-append : goal.invariant_of-self-in-Ok-append
 invariant_of-self-in-Ok-append c =
     let h = c.self.inside.history in
     let has = c.in-Ok.ensures.ok in
-    let same : c.append.new.self.machine ≡ h.machine = ap (λ (k : Kept). k.machine) c.in-Ok-append.ensures.ok ∙ has.machine in
+    let same : c.append.new.self.machine ≡ h.machine = ap (λ (k : HistoryState). k.machine) c.in-Ok-append.ensures.ok ∙ has.machine in
     record {
       core = core_more h c.make_room.new.self c.append.new.self (record { stamp = c.args.stamp; entry = record { time = time_of (entries c.make_room.new.self.past); now = c.args.now; actor = c.args.who; kind = c.args.kind } }) c.is_own-own.result c.self.invariant.core
           (subst (λ (s : CoreState). IsActor s.machine c.args.who) (sym c.self.view_is) c.requires.actor)
@@ -85,11 +85,11 @@ pub invariant_of-self-in-Err-append : goal.invariant_of-self-in-Err-append
 invariant_of-self-in-Err-append c =
     let h = c.self.inside.history in
     let has = c.in-Ok.ensures.ok in
-    let kept = c.in-Err-append.ensures.err.1 in
-    let same : c.append.new.self.machine ≡ h.machine = ap (λ (k : Kept). k.machine) kept ∙ has.machine in
-    let past : c.append.new.self.past ≡ h.past = ap (λ (k : Kept). k.past) kept ∙ has.past in
+    let history_seen = c.in-Err-append.ensures.err.1 in
+    let same : c.append.new.self.machine ≡ h.machine = ap (λ (k : HistoryState). k.machine) history_seen ∙ has.machine in
+    let past : c.append.new.self.past ≡ h.past = ap (λ (k : HistoryState). k.past) history_seen ∙ has.past in
     record {
-      core = subst (λ (k : Kept). IsCore k) (sym kept) (core_kept h c.make_room.new.self c.self.invariant.core has.machine has.past has.grows);
+      core = subst (λ (k : HistoryState). IsCore k) (sym history_seen) (core_preserved h c.make_room.new.self c.self.invariant.core has.machine has.past has.grows);
       plans_are = c.self.invariant.plans_are ∙ sym same;
       wakeup_is = c.self.invariant.wakeup_is ∙ ap (λ (m : Machine). map may_wake m.devices) (sym same);
       reports_are = c.self.invariant.reports_are ∙ ap₂ (λ m (xs : List JournalEntry). counts_of m (entries xs)) (sym same) (sym past);

@@ -4,7 +4,7 @@ use Rattle.sleep_model.specs.declared.machine.Machine.{Machine}
 use Rattle.sleep_model.specs.declared.machine.Report.{Report}
 use Rattle.sleep_model.specs.declared.machine.What.TheVariants as what
 use Rattle.sleep_model.specs.Answers.{answer_reports}
-use Rattle.machine_plans.specs.Book.{answer_among}
+use Rattle.machine_plans.specs.PlannedAnswers.{answer_among}
 use Rattle.sleep_core.proofs.Reporting.{reports_few}
 use Rattle.sleep_core.proofs.state.Core.reports_in.Goals as goal
 

@@ -1,5 +1,5 @@
 use Rattle.std.proofs.Common.{◌∙◌, ap}
-use Rattle.sleep_state.specs.Places.{entries}
+use Rattle.sleep_state.specs.JournalRooms.{entries}
 use Rattle.phase_suspend.specs.Downs.{scheduled_down_on}
 use Rattle.phase_suspend.proofs.Following.{follows}
 use Rattle.sleep_core.proofs.Walks.{seen_is}

@@ -1,5 +1,5 @@
 use Rattle.std.proofs.Common.{◌∙◌, ap, sym}
-use Rattle.sleep_state.specs.Places.{entries}
+use Rattle.sleep_state.specs.JournalRooms.{entries}
 use Rattle.phase_resume.specs.Ups.{scheduled_up_on}
 use Rattle.phase_resume.proofs.Following.{follows}
 use Rattle.sleep_core.proofs.Walks.{up_if_not}

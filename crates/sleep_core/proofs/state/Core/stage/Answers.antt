@@ -1,7 +1,7 @@
 use Rattle.std.proofs.Common.{◌∙◌, ap}
 use Rattle.sleep_state.specs.Paths.{PathState}
 use Rattle.sleep_core.proofs.Propers.{proper_if}
-use Rattle.sleep_state.specs.Places.{entries}
+use Rattle.sleep_state.specs.JournalRooms.{entries}
 use Rattle.sleep_core.proofs.state.Core.stage.Goals as goal
 
 pub returns-clause-proper : goal.returns-clause-proper

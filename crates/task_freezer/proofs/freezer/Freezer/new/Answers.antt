@@ -9,10 +9,10 @@ pub invariant_of-result : goal.invariant_of-result
 invariant_of-result c =
     let ss = c.args.scripts.now in
     let freezings : c.in_ok-vec.field-0.items ≡ replicate (length ss) unasked = search rules in
-    let gone : c.in_ok-vec-2.field-0.items ≡ replicate (length ss) false = search rules in
+    let exited_flags : c.in_ok-vec-2.field-0.items ≡ replicate (length ss) false = search rules in
     record {
       few = c.requires;
       freezings = simp length-replicate at (ap length freezings);
-      gone = simp length-replicate at (ap length gone);
-      left = sym (ap₂ (λ fs gs. left_counts ss fs gs) freezings gone ∙ none_left ss);
+      exited_flags = simp length-replicate at (ap length exited_flags);
+      left = sym (ap₂ (λ fs gs. left_counts ss fs gs) freezings exited_flags ∙ none_left ss);
     }

@@ -1,5 +1,5 @@
 use Rattle.std.proofs.Common.{rules}
-use Rattle.turn_lock.proofs.Keeping.{may_split}
+use Rattle.turn_lock.proofs.Invariance.{may_split}
 use Rattle.turn_lock.proofs.table.LockTable.pass.Goals as goal
 
 pub split_seat-token-requires : goal.split_seat-token-requires

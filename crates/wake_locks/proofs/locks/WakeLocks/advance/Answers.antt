@@ -1,8 +1,8 @@
 use Rattle.std.proofs.Common.{◌≡◌, ◌≤◌, ◌+◌, Err, None, ◌-◌, ◌∙◌, List, [], length, get_or, sym, ap, subst, refl, arith}
 use Rattle.std.proofs.lemmas.Grind.{common_steps}
 use Rattle.wake_locks.specs.Expiries.{next_due, expiries, stopped, IsAdvance}
-use Rattle.wake_locks.specs.Locks.{LockState, new_lock, after_call, AreBefore, AreInOrder, IsTimely}
-use Rattle.wake_locks.proofs.Expired.{Next, due_count, made_there, matched, unmatched, due_there, behind_there, next_is_due, none_more, go_on, count_few, none_counted, none_due, failed, failed_same, at_failed, made_so_far, made_before, made_fewer}
+use Rattle.wake_locks.specs.Locks.{LockState, new_lock, after_call, AreBefore, AreSortedByName, ExpiriesAreDue}
+use Rattle.wake_locks.proofs.Expired.{Next, due_count, made_there, matched, unmatched, due_there, after_there, next_is_due, none_more, go_on, count_few, none_counted, none_due, failed, failed_same, at_failed, made_so_far, made_before, made_fewer}
 use Rattle.wake_locks.proofs.Sooner.{other_set}
 use Rattle.sleep_model.specs.declared.machine.SourceCall.TheVariants.{Expire}
 use Rattle.wake_locks.specs.LockFields.{NoneEndsBefore, NoOtherEndsBefore}
@@ -22,7 +22,7 @@ returns-in_default-clause-ended g c =
 
 pub returns-in_default-clause-timely : goal.returns-in_default-clause-timely
 returns-in_default-clause-timely g c =
-    subst (IsTimely c.args.to) (sym c.in_default.ensures.same)
+    subst (ExpiriesAreDue c.args.to) (sym c.in_default.ensures.same)
     (record { before = c.loop.invariant.time; none_due = none_due c.args.to c.loop.self (unmatched c.loop.self (next_due c.args.to c.loop.self) c.in_default.ensures.found) })
 
 pub call_at-requires : goal.call_at-requires
@@ -34,7 +34,7 @@ call_at-requires g c =
       (
         n.in_range,
         (
-          (λ d. behind_there c.args.to locks found.at found.end d n),
+          (λ d. after_there c.args.to locks found.at found.end d n),
           (omega (arith, n.end_is, next_is_due c.args.to locks n.due n.is, c.requires.small), (λ d. due_there c.args.to locks found.at found.end d n)),
         ),
       ),
@@ -70,7 +70,7 @@ loop-preserved g c =
     let so_far = subst (λ (xs : List LockState). expiries g.row.CAP c.args.to c.loop.counter c.args.self.now ≡ stopped xs None) same c.loop.invariant.so_far in
     let time = subst (AreBefore c.args.to) same c.loop.invariant.time in
     let left = subst (λ (xs : List LockState). due_count c.args.to xs + c.loop.counter ≤ c.len-many.result) same c.loop.invariant.left in
-    let in_order = subst AreInOrder same c.in-Some.ensures.ordered in
+    let in_order = subst AreSortedByName same c.in-Some.ensures.ordered in
     let w = c.in_ok-call_at.ensures (new_lock []) in
     let fewer = made_fewer g.row.CAP c.args.to found.at found.end (new_lock []) c.args.self.now locks c.call_at.new.self n c.loop.counter so_far _ w in_order in
     let back = sym c.self-in-loop.view_is in
@@ -90,7 +90,7 @@ invariant_of-self g c =
     let same = sym c.in-Some.ensures.same in
     let n = subst (λ (xs : List LockState). Next c.args.to xs found.at found.end) same (matched c.args.to c.loop.self found.at found.end c.in-Some.ensures.found) in
     let so_far = subst (λ (xs : List LockState). expiries g.row.CAP c.args.to c.loop.counter c.args.self.now ≡ stopped xs None) same c.loop.invariant.so_far in
-    let in_order = subst AreInOrder same c.in-Some.ensures.ordered in
+    let in_order = subst AreSortedByName same c.in-Some.ensures.ordered in
     let others = subst (NoOtherEndsBefore found.others found.at) same c.in-Some.ensures.others in
     let w = c.in_ok-call_at.ensures (new_lock []) in
     let is = made_there g.row.CAP c.args.to found.at found.end (new_lock []) c.args.self.now locks c.call_at.new.self n c.loop.counter so_far _ w in_order in

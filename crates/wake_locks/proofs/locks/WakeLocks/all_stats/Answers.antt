@@ -7,8 +7,8 @@ use Rattle.wake_locks.specs.Locks.{LockState, AreBefore}
 use Rattle.wake_locks.proofs.Placed.{before_at}
 use Rattle.wake_locks.proofs.locks.WakeLocks.all_stats.Goals as goal
 
-pub counted-requires : goal.counted-requires
-counted-requires g c =
+pub lock_stats-requires : goal.lock_stats-requires
+lock_stats-requires g c =
     let lock = c.lock-item.result in
     let items = c.deref-lock-items.result.now in
     let before = subst (AreBefore c.args.now) (sym (c.deref-lock-items.ensures.value ∙ c.self.view_is)) c.requires.time in
@@ -18,8 +18,8 @@ counted-requires g c =
 pub loop-lock-preserved : goal.loop-lock-preserved
 loop-lock-preserved g c =
     let lock = c.lock-item.result in
-    let one : Agrees (get_or c.deref-lock-items.result.now c.loop-lock.lock-index lock) = subst Agrees c.lock-item.is c.counted.ensures.agrees in
+    let one : Agrees (get_or c.deref-lock-items.result.now c.loop-lock.lock-index lock) = subst Agrees c.lock-item.is c.lock_stats.ensures.agrees in
     record {
-      counted = grind (arith, common_steps);
+      lock_stats = grind (arith, common_steps);
       agree = agree_more c.loop-lock.lock-index c.deref-lock-items.result.now lock c.loop-lock-test.true c.loop-lock.invariant.agree one;
     }

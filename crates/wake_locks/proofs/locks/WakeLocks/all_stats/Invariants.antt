@@ -1,9 +1,9 @@
 use Rattle.std.proofs.Common.{◌≡◌, map, take}
-use Rattle.wake_locks.specs.Counted.{AllAgree, counted}
+use Rattle.wake_locks.specs.Counted.{AllAgree, lock_stats}
 use Rattle.wake_locks.proofs.locks.WakeLocks.all_stats.Given as goal
 
 abbrev pub invariant-loop-lock : goal.invariant-loop-lock
 invariant-loop-lock g l = record {
-  counted : l.all.items ≡ map (counted l.now) (take l.lock-index l.lock-items);
+  lock_stats : l.all.items ≡ map (lock_stats l.now) (take l.lock-index l.lock-items);
   agree : AllAgree (take l.lock-index l.lock-items);
 }

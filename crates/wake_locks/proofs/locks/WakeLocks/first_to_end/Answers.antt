@@ -1,8 +1,8 @@
 use Rattle.std.proofs.Common.{◌≡◌, ◌*◌, ◌+◌, ◌-◌, ◌∙◌, min, List, length, refl, sym, ap, subst, arith}
 use Rattle.wake_locks.specs.LockFields.{IsSoonest}
 use Rattle.wake_locks.specs.Locks.{LockState}
-use Rattle.wake_locks.specs.Standings.{never}
-use Rattle.wake_locks.proofs.Sooner.{none_behind}
+use Rattle.wake_locks.specs.LockStatuses.{never}
+use Rattle.wake_locks.proofs.Sooner.{none_after}
 use Rattle.wake_locks.proofs.locks.WakeLocks.first_to_end.Goals as goal
 
 pub loop-row-init : goal.loop-row-init
@@ -12,7 +12,7 @@ loop-row-init g c =
     record {
       same = refl;
       in_range = omega (arith, many);
-      soonest = subst (λ n. IsSoonest c.args.to locks n (record { at = c.len-many.result; end = never; others = never })) {x = c.len-many.result} (omega (arith, many)) (none_behind c.args.to locks c.len-many.result c.requires many);
+      soonest = subst (λ n. IsSoonest c.args.to locks n (record { at = c.len-many.result; end = never; others = never })) {x = c.len-many.result} (omega (arith, many)) (none_after c.args.to locks c.len-many.result c.requires many);
     }
 
 pub past_row-found-requires : goal.past_row-found-requires

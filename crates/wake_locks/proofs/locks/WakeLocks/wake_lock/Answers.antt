@@ -1,6 +1,6 @@
 use Rattle.std.proofs.Common.{Result, [], get_or, sym, subst, arith}
 use Rattle.wake_locks.specs.declared.answer.LockAnswer.{LockAnswer}
-use Rattle.wake_locks.specs.declared.standing.Standing.TheVariants.{Inactive}
+use Rattle.wake_locks.specs.declared.status.LockStatus.TheVariants.{Inactive}
 use Rattle.wake_locks.specs.Locks.{new_lock}
 use Rattle.wake_locks.specs.Writes.{Asked, WriteEnded}
 use Rattle.wake_locks.proofs.Placed.{before_at}
@@ -16,7 +16,7 @@ call_at-requires g c =
         found.in_range,
         (
           (λ d. before_at c.args.now c.args.self.now c.requires.timely.before c.in-Ok.at d found.in_range),
-          (c.requires.small, (λ d. lock_meant c.args.text.now _ c.args.now (get_or c.args.self.now c.in-Ok.at d).standing (sym c.in-Some.ensures))),
+          (c.requires.small, (λ d. lock_meant c.args.text.now _ c.args.now (get_or c.args.self.now c.in-Ok.at d).status (sym c.in-Some.ensures))),
         ),
       ),
     )
@@ -37,7 +37,7 @@ returns-in-Err-clause-ended g c =
 pub returns-in-Ok-clause-timely : goal.returns-in-Ok-clause-timely
 returns-in-Ok-clause-timely g c =
     timely_at g.row.CAP (get_or c.args.self.now c.in-Ok.at (new_lock [])) _ c.args.now c.args.self.now c.call_at.new.self c.call_at.result (c.call_at.ensures (new_lock []))
-    (lock_meant c.args.text.now _ c.args.now (get_or c.args.self.now c.in-Ok.at (new_lock [])).standing (sym c.in-Some.ensures)) c.requires.timely
+    (lock_meant c.args.text.now _ c.args.now (get_or c.args.self.now c.in-Ok.at (new_lock [])).status (sym c.in-Some.ensures)) c.requires.timely
 
 pub returns-in-Err-clause-timely : goal.returns-in-Err-clause-timely
 returns-in-Err-clause-timely g c =

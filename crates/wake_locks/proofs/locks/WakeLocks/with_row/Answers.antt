@@ -1,7 +1,7 @@
 use Rattle.std.proofs.Common.{◌≡◌, ◌<◌, ◌+◌, ◌-◌, suc, List, length, get_or, sym, ap, subst, arith}
 use Rattle.wake_locks.specs.LockFields.{IsSoonest, NoneEndsWithin}
 use Rattle.wake_locks.specs.Locks.{LockState}
-use Rattle.wake_locks.specs.Standings.{never}
+use Rattle.wake_locks.specs.LockStatuses.{never}
 use Rattle.wake_locks.proofs.Rows.{within_more, within_none}
 use Rattle.wake_locks.proofs.Sooner.{one_more}
 use Rattle.wake_locks.proofs.locks.WakeLocks.with_row.Goals as goal

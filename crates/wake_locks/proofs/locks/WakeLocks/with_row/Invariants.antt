@@ -1,6 +1,6 @@
 use Rattle.std.proofs.Common.{◌≤◌, ◌<◌, ℕ}
 use Rattle.wake_locks.specs.LockFields.{IsSoonest, NoneEndsWithin}
-use Rattle.wake_locks.specs.Standings.{never}
+use Rattle.wake_locks.specs.LockStatuses.{never}
 use Rattle.wake_locks.proofs.locks.WakeLocks.with_row.Given as goal
 
 abbrev pub invariant-loop-at : goal.invariant-loop-at

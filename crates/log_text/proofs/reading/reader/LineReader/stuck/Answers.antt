@@ -6,10 +6,10 @@ use Rattle.log_text.proofs.reading.reader.LineReader.stuck.Goals as goal
 
 pub returns-in-None-clause-none : goal.returns-in-None-clause-none
 returns-in-None-clause-none c =
-    let read : waiting_in c.args.book.now (without_last (drop 6 c.args.line.now)) ≡ None = cc in
-    no_stuck c.args.book.now c.args.line.now read
+    let read : waiting_in c.args.machine_names.now (without_last (drop 6 c.args.line.now)) ≡ None = cc in
+    no_stuck c.args.machine_names.now c.args.line.now read
 
 pub returns-else-same-clause-none : goal.returns-else-same-clause-none
 returns-else-same-clause-none c =
-    let read : waiting_in c.args.book.now (without_last (drop 6 c.args.line.now)) ≡ Some c.in-Some.waiting = cc in
-    other_stuck c.args.book.now c.args.line.now c.in-Some.waiting read (sym c.in_ok-same-in-Some.ensures ∙ c.if-same.false)
+    let read : waiting_in c.args.machine_names.now (without_last (drop 6 c.args.line.now)) ≡ Some c.in-Some.waiting = cc in
+    other_stuck c.args.machine_names.now c.args.line.now c.in-Some.waiting read (sym c.in_ok-same-in-Some.ensures ∙ c.if-same.false)

@@ -1,7 +1,0 @@
-use Rattle.std.proofs.Common.{◌≡◌, ◌+◌, drop, map, string_bytes}
-use Rattle.command_line.specs.Words.{option_place}
-use Rattle.command_line.proofs.idle.option_place.Given as goal
-
--- the option does not begin with a word before
-abbrev pub invariant-loop-place : goal.invariant-loop-place
-invariant-loop-place l = l.place + option_place (map string_bytes (drop l.place l.words)) ≡ option_place (map string_bytes l.words)

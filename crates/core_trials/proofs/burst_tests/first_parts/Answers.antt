@@ -1,7 +1,0 @@
-use Rattle.sleep_model.specs.Numbers.{time_of}
-use Rattle.sleep_state.specs.Places.{entries}
-use Rattle.core_trials.proofs.Firsts.{uncalled_timely}
-use Rattle.core_trials.proofs.burst_tests.first_parts.Goals as goal
-
-pub returns-clause-timely : goal.returns-clause-timely
-returns-clause-timely c = uncalled_timely (time_of (entries c.new-core.result.core.past)) c.in_ok-table.sources.items c.in_ok-table.ensures.sources

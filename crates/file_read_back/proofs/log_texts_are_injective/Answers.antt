@@ -1,0 +1,5 @@
+use Rattle.file_read_back.proofs.Naming.{texts_injective}
+use Rattle.file_read_back.proofs.log_texts_are_injective.Goals as goal
+
+pub returns : goal.returns
+returns c = texts_injective

@@ -1,8 +1,0 @@
-use Rattle.program_ending.specs.Streams.{stream}
-use Rattle.idle_commands.proofs.Idling.{idle_written}
-use Rattle.idle_commands.proofs.command.tell_idle.Goals as goal
-
-pub returns-in-Ok : goal.returns-in-Ok
-returns-in-Ok g c =
-    idle_written c.args.sizes (stream (g.K.ByteSink.written c.args.out.now) (g.K.ByteSink.faults c.args.out.now))
-    (stream (g.K.ByteSink.written c.write_said.new.out) (g.K.ByteSink.faults c.write_said.new.out)) c.in-Ok.text.items c.write_said.result c.in-Ok.ensures.text c.write_said.ensures

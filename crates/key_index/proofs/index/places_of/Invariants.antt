@@ -1,8 +1,0 @@
-use Rattle.std.proofs.Common.{◌≡◌}
-use Rattle.indexmap.specs.IndexMap.{get}
-use Rattle.key_index.proofs.Placing.{placed}
-use Rattle.key_index.proofs.index.places_of.Given as goal
-
--- the keys that are left behind are found
-abbrev pub invariant-loop-i : goal.invariant-loop-i
-invariant-loop-i g l = (k : g.row.K.Denot) → get g.K.PartialEq.eq l.places k ≡ placed g.K.PartialEq.eq g.met.K.Eq.laws l.keys l.i k

@@ -1,0 +1,5 @@
+use Rattle.law_trials.proofs.merging.tests_show_the_premises.Goals as goal
+use Rattle.law_trials.proofs.MergeShown.{tests_show}
+
+pub returns : goal.returns
+returns c = tests_show

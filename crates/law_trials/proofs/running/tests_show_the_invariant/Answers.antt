@@ -1,0 +1,5 @@
+use Rattle.law_trials.proofs.running.tests_show_the_invariant.Goals as goal
+use Rattle.law_trials.proofs.RunShown.{tests_show}
+
+pub returns : goal.returns
+returns c = tests_show

@@ -1,5 +1,0 @@
-use Rattle.std.proofs.Common.{◌≡◌, true, false}
-use Rattle.law_trials.proofs.running.the_last_look_is_behind_all.Goals as goal
-
-pub returns-clause-older : goal.returns-clause-older
-returns-clause-older c = λ last. absurd (let bad : false ≡ true = last.behind 0 in cc)

@@ -1,0 +1,12 @@
+use Rattle.std.proofs.Common.{◌∙◌, sym, ap, nat_lt}
+use Rattle.machine_file.specs.Look.{is_some_and}
+use Rattle.machine_file.proofs.Placing.{any_before}
+use Rattle.machine_file.proofs.names.ranks.is_before.Goals as goal
+
+pub returns-in-Some : goal.returns-in-Some
+returns-in-Some g c =
+    ap (is_some_and (λ j. nat_lt j c.args.count)) c.in-Some.ensures.place ∙ sym (any_before (g.K.PartialEq.eq c.args.key.now) c.args.count c.args.keys.now)
+
+pub returns-in-None : goal.returns-in-None
+returns-in-None g c =
+    ap (is_some_and (λ j. nat_lt j c.args.count)) c.in-None.ensures.place ∙ sym (any_before (g.K.PartialEq.eq c.args.key.now) c.args.count c.args.keys.now)

@@ -1,0 +1,11 @@
+use Rattle.std.proofs.Common.{◌∙◌, List, ℕ, ap, map, codes}
+use Rattle.borrowed_json.specs.View.{view}
+use Rattle.machine_file.specs.Members.{list_in}
+use Rattle.machine_file.specs.Knows.{names}
+use Rattle.machine_file.specs.Seen.{ends_written, end_numbers}
+use Rattle.machine_file.proofs.rules.pairs.numbers_in.Goals as goal
+
+pub returns : goal.returns
+returns c =
+    c.in_ok-places.ensures ∙ ap (map (end_numbers (names c.args.known.now.devices))) c.requires.ends
+    ∙ ap (λ (ns : List (List ℕ)). map (end_numbers ns) (map ends_written (list_in (codes "links") (view c.args._tree.now)))) c.requires.knows.devices

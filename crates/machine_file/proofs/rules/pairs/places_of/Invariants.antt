@@ -1,7 +1,0 @@
-use Rattle.std.proofs.Common.{◌≡◌, map, take}
-use Rattle.machine_file.specs.Seen.{ends_seen, end_places}
-use Rattle.machine_file.specs.Knows.{names}
-use Rattle.machine_file.proofs.rules.pairs.places_of.Given as goal
-
-abbrev pub invariant-loop-link : goal.invariant-loop-link
-invariant-loop-link l = l.places.items ≡ map (end_places (names l.devices)) (map ends_seen (take l.link-index l.ends))

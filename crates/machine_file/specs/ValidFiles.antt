@@ -1,0 +1,43 @@
+-- The rules of a file by groups, and a file that keeps them.
+use Rattle.std.specs.Prelude.{◌≡◌, Option, None, reverse}
+use Rattle.std.specs.Option.{option_or, option_map}
+use Rattle.serde_json.specs.Data.{Data}
+use Rattle.sleep_model.specs.Order.{parents_of}
+use Rattle.machine_file.specs.declared.names.known.Known.{Known}
+use Rattle.machine_file.specs.declared.rules.cycles.Linking.{Linking}
+use Rattle.machine_file.specs.Devices.{whole_devices, whole_links, cyclic_link}
+use Rattle.machine_file.specs.Whole.{Broken, first_of, broken_at}
+use Rattle.machine_file.specs.Groups.{form_rules, device_rules, end_rules, thing_rules, operation_rules, answer_rules}
+use Rattle.machine_file.specs.Knows.{Knows, AreFew}
+
+-- the first rule on form that is broken
+unfoldable pub broken_form : Data → Option Broken
+broken_form d = first_of form_rules d
+
+-- the first rule on devices that is broken
+unfoldable pub broken_devices : Data → Option Broken
+broken_devices d = first_of device_rules d
+
+-- the first rule on the ends of links that is broken
+unfoldable pub broken_ends : Data → Option Broken
+broken_ends d = first_of end_rules d
+
+-- the rule on cycles, where it is broken
+unfoldable pub broken_cycle : Data → Option Broken
+broken_cycle d = option_map (broken_at 12) (cyclic_link d)
+
+-- the first rule after it that is broken
+unfoldable pub broken_rest : Data → Option Broken
+broken_rest d = option_or (option_or (first_of thing_rules d) (first_of operation_rules d)) (first_of answer_rules d)
+
+-- the first rule that is broken
+abbrev pub first_in_order : Data → Option Broken
+first_in_order d = option_or (broken_form d) (option_or (broken_devices d) (option_or (broken_ends d) (option_or (broken_cycle d) (broken_rest d))))
+
+-- no rule is broken, the names are known and few, and the links are added
+pub record IsSound (file : Data) (k : Known) (l : Linking) : Type 0 where
+  pub unbroken : first_in_order file ≡ None
+  pub knows : Knows k file
+  pub few : AreFew k
+  pub links : l.links.items ≡ whole_links file
+  pub added : l.added.links ≡ record { parents = parents_of (whole_devices file); links = reverse (whole_links file) }

@@ -1,0 +1,12 @@
+use Rattle.std.proofs.Common.{◌≡◌, true, take}
+use Rattle.std.specs.List.{list_all}
+use Rattle.sleep_model.specs.Fits.{fits_stats}
+use Rattle.machine_rounds.specs.RunFields.{sources_of}
+use Rattle.machine_rounds.specs.Waits.{all_stats}
+use Rattle.machine_rounds.proofs.after_idle_round.stats_of.Given as goal
+
+abbrev pub invariant-loop-source : goal.invariant-loop-source
+invariant-loop-source l = record {
+  all : l.stats.items ≡ all_stats (sources_of (take l.source-index l.sources)) l.at;
+  ranged : list_all fits_stats l.stats.items ≡ true;
+}

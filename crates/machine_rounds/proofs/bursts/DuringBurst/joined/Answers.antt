@@ -1,0 +1,12 @@
+use Rattle.machine_rounds.proofs.bursts.DuringBurst.joined.Goals as goal
+
+pub invariant_of-result : goal.invariant_of-result
+invariant_of-result c =
+    let joined = c.requires in
+    record {
+      machine_is = joined.machine_is;
+      running = joined.running;
+      all_jobs = joined.all_jobs;
+      table = joined.table_is;
+      seats = joined.seats;
+    }

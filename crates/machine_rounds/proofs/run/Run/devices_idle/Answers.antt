@@ -1,0 +1,14 @@
+use Rattle.std.proofs.Common.{◌∙◌, Bool, sym, subst}
+use Rattle.std.specs.Bool.{OnTrue}
+use Rattle.machine_rounds.specs.JobsOf.{job_at}
+use Rattle.machine_rounds.specs.Runs.{IsQuiescent}
+use Rattle.machine_rounds.proofs.Quiescent.{no_device}
+use Rattle.machine_rounds.proofs.Fields.{goes_on}
+use Rattle.machine_rounds.proofs.run.Run.devices_idle.Goals as goal
+
+pub returns-then-quiescent : goal.returns-then-quiescent
+returns-then-quiescent c =
+    let r = c.self.inside in
+    let s = c.args.self.now in
+    let quiescent : IsQuiescent s = subst (λ (b : Bool). OnTrue b (IsQuiescent s)) c.if-quiescent.true c.requires in
+    c.if-quiescent.true ∙ sym (no_device s (record { jobs = job_at r.jobs; running = goes_on r s c.self.view_is c.self.invariant }) quiescent c.args.word)

@@ -1,9 +1,0 @@
-use Rattle.std.proofs.Common.{◌≡◌}
-use Rattle.sleep_model.specs.declared.entry.Actor.TheVariants.{Script}
-use Rattle.sleep_model.specs.Legal.{none_enabled}
-use Rattle.sleep_state.specs.Places.{entries}
-use Rattle.running_laws.specs.Running.{histories}
-use Rattle.machine_rounds.proofs.run.Run.rest_all_scripts.Given as goal
-
-abbrev pub invariant-loop-script : goal.invariant-loop-script
-invariant-loop-script l = l.none ≡ none_enabled l.self.machine (entries l.self.journal) (histories l.self.sources) l.word Script l.script

@@ -1,9 +1,0 @@
-use Rattle.std.proofs.Common.{◌≡◌}
-use Rattle.sleep_model.specs.Legal.{none_expires}
-use Rattle.sleep_model.specs.Numbers.{time_of}
-use Rattle.sleep_state.specs.Places.{entries}
-use Rattle.running_laws.specs.Running.{histories}
-use Rattle.machine_rounds.proofs.run.Run.rest_timers.Given as goal
-
-abbrev pub invariant-loop-source : goal.invariant-loop-source
-invariant-loop-source l = l.none ≡ none_expires l.source (histories l.self.sources) (time_of (entries l.self.journal))

@@ -1,0 +1,9 @@
+use Rattle.std.proofs.Common.{◌≡◌}
+use Rattle.sleep_model.specs.Legal.{none_expires}
+use Rattle.sleep_model.specs.Numbers.{time_of}
+use Rattle.sleep_state.specs.JournalRooms.{entries}
+use Rattle.running_laws.specs.Running.{histories}
+use Rattle.machine_rounds.proofs.run.Run.timers_idle.Given as goal
+
+abbrev pub invariant-loop-source : goal.invariant-loop-source
+invariant-loop-source l = l.none ≡ none_expires l.source (histories l.self.sources) (time_of (entries l.self.journal))

@@ -1,0 +1,322 @@
+//! What comes after a round that did nothing: a jump of time, or the end.
+
+ghost use Rattle.std.specs.Prelude.{◌≡◌, ◌≤◌, ◌<◌, ◌^◌, ◌++◌, true, length, IfOk, OnOk, All};
+ghost use Rattle.std.specs.List.{list_all};
+ghost use Rattle.sleep_model.specs.Fits.{fits_stats};
+ghost use Rattle.machine_rounds.specs.RunFields.{sources_of};
+ghost use Rattle.machine_rounds.specs.Waits.{waits_of, all_stats};
+ghost use Rattle.wakeup_source.specs.SourceStates.{unstamped, latest};
+
+use crate::run::{Run, RunFault};
+use crate::waiters::Waiters;
+use apart_log::ApartLog;
+use fit_laws::{moments_are_ranged, stats_are_ranged};
+use run_objects::{SeatedSource, close_table};
+use sleep_base::{Mem, lost};
+use sleep_core::Core;
+use sleep_model::{Actor, Due, EventNow, Journal, ListOf, LogEnd, SourceList, Stats, Waiting};
+use std::alloc::{AllocError, Global};
+use std::sync::Wait;
+
+/// What comes after a round that did nothing.
+#[derive(Clone, Copy)]
+pub(crate) enum AfterIdleRound {
+    /// Another round.
+    GoesOn,
+    /// The end, by the word that was looked at last: nothing is left to do.
+    Finished(EventNow),
+    /// The end, by that word: nobody goes on.
+    Stuck(EventNow),
+}
+
+/// The statistics of the sources at that moment.
+fn stats_of(alloc: Global, sources: &[SeatedSource], at: u64) -> Result<Vec<Stats>, AllocError>
+    requires time { All (λ s. latest (unstamped s.source.past) ≤ at) sources.now }
+    requires small { at ≤ 2 ^ 63 }
+    ensures all { IfOk result (λ v. v.items ≡ all_stats (sources_of sources.now) at) }
+    ensures ranged { IfOk result (λ v. list_all fits_stats v.items ≡ true) }
+{
+    let mut stats = Vec::with_capacity(alloc, sources.len())?;
+    for source in sources {
+        let one = source.source().stats(at);
+        stats_are_ranged(one);
+        stats.push(one)?;
+    }
+    Ok(stats)
+}
+
+/// A script that waits is put after the others.
+fn push_waiting(those: &mut Vec<Waiting>, script: u32, due: Due) -> Result<(), AllocError>
+    ensures { OnOk result (those.new.items ≡ those.old.items ++ waits_of script due) }
+{
+    if let Due::Waits(why) = due {
+        those.push(Waiting {
+            actor: Actor::Script(script),
+            why,
+        })?;
+    }
+    Ok(())
+}
+
+/// Wakes the scripts whose sleeps have come to their ends.
+fn wake_sleepers(core: &Core<'_>, waiters: &mut Waiters) {
+    let mut next = core.next_slept(None);
+    for _ in 0..u32::MAX {
+        let Some(script) = next else {
+            break;
+        };
+        waiters.wake_sleeper(script);
+        next = core.next_slept(Some(script));
+    }
+}
+
+impl<'m> Run<'m> {
+    ghost use Rattle.std.specs.Prelude.{◌≡◌, ◌<◌, ◌+◌, true, length, Ok, IfOk, OnOk, IfErr};
+    ghost use Rattle.std.specs.List.{list_all};
+    ghost use Rattle.sleep_model.specs.Fits.{fits_stats};
+    ghost use Rattle.std.specs.Bool.{OnTrue};
+    ghost use Rattle.sleep_model.specs.declared.entry.Actor.TheVariants.{Script, Dev};
+    ghost use Rattle.sleep_model.specs.Legal.{JumpStep, is_enabled, none_enabled, none_expires, waiting};
+    ghost use Rattle.sleep_model.specs.Numbers.{time_of};
+    ghost use Rattle.sleep_state.specs.JournalRooms.{entries};
+    ghost use Rattle.running_laws.specs.Running.{histories, journal_histories};
+    ghost use Rattle.machine_rounds.specs.Runs.{nobody_enabled, IsQuiescent, IsClosed, IsHalted, IsSeen, IsAfterIdleRound, AfterAll, EndsSo, Fails, IsRefused, IsRun, entries_made};
+
+    /// Whether all is calm: nobody has a call on a source to make, and no attempt is open.
+    fn is_quiescent(&self) -> bool
+        ensures { OnTrue result (IsQuiescent self.now) }
+    {
+        self.jobs.owe_none() && !self.core().is_open()
+    }
+
+    /// Whether a script can make anything that sees this word. Where all is calm, none can that has exited or sleeps on.
+    #[inline(always)]
+    fn may_go(&self, quiescent: bool, script: u32, word: EventNow) -> bool
+        requires quiescent { OnTrue quiescent (IsQuiescent self.now) }
+        requires script { script < length self.now.machine.actors }
+        ensures { result ≡ is_enabled self.now.machine (entries self.now.journal) (histories self.now.sources) word (Script script) }
+    {
+        if quiescent && self.core().is_stopped(script) {
+            return false;
+        }
+        self.is_enabled(Actor::Script(script), word)
+    }
+
+    /// Whether no script can make anything that sees this word. Where all is calm and all scripts are still, none is asked.
+    fn scripts_idle(&self, quiescent: bool, word: EventNow) -> bool
+        requires { OnTrue quiescent (IsQuiescent self.now) }
+        ensures { result ≡ none_enabled self.now.machine (entries self.now.journal) (histories self.now.sources) word Script (length self.now.machine.actors) }
+    {
+        if quiescent && self.core().are_stopped() {
+            return true;
+        }
+        self.all_scripts_idle(quiescent, word)
+    }
+
+    /// Whether no script can make anything that sees this word, by a pass over all.
+    fn all_scripts_idle(&self, quiescent: bool, word: EventNow) -> bool
+        requires { OnTrue quiescent (IsQuiescent self.now) }
+        ensures { result ≡ none_enabled self.now.machine (entries self.now.journal) (histories self.now.sources) word Script (length self.now.machine.actors) }
+    {
+        let mut none = true;
+        for script in 0..self.machine.actors.len() as u32 {
+            none = !self.may_go(quiescent, script, word) & none;
+        }
+        none
+    }
+
+    /// Whether no device can make anything that sees this word. Where all is calm, none can.
+    fn devices_idle(&self, quiescent: bool, word: EventNow) -> bool
+        requires { OnTrue quiescent (IsQuiescent self.now) }
+        ensures { result ≡ none_enabled self.now.machine (entries self.now.journal) (histories self.now.sources) word Dev (length self.now.machine.devices) }
+    {
+        // A look at the field makes the invariant known here: the entries are legal.
+        let _ = &self.machine;
+        quiescent || self.all_devices_idle(word)
+    }
+
+    /// Whether no device can make anything that sees this word, each of them being asked.
+    fn all_devices_idle(&self, word: EventNow) -> bool
+        ensures { result ≡ none_enabled self.now.machine (entries self.now.journal) (histories self.now.sources) word Dev (length self.now.machine.devices) }
+    {
+        let mut none = true;
+        for device in 0..self.machine.devices.len() as u32 {
+            none = !self.is_enabled(Actor::Dev(device), word) & none;
+        }
+        none
+    }
+
+    /// Whether no timer of a source is to make anything.
+    fn timers_idle(&self) -> bool
+        ensures { result ≡ none_expires (length self.now.machine.sources + 1) (histories self.now.sources) (time_of (entries self.now.journal)) }
+    {
+        let mut none = true;
+        for source in 0..self.sources() {
+            none = !self.has_expired(source) & none;
+        }
+        none
+    }
+
+    /// Whether nobody can make anything that sees this word.
+    fn nobody_enabled(&self, word: EventNow) -> bool
+        ensures { result ≡ nobody_enabled self.now word }
+    {
+        let quiescent = self.is_quiescent();
+        let by_script = self.scripts_idle(quiescent, word);
+        let works = self.is_enabled(Actor::Auto, word);
+        let by_device = self.devices_idle(quiescent, word);
+        let by_timer = self.timers_idle();
+        by_script & !works & by_device & by_timer
+    }
+
+    /// Time jumps to the next pending moment, where nobody can make anything by the word that was looked at last. A run
+    /// makes so few entries that the clock and the ticks of stamps stay in their range. `Mem` if there is no memory.
+    fn jump(&mut self, word: EventNow, to: u64) -> Result<(), RunFault>
+        requires least { JumpStep self.old.machine (entries self.old.journal) (histories self.old.sources) word to }
+        requires seen { IsSeen self.old word }
+        requires later { time_of (entries self.old.journal) < to }
+        ensures machine { self.new.machine ≡ self.old.machine }
+        ensures made { OnOk result (entries_made self.old < entries_made self.new) }
+        ensures fault { IfErr result (IsRefused self.new) }
+    {
+        moments_are_ranged(to);
+        self.floor = self.seated.jump(word, to, self.floor)?;
+        self.waiters.wake_for_time();
+        wake_sleepers(self.seated.core(), &mut self.waiters);
+        Ok(())
+    }
+
+    /// After a round that did nothing: whoever can go on makes an entry by the word that is looked at; time jumps where
+    /// nobody can; or the run is over.
+    pub(crate) fn after_idle_round<R: Wait>(&mut self, rt: &R) -> Result<AfterIdleRound, RunFault>
+        ensures machine { self.new.machine ≡ self.old.machine }
+        ensures after { IsAfterIdleRound self.old self.new result }
+    {
+        let word = self.look(rt);
+        if !self.nobody_enabled(word) {
+            self.go_by(rt, word)?;
+            return Ok(AfterIdleRound::GoesOn);
+        }
+        if self.is_whole() {
+            return Ok(AfterIdleRound::Finished(word));
+        }
+        match self.next_time() {
+            Some(to) => {
+                self.jump(word, to)?;
+                Ok(AfterIdleRound::GoesOn)
+            }
+            None => Ok(AfterIdleRound::Stuck(word)),
+        }
+    }
+
+    /// The scripts that wait, and for what, where nobody goes on by that word.
+    fn waiting(&self, alloc: Global, word: EventNow) -> Result<Vec<Waiting>, AllocError>
+        requires { IsHalted self.now word }
+        ensures { IfOk result (λ v. v.items ≡ waiting self.now.machine (entries self.now.journal) word) }
+    {
+        let mut those = Vec::new(alloc);
+        for script in 0..self.machine.actors.len() as u32 {
+            let due = self.core().due(Actor::Script(script), word);
+            push_waiting(&mut those, script, due)?;
+        }
+        Ok(those)
+    }
+
+    /// How a run that is over ended.
+    fn end(&self, alloc: Global, after_idle_round: AfterIdleRound) -> Result<LogEnd, AllocError>
+        requires { AfterAll self.now (Ok after_idle_round) }
+        ensures { IfOk result (λ end. EndsSo self.now end) }
+    {
+        match after_idle_round {
+            AfterIdleRound::Stuck(word) => {
+                let those = self.waiting(alloc, word)?;
+                Ok(LogEnd::Stuck(ListOf::of_vec(those)))
+            }
+            _ => Ok(LogEnd::Finished),
+        }
+    }
+
+    /// The statistics of all sources now.
+    fn stats(&self, alloc: Global) -> Result<Vec<Stats>, AllocError>
+        ensures all { IfOk result (λ v. v.items ≡ all_stats self.now.sources (time_of (entries self.now.journal))) }
+        ensures ranged { IfOk result (λ v. list_all fits_stats v.items ≡ true) }
+    {
+        let stats = stats_of(alloc, &self.sources, self.time())?;
+        Ok(stats)
+    }
+
+    /// How a run that is over ended, and the statistics of all sources then.
+    fn ending(
+        &self,
+        alloc: Global,
+        after_idle_round: AfterIdleRound,
+    ) -> Result<(LogEnd, Vec<Stats>), AllocError>
+        requires { AfterAll self.now (Ok after_idle_round) }
+        ensures end { IfOk result (λ e. EndsSo self.now e.0) }
+        ensures stats { IfOk result (λ e. e.1.items ≡ all_stats self.now.sources (time_of (entries self.now.journal))) }
+        ensures ranged { IfOk result (λ e. list_all fits_stats e.1.items ≡ true) }
+    {
+        let end = self.end(alloc, after_idle_round)?;
+        let stats = self.stats(alloc)?;
+        Ok((end, stats))
+    }
+
+    /// The journal and the sources' histories, of which the closed table of the event word lays all steps. `Mem` where
+    /// there is no memory.
+    fn closed(self, alloc: Global) -> Result<(Journal, Vec<SourceList>), Mem>
+        ensures journal { IfOk result (λ kept. kept.0.past ≡ self.entry.journal) }
+        ensures histories { IfOk result (λ kept. kept.1.items ≡ journal_histories self.entry.sources) }
+        ensures closed_over { OnOk result (IsClosed self.entry) }
+    {
+        let Run {
+            table,
+            sources,
+            seated,
+            ..
+        } = self;
+        let kept = close_table(alloc, table, sources, seated)?;
+        Ok(kept)
+    }
+
+    /// The log of a run that is over and ended so: that of its journal and its sources' histories.
+    fn merged(self, alloc: Global, end: LogEnd, stats: Vec<Stats>) -> Result<ApartLog, Mem>
+        requires end { EndsSo self end }
+        requires stats { stats.items ≡ all_stats self.sources (time_of (entries self.journal)) }
+        requires ranged { list_all fits_stats stats.items ≡ true }
+        ensures { IfOk result (λ log. IsRun self.entry.machine log) }
+    {
+        let (journal, histories) = self.closed(alloc)?;
+        Ok(ApartLog::new(journal, histories, stats, end))
+    }
+
+    /// The log of a run that is over.
+    pub(crate) fn into_log(
+        self,
+        alloc: Global,
+        after_idle_round: AfterIdleRound,
+    ) -> Result<ApartLog, Mem>
+        requires { AfterAll self (Ok after_idle_round) }
+        ensures { IfOk result (λ log. IsRun self.entry.machine log) }
+    {
+        match self.ending(alloc, after_idle_round) {
+            Ok((end, stats)) => self.merged(alloc, end, stats),
+            Err(_) => Err(lost(self)),
+        }
+    }
+
+    /// Why a run gives nothing, of which a call was refused: where a source is full, the table of the event word is
+    /// closed, and what was made up to then is a legal log, so the machine's calls may fill the source.
+    pub(crate) fn into_fault<R: Wait>(
+        mut self,
+        rt: &R,
+        alloc: Global,
+        fault: RunFault,
+    ) -> Result<RunFault, Mem>
+        requires { IsRefused self fault }
+        ensures { IfOk result (Fails self.entry.machine) }
+    {
+        let _word = self.look(rt);
+        let _preserved = self.closed(alloc)?;
+        Ok(fault)
+    }
+}

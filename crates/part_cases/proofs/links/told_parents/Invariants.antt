@@ -1,5 +1,0 @@
-use Rattle.sleep_model.specs.Order.{EachAfterParent}
-use Rattle.part_cases.proofs.links.told_parents.Given as goal
-
-abbrev pub invariant-loop-word : goal.invariant-loop-word
-invariant-loop-word l = EachAfterParent 0 l.parents.items

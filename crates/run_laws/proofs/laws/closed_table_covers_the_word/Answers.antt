@@ -1,0 +1,5 @@
+use Rattle.run_laws.proofs.laws.closed_table_covers_the_word.Goals as goal
+use Rattle.run_laws.proofs.ClosedOver.{table_covers}
+
+pub returns : goal.returns
+returns c = table_covers

@@ -1,9 +1,0 @@
-use Rattle.std.proofs.Common.{◌∙◌, List, length, ap}
-use Rattle.sleep_model.specs.declared.place.Seat.{Seat}
-use Rattle.sleep_state.specs.Sleepers.{end_of}
-use Rattle.sleep_state.specs.Trees.{least_of}
-use Rattle.sleep_state.proofs.Sleeping.{least_end_is}
-use Rattle.sleep_state.proofs.seats.Seats.least_end.Goals as goal
-
-pub returns : goal.returns
-returns c = c.least.ensures ∙ (ap least_of c.self.invariant.ends_are ∙ (least_end_is c.self.inside.seats.items ∙ ap (λ (xs : List Seat). end_of xs (length xs)) c.self.view_is))

@@ -1,0 +1,157 @@
+//! Where each script of a machine stands, and which of them sleep.
+
+ghost use Rattle.std.specs.Prelude.{◌≡◌, ◌≤◌, ◌<◌, ◌+◌, ◌^◌, None, length, slice_index_or, slice_set};
+ghost use Rattle.sleep_model.specs.Positions.{first_position};
+ghost use Rattle.sleep_model.specs.Places.{one_if};
+ghost use Rattle.sleep_state.specs.Sleepers.{is_awake};
+
+use crate::moments::{Moments, is_later};
+use sleep_base::Mem;
+use sleep_model::ScriptPosition;
+use std::alloc::Global;
+use std::marker::Model;
+
+/// Where each script stands. The ends of their sleeps are kept beside, and how many of them neither sleep nor have
+/// exited, so that whether all are still is known without a look at each.
+#[derive(Drop)]
+pub(crate) struct ScriptPositions {
+    positions: Vec<ScriptPosition>,
+    /// The end of each script's sleep, where it sleeps.
+    ends: Moments,
+    /// How many scripts neither sleep nor have exited.
+    awake: usize,
+    /// How many scripts have not exited.
+    left: usize,
+}
+
+impl Model for ScriptPositions {
+    ghost use Rattle.std.specs.Prelude.{List};
+    ghost use Rattle.sleep_model.specs.declared.progress.ScriptPosition.{ScriptPosition as PositionState};
+
+    ghost Value = { List PositionState };
+
+    ghost use Rattle.sleep_state.specs.PositionFields.{positions_seen, positions_invariant};
+
+    ghost view = { positions_seen };
+
+    ghost invariant = { positions_invariant };
+}
+
+/// A script at its first step.
+pub(crate) fn first_position() -> ScriptPosition
+    ensures { result ≡ first_position }
+{
+    ScriptPosition {
+        done: 0,
+        turns: 0,
+        waits: false,
+        last_read: None,
+        saved: false,
+        until: None,
+        exited: false,
+    }
+}
+
+/// Whether a script that stands so neither sleeps nor has exited.
+fn is_awake(position: ScriptPosition) -> bool
+    ensures { result ≡ is_awake position }
+{
+    !position.exited && position.until.is_none()
+}
+
+/// How many stand so, where one that did or not does or not.
+#[inline(always)]
+fn recount(was: bool, is: bool, many: usize) -> usize
+    requires one { one_if was ≤ many }
+    requires room { many + 1 < 2 ^ 64 }
+    ensures { result + one_if was ≡ many + one_if is }
+{
+    match (was, is) {
+        (true, false) => many - 1,
+        (false, true) => many + 1,
+        _ => many,
+    }
+}
+
+/// The end of a script's sleep, before and after an entry of its own: nearly all entries leave it without one.
+fn move_end(ends: &mut Moments, script: usize, was: Option<u64>, is: Option<u64>)
+    requires within { script < length ends.old }
+    requires was { was ≡ slice_index_or ends.old script None }
+    ensures { ends.new ≡ slice_set ends.old script is }
+{
+    if was.is_some() || is.is_some() {
+        ends.set(script, is);
+    }
+}
+
+impl ScriptPositions {
+    ghost use Rattle.std.specs.Prelude.{◌≡◌, ◌<◌, None, IfOk, IfSome, length, replicate, slice_get, slice_set};
+    ghost use Rattle.std.specs.Bool.{OnTrue};
+    ghost use Rattle.sleep_model.specs.Positions.{first_position, position_at, all_exited};
+    ghost use Rattle.sleep_state.specs.Sleepers.{end_of, AreStopped, HasSlept, NoneSlept};
+
+    /// So many scripts at their first steps. `Mem` if there is no memory.
+    #[tactic(auto, using(crate::proofs::Sleeping::ends_first, crate::proofs::Sleeping::awake_first, crate::proofs::Sleeping::there_first))]
+    pub(crate) fn new(alloc: Global, scripts: usize) -> Result<Self, Mem>
+        ensures { IfOk result (λ s. s ≡ replicate scripts first_position) }
+    {
+        let positions = vec![in alloc; first_position(); scripts]?;
+        let ends = Moments::new(alloc, scripts)?;
+        Ok(ScriptPositions {
+            positions,
+            ends,
+            awake: scripts,
+            left: scripts,
+        })
+    }
+
+    /// Where that script stands, if there is one.
+    pub(crate) fn get(&self, script: usize) -> Option<ScriptPosition>
+        ensures { result ≡ slice_get self.now script }
+    {
+        self.positions.get(script).copied()
+    }
+
+    /// Another place of a script.
+    pub(crate) fn set(&mut self, script: usize, position: ScriptPosition)
+        requires { script < length self.old }
+        ensures { self.new ≡ slice_set self.old script position }
+    {
+        let was = self.positions[script];
+        self.awake = recount(is_awake(was), is_awake(position), self.awake);
+        self.left = recount(!was.exited, !position.exited, self.left);
+        move_end(&mut self.ends, script, was.until, position.until);
+        self.positions[script] = position;
+    }
+
+    /// The least end of all sleeps.
+    pub(crate) fn least_end(&self) -> Option<u64>
+        ensures { result ≡ end_of self.now (length self.now) }
+    {
+        self.ends.least()
+    }
+
+    /// Whether each script has exited, or sleeps to a moment later than that.
+    pub(crate) fn are_stopped(&self, time: u64) -> bool
+        ensures { OnTrue result (AreStopped self.now time) }
+    {
+        self.awake == 0 && is_later(self.ends.least(), time)
+    }
+
+    /// The next script after that one, or the first, whose sleep has come to its end by now. Where none is found after
+    /// none, no script's has.
+    #[tactic(auto, using(crate::proofs::Coming::slept_of, crate::proofs::Coming::none_of))]
+    pub(crate) fn next_slept(&self, next_stage: Option<usize>, now: u64) -> Option<usize>
+        ensures found { IfSome result (λ script. HasSlept self.now script now) }
+        ensures none { next_stage ≡ None → result ≡ None → NoneSlept self.now now }
+    {
+        self.ends.next_come(next_stage, now)
+    }
+
+    /// Whether every script has made its exit.
+    pub(crate) fn all_exited(&self) -> bool
+        ensures { result ≡ all_exited self.now }
+    {
+        self.left == 0
+    }
+}

@@ -1,0 +1,110 @@
+//! The workers of a burst, as they go into it and come out.
+
+ghost use Rattle.std.specs.Prelude.{◌≡◌, ◌≤◌, ◌<◌, ◌+◌, ◌^◌, ℕ, List, length, map, IfOk};
+ghost use Rattle.sleep_model.specs.declared.machine.Machine.{Machine};
+ghost use Rattle.atomic_table.specs.Seated.{TableId};
+ghost use Rattle.run_world.specs.Acts.{actor_of};
+ghost use Rattle.world_workers.specs.Bursts.{HaveTurns};
+ghost use Rattle.world_workers.specs.Workers.{AreFresh, AreOneMore, AreContents, AreWorkersOf};
+
+use crate::contents::{Stop, graver};
+use crate::worker::Worker;
+use run_world::{Task, WorldPass};
+use sleep_base::{Mem, lost};
+use sleep_model::Actor;
+use std::alloc::Global;
+
+/// A worker for each task, with a pass each, for a burst at that moment in ms.
+pub(crate) fn workers_of<'m>(
+    alloc: Global,
+    passes: Vec<WorldPass<'m>>,
+    tasks: Vec<Task<'m>>,
+    actors: &[Actor],
+    moment: u64,
+) -> Result<Vec<Worker<'m>>, Mem>
+    requires count { length passes.items ≡ length tasks.items }
+    requires few { length tasks.items ≤ 2000 }
+    requires actors { actors.now ≡ map actor_of tasks.items }
+    requires turns { HaveTurns tasks.items }
+    ensures contents { IfOk result (λ workers. AreContents workers.items passes.entry.items tasks.entry.items) }
+    ensures fresh { IfOk result (λ workers. AreFresh moment workers.items) }
+{
+    let Ok(mut workers) = Vec::with_capacity(alloc, tasks.len()) else {
+        return Err(lost((passes, tasks)));
+    };
+    let mut left = passes.into_iter();
+    for task in tasks {
+        let place = workers.len();
+        let Some(pass) = left.next() else {
+            unreachable!()
+        };
+        let worker = Worker::new(pass, task, actors[place], place as u32, moment);
+        let Ok(()) = workers.push(worker) else {
+            return Err(lost((workers, left)));
+        };
+    }
+    Ok(workers)
+}
+
+/// Why one of these workers stopped, if one did, and how many calls on sources they made, but for those of the busiest.
+pub(crate) fn came_to(workers: &[Worker<'_>]) -> (Option<Stop>, u64) {
+    let mut stop = None;
+    let mut calls: u64 = 0;
+    let mut most = 0;
+    for worker in workers {
+        let made = u64::from(worker.calls());
+        stop = graver(stop, worker.stop);
+        calls = calls.saturating_add(made);
+        most = made.max(most);
+    }
+    (stop, calls.saturating_sub(most))
+}
+
+/// The passes and the tasks that workers bring out of a burst, in their order.
+#[derive(Drop)]
+pub(crate) struct Brought<'m> {
+    pub(crate) passes: Vec<WorldPass<'m>>,
+    pub(crate) tasks: Vec<Task<'m>>,
+}
+
+impl<'m> Brought<'m> {
+    ghost use Rattle.std.specs.Prelude.{[], ◌∷◌, ◌++◌, Some, IsSome, OnOk};
+
+    /// None, with room for those of so many workers.
+    fn new(alloc: Global, workers: usize) -> Result<Self, Mem>
+        ensures { IfOk result (λ brought. (brought.passes.items ≡ []) × (brought.tasks.items ≡ [])) }
+    {
+        Ok(Brought {
+            passes: Vec::with_capacity(alloc, workers)?,
+            tasks: Vec::with_capacity(alloc, workers)?,
+        })
+    }
+
+    /// Those of one worker more.
+    fn push(&mut self, worker: Worker<'m>) -> Result<(), Mem>
+        requires { IsSome worker.pass }
+        ensures passes { OnOk result (AreOneMore worker.entry.pass self.old.passes.items self.new.passes.items) }
+        ensures tasks { OnOk result (self.new.tasks.items ≡ self.old.tasks.items ++ worker.entry.task ∷ []) }
+    {
+        let (pass, task) = worker.into_components();
+        self.passes.push(pass)?;
+        self.tasks.push(task)?;
+        Ok(())
+    }
+}
+
+/// The passes and the tasks of the workers, in their order.
+pub(crate) fn taken_apart<'m>(alloc: Global, workers: Vec<Worker<'m>>) -> Result<Brought<'m>, Mem>
+    requires { (m : Machine) × (table : TableId) × (locks : TableId) × (moment : ℕ) × AreWorkersOf m table locks moment workers.items }
+    ensures { IfOk result (λ brought. AreContents workers.entry.items brought.passes.items brought.tasks.items) }
+{
+    let Ok(mut brought) = Brought::new(alloc, workers.len()) else {
+        return Err(lost(workers));
+    };
+    for worker in workers {
+        let Ok(()) = brought.push(worker) else {
+            return Err(lost(brought));
+        };
+    }
+    Ok(brought)
+}
