@@ -23,14 +23,14 @@ use sleep_base::{Mem, lost};
 use std::alloc::Global;
 
 /// The first rule on form that is broken.
-#[tactic(auto, unfolding(crate::specs::Kept::broken_form))]
+#[tactic(auto, unfolding(crate::specs::ValidFiles::broken_form))]
 pub(crate) fn first_of_form(tree: &Value<'_>) -> Option<Broken>
     ensures { option_map broken_view result ≡ broken_form (view tree.now) }
 {
     form_broken(tree)
 }
 
-#[tactic(auto, unfolding(crate::specs::Kept::broken_ends))]
+#[tactic(auto, unfolding(crate::specs::ValidFiles::broken_ends))]
 fn first_of_ends(
     alloc: Global,
     tree: &Value<'_>,
@@ -44,7 +44,7 @@ fn first_of_ends(
     end_broken(alloc, tree, ends, places)
 }
 
-#[tactic(auto, unfolding(crate::specs::Kept::broken_cycle))]
+#[tactic(auto, unfolding(crate::specs::ValidFiles::broken_cycle))]
 fn first_cycle(cycle: Option<usize>, _tree: &Value<'_>) -> Option<Broken>
     requires { cycle ≡ first_not_after (closes_no_cycle (view _tree.now)) [] 0 (list_in (codes "links") (view _tree.now)) }
     ensures { option_map broken_view result ≡ broken_cycle (view _tree.now) }
@@ -58,7 +58,7 @@ fn first_cycle(cycle: Option<usize>, _tree: &Value<'_>) -> Option<Broken>
     }
 }
 
-#[tactic(auto, unfolding(crate::specs::Kept::broken_rest))]
+#[tactic(auto, unfolding(crate::specs::ValidFiles::broken_rest))]
 fn first_of_rest(alloc: Global, tree: &Value<'_>, known: &Known<'_>) -> Result<Option<Broken>, Mem>
     requires { Knows known.now (view tree.now) }
     ensures { IfOk result (λ b. option_map broken_view b ≡ broken_rest (view tree.now)) }
