@@ -17,7 +17,7 @@ impl<'m> Passed<'m> {
     ghost use Rattle.check_past.specs.Passing.{journal_of};
 
     /// Where a device stands in a phase and its mirror (`struct dev_pm_info`).
-    #[tactic(auto, using(crate::proofs::Standing::states_are))]
+    #[tactic(auto, using(crate::proofs::AtIndex::states_are))]
     pub fn state(&self, phase: Phase, device: u32) -> PhaseState
         ensures { result ≡ state_in self.now.machine (journal_of self.now) phase device }
     {
@@ -25,7 +25,7 @@ impl<'m> Passed<'m> {
     }
 
     /// Where each device stands in a phase and its mirror.
-    #[tactic(auto, using(crate::proofs::Standing::states_are))]
+    #[tactic(auto, using(crate::proofs::AtIndex::states_are))]
     pub fn phase_states(&self, phase: Phase) -> &[PhaseState]
         ensures { result.now ≡ phase_states (length self.now.machine.devices) phase (journal_of self.now) }
     {
@@ -110,7 +110,7 @@ impl<'m> Passed<'m> {
     }
 
     /// Whether a device is asynchronous (`power.async_suspend`).
-    #[tactic(auto, using(crate::proofs::Standing::flag_is))]
+    #[tactic(auto, using(crate::proofs::AtIndex::flag_is))]
     pub fn is_async(&self, device: u32) -> bool
         ensures { result ≡ is_async_device self.now.machine device }
     {
@@ -121,7 +121,7 @@ impl<'m> Passed<'m> {
     }
 
     /// Whether a device may wake the machine (`device_may_wakeup`).
-    #[tactic(auto, using(crate::proofs::Standing::flag_is))]
+    #[tactic(auto, using(crate::proofs::AtIndex::flag_is))]
     pub fn may_wake(&self, device: u32) -> bool
         ensures { result ≡ may_wake_device self.now.machine device }
     {

@@ -115,7 +115,7 @@ impl<'m> Passed<'m> {
     }
 
     /// The tasks that a freeze of the group still waits for (`try_to_freeze_tasks`).
-    #[tactic(auto, using(check_account::proofs::Following::placed, crate::proofs::Standing::positions_len))]
+    #[tactic(auto, using(check_account::proofs::Following::placed, crate::proofs::AtIndex::positions_len))]
     pub fn left(&self, group: Group) -> UnfrozenTasks
         ensures { result ≡ left_is (left self.now.machine group (journal_of self.now)) }
     {

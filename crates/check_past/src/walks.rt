@@ -88,7 +88,7 @@ fn state_at(phase_states: &[PhaseState], device: u32) -> PhaseState
 }
 
 // Whether a device is asynchronous (`power.async_suspend`).
-#[tactic(auto, using(crate::proofs::Standing::flag_is))]
+#[tactic(auto, using(crate::proofs::AtIndex::flag_is))]
 fn is_async(devices: &[Device], device: u32) -> bool
     ensures { result ≡ is_so (map is_async devices.now) device }
 {

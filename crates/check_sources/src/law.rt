@@ -5,13 +5,13 @@ ghost use Rattle.check_sources.specs.SourceStates.{SourcesAgree};
 ghost use Rattle.check_sources.specs.Owing.{FlagsAreSteps};
 
 /// What is kept of a source is what its own entries leave, for every list of entries.
-#[tactic(auto, using(crate::proofs::Telling::agree))]
+#[tactic(auto, using(crate::proofs::Agreement::agree))]
 pub fn sources_agree()
     ensures { SourcesAgree }
 {}
 
 /// The flags of the steps that are owed are those steps, in order.
-#[tactic(auto, using(crate::proofs::Telling::flags))]
+#[tactic(auto, using(crate::proofs::Agreement::flags))]
 pub fn flags_are_steps()
     ensures { FlagsAreSteps }
 {}

@@ -8,7 +8,7 @@ ghost use Rattle.sleep_laws.specs.Laws.{HoldsOfAll};
 /// read, and no event is in progress, on each machine of at most 255 sources: 255 sources register
 /// too few events for the count which user space sees to come round
 /// (`drivers/base/power/wakeup.c`, `pm_save_wakeup_count`, `pm_wakeup_pending`).
-#[tactic(auto, using(crate::proofs::Held::guarded_sleeps))]
+#[tactic(auto, using(crate::proofs::GuardInForce::guarded_sleeps))]
 pub fn guarded_sleep()
     ensures { HoldsOfAll (λ m past. length m.sources ≤ 255 → GuardedSleep past) }
 {}
