@@ -1,3 +1,4 @@
+-- The lemmas of this crate, by file.
 pub mod Falling
 pub mod Fitting
 pub mod Needing

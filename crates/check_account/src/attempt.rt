@@ -32,7 +32,7 @@ pub(crate) fn maker_after(kind: Kind, who: Actor, before: Option<Actor>) -> Opti
     }
 }
 
-// The first error, or else the second.
+/// The first error, or else the second.
 fn or_else(first: Option<Errno>, other: Option<Errno>) -> Option<Errno>
     ensures { result ≡ or_else first other }
 {
@@ -42,7 +42,7 @@ fn or_else(first: Option<Errno>, other: Option<Errno>) -> Option<Errno>
     }
 }
 
-// The error of a freeze that left tasks.
+/// The error of a freeze that left tasks.
 fn freeze_error(end: FrozeEnd) -> Option<Errno>
     ensures { result ≡ freeze_error end }
 {
@@ -52,7 +52,7 @@ fn freeze_error(end: FrozeEnd) -> Option<Errno>
     }
 }
 
-// The error of an entering that found a wakeup pending.
+/// The error of an entering that found a wakeup pending.
 fn busy_error(busy: bool) -> Option<Errno>
     ensures { result ≡ busy_error busy }
 {

@@ -99,7 +99,7 @@ impl AttemptAccount {
         }
     }
 
-    // Passes an entry of a device that is prepared, scheduled, called back or completed, which moves the open phase alone.
+    /// Passes an entry of a device that is prepared, scheduled, called back or completed, which moves the open phase alone.
     #[tactic(auto, using(crate::proofs::Unmoved::attempt_stays))]
     fn pass_device(&mut self, e: Entry)
         requires { is_of_device e.kind ≡ true }
@@ -112,7 +112,7 @@ impl AttemptAccount {
         self.disabled_by_late = disabled_by_late_after(e.kind, self.disabled_by_late);
     }
 
-    // Passes any entry of the journal. `Mem` if a counter has no room.
+    /// Passes any entry of the journal. `Mem` if a counter has no room.
     fn pass_any(&mut self, e: Entry) -> Result<(), Mem>
         ensures { OnOk result (self.new ≡ attempt_after e self.old) }
     {

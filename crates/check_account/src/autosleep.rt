@@ -33,7 +33,7 @@ pub fn is_actor(who: Actor, other: Option<Actor>) -> bool
     }
 }
 
-// Who holds the lock after that actor lets it go: another keeps it.
+/// Who holds the lock after that actor lets it go: another keeps it.
 fn let_go_by(who: Actor, before: Option<Actor>) -> Option<Actor>
     ensures { result ≡ let_go_by who before }
 {
@@ -62,7 +62,7 @@ pub(crate) fn on_after(kind: Kind, before: bool) -> bool
     }
 }
 
-// After an attempt the work looks at the count that it saved.
+/// After an attempt the work looks at the count that it saved.
 fn looks_at(before: Work) -> Work
     ensures { result ≡ looks_at before }
 {
@@ -72,7 +72,7 @@ fn looks_at(before: Work) -> Work
     }
 }
 
-// Where the work stands once it has looked: it naps where nothing was registered meanwhile.
+/// Where the work stands once it has looked: it naps where nothing was registered meanwhile.
 fn after_look(seen: Option<u32>, before: Work) -> Work
     ensures { result ≡ after_look seen before }
 {
@@ -89,7 +89,7 @@ fn after_look(seen: Option<u32>, before: Work) -> Work
     }
 }
 
-// Where the work stands after an entry of its own.
+/// Where the work stands after an entry of its own.
 fn work_step(kind: Kind, before: Work) -> Work
     ensures { result ≡ work_step kind before }
 {

@@ -51,7 +51,7 @@ pub fn time_after(kind: Kind, at: u64, before: u64) -> u64
     }
 }
 
-// Whether the count of events differs from the one in force, or an event is in progress (`pm_wakeup_pending`).
+/// Whether the count of events differs from the one in force, or an event is in progress (`pm_wakeup_pending`).
 fn has_changed(now: EventNow, count: u32) -> bool
     ensures { result ≡ has_changed now count }
 {
@@ -68,7 +68,7 @@ pub(crate) fn count_pending(force: Option<u32>, now: EventNow) -> bool
     }
 }
 
-// The count in force, unless it has changed.
+/// The count in force, unless it has changed.
 fn unless_changed(force: Option<u32>, now: EventNow) -> Option<u32>
     ensures { result ≡ (if count_pending force now then None else force) }
 {

@@ -31,7 +31,7 @@ pub(crate) fn callback_after(kind: Kind, own: bool, before: Option<Callback>) ->
     }
 }
 
-// The error of a callback counts on the way down.
+/// The error of a callback counts on the way down.
 fn error_in(phase: Phase, r: Option<Errno>, before: Option<Errno>) -> Option<Errno>
     ensures { result ≡ error_in phase r before }
 {
@@ -41,7 +41,7 @@ fn error_in(phase: Phase, r: Option<Errno>, before: Option<Errno>) -> Option<Err
     }
 }
 
-// A wakeup that a device finds is an error.
+/// A wakeup that a device finds is an error.
 fn error_by(cause: SkipCause, before: Option<Errno>) -> Option<Errno>
     ensures { result ≡ error_by cause before }
 {
@@ -51,7 +51,7 @@ fn error_by(cause: SkipCause, before: Option<Errno>) -> Option<Errno>
     }
 }
 
-// An answer to prepare that is an error's number is the phase's error.
+/// An answer to prepare that is an error's number is the phase's error.
 fn error_of(r: i32, before: Option<Errno>) -> Option<Errno>
     ensures { result ≡ or_else (error_of_number r) before }
 {
@@ -119,7 +119,7 @@ pub(crate) fn irqs_off_after(kind: Kind, before: bool) -> bool
     }
 }
 
-// Whether that step on the way up undoes this one on the way down.
+/// Whether that step on the way up undoes this one on the way down.
 fn undoes(told: PlatUndo, step: PlatDo) -> bool
     ensures { result ≡ undoes told step }
 {

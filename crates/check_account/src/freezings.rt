@@ -36,7 +36,7 @@ pub fn is_in(group: Group, kind: TaskKind) -> bool
     )
 }
 
-// Whether that actor is script i.
+/// Whether that actor is script i.
 fn is_task(i: u32, who: Actor) -> bool
     ensures { result ≡ is_task i who }
 {
@@ -46,7 +46,7 @@ fn is_task(i: u32, who: Actor) -> bool
     }
 }
 
-// Script i, of that kind, after a freeze of the group by that actor.
+/// Script i, of that kind, after a freeze of the group by that actor.
 fn asked_by(group: Group, who: Actor, i: u32, kind: TaskKind, before: Freezing) -> Freezing
     ensures { result ≡ asked_by group who i kind before }
 {
@@ -60,7 +60,7 @@ fn asked_by(group: Group, who: Actor, i: u32, kind: TaskKind, before: Freezing) 
     }
 }
 
-// A freeze of the group by that actor (`freeze_processes`, `freeze_kernel_threads`).
+/// A freeze of the group by that actor (`freeze_processes`, `freeze_kernel_threads`).
 fn ask_all(freezings: &mut Vec<Freezing>, scripts: &[Script], group: Group, who: Actor)
     requires all { length freezings.old.items ≡ length scripts.now }
     requires few { length scripts.now < 2 ^ 32 }
@@ -72,7 +72,7 @@ fn ask_all(freezings: &mut Vec<Freezing>, scripts: &[Script], group: Group, who:
     }
 }
 
-// A task of that kind after a thaw.
+/// A task of that kind after a thaw.
 fn let_go(those: Thaw, kind: TaskKind, before: Freezing) -> Freezing
     ensures { result ≡ let_go those kind before }
 {
@@ -82,7 +82,7 @@ fn let_go(those: Thaw, kind: TaskKind, before: Freezing) -> Freezing
     }
 }
 
-// A thaw (`thaw_kernel_threads`, `thaw_processes`).
+/// A thaw (`thaw_kernel_threads`, `thaw_processes`).
 fn let_all_go(freezings: &mut Vec<Freezing>, scripts: &[Script], those: Thaw)
     requires { length freezings.old.items ≡ length scripts.now }
     ensures { freezings.new.items ≡ all_let_go those scripts.now freezings.old.items }
@@ -93,7 +93,7 @@ fn let_all_go(freezings: &mut Vec<Freezing>, scripts: &[Script], those: Thaw)
     }
 }
 
-// A task freezes (`__refrigerator`).
+/// A task freezes (`__refrigerator`).
 fn put_frozen(freezings: &mut Vec<Freezing>, who: Actor)
     ensures { freezings.new.items ≡ put_frozen who freezings.old.items }
 {

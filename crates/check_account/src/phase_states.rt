@@ -12,14 +12,14 @@ use sleep_base::{Errno, Mem};
 use sleep_model::{Kind, PhaseState, SkipCause};
 use std::alloc::Global;
 
-// A prepare that answers an error leaves the device as it was.
+/// A prepare that answers an error leaves the device as it was.
 fn prepared_by(r: i32, before: PhaseState) -> PhaseState
     ensures { result ≡ prepared_by r before }
 {
     if r >= 0 { PhaseState::Prepared } else { before }
 }
 
-// Where a callback on the way down leaves the device.
+/// Where a callback on the way down leaves the device.
 fn ended_by(r: Option<Errno>) -> PhaseState
     ensures { result ≡ ended_by r }
 {
@@ -29,7 +29,7 @@ fn ended_by(r: Option<Errno>) -> PhaseState
     }
 }
 
-// Where a device stands that is passed over.
+/// Where a device stands that is passed over.
 fn skipped_for(cause: SkipCause) -> PhaseState
     ensures { result ≡ skipped_for cause }
 {
@@ -39,7 +39,7 @@ fn skipped_for(cause: SkipCause) -> PhaseState
     }
 }
 
-// One for that phase, one for its mirror, another for any other.
+/// One for that phase, one for its mirror, another for any other.
 fn by_phase(
     pair: Phase,
     phase: Phase,
@@ -58,7 +58,7 @@ fn by_phase(
     }
 }
 
-// Where the device of an entry stands after it, in that phase and its mirror.
+/// Where the device of an entry stands after it, in that phase and its mirror.
 fn phase_state_after(pair: Phase, kind: Kind, before: PhaseState) -> PhaseState
     ensures { result ≡ phase_state_after pair kind before }
 {
@@ -123,14 +123,14 @@ pub(crate) fn none_prepared(alloc: Global, count: usize) -> Result<Vec<PhaseStat
     Ok(vec![in alloc; PhaseState::Unprepared; count]?)
 }
 
-// Whether a phase is that one or its mirror.
+/// Whether a phase is that one or its mirror.
 fn is_of_pair(pair: Phase, phase: Phase) -> bool
     ensures { result ≡ (is_phase phase pair || is_phase phase (mirror pair)) }
 {
     phase == pair || phase == pair.mirror()
 }
 
-// Whether an entry may move its device in that phase and its mirror.
+/// Whether an entry may move its device in that phase and its mirror.
 #[inline(always)]
 fn may_move(pair: Phase, kind: &Kind) -> bool
     ensures { result ≡ may_move pair kind.now }
@@ -145,7 +145,7 @@ fn may_move(pair: Phase, kind: &Kind) -> bool
     }
 }
 
-// An entry moves that device, if it is there.
+/// An entry moves that device, if it is there.
 fn put_state(phase_states: &mut Vec<PhaseState>, pair: Phase, kind: &Kind, device: u32)
     ensures { phase_states.new.items ≡ phase_states_after pair kind.now (Some device) phase_states.old.items }
 {

@@ -33,7 +33,7 @@ pub(crate) fn one_further(count: usize) -> Result<usize, Mem>
     }
 }
 
-// The step under way has ended, and the next one has not begun.
+/// The step under way has ended, and the next one has not begun.
 fn next_step(position: ScriptPosition) -> Result<ScriptPosition, Mem>
     ensures { IfOk result (λ s. s ≡ next_step position) }
 {
@@ -46,7 +46,7 @@ fn next_step(position: ScriptPosition) -> Result<ScriptPosition, Mem>
     })
 }
 
-// The step under way, an answered read, has ended.
+/// The step under way, an answered read, has ended.
 fn read(position: ScriptPosition, count: u32) -> Result<ScriptPosition, Mem>
     ensures { IfOk result (λ s. s ≡ position_after (Reads count) position) }
 {
@@ -57,7 +57,7 @@ fn read(position: ScriptPosition, count: u32) -> Result<ScriptPosition, Mem>
     })
 }
 
-// The step under way, a save, has ended so.
+/// The step under way, a save, has ended so.
 fn saved(position: ScriptPosition, ok: bool) -> Result<ScriptPosition, Mem>
     ensures { IfOk result (λ s. s ≡ position_after (Saves ok) position) }
 {
@@ -65,7 +65,7 @@ fn saved(position: ScriptPosition, ok: bool) -> Result<ScriptPosition, Mem>
     Ok(ScriptPosition { saved: ok, ..next })
 }
 
-// Autosleep is set: the step has one turn after it.
+/// Autosleep is set: the step has one turn after it.
 fn set(position: ScriptPosition) -> Result<ScriptPosition, Mem>
     ensures { IfOk result (λ s. s ≡ position_after Sets position) }
 {
@@ -76,7 +76,7 @@ fn set(position: ScriptPosition) -> Result<ScriptPosition, Mem>
     })
 }
 
-// A script's place after an entry of its own. `Mem` if a counter has no room.
+/// A script's place after an entry of its own. `Mem` if a counter has no room.
 fn position_after(kind: Kind, position: ScriptPosition) -> Result<ScriptPosition, Mem>
     ensures { IfOk result (λ s. s ≡ position_after (position_effect kind) position) }
 {

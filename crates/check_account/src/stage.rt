@@ -6,7 +6,7 @@ ghost use Rattle.sleep_model.specs.Table.{after_done, next_stage, stage_after_do
 use sleep_base::Errno;
 use sleep_model::{FrozeEnd, Group, Kind, Phase, PlatDo, PlatUndo, Stage, Thaw};
 
-// The first where there is no error, else the second.
+/// The first where there is no error, else the second.
 fn by_error(r: Option<Errno>, good: Stage, failed: Stage) -> Stage
     ensures { result ≡ by_error r good failed }
 {
@@ -16,14 +16,14 @@ fn by_error(r: Option<Errno>, good: Stage, failed: Stage) -> Stage
     }
 }
 
-// The first where it is so, else the second.
+/// The first where it is so, else the second.
 fn by_case(so: bool, here: Stage, there: Stage) -> Stage
     ensures { result ≡ by_case so here there }
 {
     if so { here } else { there }
 }
 
-// The first where a freeze left none, else the second.
+/// The first where a freeze left none, else the second.
 fn by_froze(end: FrozeEnd, good: Stage, failed: Stage) -> Stage
     ensures { result ≡ by_froze end good failed }
 {
@@ -33,7 +33,7 @@ fn by_froze(end: FrozeEnd, good: Stage, failed: Stage) -> Stage
     }
 }
 
-// What follows a freeze that left none.
+/// What follows a freeze that left none.
 fn stage_after_freeze(group: Group) -> Stage
     ensures { result ≡ stage_after_freeze group }
 {
@@ -43,7 +43,7 @@ fn stage_after_freeze(group: Group) -> Stage
     }
 }
 
-// What follows a freeze that left tasks.
+/// What follows a freeze that left tasks.
 fn failed_freeze(group: Group) -> Stage
     ensures { result ≡ failed_freeze group }
 {
@@ -53,7 +53,7 @@ fn failed_freeze(group: Group) -> Stage
     }
 }
 
-// What follows a thaw.
+/// What follows a thaw.
 fn stage_after_thaw(those: Thaw) -> Stage
     ensures { result ≡ stage_after_thaw those }
 {
@@ -63,7 +63,7 @@ fn stage_after_thaw(those: Thaw) -> Stage
     }
 }
 
-// What follows a step of the platform on the way down.
+/// What follows a step of the platform on the way down.
 fn stage_after_platform_down(step: PlatDo) -> Stage
     ensures { result ≡ stage_after_platform_down step }
 {
@@ -74,7 +74,7 @@ fn stage_after_platform_down(step: PlatDo) -> Stage
     }
 }
 
-// What follows such a step that failed.
+/// What follows such a step that failed.
 fn failed_platform_down(step: PlatDo) -> Stage
     ensures { result ≡ failed_platform_down step }
 {
@@ -85,7 +85,7 @@ fn failed_platform_down(step: PlatDo) -> Stage
     }
 }
 
-// What follows a step of the platform on the way up.
+/// What follows a step of the platform on the way up.
 fn stage_after_platform_up(step: PlatUndo) -> Stage
     ensures { result ≡ stage_after_platform_up step }
 {
@@ -96,7 +96,7 @@ fn stage_after_platform_up(step: PlatUndo) -> Stage
     }
 }
 
-// What follows a phase on the devices' way down.
+/// What follows a phase on the devices' way down.
 fn stage_after_down(phase: Phase) -> Stage
     ensures { result ≡ stage_after_down phase }
 {
@@ -107,7 +107,7 @@ fn stage_after_down(phase: Phase) -> Stage
     }
 }
 
-// What follows a phase on the devices' way up.
+/// What follows a phase on the devices' way up.
 fn stage_after_up(phase: Phase) -> Stage
     ensures { result ≡ stage_after_up phase }
 {
@@ -118,7 +118,7 @@ fn stage_after_up(phase: Phase) -> Stage
     }
 }
 
-// What follows a phase that failed.
+/// What follows a phase that failed.
 fn failed_phase(phase: Phase) -> Stage
     ensures { result ≡ failed_phase phase }
 {
@@ -129,7 +129,7 @@ fn failed_phase(phase: Phase) -> Stage
     }
 }
 
-// What follows a phase that is done.
+/// What follows a phase that is done.
 fn after_done(phase: Phase, r: Option<Errno>) -> Stage
     ensures { result ≡ after_done phase r }
 {

@@ -14,7 +14,7 @@ use check_past::Passed;
 use sleep_base::Mem;
 use sleep_model::{Due, EventNow, Group, Kind, Stage, What};
 
-// A freeze of a group: it asks its tasks, then waits for them. `Mem` if its end is beyond all time.
+/// A freeze of a group: it asks its tasks, then waits for them. `Mem` if its end is beyond all time.
 fn freeze_due(past: &Passed<'_>, now: EventNow, group: Group) -> Result<Due, Mem>
     ensures { IfOk result (λ d. d ≡ freeze_due past.now.machine (journal_of past.now) now group
         (freeze_since (journal_of past.now))) }
@@ -25,7 +25,7 @@ fn freeze_due(past: &Passed<'_>, now: EventNow, group: Group) -> Result<Due, Mem
     }
 }
 
-// The entering, or the waking. `Mem` if the alarm is beyond all time.
+/// The entering, or the waking. `Mem` if the alarm is beyond all time.
 fn enter_due(past: &Passed<'_>, now: EventNow) -> Result<Due, Mem>
     ensures { IfOk result (λ d. d ≡ enter_due past.now.machine (journal_of past.now) now (sleep_of (journal_of past.now))) }
 {
@@ -37,7 +37,7 @@ fn enter_due(past: &Passed<'_>, now: EventNow) -> Result<Due, Mem>
     }
 }
 
-// A notifier that hears of the attempt.
+/// A notifier that hears of the attempt.
 fn notify_due(past: &Passed<'_>) -> Due
     ensures { (now : EventNow) → result ≡ stage_due past.now.machine (journal_of past.now) now Notifies }
 {
@@ -47,7 +47,7 @@ fn notify_due(past: &Passed<'_>) -> Due
     }
 }
 
-// A processor that is stopped.
+/// A processor that is stopped.
 fn stop_due(past: &Passed<'_>, now: EventNow) -> Due
     ensures { result ≡ stage_due past.now.machine (journal_of past.now) now StopsCpus }
 {
@@ -63,7 +63,7 @@ fn stop_due(past: &Passed<'_>, now: EventNow) -> Due
     }
 }
 
-// A part of the core that is suspended.
+/// A part of the core that is suspended.
 fn core_due(past: &Passed<'_>) -> Due
     ensures { (now : EventNow) → result ≡ stage_due past.now.machine (journal_of past.now) now StopsSyscore }
 {
@@ -73,7 +73,7 @@ fn core_due(past: &Passed<'_>) -> Due
     }
 }
 
-// A part of the core that is resumed.
+/// A part of the core that is resumed.
 fn resume_due(past: &Passed<'_>) -> Due
     ensures { (now : EventNow) → result ≡ stage_due past.now.machine (journal_of past.now) now StartsSyscore }
 {
@@ -83,7 +83,7 @@ fn resume_due(past: &Passed<'_>) -> Due
     }
 }
 
-// A processor that is started.
+/// A processor that is started.
 fn cpu_on_due(past: &Passed<'_>) -> Due
     ensures { (now : EventNow) → result ≡ stage_due past.now.machine (journal_of past.now) now StartsCpus }
 {
@@ -93,7 +93,7 @@ fn cpu_on_due(past: &Passed<'_>) -> Due
     }
 }
 
-// A notifier that hears of the attempt's end.
+/// A notifier that hears of the attempt's end.
 fn post_due(past: &Passed<'_>) -> Due
     ensures { (now : EventNow) → result ≡ stage_due past.now.machine (journal_of past.now) now Posts }
 {
@@ -103,7 +103,7 @@ fn post_due(past: &Passed<'_>) -> Due
     }
 }
 
-// What the maker makes at a stage, if that has anything left. `Mem` if a moment is beyond all time.
+/// What the maker makes at a stage, if that has anything left. `Mem` if a moment is beyond all time.
 fn stage_due(past: &Passed<'_>, now: EventNow, stage: Stage) -> Result<Due, Mem>
     ensures { IfOk result (λ d. d ≡ stage_due past.now.machine (journal_of past.now) now stage) }
 {
@@ -140,7 +140,7 @@ fn stage_due(past: &Passed<'_>, now: EventNow, stage: Stage) -> Result<Due, Mem>
     }
 }
 
-// What is made at a stage, or else at the one after it.
+/// What is made at a stage, or else at the one after it.
 fn stage_or_next(past: &Passed<'_>, now: EventNow, stage: Stage) -> Result<Due, Mem>
     ensures { IfOk result (λ d. d ≡ stage_or_next past.now.machine (journal_of past.now) now stage) }
 {

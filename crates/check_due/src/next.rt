@@ -21,7 +21,7 @@ use check_past::Passed;
 use sleep_base::Mem;
 use sleep_model::{Actor, Due, EventNow, Freezing, Kind, Op, ScriptPosition, TaskKind, Why};
 
-// A save of the count.
+/// A save of the count.
 fn save_due(
     past: &Passed<'_>,
     now: EventNow,
@@ -36,7 +36,7 @@ fn save_due(
     count_due(held, past.is_on(), position.waits, asked, now, number)
 }
 
-// A request for a runtime status.
+/// A request for a runtime status.
 fn request_due(past: &Passed<'_>, device: u32, to_suspended: bool) -> Due
     ensures { (now : EventNow) (position : ScriptPosition) (asked : Bool) → result ≡ step_due past.now.machine (journal_of past.now) now
         position asked (Some (Runtime device to_suspended)) }
@@ -49,7 +49,7 @@ fn request_due(past: &Passed<'_>, device: u32, to_suspended: bool) -> Due
     })
 }
 
-// A new link. `Mem` if there is no memory for the walk.
+/// A new link. `Mem` if there is no memory for the walk.
 fn link_due(past: &Passed<'_>, supplier: u32, consumer: u32) -> Result<Due, Mem>
     requires { IsOp past.now.machine (Link supplier consumer) }
     ensures { IfOk result (λ d. (now : EventNow) (position : ScriptPosition) (asked : Bool) → d ≡ step_due past.now.machine
@@ -63,7 +63,7 @@ fn link_due(past: &Passed<'_>, supplier: u32, consumer: u32) -> Result<Due, Mem>
     }))
 }
 
-// A state of a link.
+/// A state of a link.
 fn link_set_due(past: &Passed<'_>, supplier: u32, consumer: u32, active: bool) -> Due
     ensures { (now : EventNow) (position : ScriptPosition) (asked : Bool) → result ≡ step_due past.now.machine (journal_of past.now) now
         position asked (Some (LinkState supplier consumer active)) }
@@ -77,8 +77,8 @@ fn link_set_due(past: &Passed<'_>, supplier: u32, consumer: u32, active: bool) -
     })
 }
 
-// The next entry of a script at its operation, which names what there is. `Mem` if a moment is beyond all time, where
-// the next attempt has no number, or if there is no memory for a walk.
+/// The next entry of a script at its operation, which names what there is. `Mem` if a moment is beyond all time, where
+/// the next attempt has no number, or if there is no memory for a walk.
 fn op_due(
     past: &Passed<'_>,
     now: EventNow,
@@ -119,7 +119,7 @@ fn op_due(
     }
 }
 
-// The next entry of a script at its operation, or its exit.
+/// The next entry of a script at its operation, or its exit.
 fn step_due(
     past: &Passed<'_>,
     now: EventNow,
@@ -136,8 +136,8 @@ fn step_due(
     }
 }
 
-// What a task of that kind does next: a frozen one waits, and so does one while the machine sleeps; one that is asked to
-// freeze does so where it may.
+/// What a task of that kind does next: a frozen one waits, and so does one while the machine sleeps; one that is asked to
+/// freeze does so where it may.
 fn task_due(
     past: &Passed<'_>,
     now: EventNow,
@@ -161,7 +161,7 @@ fn task_due(
     }
 }
 
-// Script i at its own steps.
+/// Script i at its own steps.
 fn script_due(past: &Passed<'_>, now: EventNow, i: u32) -> Result<Due, Mem>
     ensures { IfOk result (λ d. d ≡ script_due past.now.machine (journal_of past.now) now i) }
 {

@@ -10,7 +10,7 @@ use check_past::Passed;
 use sleep_base::Errno;
 use sleep_model::{Stage, What};
 
-// Whether a row of the table has an entry left.
+/// Whether a row of the table has an entry left.
 fn has_more(past: &Passed<'_>, stage: Stage) -> bool
     ensures { result ≡ has_more past.now.machine (journal_of past.now) stage }
 {

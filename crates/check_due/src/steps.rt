@@ -32,7 +32,7 @@ pub fn read_due(now: EventNow, waits: bool, asked: bool) -> Due
     }
 }
 
-// A save of that number, where the lock is free and autosleep is off.
+/// A save of that number, where the lock is free and autosleep is off.
 fn save_due(now: EventNow, count: u32) -> Due
     ensures { result ≡ save_due now count }
 {
@@ -43,7 +43,7 @@ fn save_due(now: EventNow, count: u32) -> Due
     }
 }
 
-// Where another holds the lock: a write says once that it waits, and gives up where it is asked to freeze.
+/// Where another holds the lock: a write says once that it waits, and gives up where it is asked to freeze.
 fn lock_due(waits: bool, asked: bool, says: Due, gives_up: Due) -> Due
     ensures { result ≡ lock_due waits asked says gives_up }
 {
@@ -113,7 +113,7 @@ pub fn autosleep_due(held: bool, begun: bool, mem: bool, off: bool) -> Due
     }
 }
 
-// The end of a sleep up to that moment.
+/// The end of a sleep up to that moment.
 fn slept_due(until: Option<u64>, time: u64) -> Due
     ensures { result ≡ slept_due until time }
 {

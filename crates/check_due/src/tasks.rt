@@ -34,7 +34,7 @@ pub fn is_user(kind: TaskKind) -> bool
     matches!(kind, TaskKind::User)
 }
 
-// Late has taken the device (`__device_suspend_late`).
+/// Late has taken the device (`__device_suspend_late`).
 fn is_taken(state: PhaseState) -> bool
     ensures { result ≡ is_taken state }
 {
@@ -60,7 +60,7 @@ pub fn freezes_at(user: bool, begun: bool, op: Option<&Op>) -> bool
     }
 }
 
-// The number of the next attempt. `Mem` if the counter has no room.
+/// The number of the next attempt. `Mem` if the counter has no room.
 fn next_number(attempts: u32) -> Result<u32, Mem>
     ensures { IfOk result (λ n. n ≡ attempts + 1) }
 {

@@ -10,7 +10,7 @@ use phase_table::Phase;
 use sleep_base::Errno;
 use sleep_model::{AsyncWork, EventNow, Kind, PhaseState, SkipCause, What};
 
-// Whether a device is direct-complete in suspend.
+/// Whether a device is direct-complete in suspend.
 fn is_direct_now(past: &Passed<'_>, device: u32) -> bool
     ensures { result ≡ is_direct_now past.now.machine (journal_of past.now) device }
 {
@@ -20,7 +20,7 @@ fn is_direct_now(past: &Passed<'_>, device: u32) -> bool
         && past.all_direct_below(device)
 }
 
-// Whether a phase leaves a device alone.
+/// Whether a phase leaves a device alone.
 fn is_direct(past: &Passed<'_>, phase: Phase, device: u32) -> bool
     ensures { result ≡ is_direct past.now.machine (journal_of past.now) phase device }
 {
@@ -61,7 +61,7 @@ pub fn device_error(past: &Passed<'_>, phase: Phase, device: u32) -> Option<Errn
     past.answered_error(What::Device(device, phase))
 }
 
-// The work of a device that stands so in a phase or its mirror, else the other.
+/// The work of a device that stands so in a phase or its mirror, else the other.
 fn work_in(phase: Phase, state: PhaseState, other: AsyncWork) -> AsyncWork
     ensures { result ≡ work_in phase state other }
 {

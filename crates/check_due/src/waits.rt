@@ -21,7 +21,7 @@ pub fn gives_up_at(since: u64) -> Result<u64, Mem>
     later_by(since, FREEZE_TIMEOUT_MSECS)
 }
 
-// A freeze of a group that still waits for those tasks. `Mem` if its end is beyond all time.
+/// A freeze of a group that still waits for those tasks. `Mem` if its end is beyond all time.
 fn froze_by(
     past: &Passed<'_>,
     now: EventNow,

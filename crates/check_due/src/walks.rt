@@ -10,7 +10,7 @@ use phase_table::Phase;
 use sleep_base::Errno;
 use sleep_model::{AsyncWork, Callback, Due, EventNow, Kind, What, Why};
 
-// Wait for that device, or else do this.
+/// Wait for that device, or else do this.
 fn after_device(device: Option<u32>, next: Due) -> Due
     ensures { result ≡ after_device device next }
 {
@@ -45,7 +45,7 @@ pub(crate) fn complete_due(past: &Passed<'_>) -> Due
     }
 }
 
-// What a phase on the way down answers.
+/// What a phase on the way down answers.
 fn phase_error(past: &Passed<'_>) -> Option<Errno>
     ensures { result ≡ phase_error (journal_of past.now) }
 {
@@ -55,7 +55,7 @@ fn phase_error(past: &Passed<'_>) -> Option<Errno>
     }
 }
 
-// The end of a phase on the way down, once all that were scheduled are through.
+/// The end of a phase on the way down, once all that were scheduled are through.
 fn close_down(past: &Passed<'_>, phase: Phase) -> Due
     ensures { result ≡ close_down past.now.machine (journal_of past.now) phase }
 {
@@ -65,7 +65,7 @@ fn close_down(past: &Passed<'_>, phase: Phase) -> Due
     )
 }
 
-// The walk down at a device.
+/// The walk down at a device.
 fn take_down(past: &Passed<'_>, now: EventNow, phase: Phase, device: u32) -> Due
     ensures { result ≡ take_down past.now.machine (journal_of past.now) now phase device }
 {
@@ -79,7 +79,7 @@ fn take_down(past: &Passed<'_>, now: EventNow, phase: Phase, device: u32) -> Due
     }
 }
 
-// The walk down between callbacks.
+/// The walk down between callbacks.
 fn walk_down(past: &Passed<'_>, now: EventNow, phase: Phase) -> Due
     ensures { result ≡ down_due past.now.machine (journal_of past.now) now phase None }
 {
@@ -101,7 +101,7 @@ pub(crate) fn down_due(past: &Passed<'_>, now: EventNow, phase: Phase) -> Due
     }
 }
 
-// The walk up between callbacks.
+/// The walk up between callbacks.
 fn walk_up(past: &Passed<'_>, phase: Phase) -> Due
     ensures { result ≡ up_due past.now.machine (journal_of past.now) phase None }
 {
@@ -128,7 +128,7 @@ pub(crate) fn up_due(past: &Passed<'_>, phase: Phase) -> Due
     }
 }
 
-// A device that is scheduled, at its turn.
+/// A device that is scheduled, at its turn.
 fn scheduled_due(past: &Passed<'_>, now: EventNow, phase: Phase, device: u32) -> Due
     ensures { result ≡ scheduled_due past.now.machine (journal_of past.now) now phase device }
 {

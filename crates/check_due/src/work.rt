@@ -18,7 +18,7 @@ use check_past::Passed;
 use sleep_base::Mem;
 use sleep_model::{Due, EventNow, Kind, NAP_MSECS, Why, Work, visible};
 
-// A nap up to that moment, once it has begun.
+/// A nap up to that moment, once it has begun.
 fn nap_due(past: &Passed<'_>, until: Option<u64>) -> Result<Due, Mem>
     ensures { IfOk result (λ d. (now : EventNow) → d ≡ work_due past.now.machine (journal_of past.now) now (Napping until)) }
 {
@@ -35,7 +35,7 @@ fn nap_due(past: &Passed<'_>, until: Option<u64>) -> Result<Due, Mem>
     }
 }
 
-// The first where autosleep is on, else that the work ends.
+/// The first where autosleep is on, else that the work ends.
 fn if_on(past: &Passed<'_>, kind: Kind) -> Due
     ensures { result ≡ (if is_on (journal_of past.now) then Makes kind else Makes AutoOff) }
 {
@@ -46,7 +46,7 @@ fn if_on(past: &Passed<'_>, kind: Kind) -> Due
     }
 }
 
-// The work's next entry. `Mem` if a nap ends beyond all time, or the next attempt has no number.
+/// The work's next entry. `Mem` if a nap ends beyond all time, or the next attempt has no number.
 fn work_due(past: &Passed<'_>, now: EventNow, work: Work) -> Result<Due, Mem>
     ensures { IfOk result (λ d. d ≡ work_due past.now.machine (journal_of past.now) now work) }
 {

@@ -1,3 +1,4 @@
+-- The lemmas of this crate, by file.
 mod Making
 mod Ordering
 mod Placing

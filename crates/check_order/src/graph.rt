@@ -45,7 +45,7 @@ impl Model for DeviceGraph {
         t.hanging.rows t.supplied.rows t.consumed.rows t.below t.above t.order.items };
 }
 
-// The rows that a link's two devices have after it was added.
+/// The rows that a link's two devices have after it was added.
 #[derive(Drop)]
 struct ChangedRows {
     below: Vec<u32>,
@@ -121,7 +121,7 @@ impl DeviceGraph {
         Ok(visits.marks.is_set(supplier))
     }
 
-    // The order that a link leaves: its consumer is moved to the end, with all that hangs below it.
+    /// The order that a link leaves: its consumer is moved to the end, with all that hangs below it.
     fn moved_by(&self, link: Link) -> Result<Vec<u32>, Mem>
         requires { AreLinks self.now.parents (link ∷ self.now.links) }
         ensures { IfOk result (λ v. v.items ≡ order_by self.now.parents (link ∷ self.now.links)) }
@@ -130,7 +130,7 @@ impl DeviceGraph {
         move_to_end(alloc, &self.hanging, link.consumer, &self.order)
     }
 
-    // The rows of a link's devices after it is added.
+    /// The rows of a link's devices after it is added.
     fn longer_rows(&self, link: Link) -> Result<ChangedRows, Mem>
         ensures { IfOk result (λ r. AreShown self.now.parents (link ∷ self.now.links) link r.below.items r.above.items) }
     {
@@ -168,7 +168,7 @@ impl DeviceGraph {
         Ok(())
     }
 
-    // What hangs below the supplier of a link by active ones, after that link's state was set.
+    /// What hangs below the supplier of a link by active ones, after that link's state was set.
     fn row_below(&self, changed: Link) -> Result<Vec<u32>, Mem>
         ensures { IfOk result (λ v. v.items
             ≡ dependents self.now.parents (active_of (links_with changed self.now.links)) changed.supplier) }
@@ -181,7 +181,7 @@ impl DeviceGraph {
         Ok(row)
     }
 
-    // What hangs above the consumer of a link by active ones, after that link's state was set.
+    /// What hangs above the consumer of a link by active ones, after that link's state was set.
     fn row_above(&self, changed: Link) -> Result<Vec<u32>, Mem>
         requires { changed.consumer < length self.now.parents }
         ensures { IfOk result (λ v. v.items
@@ -223,7 +223,7 @@ impl DeviceGraph {
     }
 }
 
-// The place of a link that so many stand before. `Mem` if there is no number for it.
+/// The place of a link that so many stand before. `Mem` if there is no number for it.
 fn place_number(count: usize) -> Result<u32, Mem>
     ensures { IfOk result (λ n. n ≡ count) }
 {
@@ -233,8 +233,8 @@ fn place_number(count: usize) -> Result<u32, Mem>
     Ok(count as u32)
 }
 
-// Makes room for one more link among the links and in the rows of its two devices. `Mem` if there is no memory for it; what
-// they say is then as before.
+/// Makes room for one more link among the links and in the rows of its two devices. `Mem` if there is no memory for it; what
+/// they say is then as before.
 fn make_room(
     links: &mut Vec<Link>,
     hanging: &mut Rows,
@@ -258,7 +258,7 @@ fn make_room(
     consumed.make_room(link.consumer)
 }
 
-// Devices with these parents and no links. `Mem` if there is no memory for them.
+/// Devices with these parents and no links. `Mem` if there is no memory for them.
 fn without_links(alloc: Global, parents: &[Option<u32>]) -> Result<DeviceGraph, Mem>
     requires numbered { length parents.now < 2 ^ 32 }
     requires after { EachAfterParent 0 parents.now }

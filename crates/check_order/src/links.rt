@@ -9,14 +9,14 @@ use crate::tables::push_if;
 use sleep_base::Mem;
 use sleep_model::Link;
 
-// Whether the link is between these two.
+/// Whether the link is between these two.
 fn is_link(link: Link, supplier: u32, consumer: u32) -> bool
     ensures { result ≡ is_link supplier consumer link }
 {
     link.supplier == supplier && link.consumer == consumer
 }
 
-// The link, with the state of the changed one where it is between the same two.
+/// The link, with the state of the changed one where it is between the same two.
 fn with_state(link: Link, changed: Link) -> Link
     ensures { result ≡ with_state changed.supplier changed.consumer changed.active link }
 {

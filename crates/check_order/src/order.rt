@@ -22,7 +22,7 @@ pub(crate) fn registered(alloc: Global, count: u32) -> Result<Vec<u32>, Mem>
     Ok(order)
 }
 
-// The order without the marked devices, with these at its end.
+/// The order without the marked devices, with these at its end.
 fn with_last(alloc: Global, order: &[u32], marks: &Flags, devices: &[u32]) -> Result<Vec<u32>, Mem>
     ensures { IfOk result (λ v. v.items
         ≡ filter (λ d. not (slice_index_or marks.now d false)) order.now ++ devices.now) }

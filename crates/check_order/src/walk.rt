@@ -16,7 +16,7 @@ pub(crate) struct VisitedDevices {
     pub(crate) marks: Flags,
 }
 
-// Puts a device in front, unless it was visited.
+/// Puts a device in front, unless it was visited.
 fn put(visits: &mut VisitedDevices, device: u32) -> Result<(), Mem>
     requires marked { AreMarked (length visits.old.marks) visits.old }
     requires device { device < length visits.old.marks }
@@ -30,7 +30,7 @@ fn put(visits: &mut VisitedDevices, device: u32) -> Result<(), Mem>
     Ok(())
 }
 
-// Visits a device and all that hangs below it, down to some level.
+/// Visits a device and all that hangs below it, down to some level.
 fn visit(table: &Rows, levels: u32, device: u32, visits: &mut VisitedDevices) -> Result<(), Mem>
     requires within { (d x : ℕ) → is_among (row_at table.now d) x ≡ true → x < length visits.old.marks }
     requires marked { AreMarked (length visits.old.marks) visits.old }

@@ -1,3 +1,4 @@
+-- The lemmas of this crate, by file.
 pub mod Naming
 pub mod Passing
 pub mod Ranking

@@ -1,3 +1,4 @@
+-- The definitions of this crate, by file.
 pub mod Asked
 pub mod JournalStates
 pub mod PassedFields

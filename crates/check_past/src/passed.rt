@@ -37,7 +37,7 @@ impl<'m> Model for Passed<'m> {
     ghost invariant = { passed_invariant };
 }
 
-// One more. `Mem` if the counter has no room.
+/// One more. `Mem` if the counter has no room.
 fn one_further(count: usize) -> Result<usize, Mem>
     ensures { IfOk result (λ n. n ≡ count + 1) }
 {

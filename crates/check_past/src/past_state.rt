@@ -21,7 +21,7 @@ pub(crate) struct PastState<'m> {
     pub(crate) calls: Callers<'m>,
 }
 
-// Passes one more entry to the calls, after that number of attempts.
+/// Passes one more entry to the calls, after that number of attempts.
 fn pass_calls(calls: &mut Callers<'_>, e: Entry, attempts: u32) -> Result<(), Mem>
     ensures { OnOk result (calls.new ≡ record calls.old {
       state = callers_after calls.old.machine e attempts (class_of e.kind) calls.old.state;

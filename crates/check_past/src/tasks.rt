@@ -9,7 +9,7 @@ use crate::passed::Passed;
 use check_account::is_in;
 use sleep_model::{Actor, Freezing, Group, Op, Script, ScriptPosition, TaskKind, Work};
 
-// Whether a task keeps the freeze of its group waiting.
+/// Whether a task keeps the freeze of its group waiting.
 fn keeps_waiting(group: Group, kind: TaskKind, freezing: Freezing, position: ScriptPosition) -> bool
     ensures { result ≡ keeps_waiting group kind freezing position }
 {
@@ -23,7 +23,7 @@ pub struct UnfrozenTasks {
     pub first: Option<u32>,
 }
 
-// The tasks that a freeze of the group waits for, among these.
+/// The tasks that a freeze of the group waits for, among these.
 fn left_among(
     group: Group,
     scripts: &[Script],
@@ -83,7 +83,7 @@ impl<'m> Passed<'m> {
         self.past_state.journal.tasks.position(script)
     }
 
-    // The operation of a script that is under way, if one is left.
+    /// The operation of a script that is under way, if one is left.
     fn under_way(&self, script: u32) -> Option<&'m Op>
         ensures { option_copied result ≡ op_of self.now.machine (journal_of self.now) script }
     {

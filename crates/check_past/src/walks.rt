@@ -76,7 +76,7 @@ pub fn is_not_up(state: PhaseState) -> bool
     )
 }
 
-// Where a device stands among others; unprepared if there is no such device.
+/// Where a device stands among others; unprepared if there is no such device.
 fn state_at(phase_states: &[PhaseState], device: u32) -> PhaseState
     ensures { result ≡ state_at phase_states.now device }
 {
@@ -87,7 +87,7 @@ fn state_at(phase_states: &[PhaseState], device: u32) -> PhaseState
     }
 }
 
-// Whether a device is asynchronous (`power.async_suspend`).
+/// Whether a device is asynchronous (`power.async_suspend`).
 #[tactic(auto, using(crate::proofs::AtIndex::flag_is))]
 fn is_async(devices: &[Device], device: u32) -> bool
     ensures { result ≡ is_so (map is_async devices.now) device }
@@ -107,7 +107,7 @@ pub(crate) fn any_async(devices: &[Device]) -> bool
         .any(|device| device.flags.has(DeviceFlags::ASYNC))
 }
 
-// The first that is not prepared.
+/// The first that is not prepared.
 fn first_unprepared(order: &[u32], phase_states: &[PhaseState]) -> Option<u32>
     ensures { result ≡ find (λ d. is_unprepared (state_at phase_states.now d)) order.now }
 {
@@ -117,7 +117,7 @@ fn first_unprepared(order: &[u32], phase_states: &[PhaseState]) -> Option<u32>
         .find(|d| is_unprepared(state_at(phase_states, *d)))
 }
 
-// The last that is prepared.
+/// The last that is prepared.
 fn last_prepared(order: &[u32], phase_states: &[PhaseState]) -> Option<u32>
     ensures { result ≡ find (λ d. is_prepared (state_at phase_states.now d)) (reverse order.now) }
 {
@@ -128,7 +128,7 @@ fn last_prepared(order: &[u32], phase_states: &[PhaseState]) -> Option<u32>
         .find(|d| is_prepared(state_at(phase_states, *d)))
 }
 
-// The last that is prepared and not yet taken.
+/// The last that is prepared and not yet taken.
 fn last_ready(order: &[u32], phase_states: &[PhaseState]) -> Option<u32>
     ensures { result ≡ find (λ d. is_ready (state_at phase_states.now d)) (reverse order.now) }
 {
@@ -139,7 +139,7 @@ fn last_ready(order: &[u32], phase_states: &[PhaseState]) -> Option<u32>
         .find(|d| is_ready(state_at(phase_states, *d)))
 }
 
-// The first that is scheduled on the way down, and not through.
+/// The first that is scheduled on the way down, and not through.
 fn first_going_down(order: &[u32], phase_states: &[PhaseState]) -> Option<u32>
     ensures { result ≡ find (λ d. is_going_down (state_at phase_states.now d)) order.now }
 {
@@ -149,7 +149,7 @@ fn first_going_down(order: &[u32], phase_states: &[PhaseState]) -> Option<u32>
         .find(|d| is_going_down(state_at(phase_states, *d)))
 }
 
-// The first that is not through with the way down.
+/// The first that is not through with the way down.
 fn first_not_down(order: &[u32], phase_states: &[PhaseState]) -> Option<u32>
     ensures { result ≡ find (λ d. is_not_down (state_at phase_states.now d)) order.now }
 {
@@ -159,7 +159,7 @@ fn first_not_down(order: &[u32], phase_states: &[PhaseState]) -> Option<u32>
         .find(|d| is_not_down(state_at(phase_states, *d)))
 }
 
-// The first that is not yet up.
+/// The first that is not yet up.
 fn first_not_up(order: &[u32], phase_states: &[PhaseState]) -> Option<u32>
     ensures { result ≡ find (λ d. is_not_up (state_at phase_states.now d)) order.now }
 {
@@ -169,14 +169,14 @@ fn first_not_up(order: &[u32], phase_states: &[PhaseState]) -> Option<u32>
         .find(|d| is_not_up(state_at(phase_states, *d)))
 }
 
-// The first that is down and asynchronous.
+/// The first that is down and asynchronous.
 fn first_down_async(order: &[u32], phase_states: &[PhaseState], devices: &[Device]) -> Option<u32>
     ensures { result ≡ find (λ d. is_down_in (state_at phase_states.now d) && is_so (map is_async devices.now) d) order.now }
 {
     order.iter().copied().find(|d| is_down_in(state_at(phase_states, *d)) && is_async(devices, *d))
 }
 
-// The first that is down and asynchronous, where the caller tells whether a device is asynchronous at all.
+/// The first that is down and asynchronous, where the caller tells whether a device is asynchronous at all.
 fn first_async(
     has_async: bool,
     order: &[u32],
@@ -192,14 +192,14 @@ fn first_async(
     first_down_async(order, phase_states, devices)
 }
 
-// The first that is down and synchronous.
+/// The first that is down and synchronous.
 fn first_down_sync(order: &[u32], phase_states: &[PhaseState], devices: &[Device]) -> Option<u32>
     ensures { result ≡ find (λ d. is_down_in (state_at phase_states.now d) && not (is_so (map is_async devices.now) d)) order.now }
 {
     order.iter().copied().find(|d| is_down_in(state_at(phase_states, *d)) && !is_async(devices, *d))
 }
 
-// Whether all of these are direct-complete.
+/// Whether all of these are direct-complete.
 fn are_direct(devices: &[u32], phase_states: &[PhaseState]) -> bool
     ensures { result ≡ list_all (λ d. is_direct_complete (state_at phase_states.now d)) devices.now }
 {
@@ -208,42 +208,42 @@ fn are_direct(devices: &[u32], phase_states: &[PhaseState]) -> bool
         .all(|d| is_direct_complete(state_at(phase_states, *d)))
 }
 
-// The first of these numbers whose flag is not set.
+/// The first of these numbers whose flag is not set.
 fn first_unset(flags: &Flags, order: &[u32]) -> Option<u32>
     ensures { result ≡ find (λ x. not (is_so flags.now x)) order.now }
 {
     order.iter().copied().find(|x| !flags.is_set(*x))
 }
 
-// The first of these numbers whose flag is set.
+/// The first of these numbers whose flag is set.
 fn first_set(flags: &Flags, order: &[u32]) -> Option<u32>
     ensures { result ≡ find (λ x. is_so flags.now x) order.now }
 {
     order.iter().copied().find(|x| flags.is_set(*x))
 }
 
-// The first processor after the first that is not off.
+/// The first processor after the first that is not off.
 fn first_on(off: &Flags, cpus: u32) -> Option<u32>
     ensures { result ≡ find (λ k. not (is_so off.now k)) (range_with_len 1 (cpus - 1)) }
 {
     (1..cpus).find(|k| !off.is_set(*k))
 }
 
-// The first processor after the first that is off.
+/// The first processor after the first that is off.
 fn first_off(off: &Flags, cpus: u32) -> Option<u32>
     ensures { result ≡ find (λ k. is_so off.now k) (range_with_len 1 (cpus - 1)) }
 {
     (1..cpus).find(|k| off.is_set(*k))
 }
 
-// The first of these flags that is set.
+/// The first of these flags that is set.
 fn first_stopped(flags: &Flags, count: u32) -> Option<u32>
     ensures { result ≡ find (λ x. is_so flags.now x) (range_with_len 0 count) }
 {
     (0..count).find(|x| flags.is_set(*x))
 }
 
-// The last of the first `count` flags that is not set.
+/// The last of the first `count` flags that is not set.
 fn last_unset(flags: &Flags, count: u32) -> Option<u32>
     ensures { result ≡ last_where (λ x. not (is_so flags.now x)) (range_with_len 0 count) }
 {
@@ -265,7 +265,7 @@ impl<'m> Passed<'m> {
     ghost use Rattle.phase_table.specs.declared.phase.Phase.TheVariants as phase;
     ghost use Rattle.check_past.specs.Passing.{journal_of};
 
-    // The notifiers in the order in which they are called.
+    /// The notifiers in the order in which they are called.
     fn call_order(&self) -> &[u32]
         ensures { result.now ≡ call_order self.now.machine }
     {

@@ -1,3 +1,4 @@
+-- The definitions of this crate, by file.
 pub mod Judging
 pub mod Next
 pub mod Owing

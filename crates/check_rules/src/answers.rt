@@ -14,7 +14,7 @@ use phase_table::Phase;
 use sleep_base::{Errno, Mem};
 use sleep_model::Kind;
 
-// What a phase answers: prepare its error, one on the way down a synchronous callback's, or else the last that was set.
+/// What a phase answers: prepare its error, one on the way down a synchronous callback's, or else the last that was set.
 fn phase_answer(past: &Passed<'_>, phase: Phase) -> Option<Errno>
     ensures { result ≡ phase_answer (journal_of past.now) phase }
 {

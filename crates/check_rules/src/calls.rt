@@ -32,7 +32,7 @@ pub(crate) fn is_own_turn(past: &Passed<'_>, who: Actor) -> Result<bool, Mem>
     Ok(past.made(who) == past.calls_due(who)?)
 }
 
-// Whether a note is the next call of an actor of the machine.
+/// Whether a note is the next call of an actor of the machine.
 fn is_next_call(past: &Passed<'_>, who: Actor, kind: Kind) -> bool
     requires { fits_actor past.now.machine who ≡ true }
     ensures { IsTrue result ↔ (slice_get (calls_of past.now.machine who (journal_of past.now))
@@ -55,7 +55,7 @@ pub(crate) fn is_own_call(past: &Passed<'_>, who: Actor, kind: Kind) -> bool
     }
 }
 
-// Whether a source owes steps of a call of that actor.
+/// Whether a source owes steps of a call of that actor.
 fn owes_to(source: Source, who: Actor) -> bool
     ensures { result ≡ (is_left (steps_of source.owes) && is_actor who source.caller) }
 {

@@ -22,7 +22,7 @@ use check_past::Passed;
 use sleep_base::Mem;
 use sleep_model::{Actor, Entry, Kind, WordKind};
 
-// Whether a callback ends once its reports are made. `Mem` where their number has no room.
+/// Whether a callback ends once its reports are made. `Mem` where their number has no room.
 fn are_reports_made(past: &Passed<'_>, e: Entry) -> Result<bool, Mem>
     requires { fits_entry past.now.machine e ≡ true }
     ensures { IfOk result (λ b. IsTrue b ↔ ReportsMade past.now.machine (past_of past.now) e.actor e.kind) }
@@ -33,7 +33,7 @@ fn are_reports_made(past: &Passed<'_>, e: Entry) -> Result<bool, Mem>
     }
 }
 
-// Whether an entry of the journal that its actor makes inside a callback is the end of that.
+/// Whether an entry of the journal that its actor makes inside a callback is the end of that.
 fn ends_callback(past: &Passed<'_>, e: Entry) -> bool
     ensures { IsTrue result ↔ (is_in_callback past.now.machine (journal_of past.now) e.actor ≡ true → EndsOwn (journal_of past.now) e.actor e.kind) }
 {

@@ -17,7 +17,7 @@ use check_past::Passed;
 use sleep_base::Mem;
 use sleep_model::{Actor, EventNow, Freezing, Kind};
 
-// Whether a task, at a freeze point or not, freezes where it is asked to, and makes nothing if it is frozen.
+/// Whether a task, at a freeze point or not, freezes where it is asked to, and makes nothing if it is frozen.
 fn freezes_by(freezing: Freezing, point: bool, kind: Kind) -> bool
     ensures { IsTrue result ↔ FreezesBy freezing point kind }
 {
@@ -27,7 +27,7 @@ fn freezes_by(freezing: Freezing, point: bool, kind: Kind) -> bool
     }
 }
 
-// Whether nobody says that it freezes.
+/// Whether nobody says that it freezes.
 fn freezes_not(kind: Kind) -> bool
     ensures { IsTrue result ↔ FreezesNot kind }
 {
@@ -37,7 +37,7 @@ fn freezes_not(kind: Kind) -> bool
     }
 }
 
-// Whether script i is at an operation that has a freeze point, if it is there.
+/// Whether script i is at an operation that has a freeze point, if it is there.
 fn point_of(past: &Passed<'_>, i: u32) -> Option<bool>
     ensures { result ≡ option_map (λ (s : Script). freezes_at (is_user s.kind) (position_of past.now.machine (journal_of past.now) i).waits
         (op_of past.now.machine (journal_of past.now) i)) (slice_get past.now.machine.actors i) }
@@ -50,8 +50,8 @@ fn point_of(past: &Passed<'_>, i: u32) -> Option<bool>
     ))
 }
 
-// Whether the next entry of an actor of the machine is one of the journal: it has made the calls that come before it, and
-// is inside none. `Mem` if a number has no room.
+/// Whether the next entry of an actor of the machine is one of the journal: it has made the calls that come before it, and
+/// is inside none. `Mem` if a number has no room.
 fn is_at_turn(past: &Passed<'_>, who: Actor) -> Result<bool, Mem>
     requires { fits_actor past.now.machine who ≡ true }
     ensures { IfOk result (λ b. b ≡ is_at_turn past.now.machine (past_of past.now) who) }
@@ -60,7 +60,7 @@ fn is_at_turn(past: &Passed<'_>, who: Actor) -> Result<bool, Mem>
     Ok(past.made(who) == due && !is_calling(past, who))
 }
 
-// What a task is asked as far as a freeze point may be its next step.
+/// What a task is asked as far as a freeze point may be its next step.
 fn asked_at(turn: bool, freezing: Freezing) -> Freezing
     ensures { result ≡ asked_at turn freezing }
 {
@@ -70,7 +70,7 @@ fn asked_at(turn: bool, freezing: Freezing) -> Freezing
     }
 }
 
-// So for script i. `Mem` if a number has no room.
+/// So for script i. `Mem` if a number has no room.
 fn asked_now(past: &Passed<'_>, i: u32) -> Result<Freezing, Mem>
     requires { fits_actor past.now.machine (actor.Script i) ≡ true }
     ensures { IfOk result (λ f. f ≡ asked_now past.now.machine (past_of past.now) i) }
@@ -79,8 +79,8 @@ fn asked_now(past: &Passed<'_>, i: u32) -> Result<Freezing, Mem>
     Ok(asked_at(turn, past.freezing(i)))
 }
 
-// Whether script i freezes where it is asked to and comes to it, and makes nothing if it is frozen. `Mem` if a number
-// has no room.
+/// Whether script i freezes where it is asked to and comes to it, and makes nothing if it is frozen. `Mem` if a number
+/// has no room.
 fn freezes_script(past: &Passed<'_>, i: u32, kind: Kind) -> Result<bool, Mem>
     requires { fits_actor past.now.machine (actor.Script i) ≡ true }
     ensures { IfOk result (λ b. IsTrue b ↔ FreezesEntry past.now.machine (past_of past.now) (actor.Script i) false kind) }
@@ -107,14 +107,14 @@ pub(crate) fn freezes_entry(past: &Passed<'_>, who: Actor, kind: Kind) -> Result
     }
 }
 
-// Whether a task at a freeze point, or at none, goes on.
+/// Whether a task at a freeze point, or at none, goes on.
 fn goes_on(freezing: Freezing, point: bool) -> bool
     ensures { IsTrue result ↔ (freezing.frozen ≡ false) × ((freezing.asked && point) ≡ false) }
 {
     !freezing.frozen && !(freezing.asked && point)
 }
 
-// Whether script i goes on. `Mem` if a number has no room.
+/// Whether script i goes on. `Mem` if a number has no room.
 fn goes_on_script(past: &Passed<'_>, i: u32) -> Result<bool, Mem>
     requires { fits_actor past.now.machine (actor.Script i) ≡ true }
     ensures { IfOk result (λ b. IsTrue b ↔ GoesOnEntry past.now.machine (past_of past.now) (actor.Script i) false) }

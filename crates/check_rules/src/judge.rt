@@ -43,7 +43,7 @@ pub(crate) enum Rule {
     Source,
 }
 
-// The rule at that place, from 0, among all by rising number.
+/// The rule at that place, from 0, among all by rising number.
 fn rule_at(place: u8) -> Rule
     ensures { meant result ≡ rule_at place }
 {
@@ -66,7 +66,7 @@ fn rule_at(place: u8) -> Rule
     }
 }
 
-// The number that a verdict gives a rule.
+/// The number that a verdict gives a rule.
 fn number_of(rule: Rule) -> u8
     ensures { result ≡ number_of (meant rule) }
 {
@@ -106,15 +106,15 @@ pub(crate) fn is_of_journal(kind: Kind) -> bool
     )
 }
 
-// What a rule of the journal alone says of an entry: all others keep it.
+/// What a rule of the journal alone says of an entry: all others keep it.
 fn in_journal(kind: Kind, keeps: bool) -> bool
     ensures { result ≡ (not (is_of_journal (class_of kind)) || keeps) }
 {
     !is_of_journal(kind) || keeps
 }
 
-// Whether an entry keeps a rule after the entries that were passed. `Mem` if a moment is beyond all time, a number has
-// no room, or if there is no memory for a walk.
+/// Whether an entry keeps a rule after the entries that were passed. `Mem` if a moment is beyond all time, a number has
+/// no room, or if there is no memory for a walk.
 #[inline(never)]
 fn keeps(past: &Passed<'_>, e: Entry, rule: Rule) -> Result<bool, Mem>
     requires { fits_entry past.now.machine e ≡ true }
@@ -140,8 +140,8 @@ fn keeps(past: &Passed<'_>, e: Entry, rule: Rule) -> Result<bool, Mem>
     }
 }
 
-// Whether an entry keeps the rules that entries of sources and jumps have a part in. `Mem` if a moment is beyond all time,
-// a number has no room, or if there is no memory for a walk.
+/// Whether an entry keeps the rules that entries of sources and jumps have a part in. `Mem` if a moment is beyond all time,
+/// a number has no room, or if there is no memory for a walk.
 fn keeps_together(past: &Passed<'_>, e: Entry) -> Result<bool, Mem>
     requires { fits_entry past.now.machine e ≡ true }
     ensures { IfOk result (λ b. IsTrue b → KeepsTogether past.now.machine (past_of past.now) e (class_of e.kind)) }
@@ -161,7 +161,7 @@ fn keeps_together(past: &Passed<'_>, e: Entry) -> Result<bool, Mem>
     )
 }
 
-// Whether an entry of a source or a jump keeps every rule; false of the journal's. `Mem` as above.
+/// Whether an entry of a source or a jump keeps every rule; false of the journal's. `Mem` as above.
 #[tactic(auto, using(crate::proofs::Judging::each_preserved))]
 fn keeps_aside(past: &Passed<'_>, e: Entry) -> Result<bool, Mem>
     requires { fits_entry past.now.machine e ≡ true }
@@ -173,7 +173,7 @@ fn keeps_aside(past: &Passed<'_>, e: Entry) -> Result<bool, Mem>
     keeps_together(past, e)
 }
 
-// The number of the least rule that an entry breaks, if it breaks one, rule by rule.
+/// The number of the least rule that an entry breaks, if it breaks one, rule by rule.
 #[cold]
 #[inline(never)]
 fn least_broken(past: &Passed<'_>, e: Entry) -> Result<Option<u8>, Mem>

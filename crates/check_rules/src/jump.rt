@@ -21,14 +21,14 @@ use check_past::Passed;
 use sleep_base::Mem;
 use sleep_model::{Actor, Due, EventNow, Op, ScriptPosition, Work};
 
-// Whether an entry is due.
+/// Whether an entry is due.
 fn is_made(due: Due) -> bool
     ensures { result ≡ is_made due }
 {
     matches!(due, Due::Makes(_))
 }
 
-// Whether an actor of the machine has a call to make. `Mem` if a number has no room.
+/// Whether an actor of the machine has a call to make. `Mem` if a number has no room.
 fn owes_call(past: &Passed<'_>, who: Actor) -> Result<bool, Mem>
     requires { fits_actor past.now.machine who ≡ true }
     ensures { IfOk result (λ b. b ≡ nat_lt (made (length past.now.machine.sources + 1) (λ s. history s (past_of past.now)) who)
@@ -37,8 +37,8 @@ fn owes_call(past: &Passed<'_>, who: Actor) -> Result<bool, Mem>
     Ok(past.made(who) < past.calls_due(who)?)
 }
 
-// Whether an actor of the machine is enabled: it is inside a call, has a call to make, or an entry of the journal is due of
-// it. `Mem` if a moment is beyond all time, a number has no room, or if there is no memory for a walk.
+/// Whether an actor of the machine is enabled: it is inside a call, has a call to make, or an entry of the journal is due of
+/// it. `Mem` if a moment is beyond all time, a number has no room, or if there is no memory for a walk.
 fn is_enabled(past: &Passed<'_>, now: EventNow, who: Actor) -> Result<bool, Mem>
     requires { fits_actor past.now.machine who ≡ true }
     ensures { IfOk result (λ b. b ≡ is_enabled past.now.machine (journal_of past.now) (λ s. history s (past_of past.now)) now who) }
@@ -48,14 +48,14 @@ fn is_enabled(past: &Passed<'_>, now: EventNow, who: Actor) -> Result<bool, Mem>
     Ok(is_calling(past, who) || waits || is_made(next))
 }
 
-// Whether a source owes steps of a call, whoever made it.
+/// Whether a source owes steps of a call, whoever made it.
 fn owes_steps(past: &Passed<'_>, s: u32) -> bool
     ensures { result ≡ is_left (owed (history s (past_of past.now))) }
 {
     past.source(s).owes.is_left()
 }
 
-// Whether no source owes steps of a call.
+/// Whether no source owes steps of a call.
 fn none_owes(past: &Passed<'_>) -> bool
     ensures { result ≡ none_owes (length past.now.machine.sources + 1) (λ s. history s (past_of past.now)) }
 {
@@ -66,14 +66,14 @@ fn none_owes(past: &Passed<'_>) -> bool
     none
 }
 
-// Whether nobody is inside a call or makes an attempt, so that each script is at its own steps.
+/// Whether nobody is inside a call or makes an attempt, so that each script is at its own steps.
 fn is_quiet(past: &Passed<'_>) -> bool
     ensures { result ≡ is_quiet past.now.machine (journal_of past.now) (λ s. history s (past_of past.now)) }
 {
     past.maker().is_none() && none_owes(past)
 }
 
-// Whether a script that stands so at its operation sleeps on, or is gone.
+/// Whether a script that stands so at its operation sleeps on, or is gone.
 fn stays(position: ScriptPosition, op: Option<&Op>, time: u64) -> bool
     ensures { result ≡ stays position (option_copied op.entry) time }
 {
@@ -87,7 +87,7 @@ fn stays(position: ScriptPosition, op: Option<&Op>, time: u64) -> bool
     }
 }
 
-// Whether all is quiet, and script i is not asked to freeze, and sleeps on or is gone.
+/// Whether all is quiet, and script i is not asked to freeze, and sleeps on or is gone.
 fn is_idle_script(past: &Passed<'_>, quiet: bool, i: u32) -> bool
     ensures { result ≡ (quiet && is_idle_script past.now.machine (journal_of past.now) i) }
 {
@@ -96,8 +96,8 @@ fn is_idle_script(past: &Passed<'_>, quiet: bool, i: u32) -> bool
         && stays(past.position(i), past.operation(i), past.journal_time())
 }
 
-// Whether script i of the machine is enabled, where the caller has found out whether all is quiet: then one that rests can
-// make a call alone. `Mem` as for `is_enabled`.
+/// Whether script i of the machine is enabled, where the caller has found out whether all is quiet: then one that rests can
+/// make a call alone. `Mem` as for `is_enabled`.
 fn is_script_enabled(past: &Passed<'_>, now: EventNow, quiet: bool, i: u32) -> Result<bool, Mem>
     requires there { fits_actor past.now.machine (Script i) ≡ true }
     requires quiet { quiet ≡ is_quiet past.now.machine (journal_of past.now) (λ s. history s (past_of past.now)) }
@@ -110,7 +110,7 @@ fn is_script_enabled(past: &Passed<'_>, now: EventNow, quiet: bool, i: u32) -> R
     is_enabled(past, now, Actor::Script(i))
 }
 
-// Whether no script is enabled.
+/// Whether no script is enabled.
 fn no_script_enabled(past: &Passed<'_>, now: EventNow) -> Result<bool, Mem>
     ensures { IfOk result (λ b. b ≡ none_enabled past.now.machine (journal_of past.now) (λ s. history s (past_of past.now)) now
         Script (length past.now.machine.actors)) }
@@ -124,7 +124,7 @@ fn no_script_enabled(past: &Passed<'_>, now: EventNow) -> Result<bool, Mem>
     Ok(none)
 }
 
-// Whether no device is enabled.
+/// Whether no device is enabled.
 fn no_device_enabled(past: &Passed<'_>, now: EventNow) -> Result<bool, Mem>
     ensures { IfOk result (λ b. b ≡ none_enabled past.now.machine (journal_of past.now) (λ s. history s (past_of past.now)) now
         Dev (length past.now.machine.devices)) }
@@ -137,7 +137,7 @@ fn no_device_enabled(past: &Passed<'_>, now: EventNow) -> Result<bool, Mem>
     Ok(none)
 }
 
-// Whether no source is to expire now.
+/// Whether no source is to expire now.
 fn none_expires(past: &Passed<'_>, time: u64) -> bool
     ensures { result ≡ none_expires (length past.now.machine.sources + 1) (λ s. history s (past_of past.now)) time }
 {
@@ -148,7 +148,7 @@ fn none_expires(past: &Passed<'_>, time: u64) -> bool
     none
 }
 
-// Whether no actor is enabled.
+/// Whether no actor is enabled.
 fn is_idle(past: &Passed<'_>, now: EventNow) -> Result<bool, Mem>
     ensures { IfOk result (λ b. b ≡ is_idle past.now.machine (journal_of past.now) (λ s. history s (past_of past.now)) now) }
 {
@@ -158,7 +158,7 @@ fn is_idle(past: &Passed<'_>, now: EventNow) -> Result<bool, Mem>
     Ok(scripts && !work && devices && none_expires(past, past.journal_time()))
 }
 
-// Whether no attempt is open, and nobody can make anything, as the caller has found out.
+/// Whether no attempt is open, and nobody can make anything, as the caller has found out.
 fn is_idle_outside_if(past: &Passed<'_>, now: EventNow, idle: bool) -> bool
     requires { idle ≡ is_idle past.now.machine (journal_of past.now) (λ s. history s (past_of past.now)) now }
     ensures { result ≡ (is_none (maker (journal_of past.now))
@@ -177,7 +177,7 @@ pub fn is_idle_outside(past: &Passed<'_>, now: EventNow) -> Result<bool, Mem>
     Ok(is_idle_outside_if(past, now, idle))
 }
 
-// Whether every script has exited, no attempt is open, and nobody can make anything, as the caller has found out.
+/// Whether every script has exited, no attempt is open, and nobody can make anything, as the caller has found out.
 fn is_finished_if(past: &Passed<'_>, now: EventNow, idle: bool) -> bool
     requires { idle ≡ is_idle past.now.machine (journal_of past.now) (λ s. history s (past_of past.now)) now }
     ensures { result ≡ is_finished past.now.machine (journal_of past.now) (λ s. history s (past_of past.now)) now }
@@ -185,7 +185,7 @@ fn is_finished_if(past: &Passed<'_>, now: EventNow, idle: bool) -> bool
     past.have_all_exited() && is_idle_outside_if(past, now, idle)
 }
 
-// The lesser of two moments, where there are any.
+/// The lesser of two moments, where there are any.
 fn sooner(one: Option<u64>, other: Option<u64>) -> Option<u64>
     ensures { result ≡ sooner one other }
 {
@@ -196,7 +196,7 @@ fn sooner(one: Option<u64>, other: Option<u64>) -> Option<u64>
     }
 }
 
-// The least expiry of all sources.
+/// The least expiry of all sources.
 fn next_expiry(past: &Passed<'_>) -> Option<u64>
     ensures { result ≡ next_expiry (length past.now.machine.sources + 1) (λ s. history s (past_of past.now)) }
 {
@@ -207,7 +207,7 @@ fn next_expiry(past: &Passed<'_>) -> Option<u64>
     next
 }
 
-// The alarm of a machine that sleeps. `Mem` if it is beyond all time.
+/// The alarm of a machine that sleeps. `Mem` if it is beyond all time.
 fn alarm_at(past: &Passed<'_>) -> Result<Option<u64>, Mem>
     ensures { IfOk result (λ t. t ≡ alarm_at past.now.machine (sleep_of (journal_of past.now))) }
 {
@@ -220,7 +220,7 @@ fn alarm_at(past: &Passed<'_>) -> Result<Option<u64>, Mem>
     }
 }
 
-// The end of a freeze that is not over. `Mem` if it is beyond all time.
+/// The end of a freeze that is not over. `Mem` if it is beyond all time.
 fn deadline_at(past: &Passed<'_>) -> Result<Option<u64>, Mem>
     ensures { IfOk result (λ t. t ≡ deadline_at (freeze_since (journal_of past.now))) }
 {
@@ -230,7 +230,7 @@ fn deadline_at(past: &Passed<'_>) -> Result<Option<u64>, Mem>
     }
 }
 
-// The end of the work's nap, where it is pending.
+/// The end of the work's nap, where it is pending.
 fn pending_nap(past: &Passed<'_>) -> Option<u64>
     ensures { result ≡ pending_nap (journal_of past.now) }
 {
@@ -240,7 +240,7 @@ fn pending_nap(past: &Passed<'_>) -> Option<u64>
     }
 }
 
-// The end of script i's sleep, where it is pending.
+/// The end of script i's sleep, where it is pending.
 fn pending_sleep(past: &Passed<'_>, i: u32) -> Option<u64>
     ensures { result ≡ pending_sleep (sleeps_now (journal_of past.now)) (freezing past.now.machine i (journal_of past.now))
         (slice_get past.now.machine.actors i) (position_of past.now.machine (journal_of past.now) i) }
@@ -257,7 +257,7 @@ fn pending_sleep(past: &Passed<'_>, i: u32) -> Option<u64>
     }
 }
 
-// The least such end among all scripts.
+/// The least such end among all scripts.
 fn next_sleep(past: &Passed<'_>) -> Option<u64>
     ensures { result ≡ next_sleep past.now.machine (journal_of past.now) (length past.now.machine.actors) }
 {
@@ -268,7 +268,7 @@ fn next_sleep(past: &Passed<'_>) -> Option<u64>
     next
 }
 
-// The least pending time. `Mem` if a moment is beyond all time.
+/// The least pending time. `Mem` if a moment is beyond all time.
 fn next_time(past: &Passed<'_>) -> Result<Option<u64>, Mem>
     ensures { IfOk result (λ t. t ≡ next_time past.now.machine (journal_of past.now) (λ s. history s (past_of past.now))) }
 {
@@ -278,7 +278,7 @@ fn next_time(past: &Passed<'_>) -> Result<Option<u64>, Mem>
     Ok(sooner(sooner(alarm, sooner(deadline, tasks)), next_expiry(past)))
 }
 
-// Whether time may jump: nobody is enabled, something is left to do, and it goes forward to the least pending time.
+/// Whether time may jump: nobody is enabled, something is left to do, and it goes forward to the least pending time.
 fn may_jump(idle: bool, finished: bool, least: bool, forward: bool) -> bool
     ensures { result ≡ (idle && (not finished && (least && forward))) }
 {

@@ -15,7 +15,7 @@ use check_past::Passed;
 use sleep_base::Mem;
 use sleep_model::Entry;
 
-// Whether an entry is the journal's.
+/// Whether an entry is the journal's.
 #[tactic(auto, using(crate::proofs::Judging::of_journal))]
 fn is_journals(e: Entry) -> bool
     ensures { IsTrue result ↔ (class_of e.kind ≡ OfJournal) }
@@ -23,7 +23,7 @@ fn is_journals(e: Entry) -> bool
     judge::is_of_journal(e.kind)
 }
 
-// Whether an entry is the journal's, with the numbers and the time of its place.
+/// Whether an entry is the journal's, with the numbers and the time of its place.
 fn has_numbers_of_index(past: &Passed<'_>, e: Entry) -> bool
     ensures { IsTrue result ↔ HasNumbersOfIndex (past_of past.now) e }
 {

@@ -10,7 +10,7 @@ use crate::same::is_same_number;
 use check_past::Passed;
 use sleep_model::{Entry, EventNow, Kind};
 
-// Whether both words are the same.
+/// Whether both words are the same.
 fn is_word(now: EventNow, word: EventNow) -> bool
     ensures { IsTrue result ↔ (now ≡ word) }
 {
@@ -27,7 +27,7 @@ pub fn keeps_numbers(past: &Passed<'_>, e: Entry) -> bool
     }
 }
 
-// Whether that is the next number.
+/// Whether that is the next number.
 fn is_next(n: u32, before: u32) -> bool
     ensures { IsTrue result ↔ (n ≡ before + 1) }
 {

@@ -9,21 +9,21 @@ use check_past::{Passed, is_down_in};
 use phase_table::Phase;
 use sleep_model::{Kind, PhaseState, PlatDo, PlatUndo};
 
-// It may come up: it is down, or down and scheduled.
+/// It may come up: it is down, or down and scheduled.
 fn may_come_up(state: PhaseState) -> bool
     ensures { result ≡ may_come_up state }
 {
     matches!(state, PhaseState::Suspended | PhaseState::Rescheduled)
 }
 
-// It is inside its callback on the way up.
+/// It is inside its callback on the way up.
 fn is_resuming(state: PhaseState) -> bool
     ensures { result ≡ is_resuming state }
 {
     matches!(state, PhaseState::Resuming)
 }
 
-// It is prepared, and neither down nor on its way down or up.
+/// It is prepared, and neither down nor on its way down or up.
 fn is_back(state: PhaseState) -> bool
     ensures { result ≡ is_back state }
 {
@@ -33,7 +33,7 @@ fn is_back(state: PhaseState) -> bool
     )
 }
 
-// A device is back in suspend, in late and in noirq.
+/// A device is back in suspend, in late and in noirq.
 fn is_back_in_all(past: &Passed<'_>, device: u32) -> bool
     ensures { result ≡ is_back_in_all past.now.machine (journal_of past.now) device }
 {
@@ -42,7 +42,7 @@ fn is_back_in_all(past: &Passed<'_>, device: u32) -> bool
         && is_back(past.state(Phase::Noirq, device))
 }
 
-// A step of the platform on the way up is owed.
+/// A step of the platform on the way up is owed.
 fn is_owed_by(past: &Passed<'_>, step: PlatUndo) -> bool
     ensures { result ≡ is_owed_by (journal_of past.now) step }
 {

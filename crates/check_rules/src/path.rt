@@ -13,7 +13,7 @@ use check_past::Passed;
 use phase_table::Phase;
 use sleep_model::{Actor, EventNow, Group, Kind, PlatDo, PlatUndo, Stage, Thaw, What};
 
-// An entry of a phase on the devices' way down.
+/// An entry of a phase on the devices' way down.
 fn is_of_down(phase: Phase, kind: Kind) -> bool
     ensures { IsTrue result ↔ IsOfDown phase kind }
 {
@@ -27,7 +27,7 @@ fn is_of_down(phase: Phase, kind: Kind) -> bool
     }
 }
 
-// An entry of a phase on the devices' way up.
+/// An entry of a phase on the devices' way up.
 fn is_of_up(phase: Phase, kind: Kind) -> bool
     ensures { IsTrue result ↔ IsOfUp phase kind }
 {
@@ -39,35 +39,35 @@ fn is_of_up(phase: Phase, kind: Kind) -> bool
     }
 }
 
-// Whether both are the same group.
+/// Whether both are the same group.
 fn is_group(group: Group, wanted: Group) -> bool
     ensures { IsTrue result ↔ (group ≡ wanted) }
 {
     group == wanted
 }
 
-// Whether both are the same step on the way down.
+/// Whether both are the same step on the way down.
 fn is_do(step: PlatDo, wanted: PlatDo) -> bool
     ensures { IsTrue result ↔ (step ≡ wanted) }
 {
     step == wanted
 }
 
-// Whether both are the same step on the way up.
+/// Whether both are the same step on the way up.
 fn is_undo(step: PlatUndo, wanted: PlatUndo) -> bool
     ensures { IsTrue result ↔ (step ≡ wanted) }
 {
     step == wanted
 }
 
-// Whether both are the same thaw.
+/// Whether both are the same thaw.
 fn is_thaw(those: Thaw, wanted: Thaw) -> bool
     ensures { IsTrue result ↔ (those ≡ wanted) }
 {
     those == wanted
 }
 
-// An entry of the freeze of a group.
+/// An entry of the freeze of a group.
 fn is_of_freeze(past: &Passed<'_>, now: EventNow, group: Group, kind: Kind) -> bool
     ensures { IsTrue result ↔ IsOfRow past.now.machine (journal_of past.now) now (Freezes group) kind }
 {
@@ -78,7 +78,7 @@ fn is_of_freeze(past: &Passed<'_>, now: EventNow, group: Group, kind: Kind) -> b
     }
 }
 
-// An entry of a step of the platform on the way down.
+/// An entry of a step of the platform on the way down.
 fn is_of_platform(past: &Passed<'_>, now: EventNow, step: PlatDo, kind: Kind) -> bool
     ensures { IsTrue result ↔ IsOfRow past.now.machine (journal_of past.now) now (PlatformDown step) kind }
 {
@@ -90,7 +90,7 @@ fn is_of_platform(past: &Passed<'_>, now: EventNow, step: PlatDo, kind: Kind) ->
     }
 }
 
-// An entry by which processors are stopped.
+/// An entry by which processors are stopped.
 fn is_of_stop(past: &Passed<'_>, now: EventNow, kind: Kind) -> bool
     ensures { IsTrue result ↔ IsOfRow past.now.machine (journal_of past.now) now StopsCpus kind }
 {
@@ -101,7 +101,7 @@ fn is_of_stop(past: &Passed<'_>, now: EventNow, kind: Kind) -> bool
     }
 }
 
-// An entry of the core's parts on the way down.
+/// An entry of the core's parts on the way down.
 fn is_of_core(past: &Passed<'_>, now: EventNow, kind: Kind) -> bool
     ensures { IsTrue result ↔ IsOfRow past.now.machine (journal_of past.now) now StopsSyscore kind }
 {
@@ -113,7 +113,7 @@ fn is_of_core(past: &Passed<'_>, now: EventNow, kind: Kind) -> bool
     }
 }
 
-// An entry of sleep itself.
+/// An entry of sleep itself.
 fn is_of_sleep(past: &Passed<'_>, now: EventNow, kind: Kind) -> bool
     ensures { IsTrue result ↔ IsOfRow past.now.machine (journal_of past.now) now Enters kind }
 {
@@ -124,7 +124,7 @@ fn is_of_sleep(past: &Passed<'_>, now: EventNow, kind: Kind) -> bool
     }
 }
 
-// An entry by which notifiers hear of the attempt.
+/// An entry by which notifiers hear of the attempt.
 fn is_of_notifying(past: &Passed<'_>, now: EventNow, kind: Kind) -> bool
     ensures { IsTrue result ↔ IsOfRow past.now.machine (journal_of past.now) now Notifies kind }
 {
@@ -136,7 +136,7 @@ fn is_of_notifying(past: &Passed<'_>, now: EventNow, kind: Kind) -> bool
     }
 }
 
-// An entry of a row on the way down: the thing that is next, what the machine answers, what a test finds.
+/// An entry of a row on the way down: the thing that is next, what the machine answers, what a test finds.
 fn is_of_descent(past: &Passed<'_>, now: EventNow, row: Stage, kind: Kind) -> bool
     requires { IsTrue (is_descent row) }
     ensures { IsTrue result ↔ IsOfRow past.now.machine (journal_of past.now) now row kind }
@@ -162,7 +162,7 @@ fn is_of_descent(past: &Passed<'_>, now: EventNow, row: Stage, kind: Kind) -> bo
     }
 }
 
-// An entry of a row on the way up.
+/// An entry of a row on the way up.
 fn is_of_ascent(past: &Passed<'_>, now: EventNow, row: Stage, kind: Kind) -> bool
     requires { IsTrue (not (is_descent row)) }
     ensures { IsTrue result ↔ IsOfRow past.now.machine (journal_of past.now) now row kind }
@@ -186,7 +186,7 @@ fn is_of_ascent(past: &Passed<'_>, now: EventNow, row: Stage, kind: Kind) -> boo
     }
 }
 
-// A row on the way down, up to the sleep itself.
+/// A row on the way down, up to the sleep itself.
 fn is_descent(row: Stage) -> bool
     ensures { result ≡ is_descent row }
 {
@@ -205,7 +205,7 @@ fn is_descent(row: Stage) -> bool
     )
 }
 
-// An entry of a row.
+/// An entry of a row.
 fn is_of_row(past: &Passed<'_>, now: EventNow, row: Stage, kind: Kind) -> bool
     ensures { IsTrue result ↔ IsOfRow past.now.machine (journal_of past.now) now row kind }
 {
@@ -216,7 +216,7 @@ fn is_of_row(past: &Passed<'_>, now: EventNow, row: Stage, kind: Kind) -> bool
     }
 }
 
-// An entry of the row, if one is under way.
+/// An entry of the row, if one is under way.
 fn is_of_row_if(past: &Passed<'_>, now: EventNow, row: Option<Stage>, kind: Kind) -> bool
     ensures { IsTrue result ↔ IsOfRowIf past.now.machine (journal_of past.now) now row kind }
 {

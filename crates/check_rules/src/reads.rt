@@ -18,14 +18,14 @@ use check_past::Passed;
 use sleep_base::Mem;
 use sleep_model::{Actor, Due, EventNow, Kind, Op, ScriptPosition, Work, visible};
 
-// Whether an entry is right as a read of somebody whose own step is another.
+/// Whether an entry is right as a read of somebody whose own step is another.
 fn is_read_else(now: EventNow, kind: Kind) -> bool
     ensures { IsTrue result ↔ IsReadElse now kind }
 {
     makes(read_due(now, false, false), kind)
 }
 
-// Whether an entry is right as a save of that number by somebody whose own step is another.
+/// Whether an entry is right as a save of that number by somebody whose own step is another.
 fn is_save_else(past: &Passed<'_>, now: EventNow, who: Actor, c: u32, kind: Kind) -> bool
     ensures { IsTrue result ↔ IsSaveElse (journal_of past.now) now who c kind }
 {
@@ -34,8 +34,8 @@ fn is_save_else(past: &Passed<'_>, now: EventNow, who: Actor, c: u32, kind: Kind
     !is_actor(who, past.holder()) && makes(due, kind)
 }
 
-// Whether an entry is right as a write to the state by somebody whose own step is another. `Mem` if the next attempt has
-// no number.
+/// Whether an entry is right as a write to the state by somebody whose own step is another. `Mem` if the next attempt has
+/// no number.
 fn is_write_else(past: &Passed<'_>, who: Actor, kind: Kind) -> Result<bool, Mem>
     ensures { IfOk result (λ b. IsTrue b ↔ IsWriteElse (journal_of past.now) who kind) }
 {
@@ -45,14 +45,14 @@ fn is_write_else(past: &Passed<'_>, who: Actor, kind: Kind) -> Result<bool, Mem>
     Ok(!is_actor(who, past.holder()) && makes(due, kind))
 }
 
-// Whether an entry is right as a save of the work.
+/// Whether an entry is right as a save of the work.
 fn is_auto_save(past: &Passed<'_>, now: EventNow, c: u32, kind: Kind) -> bool
     ensures { IsTrue result ↔ IsAutoSave (journal_of past.now) now c kind }
 {
     past.holder().is_none() && is_kind(auto_save(now, c), kind)
 }
 
-// Reads, saves and writes to the state of somebody whose own step is another. `Mem` if the next attempt has no number.
+/// Reads, saves and writes to the state of somebody whose own step is another. `Mem` if the next attempt has no number.
 fn reads_else(past: &Passed<'_>, now: EventNow, who: Actor, kind: Kind) -> Result<bool, Mem>
     ensures { IfOk result (λ b. IsTrue b ↔ ReadsElse (journal_of past.now) now who kind) }
 {
@@ -70,7 +70,7 @@ fn reads_else(past: &Passed<'_>, now: EventNow, who: Actor, kind: Kind) -> Resul
     }
 }
 
-// Whether an entry is right at a read.
+/// Whether an entry is right at a read.
 fn is_read(
     now: EventNow,
     position: ScriptPosition,
@@ -86,7 +86,7 @@ fn is_read(
     }
 }
 
-// Whether an entry is right at a save.
+/// Whether an entry is right at a save.
 fn is_save(
     past: &Passed<'_>,
     now: EventNow,
@@ -112,7 +112,7 @@ fn is_save(
     }
 }
 
-// What is due at a write of that text to the state, whose attempt would be that.
+/// What is due at a write of that text to the state, whose attempt would be that.
 fn written(
     past: &Passed<'_>,
     position: ScriptPosition,
@@ -136,7 +136,7 @@ fn written(
     unless_unsaved(if_saved, position.saved, due)
 }
 
-// Whether an entry is right at a write to the state. `Mem` if the next attempt has no number.
+/// Whether an entry is right at a write to the state. `Mem` if the next attempt has no number.
 fn is_write(
     past: &Passed<'_>,
     who: Actor,
@@ -160,7 +160,7 @@ fn is_write(
     }
 }
 
-// Whether an attempt is right at a write to the state.
+/// Whether an attempt is right at a write to the state.
 fn is_good_write(
     past: &Passed<'_>,
     position: ScriptPosition,
@@ -181,7 +181,7 @@ fn is_good_write(
     }
 }
 
-// A write to autosleep is refused only if its text is neither.
+/// A write to autosleep is refused only if its text is neither.
 fn is_bad_text(op: Option<&Op>) -> bool
     ensures { IsTrue result ↔ IsBadText (option_copied op.entry) }
 {
@@ -194,7 +194,7 @@ fn is_bad_text(op: Option<&Op>) -> bool
     }
 }
 
-// Autosleep is set only if the lock is free.
+/// Autosleep is set only if the lock is free.
 fn is_free(past: &Passed<'_>, op: Option<&Op>) -> bool
     ensures { IsTrue result ↔ IsFree (journal_of past.now) (option_copied op.entry) }
 {
@@ -204,7 +204,7 @@ fn is_free(past: &Passed<'_>, op: Option<&Op>) -> bool
     }
 }
 
-// An entry of a task at its operation. `Mem` if the next attempt has no number.
+/// An entry of a task at its operation. `Mem` if the next attempt has no number.
 fn reads_task(
     past: &Passed<'_>,
     now: EventNow,
@@ -237,7 +237,7 @@ fn reads_task(
     }
 }
 
-// An entry of autosleep's work. `Mem` if the next attempt has no number.
+/// An entry of autosleep's work. `Mem` if the next attempt has no number.
 fn reads_work(past: &Passed<'_>, now: EventNow, work: Work, kind: Kind) -> Result<bool, Mem>
     ensures { IfOk result (λ b. IsTrue b ↔ ReadsWork (journal_of past.now) now work kind) }
 {

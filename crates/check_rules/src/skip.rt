@@ -31,7 +31,7 @@ pub(crate) fn is_scheduled_down(past: &Passed<'_>, phase: Phase, device: u32) ->
         && past.waits_below(phase, device).is_none()
 }
 
-// Whether it is a device's turn in a phase.
+/// Whether it is a device's turn in a phase.
 fn is_turn(past: &Passed<'_>, phase: Phase, device: u32, row: Option<Stage>) -> bool
     ensures { IsTrue result
         ↔ IsTurn past.now.machine (journal_of past.now) phase device (is_async_device past.now.machine device) row }

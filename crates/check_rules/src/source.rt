@@ -14,7 +14,7 @@ use check_past::Passed;
 use check_sources::source_in;
 use sleep_model::{Entry, Kind, MOST_ENTRIES, WordKind};
 
-// Whether a source's last call owes nothing.
+/// Whether a source's last call owes nothing.
 fn is_free(past: &Passed<'_>, s: u32) -> bool
     ensures { IsTrue result ↔ (owed (history s (past_of past.now)) ≡ []) }
 {
@@ -28,7 +28,7 @@ pub(crate) fn is_next(past: &Passed<'_>, s: u32, step: WordKind) -> bool
     past.source(s).owes.is_next(step)
 }
 
-// Whether the event in progress of a source has come to its end.
+/// Whether the event in progress of a source has come to its end.
 fn has_expired(past: &Passed<'_>, s: u32) -> bool
     ensures { result ≡ has_expired (expiry (history s (past_of past.now))) (time_of (past_of past.now)) }
 {
@@ -51,7 +51,7 @@ pub fn keeps_call(past: &Passed<'_>, e: Entry) -> bool
     }
 }
 
-// Whether a source's history of `entries` entries has a place for one more of that source.
+/// Whether a source's history of `entries` entries has a place for one more of that source.
 fn has_room(own: Option<u32>, s: u32, entries: usize) -> bool
     ensures { result ≡ nat_le (with_own own s entries) most_entries }
 {
@@ -61,7 +61,7 @@ fn has_room(own: Option<u32>, s: u32, entries: usize) -> bool
     }
 }
 
-// Whether each source's history has a place for an entry.
+/// Whether each source's history has a place for an entry.
 fn have_room(past: &Passed<'_>, e: Entry) -> bool
     ensures { result ≡ are_short (e ∷ past_of past.now) (length past.now.machine.sources + 1) }
 {

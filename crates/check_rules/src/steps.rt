@@ -15,21 +15,21 @@ use check_past::Passed;
 use sleep_base::Mem;
 use sleep_model::{Actor, AsyncWork, EventNow, Kind, NAP_MSECS, Op, ScriptPosition, State, Work};
 
-// An entry of a read.
+/// An entry of a read.
 fn is_of_read(kind: Kind) -> bool
     ensures { result ≡ is_of_read kind }
 {
     matches!(kind, Kind::ReadWait | Kind::Read(_) | Kind::ReadIntr)
 }
 
-// An entry of a save.
+/// An entry of a save.
 fn is_of_save(kind: Kind) -> bool
     ensures { result ≡ is_of_save kind }
 {
     matches!(kind, Kind::SaveWait(_) | Kind::Saved(_) | Kind::SaveErr(..))
 }
 
-// An entry of a write to the state, up to the beginning of its attempt.
+/// An entry of a write to the state, up to the beginning of its attempt.
 fn is_of_write(kind: Kind) -> bool
     ensures { result ≡ is_of_write kind }
 {
@@ -39,7 +39,7 @@ fn is_of_write(kind: Kind) -> bool
     )
 }
 
-// An entry of a write of that text to autosleep.
+/// An entry of a write of that text to autosleep.
 fn is_of_autosleep(begun: bool, mem: bool, off: bool, kind: Kind) -> bool
     ensures { IsTrue result ↔ IsOfAutosleep begun mem off kind }
 {
@@ -52,7 +52,7 @@ fn is_of_autosleep(begun: bool, mem: bool, off: bool, kind: Kind) -> bool
     }
 }
 
-// A post to that mark.
+/// A post to that mark.
 fn is_post_of(mark: u32, kind: Kind) -> bool
     ensures { IsTrue result ↔ IsPostOf mark kind }
 {
@@ -62,7 +62,7 @@ fn is_post_of(mark: u32, kind: Kind) -> bool
     }
 }
 
-// A request for that status of that device.
+/// A request for that status of that device.
 fn is_request_of(device: u32, to_suspended: bool, kind: Kind) -> bool
     ensures { IsTrue result ↔ IsRequestOf device to_suspended kind }
 {
@@ -76,7 +76,7 @@ fn is_request_of(device: u32, to_suspended: bool, kind: Kind) -> bool
     }
 }
 
-// A new link between those two.
+/// A new link between those two.
 fn is_link_of(supplier: u32, consumer: u32, kind: Kind) -> bool
     ensures { IsTrue result ↔ IsLinkOf supplier consumer kind }
 {
@@ -90,7 +90,7 @@ fn is_link_of(supplier: u32, consumer: u32, kind: Kind) -> bool
     }
 }
 
-// That state of the link between those two.
+/// That state of the link between those two.
 fn is_link_state_of(supplier: u32, consumer: u32, active: bool, kind: Kind) -> bool
     ensures { IsTrue result ↔ IsLinkStateOf supplier consumer active kind }
 {
@@ -105,7 +105,7 @@ fn is_link_state_of(supplier: u32, consumer: u32, active: bool, kind: Kind) -> b
     }
 }
 
-// An entry of that operation, or the exit after the last. `Mem` if a sleep ends beyond all time.
+/// An entry of that operation, or the exit after the last. `Mem` if a sleep ends beyond all time.
 fn is_of_op(
     past: &Passed<'_>,
     position: ScriptPosition,
@@ -145,7 +145,7 @@ fn is_of_op(
     }
 }
 
-// An entry of the operation; or that the task freezes, at one that has a freeze point.
+/// An entry of the operation; or that the task freezes, at one that has a freeze point.
 fn is_step(
     past: &Passed<'_>,
     user: bool,
@@ -165,7 +165,7 @@ fn is_step(
     }
 }
 
-// A step of script i, if it is there and has not exited.
+/// A step of script i, if it is there and has not exited.
 fn is_script_step(past: &Passed<'_>, i: u32, kind: Kind) -> Result<bool, Mem>
     ensures { IfOk result (λ b. IsTrue b ↔ IsScriptStep past.now.machine (journal_of past.now)
         (position_of past.now.machine (journal_of past.now) i) (op_of past.now.machine (journal_of past.now) i)
@@ -190,7 +190,7 @@ fn is_script_step(past: &Passed<'_>, i: u32, kind: Kind) -> Result<bool, Mem>
     }
 }
 
-// An entry of autosleep's work, where it stands so. `Mem` if a nap ends beyond all time.
+/// An entry of autosleep's work, where it stands so. `Mem` if a nap ends beyond all time.
 fn is_work_step(past: &Passed<'_>, now: EventNow, work: Work, kind: Kind) -> Result<bool, Mem>
     ensures { IfOk result (λ b. IsTrue b ↔ IsWorkStep past.now.machine (journal_of past.now) now work kind) }
 {
@@ -212,7 +212,7 @@ fn is_work_step(past: &Passed<'_>, now: EventNow, work: Work, kind: Kind) -> Res
     }
 }
 
-// An entry of an asynchronous device whose work stands so.
+/// An entry of an asynchronous device whose work stands so.
 fn is_device_step(device: u32, work: AsyncWork, kind: Kind) -> bool
     ensures { IsTrue result ↔ IsDeviceStep device work kind }
 {
@@ -224,7 +224,7 @@ fn is_device_step(device: u32, work: AsyncWork, kind: Kind) -> bool
     }
 }
 
-// An entry of an attempt, whose walk itself begins, ends and passes over synchronous devices alone.
+/// An entry of an attempt, whose walk itself begins, ends and passes over synchronous devices alone.
 fn is_maker_step(past: &Passed<'_>, kind: Kind) -> bool
     ensures { IsTrue result ↔ IsMakerStep past.now.machine kind }
 {

@@ -14,7 +14,7 @@ use check_past::Passed;
 use phase_table::Phase;
 use sleep_model::{Actor, Callback, EventNow, Kind, PhaseState, Stage, What};
 
-// Whether a device may be prepared now, and answers so.
+/// Whether a device may be prepared now, and answers so.
 fn prepares_at(past: &Passed<'_>, device: u32, r: i32, row: Option<Stage>) -> bool
     ensures { IsTrue result ↔ PreparesAt past.now.machine (journal_of past.now) device r row }
 {
@@ -28,7 +28,7 @@ fn prepares_at(past: &Passed<'_>, device: u32, r: i32, row: Option<Stage>) -> bo
     }
 }
 
-// Whether a device may be completed now.
+/// Whether a device may be completed now.
 fn completes_at(past: &Passed<'_>, device: u32, row: Option<Stage>) -> bool
     ensures { IsTrue result ↔ CompletesAt past.now.machine (journal_of past.now) device row }
 {
@@ -38,7 +38,7 @@ fn completes_at(past: &Passed<'_>, device: u32, row: Option<Stage>) -> bool
     }
 }
 
-// Whether a device may be scheduled now.
+/// Whether a device may be scheduled now.
 fn schedules_at(past: &Passed<'_>, phase: Phase, device: u32, row: Option<Stage>) -> bool
     ensures { IsTrue result ↔ SchedulesAt past.now.machine (journal_of past.now) phase device row }
 {
@@ -59,7 +59,7 @@ fn schedules_at(past: &Passed<'_>, phase: Phase, device: u32, row: Option<Stage>
     }
 }
 
-// Whether an asynchronous device begins now.
+/// Whether an asynchronous device begins now.
 fn begins_async(past: &Passed<'_>, now: EventNow, phase: Phase, device: u32) -> bool
     ensures { IsTrue result ↔ BeginsAsync past.now.machine (journal_of past.now) now phase device (is_down phase) }
 {
@@ -75,7 +75,7 @@ fn begins_async(past: &Passed<'_>, now: EventNow, phase: Phase, device: u32) -> 
     }
 }
 
-// Whether the walk up stands at a device.
+/// Whether the walk up stands at a device.
 fn is_next_up(past: &Passed<'_>, phase: Phase, device: u32) -> bool
     ensures { IsTrue result ↔ IsNextUp past.now.machine (journal_of past.now) phase device }
 {
@@ -85,7 +85,7 @@ fn is_next_up(past: &Passed<'_>, phase: Phase, device: u32) -> bool
         && past.waits_above(phase, device).is_none()
 }
 
-// Whether a synchronous device begins now.
+/// Whether a synchronous device begins now.
 fn begins_at(
     past: &Passed<'_>,
     now: EventNow,
@@ -106,7 +106,7 @@ fn begins_at(
     }
 }
 
-// Whether a device begins now.
+/// Whether a device begins now.
 fn begins_by(
     past: &Passed<'_>,
     now: EventNow,
@@ -124,7 +124,7 @@ fn begins_by(
     }
 }
 
-// Whether an asynchronous device ends now.
+/// Whether an asynchronous device ends now.
 fn ends_async(past: &Passed<'_>, phase: Phase, device: u32) -> bool
     ensures { IsTrue result ↔ EndsAsync past.now.machine (journal_of past.now) phase device (is_down phase) }
 {
@@ -135,7 +135,7 @@ fn ends_async(past: &Passed<'_>, phase: Phase, device: u32) -> bool
     }
 }
 
-// Whether the maker is inside the callback of that device.
+/// Whether the maker is inside the callback of that device.
 fn is_inside(device: u32, callback: Option<Callback>) -> bool
     ensures { IsTrue result ↔ IsInside device callback }
 {
@@ -145,7 +145,7 @@ fn is_inside(device: u32, callback: Option<Callback>) -> bool
     }
 }
 
-// Whether it is the device whose callback an actor is inside.
+/// Whether it is the device whose callback an actor is inside.
 fn is_own_callback(past: &Passed<'_>, who: Actor, device: u32) -> bool
     ensures { IsTrue result ↔ IsOwnCallback (journal_of past.now) who device }
 {
@@ -165,7 +165,7 @@ pub(crate) fn ends_own(past: &Passed<'_>, who: Actor, kind: Kind) -> bool
     }
 }
 
-// Whether a synchronous device ends now.
+/// Whether a synchronous device ends now.
 fn ends_at(past: &Passed<'_>, phase: Phase, device: u32, row: Option<Stage>) -> bool
     ensures { IsTrue result ↔ EndsAt (journal_of past.now) phase device row }
 {
@@ -177,7 +177,7 @@ fn ends_at(past: &Passed<'_>, phase: Phase, device: u32, row: Option<Stage>) -> 
     }
 }
 
-// Whether a device ends now.
+/// Whether a device ends now.
 fn ends_by(past: &Passed<'_>, phase: Phase, device: u32, row: Option<Stage>) -> bool
     ensures { IsTrue result ↔ EndsBy past.now.machine (journal_of past.now) phase device
         (is_async_device past.now.machine device) row }
@@ -189,7 +189,7 @@ fn ends_by(past: &Passed<'_>, phase: Phase, device: u32, row: Option<Stage>) -> 
     }
 }
 
-// Whether a phase on the way down is done.
+/// Whether a phase on the way down is done.
 fn is_down_done(past: &Passed<'_>, phase: Phase) -> bool
     ensures { IsTrue result ↔ IsDownDone past.now.machine (journal_of past.now) phase }
 {
@@ -198,7 +198,7 @@ fn is_down_done(past: &Passed<'_>, phase: Phase) -> bool
         && (past.phase_failed().is_some() || past.next_down(phase).is_none())
 }
 
-// Whether a phase on the way up, whose mirror is that, is done.
+/// Whether a phase on the way up, whose mirror is that, is done.
 fn is_up_done(past: &Passed<'_>, phase: Phase) -> bool
     ensures { IsTrue result ↔ IsUpDone past.now.machine (journal_of past.now) phase }
 {
@@ -208,7 +208,7 @@ fn is_up_done(past: &Passed<'_>, phase: Phase) -> bool
         && past.waits_up(phase).is_none()
 }
 
-// Whether the phase under way is done.
+/// Whether the phase under way is done.
 fn done_at(past: &Passed<'_>, phase: Phase, row: Option<Stage>) -> bool
     ensures { IsTrue result ↔ DoneAt past.now.machine (journal_of past.now) phase row }
 {

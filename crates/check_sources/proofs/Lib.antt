@@ -1,3 +1,4 @@
+-- The lemmas of this crate, by file.
 pub mod Answering
 pub mod Calling
 pub mod Nexting

@@ -1,3 +1,4 @@
+-- The definitions of this crate, by file.
 pub mod AnswerKeys
 pub mod CallerFields
 pub mod Calling

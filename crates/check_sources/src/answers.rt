@@ -26,7 +26,7 @@ pub(crate) struct AnswerKey {
     pub(crate) attempt: Option<u32>,
 }
 
-// The place of a phase in an attempt.
+/// The place of a phase in an attempt.
 fn phase_rank(phase: Phase) -> u8
     ensures { result ≡ phase_rank phase }
 {
@@ -44,7 +44,7 @@ fn phase_rank(phase: Phase) -> u8
     }
 }
 
-// The place of a step of the platform in an attempt.
+/// The place of a step of the platform in an attempt.
 fn step_rank(step: PlatDo) -> u8
     ensures { result ≡ step_rank step }
 {
@@ -55,7 +55,7 @@ fn step_rank(step: PlatDo) -> u8
     }
 }
 
-// The thing, with places.
+/// The thing, with places.
 fn thing_of(what: What) -> AnsweringThing
     ensures { result ≡ thing_of what }
 {
@@ -67,7 +67,7 @@ fn thing_of(what: What) -> AnsweringThing
     }
 }
 
-// By what an answer of a thing for that attempt is found.
+/// By what an answer of a thing for that attempt is found.
 fn key_for(what: What, attempt: Option<u32>) -> AnswerKey
     ensures { result ≡ key_for what attempt }
 {
@@ -77,7 +77,7 @@ fn key_for(what: What, attempt: Option<u32>) -> AnswerKey
     }
 }
 
-// By what each answer is found.
+/// By what each answer is found.
 fn keys_of(alloc: Global, answers: &[Answer]) -> Result<Vec<AnswerKey>, Mem>
     ensures { IfOk result (λ v. v.items ≡ map answer_key answers.now) }
 {
@@ -120,7 +120,7 @@ impl<'m> AnswerIndex<'m> {
         Ok(AnswerIndex { machine, places })
     }
 
-    // The answer of a thing for that attempt, or for any.
+    /// The answer of a thing for that attempt, or for any.
     fn given(&self, what: What, attempt: Option<u32>) -> Option<&'m Answer>
         ensures { option_copied result ≡ answer_for what attempt self.now.answers }
     {
@@ -128,7 +128,7 @@ impl<'m> AnswerIndex<'m> {
         self.machine.answers.as_slice().get(place)
     }
 
-    // The answer of a thing in that attempt, where the machine gives one: one for this attempt goes before one for any.
+    /// The answer of a thing in that attempt, where the machine gives one: one for this attempt goes before one for any.
     fn answer(&self, what: What, attempt: u32) -> Option<&'m Answer>
         ensures { option_copied result ≡ answer self.now what attempt }
     {

@@ -37,7 +37,7 @@ impl<'m> Model for Callers<'m> {
     ghost invariant = { λ c. IsSmall c.plans };
 }
 
-// The number at a place, 0 if there is none.
+/// The number at a place, 0 if there is none.
 fn number_at(numbers: &[usize], place: usize) -> usize
     ensures { result ≡ slice_index_or numbers.now place 0 }
 {
@@ -48,7 +48,7 @@ fn number_at(numbers: &[usize], place: usize) -> usize
     }
 }
 
-// Another number at a place, where there is one.
+/// Another number at a place, where there is one.
 fn set_at(numbers: &mut Vec<usize>, place: usize, number: usize)
     ensures { numbers.new.items ≡ slice_set numbers.old.items place number }
 {
@@ -57,7 +57,7 @@ fn set_at(numbers: &mut Vec<usize>, place: usize, number: usize)
     }
 }
 
-// Puts calls after those at a place, where there is one.
+/// Puts calls after those at a place, where there is one.
 fn extend_at(
     later: &mut Vec<Calls>,
     place: usize,
@@ -75,7 +75,7 @@ fn extend_at(
     Ok(())
 }
 
-// The same, where few entries owe a call.
+/// The same, where few entries owe a call.
 fn owe_at(
     later: &mut Vec<Calls>,
     place: usize,
@@ -91,7 +91,7 @@ fn owe_at(
     extend_at(later, place, reports, behind)
 }
 
-// What the callback that an entry begins reports, where `attempts` attempts were begun.
+/// What the callback that an entry begins reports, where `attempts` attempts were begun.
 fn reports_of<'m>(answers: &AnswerIndex<'m>, kind: Kind, attempts: u32) -> &'m [Report]
     ensures { map noted result.now ≡ report_calls answers.now attempts kind }
 {
@@ -101,7 +101,7 @@ fn reports_of<'m>(answers: &AnswerIndex<'m>, kind: Kind, attempts: u32) -> &'m [
     }
 }
 
-// The calls before an actor's turn with that number: a script's alone has some.
+/// The calls before an actor's turn with that number: a script's alone has some.
 fn calls_of_turn<'a>(plans: &'a Plans<'_>, who: Actor, turn: usize) -> &'a [Report]
     ensures { map noted result.now ≡ calls_of_turn plans.now who turn }
 {
@@ -111,7 +111,7 @@ fn calls_of_turn<'a>(plans: &'a Plans<'_>, who: Actor, turn: usize) -> &'a [Repo
     }
 }
 
-// The calls right after a turn, if one has ended.
+/// The calls right after a turn, if one has ended.
 fn calls_after_turn<'a>(plans: &'a Plans<'_>, who: Actor, ended: bool, turn: usize) -> &'a [Report]
     ensures { map noted result.now ≡ calls_after_turn plans.now who ended turn }
 {
@@ -122,7 +122,7 @@ fn calls_after_turn<'a>(plans: &'a Plans<'_>, who: Actor, ended: bool, turn: usi
     }
 }
 
-// One more. `Mem` if the counter has no room.
+/// One more. `Mem` if the counter has no room.
 fn one_further(count: usize) -> Result<usize, Mem>
     ensures { IfOk result (λ n. n ≡ count + 1) }
 {
@@ -205,7 +205,7 @@ impl<'m> Callers<'m> {
         number_at(&self.made, actor_index(self.plans.machine(), who))
     }
 
-    // The calls that an actor owes after those before its first turn.
+    /// The calls that an actor owes after those before its first turn.
     fn later(&self, who: Actor) -> &[Kind]
         ensures { result.now ≡ later_at self.now.machine self.now.state who }
     {
@@ -228,7 +228,7 @@ impl<'m> Callers<'m> {
         }
     }
 
-    // The one with that number of the calls that an actor owes after those before its first turn.
+    /// The one with that number of the calls that an actor owes after those before its first turn.
     fn later_call(&self, who: Actor, number: usize) -> Option<Kind>
         ensures { result ≡ slice_get (later_at self.now.machine self.now.state who) number }
     {

@@ -24,7 +24,7 @@ impl Model for Calls {
     ghost view = { λ c. c.notes.items };
 }
 
-// The note of a call on that source.
+/// The note of a call on that source.
 fn note(source: u32, call: SourceCall) -> Kind
     ensures { result ≡ note source call }
 {

@@ -76,7 +76,7 @@ pub fn source_in(kind: Kind) -> Option<u32>
     }
 }
 
-// A sum of times. `Mem` if it has no room.
+/// A sum of times. `Mem` if it has no room.
 fn added(a: u64, b: u64) -> Result<u64, Mem>
     ensures { IfOk result (λ n. n ≡ a + b) }
 {
@@ -86,7 +86,7 @@ fn added(a: u64, b: u64) -> Result<u64, Mem>
     }
 }
 
-// The later of a moment and one that may stand.
+/// The later of a moment and one that may stand.
 fn later(time: u64, stands: Option<u64>) -> Option<u64>
     ensures { result ≡ later time stands }
 {
@@ -96,8 +96,8 @@ fn later(time: u64, stands: Option<u64>) -> Option<u64>
     }
 }
 
-// When the event in progress ends by itself, after an entry (`pm_wakeup_ws_event`). `Mem` if that is beyond all
-// time.
+/// When the event in progress ends by itself, after an entry (`pm_wakeup_ws_event`). `Mem` if that is beyond all
+/// time.
 fn expiry_after(kind: Kind, time: u64, before: Option<u64>) -> Result<Option<u64>, Mem>
     ensures { IfOk result (λ x. x ≡ expiry_after (class_of kind) time before) }
 {
@@ -114,7 +114,7 @@ fn expiry_after(kind: Kind, time: u64, before: Option<u64>) -> Result<Option<u64
     }
 }
 
-// When the event in progress began, after an entry.
+/// When the event in progress began, after an entry.
 fn since_after(kind: Kind, time: u64, before: Option<u64>) -> Option<u64>
     ensures { result ≡ since_after (class_of kind) time before }
 {
@@ -125,7 +125,7 @@ fn since_after(kind: Kind, time: u64, before: Option<u64>) -> Option<u64>
     }
 }
 
-// The steps that are owed after an entry.
+/// The steps that are owed after an entry.
 fn owes_after(kind: Kind, active: bool, before: Owed) -> Owed
     ensures { result ≡ owes_after (class_of kind) active before }
 {
@@ -139,7 +139,7 @@ fn owes_after(kind: Kind, active: bool, before: Owed) -> Owed
     }
 }
 
-// Who made the last call, after an entry of that actor.
+/// Who made the last call, after an entry of that actor.
 fn caller_after(kind: Kind, who: Actor, before: Option<Actor>) -> Option<Actor>
     ensures { result ≡ caller_after (class_of kind) who before }
 {
@@ -149,7 +149,7 @@ fn caller_after(kind: Kind, who: Actor, before: Option<Actor>) -> Option<Actor>
     }
 }
 
-// One more where it is so. `Mem` if the counter has no room.
+/// One more where it is so. `Mem` if the counter has no room.
 fn counted(so: bool, before: u32) -> Result<u32, Mem>
     ensures { IfOk result (λ n. n ≡ counted so before) }
 {
@@ -162,7 +162,7 @@ fn counted(so: bool, before: u32) -> Result<u32, Mem>
     }
 }
 
-// How long an event has lasted that began then, if one did.
+/// How long an event has lasted that began then, if one did.
 fn run_time(since: Option<u64>, at: u64) -> u64
     ensures { result ≡ run_time since at }
 {
@@ -172,7 +172,7 @@ fn run_time(since: Option<u64>, at: u64) -> u64
     }
 }
 
-// The sum of the times of events that ended, after an entry.
+/// The sum of the times of events that ended, after an entry.
 fn total_after(kind: Kind, time: u64, since: Option<u64>, before: u64) -> Result<u64, Mem>
     ensures { IfOk result (λ n. n ≡ total_after (class_of kind) time since before) }
 {
@@ -182,7 +182,7 @@ fn total_after(kind: Kind, time: u64, since: Option<u64>, before: u64) -> Result
     }
 }
 
-// The longest of them, after an entry.
+/// The longest of them, after an entry.
 fn longest_after(kind: Kind, time: u64, since: Option<u64>, before: u64) -> u64
     ensures { result ≡ longest_after (class_of kind) time since before }
 {
@@ -192,7 +192,7 @@ fn longest_after(kind: Kind, time: u64, since: Option<u64>, before: u64) -> u64
     }
 }
 
-// When the last start or finish was, after an entry.
+/// When the last start or finish was, after an entry.
 fn last_after(kind: Kind, time: u64, before: u64) -> u64
     ensures { result ≡ last_after (class_of kind) time before }
 {
@@ -202,28 +202,28 @@ fn last_after(kind: Kind, time: u64, before: u64) -> u64
     }
 }
 
-// Whether it is the note of an event.
+/// Whether it is the note of an event.
 fn is_event(kind: Kind) -> bool
     ensures { result ≡ is_event (class_of kind) }
 {
     matches!(kind, Kind::Awake(_) | Kind::Event { .. })
 }
 
-// Whether it is a start.
+/// Whether it is a start.
 fn is_start(kind: Kind) -> bool
     ensures { result ≡ is_start (class_of kind) }
 {
     matches!(kind, Kind::Start(_))
 }
 
-// Whether it is the note of an expiry.
+/// Whether it is the note of an expiry.
 fn is_expiry(kind: Kind) -> bool
     ensures { result ≡ is_expiry (class_of kind) }
 {
     matches!(kind, Kind::Expire(_))
 }
 
-// One entry more. `Mem` if the counter has no room.
+/// One entry more. `Mem` if the counter has no room.
 fn one_further(count: usize) -> Result<usize, Mem>
     ensures { IfOk result (λ n. n ≡ count + 1) }
 {

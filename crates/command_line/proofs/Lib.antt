@@ -1,3 +1,4 @@
+-- The lemmas of this crate, by file.
 pub mod Turns
 pub mod Named
 pub mod Leaves

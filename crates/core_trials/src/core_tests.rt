@@ -36,7 +36,7 @@ const MANAGER: Actor = Actor::Script(0);
 
 const START: Stamp = Stamp { pos: 0, tick: 0 };
 
-// One turn of an actor that has made no call on a source, where none is due.
+/// One turn of an actor that has made no call on a source, where none is due.
 fn turn<R: Wait, E: Events>(
     rt: &R,
     core: &mut Core<'_>,
@@ -55,7 +55,7 @@ fn turn<R: Wait, E: Events>(
     Ok(core.turn(rt, events, who, 0, START, now)?)
 }
 
-// Turns of an actor up to the first that makes no entry: what it waits for then, and None if nothing is due of it.
+/// Turns of an actor up to the first that makes no entry: what it waits for then, and None if nothing is due of it.
 fn run<R: Wait, E: Events>(
     rt: &R,
     core: &mut Core<'_>,
@@ -76,7 +76,7 @@ fn run<R: Wait, E: Events>(
     Err("too many turns".into())
 }
 
-// Whether the machine has that actor.
+/// Whether the machine has that actor.
 fn has_actor(machine: &Machine, who: Actor) -> bool
     ensures { result ≡ true → IsActor machine.now who }
 {
@@ -88,7 +88,7 @@ fn has_actor(machine: &Machine, who: Actor) -> bool
     }
 }
 
-// What came of the turns of one actor alone.
+/// What came of the turns of one actor alone.
 #[derive(Drop)]
 struct Alone {
     waits: Option<Why>,
@@ -101,7 +101,7 @@ struct Alone {
     entries: EntryList,
 }
 
-// What the core of an actor alone shows, after its turns.
+/// What the core of an actor alone shows, after its turns.
 fn seen_alone(alloc: Global, core: Core<'_>, waits: Option<Why>) -> Alone {
     Alone {
         waits,
@@ -115,7 +115,7 @@ fn seen_alone(alloc: Global, core: Core<'_>, waits: Option<Why>) -> Alone {
     }
 }
 
-// The turns of one actor over these plans, up to its first wait or its end, with that word.
+/// The turns of one actor over these plans, up to its first wait or its end, with that word.
 fn run_over<R: Wait, E: Events>(
     rt: &R,
     alloc: Global,
@@ -138,7 +138,7 @@ fn run_over<R: Wait, E: Events>(
     }
 }
 
-// The turns of one actor of a machine alone, up to its first wait or its end, with that word.
+/// The turns of one actor of a machine alone, up to its first wait or its end, with that word.
 fn run_one<R: Wait, E: Events>(
     rt: &R,
     alloc: Global,
@@ -157,7 +157,7 @@ fn run_one<R: Wait, E: Events>(
     alone
 }
 
-// The same where the machine has that actor.
+/// The same where the machine has that actor.
 fn run_known<R: Wait, E: Events>(
     rt: &R,
     alloc: Global,
@@ -177,7 +177,7 @@ fn run_known<R: Wait, E: Events>(
     }
 }
 
-// The same of the machine of a file.
+/// The same of the machine of a file.
 fn run_alone<R: Wait, E: Events>(
     rt: &R,
     alloc: Global,
@@ -195,7 +195,7 @@ fn run_alone<R: Wait, E: Events>(
     }
 }
 
-// What entries say, in order.
+/// What entries say, in order.
 fn kinds_in(alloc: Global, entries: &EntryList) -> Result<Vec<Kind>, Mem> {
     let mut kinds = Vec::new(alloc);
     let mut reader = entries.reader();
@@ -207,7 +207,7 @@ fn kinds_in(alloc: Global, entries: &EntryList) -> Result<Vec<Kind>, Mem> {
     Ok(kinds)
 }
 
-// What the manager of the family does alone, with that word, in order.
+/// What the manager of the family does alone, with that word, in order.
 fn kinds_of<R: Wait, E: Events>(rt: &R, alloc: Global, events: &mut E) -> Result<Vec<Kind>, Fail> {
     let alone = run_alone(rt, alloc, events, FAMILY, MANAGER)?;
     let kinds = kinds_in(alloc, &alone.entries);
@@ -215,7 +215,7 @@ fn kinds_of<R: Wait, E: Events>(rt: &R, alloc: Global, events: &mut E) -> Result
     Ok(kinds?)
 }
 
-// What an actor of a machine waits for, after its first turns, where no event comes.
+/// What an actor of a machine waits for, after its first turns, where no event comes.
 fn waits_for<R: Wait>(rt: &R, alloc: Global, file: &str, who: Actor) -> Result<Option<Why>, Fail> {
     let alone = run_alone(rt, alloc, &mut PlainEvents::new(), file, who)?;
     let waits = alone.waits;
@@ -223,14 +223,14 @@ fn waits_for<R: Wait>(rt: &R, alloc: Global, file: &str, who: Actor) -> Result<O
     Ok(waits)
 }
 
-// Whether the machine entered sleep.
+/// Whether the machine entered sleep.
 fn entered(kinds: &[Kind]) -> bool {
     kinds
         .iter()
         .any(|kind| matches!(kind, Kind::Enter { busy: false }))
 }
 
-// Whether an attempt was given up, as a wakeup was pending.
+/// Whether an attempt was given up, as a wakeup was pending.
 fn was_busy(kinds: &[Kind]) -> bool {
     kinds.iter().any(|kind| {
         matches!(

@@ -82,7 +82,7 @@ fn call_each<R: Wait>(
     Ok([awake, relaxed, hard, long, expired])
 }
 
-// What a caller knows after each of those calls.
+/// What a caller knows after each of those calls.
 const KNOWN: [Stamp; 5] = [
     Stamp { pos: 1, tick: 2 },
     Stamp { pos: 2, tick: 4 },

@@ -1,3 +1,4 @@
+-- The definitions of this crate, by file.
 pub mod Adds
 pub mod Invariant
 pub mod Linked

@@ -12,7 +12,7 @@ use sleep_base::Mem;
 use sleep_model::Link;
 use std::alloc::Global;
 
-// Whether the link is between two of the first `count` devices, and none that stands.
+/// Whether the link is between two of the first `count` devices, and none that stands.
 fn is_new(count: usize, suppliers: &Rows, link: Link) -> bool
     ensures { Decides result (IsNew count suppliers.now link) }
 {
@@ -22,7 +22,7 @@ fn is_new(count: usize, suppliers: &Rows, link: Link) -> bool
     !suppliers.row(link.consumer).contains(&link.supplier)
 }
 
-// Puts a link after the others.
+/// Puts a link after the others.
 fn hang_link(parents: &[Option<u32>], tables: &mut Tables, link: Link) -> Result<(), Mem>
     requires sized { HaveRows (length parents.now) tables.old }
     requires supplier { link.supplier < length parents.now }

@@ -10,7 +10,7 @@ use device_rows::Rows;
 /// The most devices that a search without memory goes over.
 pub const MOST_SEARCHED: usize = 1024;
 
-// Whether a device has a mark.
+/// Whether a device has a mark.
 fn is_set(marks: &[bool], device: u32) -> bool
     ensures { result ≡ slice_index_or marks.now device false }
 {
@@ -20,7 +20,7 @@ fn is_set(marks: &[bool], device: u32) -> bool
     }
 }
 
-// Marks a device.
+/// Marks a device.
 fn set_mark(marks: &mut [bool], device: u32)
     ensures { marks.new ≡ slice_set marks.old device true }
 {
@@ -30,7 +30,7 @@ fn set_mark(marks: &mut [bool], device: u32)
     }
 }
 
-// Marks the devices of a row.
+/// Marks the devices of a row.
 fn set_row(marks: &mut [bool], row: &[u32])
     ensures { marks.new ≡ marked row.now marks.old }
 {
@@ -39,7 +39,7 @@ fn set_row(marks: &mut [bool], row: &[u32])
     }
 }
 
-// Marks what depends directly on a device, where that is marked.
+/// Marks what depends directly on a device, where that is marked.
 fn set_below(marks: &mut [bool], table: &Rows, device: u32)
     ensures { marks.new ≡ spread_by (row_at table.now) device marks.old }
 {
@@ -48,7 +48,7 @@ fn set_below(marks: &mut [bool], table: &Rows, device: u32)
     }
 }
 
-// Marks all that depends on marked devices, in their order.
+/// Marks all that depends on marked devices, in their order.
 fn set_all(marks: &mut [bool], table: &Rows, order: &[u32])
     ensures { marks.new ≡ spread (row_at table.now) order.now marks.old }
 {

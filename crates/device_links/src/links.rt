@@ -18,7 +18,7 @@ use sleep_model::Link;
 use std::alloc::Global;
 use std::marker::Model;
 
-// The most links that a machine has.
+/// The most links that a machine has.
 const MOST_LINKS: usize = 4000;
 
 /// The links between a machine's devices (`drivers/base/core.c`, `device_link_add`), with the order
@@ -250,7 +250,7 @@ impl Links {
         consumer == supplier || comes_to(&self.tables.dependents, &self.order, consumer, supplier)
     }
 
-    // Why the link is refused before anything is walked.
+    /// Why the link is refused before anything is walked.
     fn refusal(&self, supplier: u32, consumer: u32) -> Option<LinkFault>
         ensures { Refuses self.now supplier consumer result }
     {
@@ -267,7 +267,7 @@ impl Links {
         None
     }
 
-    // Why the state of a link is not set.
+    /// Why the state of a link is not set.
     fn absence(&self, supplier: u32, consumer: u32) -> Option<LinkFault>
         ensures { Lacks self.now supplier consumer result }
     {
@@ -281,7 +281,7 @@ impl Links {
         None
     }
 
-    // Walks below the consumer until it meets the supplier.
+    /// Walks below the consumer until it meets the supplier.
     fn find(&self, supplier: u32, consumer: u32) -> Result<Found, Mem>
         requires { consumer < length self.now.parents }
         ensures { IfOk result (Finds (length self.now.parents)
@@ -297,8 +297,8 @@ impl Links {
         )
     }
 
-    // Whether a link leaves the order as it is: the newest one has moved this consumer to its end, and the
-    // supplier stands before it. A device's driver mostly adds the links to all its suppliers in a row.
+    /// Whether a link leaves the order as it is: the newest one has moved this consumer to its end, and the
+    /// supplier stands before it. A device's driver mostly adds the links to all its suppliers in a row.
     fn stays_by(&self, link: Link) -> bool
         ensures { OnTrue result (Leaves self.now link (order_by self.now.parents self.now.links)) }
     {
@@ -310,8 +310,8 @@ impl Links {
         }
     }
 
-    // The order in which a link has moved its consumer, and all that depends on it, to the end; `None` if the
-    // order stays as it is.
+    /// The order in which a link has moved its consumer, and all that depends on it, to the end; `None` if the
+    /// order stays as it is.
     fn moved_by(&self, link: Link) -> Result<Option<Vec<u32>>, LinkFault>
         requires { link.consumer < length self.now.parents }
         ensures { Moves self.now link result }
@@ -327,7 +327,7 @@ impl Links {
         }
     }
 
-    // The order in which what a walk below the consumer found has moved to the end.
+    /// The order in which what a walk below the consumer found has moved to the end.
     fn moved_last(&self, link: Link, below: &[u32], marks: &[bool]) -> Result<Vec<u32>, Mem>
         requires { IsWalked (length self.now.parents)
             (dependents self.now.parents self.now.links) link.consumer link.supplier below.now marks.now }
@@ -336,7 +336,7 @@ impl Links {
         moved_last(*self.order.allocator(), &self.order, marks, below)
     }
 
-    // Puts the link after the others, and takes the order that it leaves where that is another.
+    /// Puts the link after the others, and takes the order that it leaves where that is another.
     fn put(&mut self, link: Link, moved: Option<Vec<u32>>) -> Result<(), Mem>
         requires open { IsOpen self.old link.supplier link.consumer }
         requires leaves { Leaves self.old link (after_move moved (order_by self.old.parents self.old.links)) }
@@ -356,7 +356,7 @@ impl Links {
     }
 }
 
-// Takes the order that a move left, if there was one.
+/// Takes the order that a move left, if there was one.
 fn take_order(order: &mut Vec<u32>, moved: Option<Vec<u32>>)
     ensures { order.new.items ≡ after_move moved order.old.items }
 {

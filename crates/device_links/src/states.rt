@@ -34,7 +34,7 @@ pub(crate) fn set_state(
     changed
 }
 
-// Sets the state of a link where it is between these two and in another state, and tells whether it was so.
+/// Sets the state of a link where it is between these two and in another state, and tells whether it was so.
 fn set_one(link: &mut Link, supplier: u32, consumer: u32, to: bool) -> bool
     ensures set { link.new ≡ with_state supplier consumer to link.old }
     ensures kept { OnFalse result (link.new ≡ link.old) }
@@ -46,7 +46,7 @@ fn set_one(link: &mut Link, supplier: u32, consumer: u32, to: bool) -> bool
     true
 }
 
-// Whether a link shows its consumer below that device.
+/// Whether a link shows its consumer below that device.
 fn is_shown_below(parents: &[Option<u32>], link: Link, device: u32) -> bool
     requires { link.consumer < length parents.now }
     ensures { result ≡ is_shown_below parents.now link device }
@@ -54,7 +54,7 @@ fn is_shown_below(parents: &[Option<u32>], link: Link, device: u32) -> bool
     link.supplier == device && link.active && !is_parent(parents[link.consumer as usize], device)
 }
 
-// Whether a link shows its supplier above that device.
+/// Whether a link shows its supplier above that device.
 fn is_shown_above(parents: &[Option<u32>], link: Link, device: u32) -> bool
     requires { device < length parents.now }
     ensures { result ≡ is_shown_above parents.now link device }
@@ -95,7 +95,7 @@ pub(crate) fn refill_below(
     push_consumers(table, parents, links, supplied, device);
 }
 
-// Puts the children of a device into its row, which is empty.
+/// Puts the children of a device into its row, which is empty.
 fn push_children(table: &mut Rows, children: &[u32], device: u32)
     requires within { device < length table.old.rows }
     requires empty { row_at table.old device ≡ [] }
@@ -108,7 +108,7 @@ fn push_children(table: &mut Rows, children: &[u32], device: u32)
     }
 }
 
-// Puts the consumers of a device by active links into its row, after its children.
+/// Puts the consumers of a device by active links into its row, after its children.
 fn push_consumers(
     table: &mut Rows,
     parents: &[Option<u32>],
@@ -156,7 +156,7 @@ pub(crate) fn refill_above(
     push_suppliers(table, parents, links, consumed, device);
 }
 
-// Puts the parent of a device into its row, which is empty.
+/// Puts the parent of a device into its row, which is empty.
 fn push_parent(table: &mut Rows, parent: Option<u32>, device: u32)
     requires within { device < length table.old.rows }
     requires empty { row_at table.old device ≡ [] }
@@ -169,7 +169,7 @@ fn push_parent(table: &mut Rows, parent: Option<u32>, device: u32)
     }
 }
 
-// Puts the suppliers of a device by active links into its row, after its parent.
+/// Puts the suppliers of a device by active links into its row, after its parent.
 fn push_suppliers(
     table: &mut Rows,
     parents: &[Option<u32>],

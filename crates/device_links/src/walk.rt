@@ -25,7 +25,7 @@ pub(crate) enum Found {
     Passed(Vec<u32>, usize, Vec<bool>),
 }
 
-// Where a walk stands at a device that it has just entered.
+/// Where a walk stands at a device that it has just entered.
 fn frame_at(table: &Rows, device: u32) -> Frame
     requires { device < length table.now.rows }
     ensures { result ≡ record { device = device; left = length (row_at table.now device) } }
@@ -36,7 +36,7 @@ fn frame_at(table: &Rows, device: u32) -> Frame
     }
 }
 
-// The path over these devices, the first of them first, the last step the given one.
+/// The path over these devices, the first of them first, the last step the given one.
 fn path_to(alloc: Global, frames: &[Frame], last: u32) -> Result<Vec<u32>, Mem>
     ensures { IfOk result (λ path. path.items ≡ map (λ (f : Frame). f.device) frames.now ++ last ∷ []) }
 {
@@ -48,7 +48,7 @@ fn path_to(alloc: Global, frames: &[Frame], last: u32) -> Result<Vec<u32>, Mem>
     Ok(path)
 }
 
-// That the walk has met its target, by the path over these devices and that one.
+/// That the walk has met its target, by the path over these devices and that one.
 fn reached(alloc: Global, frames: &[Frame], last: u32) -> Result<Found, Mem>
     ensures { IfOk result (Reaches (map (λ (f : Frame). f.device) frames.now ++ last ∷ [])) }
 {
@@ -63,7 +63,7 @@ fn reached(alloc: Global, frames: &[Frame], last: u32) -> Result<Found, Mem>
 ///
 /// A device is marked where the walk enters it. None depends on itself, so one that is met with a
 /// mark is not on the way to where the walk stands: the walk has left it.
-// It stands apart, so that its loop has the registers to itself.
+/// It stands apart, so that its loop has the registers to itself.
 #[inline(never)]
 pub(crate) fn walk(
     alloc: Global,

@@ -1,3 +1,4 @@
+-- The lemmas of this crate, by file.
 pub mod Fitted
 pub mod Fitting
 pub mod Locking

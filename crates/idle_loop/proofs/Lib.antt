@@ -1,3 +1,4 @@
+-- The lemmas of this crate, by file.
 pub mod Races
 pub mod Over
 pub mod Merges

@@ -1,3 +1,4 @@
+-- The definitions of this crate, by file.
 pub mod IdleLogs
 pub mod Laws
 pub mod Sizes

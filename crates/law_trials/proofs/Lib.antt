@@ -1,3 +1,4 @@
+-- The lemmas of this crate, by file.
 pub mod MergeShown
 pub mod Passed
 pub mod RunShown

@@ -1,3 +1,4 @@
+-- The lemmas of this crate, by file.
 pub mod Agreeing
 pub mod Digits
 pub mod Ending

@@ -1,3 +1,4 @@
+-- The definitions of this crate, by file.
 pub mod Answers
 pub mod Command
 pub mod Endings

@@ -30,7 +30,7 @@ pub enum Verdict {
     Bad { line: u32, definition: u8 },
 }
 
-// The sum of two numbers of lines. `Mem` if the sum has no room.
+/// The sum of two numbers of lines. `Mem` if the sum has no room.
 fn lines(some: usize, more: usize) -> Result<usize, Mem>
     ensures { IfOk result (λ n. n ≡ some + more) }
 {
@@ -50,21 +50,21 @@ pub(crate) fn bad(before: usize, definition: u8) -> Result<Verdict, Mem>
     }
 }
 
-// A source's statistics at the end. `Mem` if a sum has no room.
+/// A source's statistics at the end. `Mem` if a sum has no room.
 fn stats_of(past: &Passed<'_>, source: u32) -> Result<Stats, Mem>
     ensures { IfOk result (λ s. s ≡ stats_at (history source (past_of past.now)) (time_of (past_of past.now))) }
 {
     past.source(source).stats(past.time())
 }
 
-// Whether both are the same statistics.
+/// Whether both are the same statistics.
 fn is_same(told: Stats, own: Stats) -> bool
     ensures { IsTrue result ↔ (told ≡ own) }
 {
     told == own
 }
 
-// The first source whose statistics are not those that the log tells, if there is one. `Mem` if a sum has no room.
+/// The first source whose statistics are not those that the log tells, if there is one. `Mem` if a sum has no room.
 fn first_wrong(past: &Passed<'_>, told: &[Stats]) -> Result<Option<usize>, Mem>
     requires each { length told.now ≡ length past.now.machine.sources + 1 }
     requires few { length past.now.machine.sources ≤ 255 }
@@ -79,8 +79,8 @@ fn first_wrong(past: &Passed<'_>, told: &[Stats]) -> Result<Option<usize>, Mem>
     Ok(None)
 }
 
-// Whether every script has exited, no attempt is open, and nobody can make anything. `Mem` if a moment is beyond all
-// time, a number has no room, or if there is no memory for a walk.
+/// Whether every script has exited, no attempt is open, and nobody can make anything. `Mem` if a moment is beyond all
+/// time, a number has no room, or if there is no memory for a walk.
 fn is_finished(past: &Passed<'_>) -> Result<bool, Mem>
     ensures { IfOk result (λ b. b ≡ is_finished_after past.now.machine (past_of past.now)) }
 {
@@ -88,8 +88,8 @@ fn is_finished(past: &Passed<'_>) -> Result<bool, Mem>
     Ok(past.have_all_exited() && is_idle_script)
 }
 
-// Whether the log says that it is finished, and is. `Mem` if a sum or a number has no room, or if there is no memory for
-// a walk.
+/// Whether the log says that it is finished, and is. `Mem` if a sum or a number has no room, or if there is no memory for
+/// a walk.
 fn ends_finished(past: &Passed<'_>, log: &Log) -> Result<bool, Mem>
     requires { past_of past.now ≡ reverse log.now.entries }
     ensures { IfOk result (λ b. IsTrue b ↔ IsFinishedLog past.now.machine log.now) }

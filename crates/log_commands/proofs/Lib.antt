@@ -1,3 +1,4 @@
+-- The lemmas of this crate, by file.
 mod Checking
 pub mod Fitting
 pub mod Judging

@@ -1,3 +1,4 @@
+-- The definitions of this crate, by file.
 pub mod Endings
 pub mod Input
 pub mod Judging

@@ -1,3 +1,4 @@
+-- The lemmas of this crate, by file.
 pub mod Callbacks
 pub mod Devices
 pub mod Facts

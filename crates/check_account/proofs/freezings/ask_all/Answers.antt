@@ -1,3 +1,4 @@
+-- Proof by hand of `ask_all`: its loop and what it returns, by the lemmas of `Fronts`.
 use Rattle.std.proofs.Common.{◌∙◌, ◌+◌, arith, ap, slice_index_or}
 use Rattle.sleep_model.specs.Freezer.{asked_by}
 use Rattle.check_account.proofs.Fronts.{asked_more, asked_all}

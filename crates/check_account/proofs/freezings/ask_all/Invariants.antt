@@ -1,3 +1,4 @@
+-- The invariant of the loop of `ask_all`.
 use Rattle.std.proofs.Common.{◌≡◌}
 use Rattle.check_account.specs.Fronts.{asked_front}
 use Rattle.check_account.proofs.freezings.ask_all.Given as goal

@@ -1,3 +1,4 @@
+-- Proof by hand of `let_all_go`: its loop and what it returns, by the lemmas of `Fronts`.
 use Rattle.std.proofs.Common.{◌∙◌, ◌+◌, arith, ap, slice_index_or}
 use Rattle.sleep_model.specs.Freezer.{let_go}
 use Rattle.check_account.proofs.Fronts.{let_go_more, let_go_all}

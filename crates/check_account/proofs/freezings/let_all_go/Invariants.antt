@@ -1,3 +1,4 @@
+-- The invariant of the loop of `let_all_go`.
 use Rattle.std.proofs.Common.{◌≡◌}
 use Rattle.check_account.specs.Fronts.{front_let_go}
 use Rattle.check_account.proofs.freezings.let_all_go.Given as goal

@@ -1,3 +1,4 @@
+-- Proof by hand of `stage_due`: what it returns.
 use Rattle.std.proofs.Common.{◌≡◌, subst, sym}
 use Rattle.sleep_model.specs.declared.progress.Stage.{Stage}
 use Rattle.sleep_model.specs.Attempt.{stage_due}

@@ -1,3 +1,4 @@
+-- Proof by hand of `op_due`: what it returns, by the lemmas of `Choosing`.
 use Rattle.std.proofs.Common.{◌≡◌, Bool, List, ℕ, Some, IfOk, subst, sym}
 use Rattle.sleep_model.specs.declared.machine.Op.{Op}
 use Rattle.sleep_model.specs.declared.machine.Op.TheVariants as op

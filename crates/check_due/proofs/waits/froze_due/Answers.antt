@@ -1,3 +1,4 @@
+-- Proof by hand of `froze_due`: what it returns, by the lemmas of `Freezing`.
 use Rattle.std.proofs.Common.{◌≡◌, ◌∙◌, IfOk, ap, subst}
 use Rattle.sleep_model.specs.declared.progress.Due.{Due}
 use Rattle.sleep_model.specs.Freezer.{left}

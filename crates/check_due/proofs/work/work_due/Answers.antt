@@ -1,3 +1,4 @@
+-- Proof by hand of `work_due`: what it returns, by the lemmas of `Choosing`.
 use Rattle.std.proofs.Common.{◌≡◌, IfOk, subst, sym}
 use Rattle.sleep_model.specs.declared.progress.Due.{Due}
 use Rattle.sleep_model.specs.declared.progress.Work.{Work}

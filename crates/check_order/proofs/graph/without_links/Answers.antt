@@ -1,3 +1,4 @@
+-- Proof by hand of `without_links`: the invariants of its types, by the lemmas of `Making` and `Tying`.
 use Rattle.std.proofs.Common.{◌∙◌, [], List, Option, ℕ, reverse, refl, ap, sym, subst}
 use Rattle.check_order.specs.Graphs.{IsMade}
 use Rattle.check_order.proofs.Making.{made_as, made_none}

@@ -1,3 +1,4 @@
+-- Proof by hand of `place_of`: its indices, what it returns and its loop, by the lemmas of `Placing`.
 use Rattle.std.proofs.Common.{◌∙◌, ◌==◌, sym, arith}
 use Rattle.check_order.proofs.Placing.{not_linked, not_yet, place_within}
 use Rattle.check_order.proofs.links.place_of.Goals as goal

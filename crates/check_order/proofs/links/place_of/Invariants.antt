@@ -1,3 +1,4 @@
+-- The invariant of the loop of `place_of`.
 use Rattle.std.proofs.Common.{◌≡◌, ◌==◌, false, filter, reverse, take}
 use Rattle.sleep_model.specs.Links.{is_linked}
 use Rattle.check_order.proofs.links.place_of.Given as goal

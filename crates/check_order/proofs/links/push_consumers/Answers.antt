@@ -1,3 +1,4 @@
+-- Proof by hand of `push_consumers`: its indices, its loop and what it returns, by the lemmas of `Placing`.
 use Rattle.std.proofs.Common.{◌==◌, ◌++◌, ◌∷◌, ◌∙◌, [], ap₂, cond, arith}
 use Rattle.check_order.proofs.Placing.{consumers_all, consumers_more, place_within}
 use Rattle.check_order.proofs.links.push_consumers.Goals as goal

@@ -1,3 +1,4 @@
+-- Proof by hand of `push_suppliers`: its indices, its loop and what it returns, by the lemmas of `Placing`.
 use Rattle.std.proofs.Common.{◌==◌, ◌++◌, ◌∷◌, ◌∙◌, [], ap₂, cond, arith}
 use Rattle.check_order.proofs.Placing.{suppliers_all, suppliers_more, place_within}
 use Rattle.check_order.proofs.links.push_suppliers.Goals as goal

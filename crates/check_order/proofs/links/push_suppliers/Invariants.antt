@@ -1,3 +1,4 @@
+-- The invariant of the loop of `push_suppliers`.
 use Rattle.std.proofs.Common.{◌≡◌, ◌==◌, ◌++◌, filter, map, reverse, take}
 use Rattle.sleep_model.specs.Order.{active_of, suppliers_of, with_state}
 use Rattle.check_order.proofs.links.push_suppliers.Given as goal

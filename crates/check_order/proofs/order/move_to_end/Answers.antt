@@ -1,3 +1,4 @@
+-- Proof by hand of `move_to_end`: what it returns, by the lemmas of `Ordering`.
 use Rattle.std.proofs.Common.{◌≡◌, ◌++◌, ◌∙◌, false, length, filter, get_or, not, ap}
 use Rattle.std.proofs.lemmas.Result.{IfOk-weaker}
 use Rattle.device_rows.specs.Table.{row_at}

@@ -1,3 +1,4 @@
+-- Proof by hand of `registered`: its loop, by the lemmas of `Tabling`.
 use Rattle.std.proofs.Common.{◌≡◌, ◌+◌, ◌++◌, ◌∷◌, ◌∙◌, [], ap, arith}
 use Rattle.std.specs.List.{range_with_len}
 use Rattle.check_order.proofs.Tabling.{run_push}

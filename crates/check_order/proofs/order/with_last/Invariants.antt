@@ -1,3 +1,4 @@
+-- The invariant of the loop of `with_last`.
 use Rattle.std.proofs.Common.{◌≡◌, false, not, filter, take, get_or}
 use Rattle.check_order.proofs.order.with_last.Given as goal
 

@@ -1,3 +1,4 @@
+-- Proof by hand of `children`: the call of `hang` and its loop, by the lemmas of `Tabling`.
 use Rattle.std.proofs.Common.{length, List, ℕ, ◌+◌, take, sym, subst}
 use Rattle.sleep_model.specs.Order.{children_from}
 use Rattle.check_order.specs.Graphs.{IsTableOf}

@@ -1,3 +1,4 @@
+-- The invariant of the loop of `children`.
 use Rattle.std.proofs.Common.{length, take}
 use Rattle.sleep_model.specs.Order.{children_from}
 use Rattle.check_order.specs.Graphs.{IsTableOf}

@@ -1,3 +1,4 @@
+-- The invariant of the loop of `parent_rows`.
 use Rattle.std.proofs.Common.{◌≡◌, take, map, option_to_list}
 use Rattle.check_order.proofs.tables.parent_rows.Given as goal
 

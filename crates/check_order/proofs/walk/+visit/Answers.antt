@@ -1,3 +1,4 @@
+-- Proof by hand of `visit`: the call of `visit`, by the lemmas of `Walking`.
 use Rattle.std.proofs.Common.{◌≡◌, ◌<◌, ◌-◌, ◌∙◌, ℕ, length, get_or, ap, sym, subst, arith, true}
 use Rattle.sleep_model.specs.Order.{is_among}
 use Rattle.device_rows.specs.Table.{row_at}

@@ -1,3 +1,4 @@
+-- The invariant of the loop of `parents_of`.
 use Rattle.std.proofs.Common.{◌≡◌, take}
 use Rattle.sleep_model.specs.Order.{parents_of}
 use Rattle.check_past.proofs.journal.parents_of.Given as goal

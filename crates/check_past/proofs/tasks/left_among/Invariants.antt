@@ -1,3 +1,4 @@
+-- The invariant of the loop of `left_among`.
 use Rattle.std.proofs.Common.{◌≡◌, ◌≤◌, ◌+◌, length, drop}
 use Rattle.sleep_model.specs.Freezer.{left_from}
 use Rattle.check_past.specs.Asked.{left_is}

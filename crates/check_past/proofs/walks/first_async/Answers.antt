@@ -1,3 +1,4 @@
+-- Proof by hand of `first_async`: what it returns, by the lemmas of `AtIndex`.
 use Rattle.std.proofs.Common.{◌∙◌, sym}
 use Rattle.sleep_model.specs.PhaseStates.{is_down_in, state_at}
 use Rattle.check_past.proofs.AtIndex.{none_async}

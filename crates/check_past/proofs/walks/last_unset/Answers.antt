@@ -1,3 +1,4 @@
+-- Proof by hand of `last_unset`: what it returns and its loop.
 use Rattle.std.proofs.Common.{◌∙◌, ap, sym, not, arith}
 use Rattle.sleep_model.specs.Walk.{is_so}
 use Rattle.sleep_model.proofs.Searches.{below_passes, below_fails}

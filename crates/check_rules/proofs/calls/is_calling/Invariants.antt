@@ -1,3 +1,4 @@
+-- The invariant of the loop of `is_calling`.
 use Rattle.std.proofs.Common.{◌≡◌}
 use Rattle.sleep_model.specs.Calls.{is_calling}
 use Rattle.sleep_model.specs.Sources.{history}

@@ -1,3 +1,4 @@
+-- Proof by hand of `is_inside`: what it returns, by the lemmas of `Sourcing`.
 use Rattle.std.proofs.Common.{◌∙◌}
 use Rattle.sleep_model.specs.Sources.{history}
 use Rattle.check_past.specs.Passing.{past_of}

@@ -1,3 +1,4 @@
+-- Proof by hand of `is_own_call`: what it returns, by the lemmas of `Owning`.
 use Rattle.sleep_model.specs.Sources.{history}
 use Rattle.check_past.specs.Passing.{journal_of, past_of}
 use Rattle.check_rules.proofs.Owning.{own_call}

@@ -1,3 +1,4 @@
+-- Proof by hand of `walk_entry`: what it returns, by the lemmas of `Walking`.
 use Rattle.std.proofs.Common.{◌↔◌, IsTrue, subst, sym}
 use Rattle.sleep_model.specs.EntryClasses.{EntryClass}
 use Rattle.rule_definitions.specs.Walk.{KeepsWalk, WalkEntry}

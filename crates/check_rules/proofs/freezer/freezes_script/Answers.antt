@@ -1,3 +1,4 @@
+-- Proof by hand of `freezes_script`: what it returns, by the lemmas of `Freezing`.
 use Rattle.std.proofs.Common.{◌∙◌, ◌↔◌, IsTrue, slice_get, subst, sym}
 use Rattle.sleep_model.specs.declared.progress.Freezing.{Freezing}
 use Rattle.rule_definitions.specs.Freezer.{FreezesBy, asked_now}

@@ -1,3 +1,4 @@
+-- Proof by hand of `goes_on_script`: what it returns, by the lemmas of `Freezing`.
 use Rattle.std.proofs.Common.{◌≡◌, ◌∙◌, ◌↔◌, ◌&&◌, IsTrue, false, slice_get, subst, sym}
 use Rattle.sleep_model.specs.declared.progress.Freezing.{Freezing}
 use Rattle.rule_definitions.specs.Freezer.{asked_now}

@@ -1,3 +1,4 @@
+-- Proof by hand of `least_broken`: what it returns and its loop, by the lemmas of `Judging`.
 use Rattle.std.proofs.Common.{sym}
 use Rattle.check_past.specs.Passing.{past_of}
 use Rattle.check_rules.specs.Judging.{meant}

@@ -1,3 +1,4 @@
+-- The invariant of the loop of `least_broken`.
 use Rattle.check_past.specs.Passing.{past_of}
 use Rattle.check_rules.specs.Judging.{KeepsBelow}
 use Rattle.check_rules.proofs.judge.least_broken.Given as goal

@@ -1,3 +1,4 @@
+-- Proof by hand of `is_script_enabled`: what it returns, by the lemmas of `Quiet`.
 use Rattle.std.proofs.Common.{◌≡◌, ◌∙◌, ◌&&◌, Bool, IfOk, ap, subst, sym}
 use Rattle.sleep_model.specs.Sources.{history}
 use Rattle.check_past.specs.Passing.{journal_of, past_of}

@@ -1,3 +1,4 @@
+-- Proof by hand of `keeps_jump`: what it returns, by the lemmas of `Jumping`.
 use Rattle.std.proofs.Common.{◌<◌, Bool, IsTrue, ◌↔◌, subst, sym}
 use Rattle.sleep_model.specs.Legal.{JumpStep}
 use Rattle.sleep_model.specs.Numbers.{numbers, time_of}

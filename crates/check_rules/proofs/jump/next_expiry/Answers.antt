@@ -1,3 +1,4 @@
+-- Proof by hand of `next_expiry`: its loop, by the lemmas of `Counting`.
 use Rattle.std.proofs.Common.{◌∙◌, ap}
 use Rattle.sleep_model.specs.Sources.{history}
 use Rattle.check_past.specs.Passing.{past_of}

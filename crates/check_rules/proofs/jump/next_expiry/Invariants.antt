@@ -1,3 +1,4 @@
+-- The invariant of the loop of `next_expiry`.
 use Rattle.std.proofs.Common.{◌≡◌}
 use Rattle.sleep_model.specs.Legal.{next_expiry}
 use Rattle.sleep_model.specs.Sources.{history}

@@ -1,3 +1,4 @@
+-- Proof by hand of `next_sleep`: its loop, by the lemmas of `Counting`.
 use Rattle.std.proofs.Common.{◌∙◌}
 use Rattle.check_past.specs.Passing.{journal_of}
 use Rattle.check_rules.proofs.Counting.{sleep_next}

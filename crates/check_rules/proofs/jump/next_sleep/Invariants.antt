@@ -1,3 +1,4 @@
+-- The invariant of the loop of `next_sleep`.
 use Rattle.std.proofs.Common.{◌≡◌}
 use Rattle.sleep_model.specs.Legal.{next_sleep}
 use Rattle.check_past.specs.Passing.{journal_of}

@@ -1,3 +1,4 @@
+-- Proof by hand of `no_device_enabled`: its loop, by the lemmas of `Counting`.
 use Rattle.std.proofs.Common.{◌∙◌}
 use Rattle.sleep_model.specs.declared.entry.Actor.TheVariants as actor
 use Rattle.sleep_model.specs.Sources.{history}

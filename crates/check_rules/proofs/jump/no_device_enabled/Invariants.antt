@@ -1,3 +1,4 @@
+-- The invariant of the loop of `no_device_enabled`.
 use Rattle.std.proofs.Common.{◌≡◌}
 use Rattle.sleep_model.specs.declared.entry.Actor.TheVariants as actor
 use Rattle.sleep_model.specs.Legal.{none_enabled}

@@ -1,3 +1,4 @@
+-- Proof by hand of `none_expires`: its loop, by the lemmas of `Counting`.
 use Rattle.std.proofs.Common.{◌∙◌, ap}
 use Rattle.sleep_model.specs.Sources.{has_expired, history}
 use Rattle.check_past.specs.Passing.{past_of}

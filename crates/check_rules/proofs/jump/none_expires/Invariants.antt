@@ -1,3 +1,4 @@
+-- The invariant of the loop of `none_expires`.
 use Rattle.std.proofs.Common.{◌≡◌}
 use Rattle.sleep_model.specs.Legal.{none_expires}
 use Rattle.sleep_model.specs.Sources.{history}

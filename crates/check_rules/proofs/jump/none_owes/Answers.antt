@@ -1,3 +1,4 @@
+-- Proof by hand of `none_owes`: its loop, by the lemmas of `Quiet`.
 use Rattle.std.proofs.Common.{◌∙◌}
 use Rattle.sleep_model.specs.Sources.{history}
 use Rattle.check_past.specs.Passing.{past_of}

@@ -1,3 +1,4 @@
+-- The invariant of the loop of `none_owes`.
 use Rattle.std.proofs.Common.{◌≡◌}
 use Rattle.sleep_model.specs.Sources.{history}
 use Rattle.check_past.specs.Passing.{past_of}

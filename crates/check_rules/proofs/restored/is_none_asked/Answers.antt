@@ -1,3 +1,4 @@
+-- Proof by hand of `is_none_asked`: what it returns, by the lemmas of `Resting`.
 use Rattle.std.proofs.Common.{◌∙◌, sym}
 use Rattle.check_rules.proofs.Resting.{all_unasked, unasked_all}
 use Rattle.check_rules.proofs.restored.is_none_asked.Goals as goal

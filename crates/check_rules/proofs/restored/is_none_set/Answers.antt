@@ -1,3 +1,4 @@
+-- Proof by hand of `is_none_set`: what it returns, by the lemmas of `Resting`.
 use Rattle.std.proofs.Common.{◌∙◌, sym}
 use Rattle.check_rules.proofs.Resting.{all_unset, unset_all}
 use Rattle.check_rules.proofs.restored.is_none_set.Goals as goal

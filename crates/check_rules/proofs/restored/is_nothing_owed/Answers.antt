@@ -1,3 +1,4 @@
+-- Proof by hand of `is_nothing_owed`: what it returns, by the lemmas of `Resting`.
 use Rattle.std.proofs.Common.{Bool, IsTrue, ◌↔◌, subst, sym}
 use Rattle.sleep_model.specs.Laws.{NothingOwed}
 use Rattle.check_past.specs.Passing.{journal_of}

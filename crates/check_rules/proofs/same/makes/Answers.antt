@@ -1,3 +1,4 @@
+-- Proof by hand of `makes`: what it returns.
 use Rattle.std.proofs.Common.{◌≡◌, ◌∙◌, ap, sym}
 use Rattle.sleep_model.specs.declared.progress.Due.TheVariants.{Makes}
 use Rattle.check_rules.proofs.same.makes.Goals as goal

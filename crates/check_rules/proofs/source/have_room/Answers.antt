@@ -1,3 +1,4 @@
+-- Proof by hand of `have_room`: its loop, by the lemmas of `Sourcing`.
 use Rattle.std.proofs.Common.{◌∙◌, ap}
 use Rattle.check_past.specs.Passing.{past_of}
 use Rattle.check_sources.specs.declared.source.Source.{Source}

@@ -1,3 +1,4 @@
+-- The invariant of the loop of `have_room`.
 use Rattle.std.proofs.Common.{◌≡◌, ◌∷◌}
 use Rattle.check_past.specs.Passing.{past_of}
 use Rattle.check_rules.specs.Places.{are_short}

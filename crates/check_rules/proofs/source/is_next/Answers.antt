@@ -1,3 +1,4 @@
+-- Proof by hand of `is_next`: what it returns, by the lemmas of `Sourcing`.
 use Rattle.sleep_model.specs.Sources.{history}
 use Rattle.check_past.specs.Passing.{past_of}
 use Rattle.check_rules.proofs.Sourcing.{next_is}

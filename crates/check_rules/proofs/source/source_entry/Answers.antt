@@ -1,3 +1,4 @@
+-- Proof by hand of `source_entry`: what it returns, by the lemmas of `Sourcing`.
 use Rattle.std.proofs.Common.{Bool, IsTrue, ◌↔◌, subst, sym}
 use Rattle.sleep_model.specs.EntryClasses.{class_of}
 use Rattle.rule_definitions.specs.Source.{SourceEntry}

@@ -1,3 +1,4 @@
+-- Proof by hand of `is_own_callback`: what it returns, by the lemmas of `Owning`.
 use Rattle.std.proofs.Common.{◌↔◌, IsTrue, Option, subst}
 use Rattle.sleep_model.specs.declared.progress.Callback.{Callback}
 use Rattle.rule_definitions.specs.Walk.{IsInside}

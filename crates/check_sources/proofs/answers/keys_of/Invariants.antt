@@ -1,3 +1,4 @@
+-- The invariant of the loop of `keys_of`.
 use Rattle.std.proofs.Common.{◌≡◌, map, take}
 use Rattle.check_sources.specs.AnswerKeys.{answer_key}
 use Rattle.check_sources.proofs.answers.keys_of.Given as goal

@@ -1,3 +1,4 @@
+-- Proof by hand of `owe_at`: what it returns, by the lemmas of `Owing`.
 use Rattle.std.proofs.Common.{◌≡◌, length, arith}
 use Rattle.std.proofs.lemmas.Bool.Decides.{nat_tests}
 use Rattle.check_sources.proofs.Owing.{none_owed}

@@ -1,3 +1,4 @@
+-- Proof by hand of `idle_in`: its casts, by the lemmas of `Ranges`.
 use Rattle.std.proofs.Common.{◌≤◌, arith, map, string_bytes}
 use Rattle.command_line.proofs.Ranges.{named_few}
 use Rattle.command_line.proofs.idle.idle_in.Goals as goal

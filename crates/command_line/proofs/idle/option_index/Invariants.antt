@@ -1,3 +1,4 @@
+-- The invariant of the loop of `option_index`.
 use Rattle.std.proofs.Common.{◌≡◌, ◌+◌, drop, map, string_bytes}
 use Rattle.command_line.specs.Words.{option_index}
 use Rattle.command_line.proofs.idle.option_index.Given as goal

@@ -1,3 +1,4 @@
+-- Proof by hand of `sizes_around`: what it returns, by the lemmas of `IdleWords`.
 use Rattle.std.proofs.Common.{map, string_bytes}
 use Rattle.command_line.proofs.IdleWords.{many_sizes}
 use Rattle.command_line.proofs.idle.sizes_around.Goals as goal

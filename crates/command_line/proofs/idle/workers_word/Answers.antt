@@ -1,3 +1,4 @@
+-- Proof by hand of `workers_word`: what it returns, by the lemmas of `IdleWords`.
 use Rattle.std.proofs.Common.{◌∙◌, ◌++◌, List, ℕ, sym, ap}
 use Rattle.command_line.specs.Words.{workers_prefix}
 use Rattle.command_line.proofs.IdleWords.{no_number, number_after}

@@ -1,3 +1,4 @@
+-- Proof by hand of `number_in`: what it returns, by the lemmas of `Numbers`.
 use Rattle.std.proofs.Common.{◌≡◌, ◌∙◌, ◌<◌, ◌⊎◌, inl, inr, sym, ap, true}
 use Rattle.std.specs.List.{list_all}
 use Rattle.command_line.specs.Words.{has_no_zero_before, is_digit}

@@ -1,3 +1,4 @@
+-- Proof by hand of `are_few`: what it returns, by the lemmas of `Readings`.
 use Rattle.std.proofs.Common.{arith, string_bytes}
 use Rattle.command_line.proofs.Readings.{few_is}
 use Rattle.command_line.proofs.words.are_few.Goals as goal

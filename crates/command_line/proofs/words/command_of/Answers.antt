@@ -1,3 +1,4 @@
+-- Proof by hand of `command_of`: what it returns, by the lemmas of `IdleWords` and `Ranges`.
 use Rattle.std.proofs.Common.{rules, arith, ◌≡◌, ◌∙◌, ◌<◌, ◌-◌, List, ℕ, IfOk, Option, codes, drop, length, string_bytes, map, sym, ap, subst, take}
 use Rattle.std.specs.Str.{bytes_eq}
 use Rattle.std.specs.Prelude.{IfSome}

@@ -1,3 +1,4 @@
+-- Proof by hand of `parsed`: what it returns, by the lemmas of `Forms`.
 use Rattle.std.proofs.Common.{◌∙◌, sym, ap, string_bytes}
 use Rattle.command_line.specs.Parses.{command_read}
 use Rattle.command_line.proofs.Forms.{nothing_asked, read_asked, refused_asked}

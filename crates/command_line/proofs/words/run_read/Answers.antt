@@ -1,3 +1,4 @@
+-- Proof by hand of `run_read`: what it returns, by the lemmas of `Readings`.
 use Rattle.std.proofs.Common.{◌∙◌}
 use Rattle.clap.specs.Words.{found_of}
 use Rattle.command_line.proofs.Readings.{some_workers, no_workers}

@@ -1,3 +1,4 @@
+-- Proof by hand of `seeded_read`: what it returns, by the lemmas of `Readings`.
 use Rattle.std.proofs.Common.{◌∙◌, ap, option_map}
 use Rattle.clap.specs.Words.{found_of}
 use Rattle.command_line.proofs.Readings.{no_seed, no_devices, both_read}

@@ -1,3 +1,4 @@
+-- Proof by hand of `whole_command`: what it returns, by the lemmas of `Commands`.
 use Rattle.std.proofs.lemmas.Result.{IfOk-weaker}
 use Rattle.command_line.proofs.Commands.{helpless, whole_is}
 use Rattle.command_line.proofs.words.whole_command.Goals as goal

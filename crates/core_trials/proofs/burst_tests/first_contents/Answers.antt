@@ -1,3 +1,4 @@
+-- Proof by hand of `first_contents`: what it returns, by the lemmas of `Firsts`.
 use Rattle.sleep_model.specs.Numbers.{time_of}
 use Rattle.sleep_state.specs.JournalRooms.{entries}
 use Rattle.core_trials.proofs.Firsts.{uncalled_timely}

@@ -1,3 +1,4 @@
+-- The invariant of the loop of `fill`.
 use Rattle.std.proofs.Common.{◌≡◌, ◌≤◌}
 use Rattle.wakeup_source.specs.SourceStates.{unstamped, latest}
 use Rattle.core_trials.proofs.object_tests.fill.Given as goal

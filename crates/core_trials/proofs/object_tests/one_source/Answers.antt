@@ -1,3 +1,4 @@
+-- Proof by hand of `one_source`: what it returns, by the lemmas of `Ones`.
 use Rattle.std.proofs.Common.{◌≡◌, length, arith}
 use Rattle.core_trials.proofs.Ones.{first}
 use Rattle.core_trials.proofs.object_tests.one_source.Goals as goal

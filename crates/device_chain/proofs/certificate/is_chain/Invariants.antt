@@ -1,3 +1,4 @@
+-- The invariant of the loop of `is_chain`.
 use Rattle.std.proofs.Common.{◌≡◌, drop}
 use Rattle.device_chain.specs.Chains.{follow, is_chain}
 use Rattle.device_chain.proofs.certificate.is_chain.Given as goal

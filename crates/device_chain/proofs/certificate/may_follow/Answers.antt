@@ -1,3 +1,4 @@
+-- Proof by hand of `may_follow`: what it returns.
 use Rattle.std.proofs.Common.{◌==◌, ◌∙◌, ℕ, Option, sym, ap}
 use Rattle.std.specs.List.{list_any}
 use Rattle.sleep_model.proofs.FirstOccurrences.{list_any_among}

@@ -1,3 +1,4 @@
+-- Proof by hand of `chain_to`: its loop, the branch that is never taken and what it returns, by the lemmas of `Chaining`.
 use Rattle.std.proofs.Common.{◌≡◌, ◌≤◌, ◌+◌, ◌-◌, ◌∙◌, ◌∷◌, [], None, ℕ, List, length, sym, ap, subst, arith}
 use Rattle.device_chain.specs.Chains.{IsLed, first_at, is_chain, level_at}
 use Rattle.device_chain.proofs.Chaining.{IsClimbed, climbed_chain, climbed_first, climbed_next, climbs}

@@ -1,3 +1,4 @@
+-- The invariant of the loop of `chain_to`.
 use Rattle.device_chain.proofs.Chaining.{IsClimbed}
 use Rattle.device_chain.proofs.chain.chain_to.Given as goal
 

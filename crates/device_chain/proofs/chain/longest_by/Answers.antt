@@ -1,3 +1,4 @@
+-- Proof by hand of `longest_by`: the call of `chain_to` and what it returns, by the lemmas of `Certifying` and `Chaining`.
 use Rattle.std.proofs.Common.{◌≡◌, ◌∙◌, None, Some, true, ℕ, List, Vec, Global, Option, length, sym, ap, subst}
 use Rattle.device_chain.specs.Chains.{IsLed, IsLedTo, IsLongest, end_of, first_at, greatest, is_chain, level_at, order_of}
 use Rattle.device_chain.proofs.Certifying.{all_ok, longest_of, no_device, whole_order}

@@ -1,3 +1,4 @@
+-- The invariant of the loop of `first_at`.
 use Rattle.std.proofs.Common.{◌≡◌, drop, None}
 use Rattle.device_chain.specs.Chains.{first_at}
 use Rattle.device_chain.proofs.levels.first_at.Given as goal

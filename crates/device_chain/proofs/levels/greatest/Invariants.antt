@@ -1,3 +1,4 @@
+-- The invariant of the loop of `greatest`.
 use Rattle.std.proofs.Common.{◌≡◌, drop}
 use Rattle.device_chain.specs.Chains.{greatest}
 use Rattle.device_chain.proofs.levels.greatest.Given as goal

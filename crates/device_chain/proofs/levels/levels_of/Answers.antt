@@ -1,3 +1,4 @@
+-- Proof by hand of `levels_of`: its sums and its loop, by the lemmas of `Leveling`.
 use Rattle.std.proofs.Common.{◌≡◌, ◌≤◌, ◌+◌, ◌-◌, ◌∙◌, ℕ, length, length-drop, drop, get_or, set, sym, ap, subst, arith}
 use Rattle.std.proofs.lemmas.List.{drop_more}
 use Rattle.device_chain.specs.Chains.{above_of, greatest}

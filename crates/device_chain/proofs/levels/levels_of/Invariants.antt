@@ -1,3 +1,4 @@
+-- The invariant of the loop of `levels_of`.
 use Rattle.std.proofs.Common.{drop}
 use Rattle.device_chain.proofs.Leveling.{AreLeveled}
 use Rattle.device_chain.proofs.levels.levels_of.Given as goal

@@ -1,3 +1,4 @@
+-- Proof by hand of `is_new`: what it returns, by the lemmas of `Tabulating`.
 use Rattle.std.proofs.Common.{◌<◌, ◌==◌, ◌∙◌, ap, arith}
 use Rattle.std.specs.List.{list_any}
 use Rattle.sleep_model.proofs.FirstOccurrences.{list_any_among}

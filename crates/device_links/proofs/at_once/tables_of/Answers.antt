@@ -1,3 +1,4 @@
+-- Proof by hand of `tables_of`: what it returns and its loop, by the lemmas of `Tabulating`.
 use Rattle.std.proofs.Common.{get_or}
 use Rattle.std.proofs.lemmas.List.{get_or_default}
 use Rattle.device_links.proofs.Tabulating.{not_apart, with_next, no_link}

@@ -1,3 +1,4 @@
+-- The invariant of the loop of `tables_of`.
 use Rattle.std.proofs.Common.{take, reverse}
 use Rattle.device_links.specs.Passes.{AreApart, AreTables}
 use Rattle.device_links.proofs.at_once.tables_of.Given as goal

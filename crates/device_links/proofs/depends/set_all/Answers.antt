@@ -1,3 +1,4 @@
+-- Proof by hand of `set_all`: its loop, by the lemmas of `Spreading`.
 use Rattle.std.proofs.Common.{◌∙◌, sym, ap, take, get_or}
 use Rattle.std.proofs.lemmas.List.{take_more}
 use Rattle.device_rows.specs.Table.{row_at}

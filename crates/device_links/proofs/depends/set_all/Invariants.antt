@@ -1,3 +1,4 @@
+-- The invariant of the loop of `set_all`.
 use Rattle.std.proofs.Common.{◌≡◌, take}
 use Rattle.device_rows.specs.Table.{row_at}
 use Rattle.device_links.specs.Spread.{spread}

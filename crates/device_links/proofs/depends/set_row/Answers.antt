@@ -1,3 +1,4 @@
+-- Proof by hand of `set_row`: its loop, by the lemmas of `Spreading`.
 use Rattle.std.proofs.Common.{◌∙◌, sym, ap, take, set, true, get_or}
 use Rattle.std.proofs.lemmas.List.{take_more}
 use Rattle.device_links.specs.Spread.{marked}

@@ -1,3 +1,4 @@
+-- The invariant of the loop of `set_row`.
 use Rattle.std.proofs.Common.{◌≡◌, take}
 use Rattle.device_links.specs.Spread.{marked}
 use Rattle.device_links.proofs.depends.set_row.Given as goal

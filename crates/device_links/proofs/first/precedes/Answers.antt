@@ -1,3 +1,4 @@
+-- Proof by hand of `precedes`: what it returns and its loop, by the lemmas of `Moving`.
 use Rattle.std.proofs.Common.{◌≡◌, ◌==◌, ◌∙◌, ◌||◌, false, get_or, ap}
 use Rattle.std.proofs.lemmas.Bool.{ne_eqb}
 use Rattle.device_links.proofs.Moving.{first_at, among_more}

@@ -1,3 +1,4 @@
+-- The invariant of the loop of `precedes`.
 use Rattle.std.proofs.Common.{◌≡◌, false, take}
 use Rattle.sleep_model.specs.Order.{is_among}
 use Rattle.device_links.proofs.first.precedes.Given as goal

@@ -1,3 +1,4 @@
+-- Proof by hand of `without_links`: what it returns, by the lemmas of `Tabulating`.
 use Rattle.device_links.proofs.Tabulating.{tables_new}
 use Rattle.device_links.proofs.seen.without_links.Goals as goal
 

@@ -1,3 +1,4 @@
+-- Proof by hand of `push_children`: its loop, the call of `push` and what it returns, by the lemmas of `InPlace`.
 use Rattle.std.proofs.Common.{◌<◌, ◌≤◌, [], length, take, get_or, sym, arith}
 use Rattle.std.proofs.lemmas.List.{take_more, take_all, length-take-le}
 use Rattle.device_rows.specs.Table.{room_at}

@@ -1,3 +1,4 @@
+-- The invariant of the loop of `push_children`.
 use Rattle.std.proofs.Common.{take}
 use Rattle.device_links.proofs.InPlace.{IsRefilled}
 use Rattle.device_links.proofs.states.push_children.Given as goal

@@ -1,3 +1,4 @@
+-- Proof by hand of `push_consumers`: its loop, its indices and the rest, by the lemmas of `InPlace`, `ActiveLinks` and others.
 use Rattle.std.proofs.Common.{◌≡◌, ◌≤◌, ◌∙◌, ◌==◌, ◌++◌, ◌∷◌, [], true, length, take, reverse, get_or, sym, ap, subst, cond, arith}
 use Rattle.sleep_model.specs.Order.{dependents}
 use Rattle.device_rows.specs.Table.{room_at}

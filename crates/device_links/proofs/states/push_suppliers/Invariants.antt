@@ -1,3 +1,4 @@
+-- The invariant of the loop of `push_suppliers`.
 use Rattle.std.proofs.Common.{take, reverse}
 use Rattle.device_links.specs.Invariant.{active_above}
 use Rattle.device_links.proofs.InPlace.{IsRefilled}

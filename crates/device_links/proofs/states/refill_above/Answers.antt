@@ -1,3 +1,4 @@
+-- Proof by hand of `refill_above`: what it returns, by the lemmas of `InPlace`.
 use Rattle.std.proofs.Common.{[], reverse, None, get_or, option_to_list}
 use Rattle.device_links.specs.Invariant.{active_above}
 use Rattle.device_links.proofs.InPlace.{last_refilled}

@@ -1,3 +1,4 @@
+-- Proof by hand of `refill_below`: what it returns, by the lemmas of `InPlace`.
 use Rattle.std.proofs.Common.{[], reverse}
 use Rattle.device_links.specs.Invariant.{active_below}
 use Rattle.device_links.proofs.InPlace.{last_refilled}

@@ -1,3 +1,4 @@
+-- Proof by hand of `set_state`: the call of `index_mut`, its loop and what it returns, by the lemmas of `Numbering` and `Tabulating`.
 use Rattle.std.proofs.Common.{◌≡◌, ◌<◌, ◌∙◌, ◌==◌, length, take, get_or, set, sym, ap, arith}
 use Rattle.std.proofs.lemmas.Bool.{true≢false}
 use Rattle.std.proofs.lemmas.List.{get_or_default, take_all, set-get_or}

@@ -1,3 +1,4 @@
+-- The invariant of the loop of `set_state`.
 use Rattle.std.proofs.Common.{◌≡◌, false, take}
 use Rattle.sleep_model.specs.Order.{with_state}
 use Rattle.device_links.proofs.Numbering.{changed}

@@ -1,3 +1,4 @@
+-- Proof by hand of `moved_last`: its indices, by the lemmas of `Walking`.
 use Rattle.std.proofs.Common.{get_or}
 use Rattle.std.proofs.lemmas.List.{get_or_default}
 use Rattle.device_links.proofs.Walking.{among_at}

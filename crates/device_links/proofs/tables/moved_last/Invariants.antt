@@ -1,3 +1,4 @@
+-- The invariant of the loop of `moved_last`.
 use Rattle.std.proofs.Common.{◌≡◌, ◌≤◌, not, false, filter, take, length, get_or, vec_len, vec_capacity}
 use Rattle.device_links.proofs.tables.moved_last.Given as goal
 

@@ -1,3 +1,4 @@
+-- Proof by hand of `registered`: its loop, by the lemmas of `Runs`.
 use Rattle.std.proofs.Common.{◌≡◌, ◌+◌, ◌++◌, ◌∷◌, ◌∙◌, [], ap, arith}
 use Rattle.std.specs.List.{range_with_len}
 use Rattle.device_links.proofs.Runs.{run_push}

@@ -1,3 +1,4 @@
+-- The invariant of the loop of `registered`.
 use Rattle.std.proofs.Common.{◌≡◌}
 use Rattle.std.specs.List.{range_with_len}
 use Rattle.device_links.proofs.tables.registered.Given as goal

@@ -1,3 +1,4 @@
+-- Proof by hand of `order_of`: the call of `visit`, what it returns and the rest, by the lemmas of `Acyclicly`, `Tabulating` and `Ordered`.
 use Rattle.std.proofs.Common.{◌≡◌, ◌<◌, ◌+◌, ◌-◌, ◌++◌, ◌∙◌, ℕ, Bool, [], List, length, take, reverse, filter, get_or, not, false, ap, sym, subst, arith}
 use Rattle.std.specs.List.{range_with_len}
 use Rattle.std.proofs.lemmas.List.{get_or_default}

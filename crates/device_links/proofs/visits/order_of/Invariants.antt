@@ -1,3 +1,4 @@
+-- The invariant of the loop of `order_of`.
 use Rattle.std.proofs.Common.{take, reverse}
 use Rattle.device_links.proofs.Ordered.{AreWalked}
 use Rattle.device_links.proofs.visits.order_of.Given as goal

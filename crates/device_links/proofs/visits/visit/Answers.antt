@@ -1,3 +1,4 @@
+-- Proof by hand of `visit`: what it returns and its loop, by the lemmas of `Walking` and `Visiting`.
 use Rattle.std.proofs.Common.{◌≡◌, ◌<◌, ◌+◌, ◌-◌, ◌∷◌, ◌++◌, ◌∙◌, [], length, get_or, ap, sym, subst, arith, false}
 use Rattle.device_rows.specs.Table.{row_at}
 use Rattle.sleep_model.specs.Order.{moved}

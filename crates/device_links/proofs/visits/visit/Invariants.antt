@@ -1,3 +1,4 @@
+-- The invariant of the loop of `visit`, and the number that falls each time.
 use Rattle.std.proofs.Common.{◌+◌, length}
 use Rattle.device_rows.specs.Table.{row_at}
 use Rattle.sleep_model.specs.Order.{moved}

@@ -1,3 +1,4 @@
+-- The invariant of the loop of `path_to`.
 use Rattle.std.proofs.Common.{◌≡◌, map, take}
 use Rattle.device_links.specs.declared.walk.Frame.{Frame}
 use Rattle.device_links.proofs.walk.path_to.Given as goal

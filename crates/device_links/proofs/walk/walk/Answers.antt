@@ -1,3 +1,4 @@
+-- Proof by hand of `walk`: its loop, what it returns and the rest, by the lemmas of `Walking`.
 use Rattle.std.proofs.Common.{◌≡◌, ◌<◌, ◌+◌, ◌-◌, ◌∷◌, ◌++◌, ◌∙◌, [], List, length, map, drop, reverse, option_to_list, get_or, set, ap, sym, subst, arith, false, true, replicate, rules}
 use Rattle.std.proofs.lemmas.Bool.{ne_eqb}
 use Rattle.std.proofs.lemmas.List.{reverse-append, drop-set, drop_all, get_or-replicate, length-replicate, length-set}

@@ -1,3 +1,4 @@
+-- The invariant of the loop of `walk`, and the number that falls each time.
 use Rattle.std.proofs.Common.{◌≡◌, ◌≤◌, ◌+◌, length, drop, option_to_list, vec_capacity}
 use Rattle.device_rows.specs.Table.{row_at}
 use Rattle.sleep_model.specs.Order.{moved}

@@ -1,3 +1,4 @@
+-- Proof by hand of `write_idle`: what it returns, by the lemmas of `Idling`.
 use Rattle.program_ending.specs.Streams.{stream}
 use Rattle.idle_commands.proofs.Idling.{idle_written}
 use Rattle.idle_commands.proofs.command.write_idle.Goals as goal

@@ -1,3 +1,4 @@
+-- The invariant of the loop of `push_lines`.
 use Rattle.std.proofs.Common.{◌≡◌, ◌++◌, take, flat_map}
 use Rattle.idle_commands.specs.Lines.{idle_line}
 use Rattle.idle_commands.proofs.text.push_lines.Given as goal

@@ -1,3 +1,4 @@
+-- Proof by hand of `began`: what it returns, by the lemmas of `Crewing`.
 use Rattle.std.proofs.Common.{◌∙◌}
 use Rattle.idle_loop.proofs.Crewing.{began_at, workers_left, workers_long}
 use Rattle.idle_loop.proofs.burst.began.Goals as goal

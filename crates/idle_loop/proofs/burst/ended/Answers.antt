@@ -1,3 +1,4 @@
+-- Proof by hand of `ended`: the call of `split`, the call of `close_locks` and what it returns, by the lemmas of `Gathering`.
 use Rattle.std.proofs.Common.{◌≡◌, ◌∙◌, length, refl, sym, ap, arith}
 use Rattle.atomic_table.proofs.Lists.{at_index}
 use Rattle.idle_loop.proofs.Gathering.{all_back, back_pool, have_passes}

@@ -1,3 +1,4 @@
+-- Proof by hand of `split`: the call of `taken` and its loop, by the lemmas of `Gathering`.
 use Rattle.std.proofs.Common.{List, subst}
 use Rattle.idle_loop.specs.declared.worker.IdleWorker.{IdleWorker}
 use Rattle.idle_loop.specs.WorkerPools.{HavePasses}

@@ -1,3 +1,4 @@
+-- The invariant of the loop of `split`.
 use Rattle.idle_loop.specs.WorkerPools.{AreSplit, HavePasses}
 use Rattle.idle_loop.proofs.burst.split.Given as goal
 

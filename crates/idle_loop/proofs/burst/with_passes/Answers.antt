@@ -1,3 +1,4 @@
+-- Proof by hand of `with_passes`: its loop, its casts and what it returns, by the lemmas of `Crewing`.
 use Rattle.std.proofs.Common.{rules, ◌≡◌, ◌∙◌, ◌≤◌, ⊎_elim, inl, inr, [], ℕ, Some, length, sym, ap, arith}
 use Rattle.idle_loop.proofs.Crewing.{manning_none, manning_more, manning_low, manning_all, none_left}
 use Rattle.idle_loop.proofs.burst.with_passes.Goals as goal

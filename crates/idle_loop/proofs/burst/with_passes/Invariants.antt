@@ -1,3 +1,4 @@
+-- The invariant of the loop of `with_passes`.
 use Rattle.idle_loop.proofs.Crewing.{IsManning}
 use Rattle.idle_loop.proofs.burst.with_passes.Given as goal
 

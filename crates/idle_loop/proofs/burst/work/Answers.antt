@@ -1,3 +1,4 @@
+-- Proof by hand of `work`: the call of `burst` and what it returns, by the lemmas of `Crewing`.
 use Rattle.std.proofs.Common.{ℕ, ◌<◌, length, slice_index_or, sym, subst}
 use Rattle.atomic_table.specs.Seated.{TableId}
 use Rattle.idle_loop.specs.declared.worker.IdleWorker.{IdleWorker}

@@ -1,3 +1,4 @@
+-- Proof by hand of `leave`: the call of `idler_of`, the call of `wakers_of` and what it returns, by the lemmas of `Leaving`.
 use Rattle.std.proofs.Common.{refl, arith}
 use Rattle.idle_loop.proofs.Leaving.{pool_idles, pool_wakes, left_pool}
 use Rattle.idle_loop.proofs.closing.leave.Goals as goal

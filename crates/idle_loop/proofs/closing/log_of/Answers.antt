@@ -1,3 +1,4 @@
+-- Proof by hand of `log_of`: the call of `close`, the call of `makers_of` and the call of `merged_log`.
 use Rattle.std.proofs.Common.{◌≡◌, ◌∙◌, reverse}
 use Rattle.idle_loop.proofs.Ending.{all_seats, left_made, left_makers, left_seen, made_back}
 use Rattle.idle_loop.proofs.Histories.{makers_in}

@@ -1,3 +1,4 @@
+-- Proof by hand of `merged_log`: the call of `merge_idle` and what it returns, by the lemmas of `Ending`.
 use Rattle.std.proofs.Common.{◌≡◌, ◌∙◌, List, length, reverse, refl, sym, ap, subst}
 use Rattle.idle_loop.specs.declared.entry.IdleEntry.{IdleEntry}
 use Rattle.idle_loop.specs.declared.entry.IdleSizes.{IdleSizes}

@@ -1,3 +1,4 @@
+-- Proof by hand of `wakers_of`: the call of `waker_of` and its loop, by the lemmas of `Leaving`.
 use Rattle.std.proofs.Common.{List, subst, refl}
 use Rattle.idle_loop.specs.declared.roles.Role.{Role}
 use Rattle.idle_loop.specs.Ends.{AreWakes}

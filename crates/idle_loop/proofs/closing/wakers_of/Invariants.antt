@@ -1,3 +1,4 @@
+-- The invariant of the loop of `wakers_of`.
 use Rattle.idle_loop.specs.Ends.{AreOff, AreWakes}
 use Rattle.idle_loop.proofs.closing.wakers_of.Given as goal
 

@@ -1,3 +1,4 @@
+-- The invariant of the loop of `look_for`.
 use Rattle.std.proofs.Common.{◌≡◌}
 use Rattle.event_word.specs.Looks.{HasGrown}
 use Rattle.idle_loop.proofs.looks.look_for.Given as goal

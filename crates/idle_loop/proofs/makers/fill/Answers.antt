@@ -1,3 +1,4 @@
+-- Proof by hand of `fill`: its loop.
 use Rattle.std.proofs.Common.{◌∙◌, ℕ, List, sym, ap}
 use Rattle.std.proofs.lemmas.List.{drop_more}
 use Rattle.idle_loop.specs.Makers.{filled}

@@ -1,3 +1,4 @@
+-- The invariant of the loop of `fill`.
 use Rattle.std.proofs.Common.{◌≡◌, drop, vec_len}
 use Rattle.idle_loop.specs.Makers.{filled}
 use Rattle.idle_loop.proofs.makers.fill.Given as goal

@@ -1,3 +1,4 @@
+-- Proof by hand of `makers_of`: the call of `fill`, its loop and what it returns, by the lemmas of `Filling`.
 use Rattle.std.proofs.Common.{◌≡◌, ◌∙◌, ◌<◌, ◌+◌, ℕ, List, Vec, get_or, length, vec_len, sym, ap, subst, arith}
 use Rattle.idle_loop.specs.Makers.{filled}
 use Rattle.idle_loop.proofs.Filling.{fill_list, lists_filled, places_low}

@@ -1,3 +1,4 @@
+-- The invariant of the loop of `makers_of`.
 use Rattle.std.proofs.Common.{◌≡◌, ℕ, List}
 use Rattle.idle_loop.specs.Makers.{AreMakers}
 use Rattle.idle_loop.proofs.Filling.{AreFilled}

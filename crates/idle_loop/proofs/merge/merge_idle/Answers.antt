@@ -1,3 +1,4 @@
+-- Proof by hand of `merge_idle`: its loop and the call of `put_hards`, by the lemmas of `Placing`.
 use Rattle.std.proofs.Common.{◌+◌, List, get_or, take, length, reverse, sym, subst}
 use Rattle.std.proofs.lemmas.List.{get_or_default}
 use Rattle.idle_loop.specs.declared.entry.IdleEntry.{IdleEntry}

@@ -1,3 +1,4 @@
+-- The invariant of the loop of `merge_idle`.
 use Rattle.idle_loop.proofs.Placing.{IsPlaced}
 use Rattle.idle_loop.proofs.merge.merge_idle.Given as goal
 

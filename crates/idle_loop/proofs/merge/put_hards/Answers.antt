@@ -1,3 +1,4 @@
+-- Proof by hand of `put_hards`: its loop, by the lemmas of `Placing`.
 use Rattle.std.proofs.Common.{◌<◌, ◌+◌, List, take, length, reverse, sym, subst, arith}
 use Rattle.idle_loop.specs.declared.entry.IdleEntry.{IdleEntry}
 use Rattle.idle_loop.specs.Merging.{Merges}

@@ -1,3 +1,4 @@
+-- The invariant of the loop of `put_hards`.
 use Rattle.std.proofs.Common.{List, reverse, take}
 use Rattle.idle_loop.specs.declared.entry.IdleEntry.{IdleEntry}
 use Rattle.idle_loop.specs.Merging.{Merges}

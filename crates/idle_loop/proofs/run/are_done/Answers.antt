@@ -1,3 +1,4 @@
+-- Proof by hand of `are_done`: its loop, by the lemmas of `Starting`.
 use Rattle.std.proofs.Common.{rules}
 use Rattle.idle_loop.specs.Ends.{IsDone}
 use Rattle.idle_loop.proofs.Starting.{done_more}

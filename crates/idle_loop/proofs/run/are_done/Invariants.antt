@@ -1,3 +1,4 @@
+-- The invariant of the loop of `are_done`.
 use Rattle.std.proofs.Common.{take}
 use Rattle.idle_loop.specs.Ends.{AreDone}
 use Rattle.idle_loop.proofs.run.are_done.Given as goal

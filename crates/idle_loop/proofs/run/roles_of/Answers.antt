@@ -1,3 +1,4 @@
+-- Proof by hand of `roles_of`: the call of `on`, its loop and what it returns, by the lemmas of `Starting`.
 use Rattle.std.proofs.Common.{◌∙◌, false, refl, sym, arith}
 use Rattle.event_word.proofs.Seating.{came}
 use Rattle.turn_lock.proofs.LastPasses.{moved_on}

@@ -1,3 +1,4 @@
+-- The invariant of the loop of `roles_of`.
 use Rattle.std.proofs.Common.{◌≡◌, ◌++◌, [], length}
 use Rattle.idle_loop.specs.WorkerPools.{AreRoles}
 use Rattle.idle_loop.proofs.run.roles_of.Given as goal

@@ -1,3 +1,4 @@
+-- Proof by hand of `to_end`: the call of `leave`.
 use Rattle.idle_loop.proofs.run.to_end.Goals as goal
 
 pub leave-requires : goal.leave-requires

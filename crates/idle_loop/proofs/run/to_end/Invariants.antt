@@ -1,3 +1,4 @@
+-- The invariant of the loop of `to_end`.
 use Rattle.idle_loop.specs.WorkerPools.{IsWorkerPool}
 use Rattle.idle_loop.proofs.run.to_end.Given as goal
 

@@ -1,3 +1,4 @@
+-- Proof by hand of `begin`: what it returns, by the lemmas of `Stepping`.
 use Rattle.std.proofs.Common.{refl}
 use Rattle.idle_loop.proofs.Stepping.{gains_one}
 use Rattle.idle_loop.proofs.steps.begin.Goals as goal

@@ -1,3 +1,4 @@
+-- Proof by hand of `leave`: what it returns, by the lemmas of `Stepping`.
 use Rattle.idle_loop.proofs.Stepping.{gains_left}
 use Rattle.idle_loop.proofs.steps.leave.Goals as goal
 

@@ -1,3 +1,4 @@
+-- Proof by hand of `try_enter`: what it returns, by the lemmas of `Stepping`.
 use Rattle.std.proofs.Common.{refl}
 use Rattle.idle_loop.proofs.Stepping.{gains_one}
 use Rattle.idle_loop.proofs.steps.try_enter.Goals as goal

@@ -1,3 +1,4 @@
+-- Proof by hand of `act`: the call of `idler_turn` and what it returns, by the lemmas of `Acting`.
 use Rattle.idle_loop.proofs.Acting.{acted_idles, in_idles}
 use Rattle.idle_loop.proofs.worker.act.Goals as goal
 

@@ -1,3 +1,4 @@
+-- Proof by hand of `idler_turn`: the call of `give` and what it returns, by the lemmas of `Acting` and `Stepping`.
 use Rattle.std.proofs.Common.{refl, sym, ap, ◌∙◌}
 use Rattle.idle_loop.proofs.Acting.{taken_sizes, acted_idle}
 use Rattle.idle_loop.proofs.Stepping.{entries_of, sizes_of, list_grown}

@@ -1,3 +1,4 @@
+-- Proof by hand of `waker_turn`: the call of `make_wake`, the call of `give` and what it returns, by the lemmas of `Acting` and `Stepping`.
 use Rattle.std.proofs.Common.{sym, ap, ◌∙◌}
 use Rattle.idle_loop.proofs.Acting.{is_owing, taken_sizes, acted_none, acted_hard, acted_wake}
 use Rattle.idle_loop.proofs.Stepping.{entries_of, sizes_of, list_grown}

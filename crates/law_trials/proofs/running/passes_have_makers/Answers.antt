@@ -1,3 +1,4 @@
+-- Proof by hand of `passes_have_makers`: what it returns, by the lemmas of `Passed`.
 use Rattle.std.proofs.Common.{◌≡◌, true, false, arith}
 use Rattle.law_trials.proofs.running.passes_have_makers.Goals as goal
 use Rattle.law_trials.proofs.Passed.{have_makers}

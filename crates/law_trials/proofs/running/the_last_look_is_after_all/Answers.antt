@@ -1,3 +1,4 @@
+-- Proof by hand of `the_last_look_is_after_all`: what it returns.
 use Rattle.std.proofs.Common.{◌≡◌, true, false}
 use Rattle.law_trials.proofs.running.the_last_look_is_after_all.Goals as goal
 

@@ -1,3 +1,4 @@
+-- Proof by hand of `children_of`: the call of `dependents_of` and its loop, by the lemmas of `RowsMade`.
 use Rattle.std.proofs.Common.{◌≡◌, ◌+◌, ◌++◌, ◌∷◌, [], ℕ, List, Option, None, length, take, get_or, sym, subst, arith}
 use Rattle.std.proofs.lemmas.List.{take_more, length-take-le}
 use Rattle.sleep_model.specs.Order.{children_from}

@@ -1,3 +1,4 @@
+-- The invariant of the loop of `children_of`.
 use Rattle.std.proofs.Common.{length, take}
 use Rattle.sleep_model.specs.Order.{children_from}
 use Rattle.link_rows.specs.Rows.{IsTableOf}

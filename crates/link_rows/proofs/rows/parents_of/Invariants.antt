@@ -1,3 +1,4 @@
+-- The invariant of the loop of `parents_of`.
 use Rattle.std.proofs.Common.{◌≡◌, map, take, option_to_list}
 use Rattle.link_rows.proofs.rows.parents_of.Given as goal
 

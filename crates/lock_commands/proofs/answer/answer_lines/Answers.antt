@@ -1,3 +1,4 @@
+-- Proof by hand of `answer_lines`: the call of `carry_lines`, by the lemmas of `Forms`.
 use Rattle.std.proofs.Common.{◌∙◌, sym}
 use Rattle.lock_commands.specs.Lines.{lines}
 use Rattle.lock_commands.proofs.Forms.{all_good}

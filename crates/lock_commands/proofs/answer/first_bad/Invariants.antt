@@ -1,3 +1,4 @@
+-- The invariant of the loop of `first_bad`, and the number that falls each time.
 use Rattle.std.proofs.Common.{◌≡◌, ◌≤◌, ◌+◌, length}
 use Rattle.lock_commands.specs.Lines.{lines}
 use Rattle.lock_commands.specs.TextAnswers.{first_bad}

@@ -1,3 +1,4 @@
+-- The invariant of the loop of `cut`.
 use Rattle.std.proofs.Common.{◌≡◌, ◌++◌, take, drop}
 use Rattle.lock_commands.specs.Lines.{before, after_first}
 use Rattle.lock_commands.proofs.cut.cut.Given as goal

@@ -1,3 +1,4 @@
+-- The invariant of the loop of `push_sources`.
 use Rattle.std.proofs.Common.{◌≡◌, ◌++◌, take, flat_map}
 use Rattle.lock_commands.specs.Answers.{counted_line}
 use Rattle.lock_commands.proofs.text.push_sources.Given as goal

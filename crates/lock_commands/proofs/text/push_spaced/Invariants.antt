@@ -1,3 +1,4 @@
+-- The invariant of the loop of `push_spaced`.
 use Rattle.std.proofs.Common.{◌≡◌, ◌++◌, take, flat_map}
 use Rattle.lock_commands.specs.Answers.{spaced}
 use Rattle.lock_commands.proofs.text.push_spaced.Given as goal

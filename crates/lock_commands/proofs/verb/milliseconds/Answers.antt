@@ -1,3 +1,4 @@
+-- Proof by hand of `milliseconds`: what it returns, by the lemmas of `Digits`.
 use Rattle.std.proofs.Common.{◌+◌, ◌-◌, ◌*◌, drop, get_or, arith}
 use Rattle.wake_locks.proofs.Digits.{no_smaller, one_more}
 use Rattle.lock_commands.proofs.Digits.{too_long}

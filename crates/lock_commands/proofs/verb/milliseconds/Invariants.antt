@@ -1,3 +1,4 @@
+-- The invariant of the loop of `milliseconds`.
 use Rattle.std.proofs.Common.{◌≡◌, ◌≤◌, ◌+◌, ◌-◌, ◌*◌, drop, fold}
 use Rattle.wake_locks.specs.Texts.{value_of}
 use Rattle.lock_commands.proofs.verb.milliseconds.Given as goal

@@ -1,3 +1,4 @@
+-- Proof by hand of `ends_finished`: what it returns, by the lemmas of `Sources`.
 use Rattle.check_past.specs.Passing.{past_of}
 use Rattle.std.proofs.lemmas.Result.{IfOk-weaker}
 use Rattle.log_check.proofs.Sources.{over}

@@ -1,3 +1,4 @@
+-- Proof by hand of `first_wrong`: what it returns and its loop, by the lemmas of `Sources`.
 use Rattle.std.proofs.Common.{◌≡◌, ◌∙◌, ℕ, Some, take, sym, ap, subst, arith, true≢false}
 use Rattle.std.proofs.lemmas.Option.{slice_get-get_or}
 use Rattle.sleep_model.specs.Legal.{stats_of}

@@ -1,3 +1,4 @@
+-- The invariant of the loop of `first_wrong`.
 use Rattle.std.proofs.Common.{◌≡◌, take}
 use Rattle.sleep_model.specs.Legal.{stats_of}
 use Rattle.check_past.specs.Passing.{past_of}

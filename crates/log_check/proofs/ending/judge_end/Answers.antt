@@ -1,3 +1,4 @@
+-- Proof by hand of `judge_end`: what it returns, by the lemmas of `Ends`.
 use Rattle.std.proofs.Common.{◌∙◌, refl, sym, true≢false}
 use Rattle.std.proofs.lemmas.Result.{IfOk-weaker}
 use Rattle.check_past.specs.Passing.{past_of}

@@ -1,3 +1,4 @@
+-- Proof by hand of `broken`: what it returns, by the lemmas of `Next`.
 use Rattle.check_past.specs.Passing.{past_of}
 use Rattle.log_check.proofs.Next.{keeps_next}
 use Rattle.log_check.proofs.judging.broken.Goals as goal

@@ -1,3 +1,4 @@
+-- Proof by hand of `check`: the call of `broken`, what it returns and the rest, by the lemmas of `Entries`.
 use Rattle.std.proofs.Common.{◌∙◌, sym, subst}
 use Rattle.std.proofs.lemmas.Result.{IfOk-weaker}
 use Rattle.sleep_model.specs.declared.machine.Machine.{Machine}

@@ -1,3 +1,4 @@
+-- The invariant of the loop of `check`, and the number that falls each time.
 use Rattle.std.proofs.Common.{◌≡◌, length, drop}
 use Rattle.sleep_model.specs.Interleaved.{unread}
 use Rattle.rule_definitions.specs.Entry.{KeepsEach}

@@ -1,3 +1,4 @@
+-- The invariant of the loop of `line_length`.
 use Rattle.std.proofs.Common.{◌≡◌, ◌+◌, drop}
 use Rattle.log_commands.specs.Input.{line_length}
 use Rattle.log_commands.proofs.input.line_length.Given as goal

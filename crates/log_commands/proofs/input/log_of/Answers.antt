@@ -1,3 +1,4 @@
+-- Proof by hand of `log_of`: what it returns.
 use Rattle.file_read_back.proofs.Naming.{machines_named}
 use Rattle.log_commands.proofs.input.log_of.Goals as goal
 

@@ -1,3 +1,4 @@
+-- Proof by hand of `add_link`: what it returns, by the lemmas of `Trying`.
 use Rattle.log_commands.proofs.Trying.{closes, passed, taken}
 use Rattle.log_commands.proofs.links.add_link.Goals as goal
 

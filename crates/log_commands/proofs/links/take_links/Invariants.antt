@@ -1,3 +1,4 @@
+-- The invariant of the loop of `take_links`, and the number that falls each time.
 use Rattle.std.proofs.Common.{◌≡◌, length, reverse}
 use Rattle.sleep_model.specs.Interleaved.{unread}
 use Rattle.sleep_stats.specs.Linked.{added_by}

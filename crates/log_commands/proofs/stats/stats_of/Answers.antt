@@ -1,3 +1,4 @@
+-- Proof by hand of `stats_of`: what it returns, by the lemmas of `Linked`.
 use Rattle.log_commands.proofs.Linked.{stats_refused, stats_text_is, stats_unread}
 use Rattle.log_commands.proofs.stats.stats_of.Goals as goal
 

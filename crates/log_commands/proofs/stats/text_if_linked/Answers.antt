@@ -1,3 +1,4 @@
+-- Proof by hand of `text_if_linked`: the call of `take_links`, the call of `text_of_log` and what it returns, by the lemmas of `Linked`.
 use Rattle.std.proofs.Common.{sym, subst}
 use Rattle.log_commands.specs.Taking.{LinksAreOrdered}
 use Rattle.log_commands.proofs.Linked.{all_stand, all_within, first_stand, memory_bad, none_bad, one_bad, good_log_text}

@@ -1,3 +1,4 @@
+-- Proof by hand of `text_of_log`: what it returns.
 use Rattle.std.proofs.Common.{◌∙◌, ap}
 use Rattle.log_commands.specs.Telling.{stats_text}
 use Rattle.log_commands.proofs.stats.text_of_log.Goals as goal

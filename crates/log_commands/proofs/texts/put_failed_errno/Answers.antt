@@ -1,3 +1,4 @@
+-- Proof by hand of `put_failed_errno`: what it returns, by the lemmas of `Rows`.
 use Rattle.std.proofs.Common.{◌++◌, ◌∙◌, List, ℕ, ap, codes}
 use Rattle.sleep_base.specs.Errno.{name_of}
 use Rattle.sleep_model.specs.Text.{newline}

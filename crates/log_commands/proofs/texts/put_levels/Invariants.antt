@@ -1,3 +1,4 @@
+-- The invariant of the loop of `put_levels`.
 use Rattle.std.proofs.Common.{◌≡◌, ◌++◌, drop}
 use Rattle.log_commands.specs.Telling.{levels_text}
 use Rattle.log_commands.proofs.texts.put_levels.Given as goal

@@ -1,3 +1,4 @@
+-- The invariant of the loop of `put_names`.
 use Rattle.std.proofs.Common.{◌≡◌, ◌++◌, drop}
 use Rattle.log_commands.specs.Telling.{names_text}
 use Rattle.log_commands.proofs.texts.put_names.Given as goal

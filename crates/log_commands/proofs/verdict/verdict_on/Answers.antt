@@ -1,3 +1,4 @@
+-- Proof by hand of `verdict_on`: what it returns.
 use Rattle.std.proofs.lemmas.Result.{IfOk-weaker}
 use Rattle.file_read_back.proofs.Naming.{machines_named}
 use Rattle.log_commands.specs.Judging.{OfLine, OfLog}

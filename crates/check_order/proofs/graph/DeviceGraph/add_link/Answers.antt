@@ -1,3 +1,4 @@
+-- Proof by hand of `add_link`: the invariants of its types, by the lemmas of `Making`.
 use Rattle.std.proofs.Common.{◌≡◌, ◌∷◌, ◌++◌, ◌∙◌, [], Some, length, reverse, ap, sym, subst, arith}
 use Rattle.std.proofs.lemmas.List.{length-reverse, reverse-append}
 use Rattle.sleep_model.specs.Links.{AreLinks}

@@ -1,3 +1,4 @@
+-- Proof by hand of `is_dependent`: the call of `visit_below` and what it returns, by the lemmas of `Ordering` and `Tying`.
 use Rattle.std.proofs.Common.{◌<◌, ◌∙◌, length, reverse, ap, sym, subst}
 use Rattle.sleep_model.specs.Links.{is_dependent}
 use Rattle.check_order.specs.Graphs.{GraphState}

@@ -1,3 +1,4 @@
+-- Proof by hand of `is_linked`: what it returns, by the lemmas of `Placing`.
 use Rattle.std.proofs.Common.{◌∙◌, List, ap, reverse}
 use Rattle.sleep_model.specs.declared.machine.Link.{Link}
 use Rattle.sleep_model.specs.Links.{is_linked}

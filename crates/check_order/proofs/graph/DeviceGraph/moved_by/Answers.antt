@@ -1,3 +1,4 @@
+-- Proof by hand of `moved_by`: the call of `move_to_end` and what it returns, by the lemmas of `Ordering`.
 use Rattle.std.proofs.Common.{◌≡◌, ◌∷◌, ◌∙◌, length, reverse, ap, sym, subst}
 use Rattle.std.proofs.lemmas.Result.{IfOk-weaker}
 use Rattle.sleep_model.specs.Links.{AreLinks}

@@ -1,3 +1,4 @@
+-- Proof by hand of `new`: the call of `add_link`, by the lemmas of `Ordering`.
 use Rattle.std.proofs.Common.{◌∷◌, get_or, sym, subst}
 use Rattle.sleep_model.specs.Links.{AreLinks}
 use Rattle.check_order.specs.Graphs.{GraphState, no_link}

@@ -1,3 +1,4 @@
+-- The invariant of the loop of `new`.
 use Rattle.std.proofs.Common.{◌≡◌, reverse, take}
 use Rattle.check_order.proofs.graph.DeviceGraph.new.Given as goal
 

@@ -1,3 +1,4 @@
+-- Proof by hand of `row_below`: its indices and what it returns, by the lemmas of `Placing`.
 use Rattle.std.proofs.Common.{◌++◌, ◌∙◌, List, reverse, ap}
 use Rattle.sleep_model.specs.declared.machine.Link.{Link}
 use Rattle.sleep_model.specs.Order.{active_of, consumers_of, dependents}

@@ -1,3 +1,4 @@
+-- Proof by hand of `set_state`: what it returns, the call of `row_above` and the rest, by the lemmas of `Making`, `Placing` and `Tying`.
 use Rattle.std.proofs.Common.{◌≡◌, ◌<◌, ◌∙◌, ℕ, List, length, map, reverse, refl, ap, sym, subst}
 use Rattle.sleep_model.specs.declared.machine.Link.{Link}
 use Rattle.sleep_model.specs.Order.{with_state}

@@ -1,3 +1,4 @@
+-- The invariant of the loop of `of_rows`.
 use Rattle.std.proofs.Common.{◌≡◌, map, take}
 use Rattle.check_order.proofs.shown.ShownRows.of_rows.Given as goal
 

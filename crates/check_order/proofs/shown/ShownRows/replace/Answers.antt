@@ -1,3 +1,4 @@
+-- Proof by hand of `replace`: what it returns.
 use Rattle.std.proofs.Common.{◌∙◌, set, ap}
 use Rattle.std.proofs.lemmas.List.{map-set}
 use Rattle.check_order.proofs.shown.ShownRows.replace.Goals as goal

@@ -1,3 +1,4 @@
+-- Proof by hand of `all_fit`: what it returns, by the lemmas of `Answers`.
 use Rattle.check_past.proofs.Answers.{all_passed}
 use Rattle.check_past.proofs.passed.Passed.all_fit.Goals as goal
 

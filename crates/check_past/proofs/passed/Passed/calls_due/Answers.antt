@@ -1,3 +1,4 @@
+-- Proof by hand of `calls_due`: what it returns, by the lemmas of `Answers`.
 use Rattle.std.proofs.Common.{◌≡◌, ◌∙◌, ap, length, subst, IfOk, List}
 use Rattle.sleep_model.specs.declared.entry.Kind.{Kind}
 use Rattle.check_past.specs.declared.past_state.PastState.{PastState}

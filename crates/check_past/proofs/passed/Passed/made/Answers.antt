@@ -1,3 +1,4 @@
+-- Proof by hand of `made`: what it returns, by the lemmas of `Answers`.
 use Rattle.std.proofs.Common.{◌∙◌, ap}
 use Rattle.check_past.specs.declared.past_state.PastState.{PastState}
 use Rattle.check_past.specs.PassedFields.{passage}

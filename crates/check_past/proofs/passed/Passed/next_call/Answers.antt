@@ -1,3 +1,4 @@
+-- Proof by hand of `next_call`: what it returns, by the lemmas of `Answers`.
 use Rattle.std.proofs.Common.{◌∙◌, ap, ap₂, slice_get, List, ℕ}
 use Rattle.sleep_model.specs.declared.entry.Kind.{Kind}
 use Rattle.check_past.specs.declared.past_state.PastState.{PastState}

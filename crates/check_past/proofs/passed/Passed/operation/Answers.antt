@@ -1,3 +1,4 @@
+-- Proof by hand of `operation`: what it returns, by the lemmas of `Naming`.
 use Rattle.std.proofs.Common.{Option, IfSome, subst, sym}
 use Rattle.sleep_model.specs.declared.machine.Op.{Op}
 use Rattle.sleep_model.specs.Accepted.{IsOp}

@@ -1,3 +1,4 @@
+-- Proof by hand of `pass`: the call of `pass` and the invariants of its types, by the lemmas of `Passing`.
 use Rattle.std.proofs.Common.{◌∙◌, List, ap, sym, subst, length}
 use Rattle.sleep_model.specs.declared.entry.Entry.{Entry}
 use Rattle.sleep_model.specs.EntryClasses.{journal}

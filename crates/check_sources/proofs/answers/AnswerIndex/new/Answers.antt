@@ -1,3 +1,4 @@
+-- Proof by hand of `new`: the invariants of its types, by the lemmas of `Answering`.
 use Rattle.check_sources.proofs.Answering.{found}
 use Rattle.check_sources.proofs.answers.AnswerIndex.new.Goals as goal
 

@@ -1,3 +1,4 @@
+-- The invariant of the loop of `new`.
 use Rattle.std.proofs.Common.{◌≡◌, replicate, []}
 use Rattle.check_sources.proofs.callers.Callers.new.Given as goal
 

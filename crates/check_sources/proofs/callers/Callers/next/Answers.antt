@@ -1,3 +1,4 @@
+-- Proof by hand of `next`: what it returns, by the lemmas of `Nexting`.
 use Rattle.std.proofs.Common.{◌∙◌, ap, sym, slice_get}
 use Rattle.sleep_model.specs.Calls.{calls_of_turn}
 use Rattle.check_sources.specs.Calling.{CallsOf, later_at, calls_by}

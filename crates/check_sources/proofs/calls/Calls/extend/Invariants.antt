@@ -1,3 +1,4 @@
+-- The invariant of the loop of `extend`.
 use Rattle.std.proofs.Common.{◌≡◌, ◌++◌, map, take}
 use Rattle.script_plan.specs.CallPlans.{noted}
 use Rattle.check_sources.proofs.calls.Calls.extend.Given as goal

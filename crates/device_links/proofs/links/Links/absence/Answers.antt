@@ -1,3 +1,4 @@
+-- Proof by hand of `absence`: what it returns.
 use Rattle.std.proofs.Common.{◌<◌, ◌∙◌, length, sym, subst, arith}
 use Rattle.device_links.specs.Linked.{Linked}
 use Rattle.device_links.specs.Adds.{AreRegistered}

@@ -1,3 +1,4 @@
+-- Proof by hand of `find`: the call of `walk` and what it returns, by the lemmas of `Invariant`.
 use Rattle.std.proofs.Common.{◌∙◌, ℕ, List, length, ap, sym, subst, reverse, IfOk}
 use Rattle.sleep_model.specs.Order.{dependents}
 use Rattle.sleep_model.proofs.Acyclic.{order_length}

@@ -1,3 +1,4 @@
+-- Proof by hand of `is_dependent`: what it returns, by the lemmas of `Invariant`, `Moving` and `Spreading`.
 use Rattle.std.proofs.Common.{◌≡◌, ◌≤◌, ◌∙◌, ◌==◌, ℕ, List, false, true, length, ap, subst, reverse, sym, get_or, set, replicate, arith}
 use Rattle.std.proofs.lemmas.Bool.{ne_eqb}
 use Rattle.sleep_model.specs.Links.{is_dependent}

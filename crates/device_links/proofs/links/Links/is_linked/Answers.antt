@@ -1,3 +1,4 @@
+-- Proof by hand of `is_linked`: what it returns.
 use Rattle.std.proofs.Common.{◌≡◌, ◌∙◌, length, subst, reverse}
 use Rattle.sleep_model.specs.Links.{is_linked}
 use Rattle.device_links.specs.Linked.{Linked}

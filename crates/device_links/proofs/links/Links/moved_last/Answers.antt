@@ -1,3 +1,4 @@
+-- Proof by hand of `moved_last`: the call of `moved_last` and what it returns, by the lemmas of `Moving`.
 use Rattle.std.proofs.Common.{◌<◌, ◌∙◌, ℕ, length, reverse, ap, sym, subst, IfOk}
 use Rattle.sleep_model.specs.Order.{dependents, is_among}
 use Rattle.sleep_model.proofs.Acyclic.{order_within}

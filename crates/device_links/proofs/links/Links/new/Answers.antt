@@ -1,3 +1,4 @@
+-- Proof by hand of `new`: the invariants of its types, by the lemmas of `Invariant`.
 use Rattle.std.proofs.Common.{◌<◌, ◌^◌, [], length, ap, sym, reverse, arith}
 use Rattle.device_links.specs.Invariant.{LinksInvariant, IsWhole}
 use Rattle.device_links.proofs.Invariant.{whole_as}

@@ -1,3 +1,4 @@
+-- Proof by hand of `order`: what it returns.
 use Rattle.std.proofs.Common.{◌≡◌, ◌<◌, ◌∙◌, ℕ, List, length, ap, sym, subst, reverse, true}
 use Rattle.sleep_model.specs.Order.{is_among, dependents}
 use Rattle.sleep_model.specs.Links.{IsOrder}

@@ -1,3 +1,4 @@
+-- Proof by hand of `put`: the invariants of its types, by the lemmas of `Invariant` and `Numbering`.
 use Rattle.std.proofs.Common.{◌≡◌, ◌≤◌, ℕ, List, arith, ◌++◌, ◌∷◌, ◌∙◌, [], Some, length, cond, reverse, ap, sym, subst, refl}
 use Rattle.std.specs.Prelude.{slice_index_or}
 use Rattle.std.proofs.lemmas.List.{length-reverse, reverse-append}

@@ -1,3 +1,4 @@
+-- Proof by hand of `refusal`: what it returns.
 use Rattle.std.proofs.Common.{◌≡◌, ◌<◌, ◌∙◌, length, sym, subst, reverse, arith, true, false}
 use Rattle.std.proofs.lemmas.List.{length-reverse}
 use Rattle.sleep_model.specs.Links.{is_linked}

@@ -1,3 +1,4 @@
+-- Proof by hand of `set_active`: what it returns, the call of `children_within` and the rest, by the lemmas of `Numbering` and `Setting`.
 use Rattle.std.proofs.Common.{◌≡◌, ◌≤◌, ◌∙◌, ◌==◌, List, length, map, reverse, true, ℕ, Option, set, sym, ap, subst}
 use Rattle.sleep_model.specs.declared.machine.Link.{Link}
 use Rattle.sleep_model.specs.Links.{is_linked}

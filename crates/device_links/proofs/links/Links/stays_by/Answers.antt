@@ -1,3 +1,4 @@
+-- Proof by hand of `stays_by`: what it returns, by the lemmas of `Moving`.
 use Rattle.std.proofs.Common.{◌∙◌, ℕ, List, reverse, ap, sym, subst}
 use Rattle.std.specs.Bool.{OnTrue}
 use Rattle.sleep_model.specs.Order.{order_by}

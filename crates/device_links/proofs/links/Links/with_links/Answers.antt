@@ -1,3 +1,4 @@
+-- Proof by hand of `with_links`: what it returns, by the lemmas of `Ordered`.
 use Rattle.device_links.proofs.Ordered.{no_tables}
 use Rattle.device_links.proofs.links.Links.with_links.Goals as goal
 

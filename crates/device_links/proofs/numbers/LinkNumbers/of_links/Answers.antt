@@ -1,3 +1,4 @@
+-- Proof by hand of `of_links`: the call of `make_room`, its loop and what it returns, by the lemmas of `Numbering` and `Tabulating`.
 use Rattle.std.proofs.Common.{◌∙◌, List, Some, length, reverse, get_or, ap, subst, arith}
 use Rattle.std.proofs.lemmas.List.{get_or_default, take_all}
 use Rattle.sleep_model.specs.declared.machine.Link.{Link}

@@ -1,3 +1,4 @@
+-- The invariant of the loop of `of_links`.
 use Rattle.std.proofs.Common.{length, take, reverse}
 use Rattle.device_links.specs.Invariant.{AreNumbered}
 use Rattle.device_links.proofs.numbers.LinkNumbers.of_links.Given as goal

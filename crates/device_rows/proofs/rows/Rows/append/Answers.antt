@@ -1,3 +1,4 @@
+-- Proof by hand of `append`: what it returns, by the lemmas of `Edits`.
 use Rattle.std.proofs.Common.{◌≡◌, ◌<◌, ◌≤◌, ◌+◌, ◌-◌, ◌++◌, ◌∷◌, ◌∙◌, [], ℕ, length, map, get_or, sym, ap, ap₂, set, subst, arith, length-append}
 use Rattle.std.specs.Vec.{vec_capacity, vec_len}
 use Rattle.device_rows.specs.Table.{Table, room_at}

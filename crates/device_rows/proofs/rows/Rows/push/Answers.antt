@@ -1,3 +1,4 @@
+-- Proof by hand of `push`: what it returns, by the lemmas of `Edits`.
 use Rattle.std.proofs.Common.{◌≡◌, ◌<◌, ◌≤◌, ◌+◌, ◌-◌, ◌++◌, ◌∷◌, ◌∙◌, [], ℕ, length, map, get_or, sym, ap, ap₂, set, subst, arith, length-append}
 use Rattle.std.proofs.lemmas.List.{length-map}
 use Rattle.std.specs.Vec.{vec_capacity, vec_len}

@@ -1,3 +1,4 @@
+-- Proof by hand of `reserve_row`: what it returns, by the lemmas of `Edits`.
 use Rattle.std.proofs.Common.{◌<◌, ◌≤◌, ◌+◌, ◌-◌, ◌∙◌, length, map, get_or, set, [], sym, ap, arith, subst, ℕ}
 use Rattle.std.specs.Vec.{vec_capacity, vec_len}
 use Rattle.device_rows.specs.Table.{Table, room_at}

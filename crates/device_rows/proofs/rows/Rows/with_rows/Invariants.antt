@@ -1,3 +1,4 @@
+-- The invariant of the loop of `with_rows`.
 use Rattle.std.proofs.Common.{◌≡◌, [], replicate}
 use Rattle.device_rows.proofs.rows.Rows.with_rows.Given as goal
 

@@ -1,3 +1,4 @@
+-- Proof by hand of `begin`: the call of `push_reserved` and the invariants of its types, by the lemmas of `Booking`.
 use Rattle.std.proofs.Common.{◌≤◌, refl, reverse, arith, subst, sym}
 use Rattle.idle_loop.specs.GateLogs.{GateLogState}
 use Rattle.std.proofs.Common.{◌≡◌, ◌<◌, false}

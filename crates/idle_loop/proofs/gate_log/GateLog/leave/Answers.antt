@@ -1,3 +1,4 @@
+-- Proof by hand of `leave`: the call of `push_reserved` and the invariants of its types, by the lemmas of `Booking`.
 use Rattle.std.proofs.Common.{◌≤◌, refl, reverse, vec_len, vec_capacity, subst, sym, ◌∙◌, arith}
 use Rattle.idle_loop.specs.declared.entry.IdleKind.TheVariants.{Leave}
 use Rattle.idle_loop.specs.GateLogs.{GateLogState}

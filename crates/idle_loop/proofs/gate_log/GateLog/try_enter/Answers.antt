@@ -1,3 +1,4 @@
+-- Proof by hand of `try_enter`: the call of `push_reserved` and the invariants of its types, by the lemmas of `Booking`.
 use Rattle.std.proofs.Common.{refl, ◌≡◌, ◌≤◌, ◌++◌, ◌∷◌, [], true, reverse, vec_len, vec_capacity, ap, subst, sym, ◌∙◌, arith}
 use Rattle.idle_gate.specs.declared.state.IdleState.TheVariants as state
 use Rattle.idle_loop.specs.declared.entry.IdleKind.{IdleKind}

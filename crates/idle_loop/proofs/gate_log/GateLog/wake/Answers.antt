@@ -1,3 +1,4 @@
+-- Proof by hand of `wake`: the call of `push_reserved` and the invariants of its types, by the lemmas of `Booking`.
 use Rattle.std.proofs.Common.{◌≤◌, refl, ◌<◌, reverse, arith, subst, sym}
 use Rattle.idle_loop.specs.declared.entry.IdleKind.TheVariants.{Wake}
 use Rattle.idle_loop.specs.IdleLogs.{wakes_of}

@@ -1,3 +1,4 @@
+-- Proof by hand of `make_hard`: the call of `hard`, the call of `push_reserved` and what it returns, by the lemmas of `Stepping`.
 use Rattle.std.proofs.Common.{refl, arith}
 use Rattle.event_word.specs.Seats.{made_of}
 use Rattle.idle_loop.proofs.Stepping.{can_hard, place_hard, made_hard, made_same, first_same, second_same}

@@ -1,3 +1,4 @@
+-- Proof by hand of `make_wake`: the call of `wakes`, the call of `wake` and the rest, by the lemmas of `Stepping`.
 use Rattle.std.proofs.Common.{rules, ◌≤◌, ◌<◌, refl, arith}
 use Rattle.idle_loop.proofs.Stepping.{few_wakes, has_woken, still_waker, made_same}
 use Rattle.idle_loop.proofs.roles.Waker.make_wake.Goals as goal

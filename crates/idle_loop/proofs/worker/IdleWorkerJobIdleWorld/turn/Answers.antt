@@ -1,3 +1,4 @@
+-- Proof by hand of `turn`: the call of `taken`, the call of `act` and what it returns, by the lemmas of `Acting`.
 use Rattle.std.proofs.Common.{refl}
 use Rattle.idle_loop.proofs.Acting.{has_pass, in_now, still_same, still_worker}
 use Rattle.idle_loop.proofs.worker.IdleWorkerJobIdleWorld.turn.Goals as goal

@@ -1,3 +1,4 @@
+-- The invariant of the loop of `carry_lines`, and the number that falls each time.
 use Rattle.std.proofs.Common.{◌≡◌, ◌≤◌, ◌+◌, ◌*◌, ◌^◌, true, length}
 use Rattle.std.specs.List.{list_all}
 use Rattle.wake_locks.specs.Locks.{ExpiriesAreDue}

@@ -1,3 +1,4 @@
+-- Proof by hand of `wait`: the call of `advance`.
 use Rattle.std.proofs.Common.{◌+◌, sym, ap, subst, arith}
 use Rattle.wake_locks.specs.Locks.{AreBefore}
 use Rattle.wake_locks.proofs.Placed.{before_later}
