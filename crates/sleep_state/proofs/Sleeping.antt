@@ -68,10 +68,11 @@ position_none [] i e = refl
 position_none (y ∷ ys) zero e = absurd (cc)
 position_none (y ∷ ys) (suc i) e = position_none ys i e
 
-pub set_none : (xs : List ScriptPosition) (i : ℕ) (x : ScriptPosition) → slice_get xs i ≡ None → slice_set xs i x ≡ xs
-set_none [] i x e = refl
-set_none (y ∷ ys) zero x e = absurd (cc)
-set_none (y ∷ ys) (suc i) x e = ap (λ zs. y ∷ zs) (set_none ys i x e)
+-- if no script has that number
+pub set_outside : (xs : List ScriptPosition) (i : ℕ) (x : ScriptPosition) → length xs ≤ i → slice_set xs i x ≡ xs
+set_outside [] i x l = refl
+set_outside (y ∷ ys) zero x l = absurd (omega (arith, l))
+set_outside (y ∷ ys) (suc i) x l = ap (λ zs. y ∷ zs) (set_outside ys i x (omega (arith, l)))
 
 pub ends_first : (n : ℕ) → map (λ (x : ScriptPosition). x.until) (replicate n first_position) ≡ replicate n None
 ends_first zero = refl

@@ -207,11 +207,11 @@ impl Moments {
 
     /// The next thing after that one, or the first of all, whose moment is not later than now. Things are gone through in
     /// the order of the tree. Where none is found after none, each moment is later.
-    pub(crate) fn next_come(&self, next_stage: Option<usize>, now: u64) -> Option<usize>
+    pub(crate) fn next_come(&self, after: Option<usize>, now: u64) -> Option<usize>
         ensures found { IfSome result (λ thing. is_later (slice_index_or self.now thing None) now ≡ false) }
-        ensures none { next_stage ≡ None → result ≡ None → is_later (least_of self.now) now ≡ true }
+        ensures none { after ≡ None → result ≡ None → is_later (least_of self.now) now ≡ true }
     {
-        match next_stage {
+        match after {
             Some(thing) => self.come_from(next_node(self.many.saturating_add(thing)), now),
             None => self.first_come(now),
         }

@@ -1,13 +1,14 @@
 //! Where each script of a machine stands, and which of them sleep.
 
 ghost use Rattle.std.specs.Prelude.{◌≡◌, ◌≤◌, ◌<◌, ◌+◌, ◌^◌, None, length, slice_index_or, slice_set};
-ghost use Rattle.sleep_model.specs.Positions.{first_position};
+ghost use Rattle.sleep_model.specs.Positions.{first_position, next_step, position_after, position_effect};
 ghost use Rattle.sleep_model.specs.Places.{one_if};
 ghost use Rattle.sleep_state.specs.Sleepers.{is_awake};
+ghost use Rattle.sleep_state.specs.TaskStates.{IsSmallPosition};
 
 use crate::moments::{Moments, is_later};
 use sleep_base::Mem;
-use sleep_model::ScriptPosition;
+use sleep_model::{Kind, ScriptPosition};
 use std::alloc::Global;
 use std::marker::Model;
 
@@ -52,6 +53,64 @@ pub(crate) fn first_position() -> ScriptPosition
     }
 }
 
+/// The step under way has ended, and the next one has not begun.
+#[inline(always)]
+fn end_step(position: &mut ScriptPosition)
+    requires { IsSmallPosition position.old }
+    ensures { position.new ≡ next_step position.old }
+{
+    position.done += 1;
+    position.turns += 1;
+    position.waits = false;
+    position.until = None;
+}
+
+/// A script after an entry of its own.
+#[inline(always)]
+fn move_script(position: &mut ScriptPosition, kind: Kind)
+    requires { IsSmallPosition position.old }
+    ensures { position.new ≡ position_after (position_effect kind) position.old }
+{
+    match kind {
+        Kind::ReadWait | Kind::SaveWait(_) | Kind::StateWait => position.waits = true,
+        Kind::AutoSet(_) => {
+            position.turns += 1;
+            position.waits = true;
+        }
+        Kind::Sleep(until) | Kind::SleepD(until) => {
+            position.waits = true;
+            position.until = Some(until);
+        }
+        Kind::Read(count) => {
+            end_step(position);
+            position.last_read = Some(count);
+        }
+        Kind::Saved(_) => {
+            end_step(position);
+            position.saved = true;
+        }
+        Kind::SaveErr(..) => {
+            end_step(position);
+            position.saved = false;
+        }
+        Kind::ReadIntr
+        | Kind::StateErr(_)
+        | Kind::StateUnsaved
+        | Kind::Over { .. }
+        | Kind::AutoBad
+        | Kind::AutoDone
+        | Kind::Slept
+        | Kind::Pass
+        | Kind::Post(_)
+        | Kind::Got(_)
+        | Kind::RuntimeAsk { .. }
+        | Kind::LinkAdd { .. }
+        | Kind::LinkState { .. } => end_step(position),
+        Kind::Exit => position.exited = true,
+        _ => {}
+    }
+}
+
 /// Whether a script that stands so neither sleeps nor has exited.
 fn is_awake(position: ScriptPosition) -> bool
     ensures { result ≡ is_awake position }
@@ -87,7 +146,8 @@ fn move_end(ends: &mut Moments, script: usize, was: Option<u64>, is: Option<u64>
 impl ScriptPositions {
     ghost use Rattle.std.specs.Prelude.{◌≡◌, ◌<◌, None, IfOk, IfSome, length, replicate, slice_get, slice_set};
     ghost use Rattle.std.specs.Bool.{OnTrue};
-    ghost use Rattle.sleep_model.specs.Positions.{first_position, position_at, all_exited};
+    ghost use Rattle.sleep_model.specs.Positions.{first_position, position_after, position_at, position_effect, all_exited};
+    ghost use Rattle.sleep_state.specs.TaskStates.{IsSmallPosition};
     ghost use Rattle.sleep_state.specs.Sleepers.{end_of, AreStopped, HasSlept, NoneSlept};
 
     /// So many scripts at their first steps. `Mem` if there is no memory.
@@ -105,6 +165,13 @@ impl ScriptPositions {
         })
     }
 
+    /// How many scripts there are.
+    pub(crate) fn len(&self) -> usize
+        ensures { result ≡ length self.now }
+    {
+        self.positions.len()
+    }
+
     /// Where that script stands, if there is one.
     pub(crate) fn get(&self, script: usize) -> Option<ScriptPosition>
         ensures { result ≡ slice_get self.now script }
@@ -112,16 +179,20 @@ impl ScriptPositions {
         self.positions.get(script).copied()
     }
 
-    /// Another place of a script.
-    pub(crate) fn set(&mut self, script: usize, position: ScriptPosition)
-        requires { script < length self.old }
-        ensures { self.new ≡ slice_set self.old script position }
+    /// A script's own entry moves it, in place.
+    #[inline(always)]
+    pub(crate) fn note(&mut self, script: usize, kind: Kind)
+        requires within { script < length self.old }
+        requires small { IsSmallPosition (position_at self.old script) }
+        ensures { self.new ≡ slice_set self.old script (position_after (position_effect kind) (position_at self.old script)) }
     {
-        let was = self.positions[script];
-        self.awake = recount(is_awake(was), is_awake(position), self.awake);
-        self.left = recount(!was.exited, !position.exited, self.left);
-        move_end(&mut self.ends, script, was.until, position.until);
-        self.positions[script] = position;
+        let position = &mut self.positions[script];
+        let was = *position;
+        move_script(position, kind);
+        let is = *position;
+        self.awake = recount(is_awake(was), is_awake(is), self.awake);
+        self.left = recount(!was.exited, !is.exited, self.left);
+        move_end(&mut self.ends, script, was.until, is.until);
     }
 
     /// The least end of all sleeps.
@@ -141,11 +212,11 @@ impl ScriptPositions {
     /// The next script after that one, or the first, whose sleep has come to its end by now. Where none is found after
     /// none, no script's has.
     #[tactic(auto, using(crate::proofs::Coming::slept_of, crate::proofs::Coming::none_of))]
-    pub(crate) fn next_slept(&self, next_stage: Option<usize>, now: u64) -> Option<usize>
+    pub(crate) fn next_slept(&self, after: Option<usize>, now: u64) -> Option<usize>
         ensures found { IfSome result (λ script. HasSlept self.now script now) }
-        ensures none { next_stage ≡ None → result ≡ None → NoneSlept self.now now }
+        ensures none { after ≡ None → result ≡ None → NoneSlept self.now now }
     {
-        self.ends.next_come(next_stage, now)
+        self.ends.next_come(after, now)
     }
 
     /// Whether every script has made its exit.

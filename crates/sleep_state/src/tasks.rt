@@ -1,6 +1,6 @@
 ghost use Rattle.std.specs.Prelude.{◌≡◌, ◌<◌, ◌^◌};
 ghost use Rattle.sleep_model.specs.Marks.{marks_after};
-ghost use Rattle.sleep_model.specs.Positions.{position_effect, next_step, position_after, positions_after};
+ghost use Rattle.sleep_model.specs.Positions.{position_effect, positions_after};
 ghost use Rattle.sleep_state.specs.TaskStates.{PositionIsSmall, MarksAreSmall};
 
 use crate::positions::{ScriptPositions, first_position};
@@ -26,85 +26,16 @@ impl Model for Tasks {
     ghost view = { tasks };
 }
 
-/// The step under way has ended, and the next one has not begun.
-fn next_step(position: ScriptPosition) -> ScriptPosition
-    requires done { position.done < 2 ^ 63 }
-    requires turns { position.turns < 2 ^ 63 }
-    ensures { result ≡ next_step position }
-{
-    ScriptPosition {
-        done: position.done + 1,
-        turns: position.turns + 1,
-        waits: false,
-        until: None,
-        ..position
-    }
-}
-
-/// A script's place after an entry of its own.
-fn position_after(kind: Kind, position: ScriptPosition) -> ScriptPosition
-    requires done { position.done < 2 ^ 63 }
-    requires turns { position.turns < 2 ^ 63 }
-    ensures { result ≡ position_after (position_effect kind) position }
-{
-    match kind {
-        Kind::ReadWait | Kind::SaveWait(_) | Kind::StateWait => ScriptPosition {
-            waits: true,
-            ..position
-        },
-        Kind::AutoSet(_) => ScriptPosition {
-            turns: position.turns + 1,
-            waits: true,
-            ..position
-        },
-        Kind::Sleep(until) | Kind::SleepD(until) => ScriptPosition {
-            waits: true,
-            until: Some(until),
-            ..position
-        },
-        Kind::Read(c) => ScriptPosition {
-            last_read: Some(c),
-            ..next_step(position)
-        },
-        Kind::Saved(_) => ScriptPosition {
-            saved: true,
-            ..next_step(position)
-        },
-        Kind::SaveErr(..) => ScriptPosition {
-            saved: false,
-            ..next_step(position)
-        },
-        Kind::ReadIntr
-        | Kind::StateErr(_)
-        | Kind::StateUnsaved
-        | Kind::Over { .. }
-        | Kind::AutoBad
-        | Kind::AutoDone
-        | Kind::Slept
-        | Kind::Pass
-        | Kind::Post(_)
-        | Kind::Got(_)
-        | Kind::RuntimeAsk { .. }
-        | Kind::LinkAdd { .. }
-        | Kind::LinkState { .. } => next_step(position),
-        Kind::Exit => ScriptPosition {
-            exited: true,
-            ..position
-        },
-        _ => position,
-    }
-}
-
-/// A script's own entry moves its place.
-#[tactic(auto, using(crate::proofs::Sleeping::set_none))]
+/// A script's own entry moves it.
+#[tactic(auto, using(crate::proofs::Sleeping::set_outside))]
 fn move_position(positions: &mut ScriptPositions, who: Actor, kind: Kind)
     requires { PositionIsSmall who positions.old }
     ensures { positions.new ≡ positions_after who (position_effect kind) positions.old }
 {
-    if let Actor::Script(i) = who {
-        match positions.get(i as usize) {
-            Some(position) => positions.set(i as usize, position_after(kind, position)),
-            None => {}
+    if let Actor::Script(script) = who {
+        let script = script as usize;
+        if script < positions.len() {
+            positions.note(script, kind);
         }
     }
 }
@@ -203,12 +134,12 @@ impl Tasks {
 
     /// The next script after that one, or the first, whose sleep has come to its end by now, in an order of its own.
     /// If none is found after none, no script's has.
-    pub fn next_slept(&self, next_stage: Option<u32>, now: u64) -> Option<u32>
+    pub fn next_slept(&self, after: Option<u32>, now: u64) -> Option<u32>
         ensures found { IfSome result (λ script. HasSlept self.now.positions script now) }
-        ensures none { next_stage ≡ None → result ≡ None → length self.now.positions ≤ 2 ^ 32 → NoneSlept self.now.positions now }
+        ensures none { after ≡ None → result ≡ None → length self.now.positions ≤ 2 ^ 32 → NoneSlept self.now.positions now }
     {
-        let next_stage = next_stage.map(|script| script as usize);
-        match self.positions.next_slept(next_stage, now) {
+        let after = after.map(|script| script as usize);
+        match self.positions.next_slept(after, now) {
             Some(script) => u32::try_from(script).ok(),
             None => None,
         }
