@@ -1,4 +1,4 @@
--- Prepare and complete over the board of a place are those of the place.
+-- At each point of a log prepare and complete over the board are those of the definitions.
 use Rattle.std.proofs.Common.{◌≡◌, ℕ, ℤ, List, Option, Some, None, IfSome, refl, ap}
 use Rattle.sleep_base.specs.declared.errno.Errno.{Errno}
 use Rattle.sleep_model.specs.declared.entry.Entry.{Entry}

@@ -14,7 +14,7 @@ use Rattle.phase_prepare.specs.Prepares.{prepare_due_on, complete_due_on}
 abbrev pub prepare_number : Machine → List Entry → ℕ → ℤ
 prepare_number m past d = answer_number (answer m (what.Device d phase.Prepare) (attempts past))
 
--- prepare does what is due of it where r is what the next device's callback answers, and complete does
+-- prepare does what is due if r is what the next device's callback answers, and so does complete
 pub record PrepareFollows (m : Machine) (past : List Entry) : Type 0 where
   pub prepare : (r : ℤ) → IfSome (next_prepared m past) (λ d. r ≡ prepare_number m past d)
       → prepare_due_on (board_at m past) r (phase_failed past)

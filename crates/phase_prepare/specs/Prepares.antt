@@ -1,4 +1,4 @@
--- Prepare and complete over a board (drivers/base/power/main.c).
+-- Prepare and complete over the state of a board (drivers/base/power/main.c).
 use Rattle.std.specs.Prelude.{ℕ, ℤ, Option, Some, None}
 use Rattle.sleep_base.specs.declared.errno.Errno.{Errno}
 use Rattle.phase_table.specs.declared.phase.Phase.TheVariants as phase

@@ -1,5 +1,5 @@
-//! What the phases prepare and complete do next (`drivers/base/power/main.c`, `dpm_prepare`, `dpm_complete`). Its
-//! tests are in `part_cases`.
+//! What the phases prepare and complete do next (`drivers/base/power/main.c`, `dpm_prepare`, `dpm_complete`).
+//! Its tests are in `part_cases`.
 //!
 //! Promises: What prepare and complete do next, exactly. By the clauses of `prepare_due`, `complete_due`.
 //!

@@ -1,4 +1,4 @@
--- The way up over the board of a place is that of the place.
+-- At each point of a log the way up over the board is that of the definitions.
 use Rattle.std.proofs.Common.{◌≡◌, ℕ, true, List, Option, Some, None, refl}
 use Rattle.std.proofs.lemmas.Bool.{false≢true}
 use Rattle.phase_table.specs.declared.phase.Phase.{Phase}

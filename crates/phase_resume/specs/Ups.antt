@@ -22,6 +22,6 @@ walk_up_on board p (Some d) next = Makes (kind.Schedule p d)
 walk_up_on board p None (Some d) = scheduled_up_on board p d
 walk_up_on board p None None = close_up_on board p
 
--- the walk up, where it is inside no callback (dpm_noirq_resume_devices, dpm_resume_early, dpm_resume)
+-- the walk up while it is inside no callback (dpm_noirq_resume_devices, dpm_resume_early, dpm_resume)
 abbrev pub walk_up_due_on : BoardState → Phase → Due
 walk_up_due_on board p = walk_up_on board p (next_to_schedule_on board (mirror p)) (next_up_on board (mirror p))

@@ -1,14 +1,15 @@
+//! What the walk of a phase on the way up does next, and what a device does.
 ghost use Rattle.std.specs.Prelude.{◌≡◌};
 ghost use Rattle.phase_resume.specs.Ups.{walk_up_due_on, scheduled_up_on, close_up_on};
 
 use async_board::Board;
 use sleep_model::{Due, Kind, Phase, Why};
 
-/// What the walk of a phase on the way up does next, where it is inside no callback
-/// (`dpm_noirq_resume_devices`, `dpm_resume_early`, `dpm_resume`). First it schedules each
-/// asynchronous device that the mirror phase suspended, then it takes the synchronous ones from the
-/// first to the last, each once all above it are up, and it ends once all are up. It brings up no
-/// device that the mirror phase did not suspend.
+/// What the walk of a phase on the way up does next while it is inside no callback
+/// (`dpm_noirq_resume_devices`, `dpm_resume_early`, `dpm_resume`). First it schedules each asynchronous
+/// device that the mirror phase suspended, then it takes the synchronous ones from the first to the last,
+/// each once all above it are up, and it ends once all are up. It brings up no device that the mirror phase
+/// did not suspend.
 pub fn walk_due(board: &Board, p: Phase) -> Due
     ensures { result ≡ walk_up_due_on board.now p }
 {
@@ -33,7 +34,7 @@ pub fn device_due(board: &Board, p: Phase, device: u32) -> Due
     }
 }
 
-// The end of the walk, once all devices are up.
+/// The end of the walk, once all devices are up.
 fn close(board: &Board, p: Phase) -> Due
     ensures { result ≡ close_up_on board.now p }
 {

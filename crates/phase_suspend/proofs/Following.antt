@@ -1,4 +1,4 @@
--- The way down over the board of a place is that of the place.
+-- At each point of a log the way down over the board is that of the definitions.
 use Rattle.std.proofs.Common.{◌≡◌, ℕ, true, List, Option, Some, None, refl}
 use Rattle.std.proofs.lemmas.Bool.{false≢true}
 use Rattle.sleep_base.specs.declared.errno.Errno.{Errno}

@@ -1,4 +1,4 @@
--- The walks on the way down over a board and what is kept beside it (drivers/base/power/main.c).
+-- The walks on the way down over the state of a board and the errors of the phase (drivers/base/power/main.c).
 use Rattle.std.specs.Prelude.{ℕ, Bool, not, ◌&&◌, List, if◌then◌else◌, Option, Some, None}
 use Rattle.sleep_base.specs.declared.errno.Errno.{Errno}
 use Rattle.phase_table.specs.declared.phase.Phase.{Phase}
@@ -16,7 +16,8 @@ use Rattle.async_board.specs.Boards.{BoardState, next_down_on, waits_down_on, wa
 use Rattle.phase_suspend.specs.declared.down.Down.{Down}
 use Rattle.phase_suspend.specs.declared.down.DownEnv.{DownEnv}
 
--- where devices stand, the errors of the phase, which ask for direct-complete, which are runtime suspended, which are sources of wakeup, and whether a wakeup is pending
+-- the states of devices, the errors of the phase, the devices that ask for direct-complete, those that are runtime suspended, those that
+-- wake, and whether a wakeup is pending
 pub record DownState : Type 0 where
   pub board : BoardState
   pub failed : Option Errno
@@ -42,7 +43,7 @@ down_state down env = record {
 abbrev pub is_direct_now_on : DownState → ℕ → Bool
 is_direct_now_on s d = is_so s.asks_direct d && is_so s.statuses d && not (is_so s.wakeup d) && all_direct_complete_on s.board d
 
--- phase p leaves d alone (__device_suspend, __device_suspend_late, direct_complete)
+-- phase p takes no action on d (__device_suspend, __device_suspend_late, direct_complete)
 abbrev pub is_direct_on : DownState → Phase → ℕ → Bool
 is_direct_on s phase.Suspend d = is_direct_now_on s d
 is_direct_on s p d = is_direct_complete (state_at s.board.suspend d)
@@ -68,7 +69,7 @@ abbrev pub walk_down_on : DownState → Phase → Option Errno → Option ℕ �
 walk_down_on s p None (Some d) = take_down_on s p d
 walk_down_on s p error next = close_down_on s p
 
--- the walk down, where it is inside no callback (dpm_suspend, dpm_suspend_late, dpm_noirq_suspend_devices)
+-- the walk down while it is inside no callback (dpm_suspend, dpm_suspend_late, dpm_noirq_suspend_devices)
 abbrev pub walk_down_due_on : DownState → Phase → Due
 walk_down_due_on s p = walk_down_on s p s.failed (next_down_on s.board p)
 

@@ -1,3 +1,4 @@
+-- The definitions of this crate.
 pub mod AtPoints
 pub mod Downs
 pub mod Spanned

@@ -1,4 +1,4 @@
--- What a request for a runtime status is answered over a board (drivers/base/power/runtime.c).
+-- What the core answers to a request for a runtime status (drivers/base/power/runtime.c).
 use Rattle.std.specs.Prelude.{ℕ, Bool, ◌&&◌, ◌||◌, Option}
 use Rattle.sleep_base.specs.declared.errno.Errno.{Errno}
 use Rattle.sleep_model.specs.Runtime.{runtime_answer}

@@ -1,3 +1,4 @@
+//! What the walk of a phase on the way down does next, and what a device does.
 ghost use Rattle.std.specs.Prelude.{◌≡◌, None};
 ghost use Rattle.sleep_model.specs.Devices.{unless_failed};
 ghost use Rattle.sleep_model.specs.Walk.{or_else};
@@ -8,7 +9,7 @@ use device_rows::Flags;
 use sleep_base::Errno;
 use sleep_model::{Due, Kind, Phase, SkipCause, Why};
 
-/// The errors that stand in the open phase (`drivers/base/power/main.c`, `async_error`, `error`).
+/// The errors of the open phase (`drivers/base/power/main.c`, `async_error`, `error`).
 #[derive(Clone, Copy)]
 pub struct Down {
     /// The last error of any device, or `EBUSY` of a wakeup that was found.
@@ -20,7 +21,7 @@ pub struct Down {
 /// What a phase on the way down looks at.
 #[derive(Clone, Copy)]
 pub struct DownEnv<'a> {
-    /// Where each device stands.
+    /// The state of each device.
     pub board: &'a Board,
     /// Which devices answered 1 to their last prepare.
     pub asks_direct: &'a Flags,
@@ -32,8 +33,8 @@ pub struct DownEnv<'a> {
     pub pending: bool,
 }
 
-// Whether the phase leaves the device alone: suspend by what is so now, late and noirq where
-// suspend did.
+/// Whether the phase skips the device as direct-complete: suspend decides by its state now, late and noirq by
+/// what suspend decided.
 fn is_direct(env: &DownEnv<'_>, p: Phase, device: u32) -> bool
     ensures { (down : Down) → result ≡ is_direct_on (down_state down env.now) p device }
 {
@@ -48,8 +49,9 @@ fn is_direct(env: &DownEnv<'_>, p: Phase, device: u32) -> bool
     }
 }
 
-// What a device makes at its turn: a pending wakeup skips it, it is direct-complete, or its callback
-// begins.
+/// What the phase does with a device at its turn: it skips it or begins its callback.
+/// What a device makes at its turn: a pending wakeup skips it, it is direct-complete, or its callback
+/// begins.
 fn taken(env: &DownEnv<'_>, p: Phase, device: u32) -> Kind
     ensures { (down : Down) → result ≡ taken_on (down_state down env.now) p device }
 {
@@ -63,7 +65,7 @@ fn taken(env: &DownEnv<'_>, p: Phase, device: u32) -> Kind
 }
 
 impl Down {
-    // What the phase answers: a synchronous callback's error, else the last one.
+    /// What the phase answers: a synchronous callback's error, else the last one.
     fn error(&self) -> Option<Errno>
         ensures { result ≡ or_else self.now.own self.now.failed }
     {
@@ -73,11 +75,11 @@ impl Down {
         }
     }
 
-    /// What the walk of a phase on the way down does next, where it is inside no callback
-    /// (`dpm_suspend`, `dpm_suspend_late`, `dpm_noirq_suspend_devices`). It takes the devices from
-    /// the last to the first, schedules the asynchronous ones, waits for all below a synchronous
-    /// one before it begins, is direct-complete or is skipped, and ends once all that were scheduled are
-    /// through: by an error, or where no device is left.
+    /// What the walk of a phase on the way down does next while it is inside no callback (`dpm_suspend`,
+    /// `dpm_suspend_late`, `dpm_noirq_suspend_devices`). It takes the devices from the last to the first,
+    /// schedules the asynchronous ones, waits for all below a synchronous one before it begins, is
+    /// direct-complete or is skipped. It ends once all that were scheduled are done: at an error, or if no
+    /// device is left.
     pub fn walk_due(&self, env: &DownEnv<'_>, p: Phase) -> Due
         ensures { result ≡ walk_down_due_on (down_state self.now env.now) p }
     {
@@ -98,7 +100,7 @@ impl Down {
         }
     }
 
-    // What a device makes that waits for none: an error lets it do nothing.
+    /// What a device makes that waits for none: an error lets it do nothing.
     fn made(&self, env: &DownEnv<'_>, p: Phase, device: u32) -> Kind
         ensures { result ≡ unless_failed self.now.failed p device
             (taken_on (down_state self.now env.now) p device) }
@@ -109,7 +111,7 @@ impl Down {
         }
     }
 
-    // The walk at a device, where no error stands: an asynchronous one is scheduled.
+    /// The walk at a device if there is no error: an asynchronous one is scheduled.
     fn take(&self, env: &DownEnv<'_>, p: Phase, device: u32) -> Due
         requires { self.now.failed ≡ None }
         ensures { result ≡ take_down_on (down_state self.now env.now) p device }
@@ -121,7 +123,7 @@ impl Down {
         }
     }
 
-    // The end of the walk, once all that were scheduled are through.
+    /// The end of the walk, once all that were scheduled are done.
     fn close(&self, env: &DownEnv<'_>, p: Phase) -> Due
         ensures { result ≡ close_down_on (down_state self.now env.now) p }
     {

@@ -8,13 +8,12 @@ use async_board::{Board, is_direct_complete, is_prepared, is_taken};
 use sleep_base::Errno;
 use sleep_model::Phase;
 
-/// What a request is answered that a device be runtime suspended, or active: `EACCES` exactly where
-/// its runtime PM is disabled, else `EAGAIN` exactly if it is prepared and is to be suspended,
-/// else 0 (`__pm_runtime_set_status`, `rpm_check_suspend_allowed`).
+/// What a request is answered that a device be runtime suspended, or active: `EACCES` exactly if its runtime
+/// PM is disabled, else `EAGAIN` exactly if it is prepared and is to be suspended, else 0
+/// (`__pm_runtime_set_status`, `rpm_check_suspend_allowed`).
 ///
-/// Runtime PM is disabled for a device that is direct-complete, where `disabled_by_direct` says that
-/// resume is not done since, and for one that late has taken, where `disabled_by_late` says that early is
-/// not done since.
+/// Runtime PM is disabled for a device that is direct-complete, if `disabled_by_direct` says that resume is
+/// not done since, and for one that late has taken, if `disabled_by_late` says that early is not done since.
 pub fn runtime_due(
     board: &Board,
     disabled_by_direct: bool,

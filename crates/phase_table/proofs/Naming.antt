@@ -17,7 +17,7 @@ read_back Early = refl
 read_back Resume = refl
 read_back Complete = refl
 
--- where no phase has that name, none does
+-- if no phase has that name, the search finds none
 pub none_named : (w : List ℕ) (r : Option Phase) → r ≡ phase_named w → IfNone r ((p : Phase) → w ≢ phase_name p)
 none_named w None e = λ p h. absurd (let f : None ≡ Some p = e ∙ (ap phase_named h ∙ read_back p) in cc)
 none_named w (Some q) e = tt

@@ -1,3 +1,4 @@
+//! The phases of an attempt, with their names and what the table says of each.
 ghost use Rattle.std.specs.Prelude.{◌≡◌, ◌≢◌, IfSome, IfNone, bytes_eq};
 ghost use Rattle.phase_table.specs.declared.phase.Phase.{Phase};
 ghost use Rattle.phase_table.specs.Phases.{mirror, is_forward, is_down, is_up, tests_wakeup, phase_name, phase_named, table_row, table_rows};

@@ -1,3 +1,4 @@
+//! The table of the phases, a row for each.
 ghost use Rattle.std.specs.Prelude.{◌≡◌};
 ghost use Rattle.phase_table.specs.Phases.{is_phase, row_with};
 

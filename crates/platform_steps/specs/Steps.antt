@@ -26,11 +26,11 @@ first_steps m = record { order = call_order m; notified_flags = replicate (lengt
 abbrev pub steps_after : Kind → Steps → Steps
 steps_after kind s = record s { notified_flags = notified_after kind s.notified_flags; off = cpus_off_after kind s.off }
 
--- the notifier that is to be told of the attempt (PM_SUSPEND_PREPARE)
+-- the notifier that hears next of the attempt (PM_SUSPEND_PREPARE)
 abbrev pub called_next : Steps → Option ℕ
 called_next s = first_where (λ x. not (is_so s.notified_flags x)) s.order
 
--- the notifier that is to be told of its end (PM_POST_SUSPEND)
+-- the notifier that hears next of its end (PM_POST_SUSPEND)
 abbrev pub posted_next : Steps → Option ℕ
 posted_next s = first_where (is_so s.notified_flags) s.order
 

@@ -1,3 +1,4 @@
+//! The notifiers and the other processors of an attempt, and what is due of them.
 ghost use Rattle.std.specs.Prelude.{◌≡◌, ◌-◌, not, find};
 ghost use Rattle.std.specs.List.{range_with_len};
 ghost use Rattle.sleep_model.specs.Walk.{is_so};
@@ -62,7 +63,7 @@ impl Platform {
         }
     }
 
-    /// The notifier that is to be told of the attempt. None if all are (`PM_SUSPEND_PREPARE`).
+    /// The notifier that hears next of the attempt. None if all have heard (`PM_SUSPEND_PREPARE`).
     #[tactic(auto, using(sleep_model::proofs::Searches::find_is_first))]
     pub fn next_called(&self) -> Option<u32>
         ensures { result ≡ called_next self.now }
@@ -70,7 +71,7 @@ impl Platform {
         first_unset(&self.notified_flags, &self.order)
     }
 
-    /// The notifier that is to be told of its end. None where nobody is owed it (`PM_POST_SUSPEND`).
+    /// The notifier that hears next of its end. None if nobody is owed it (`PM_POST_SUSPEND`).
     #[tactic(auto, using(sleep_model::proofs::Searches::find_is_first))]
     pub fn next_posted(&self) -> Option<u32>
         ensures { result ≡ posted_next self.now }
@@ -96,9 +97,9 @@ impl Platform {
         first_off(&self.off, self.cpus)
     }
 
-    /// The entry of a step, which answers `r`; where a wakeup is pending a processor is not stopped
-    /// (`freeze_secondary_cpus`). It is for a caller that keeps these steps alone: the core decides by itself, and tells them
-    /// of the entry by `note`.
+    /// The entry of a step, which answers `r`; a processor is not stopped if a wakeup is pending
+    /// (`freeze_secondary_cpus`). It is for a caller that has only these steps: the core decides by itself,
+    /// and reports the entry by `note`.
     pub fn turn(&mut self, what: PlatPart, r: Option<Errno>, pending: bool) -> Kind
         ensures kind { result ≡ part_entry what r pending }
         ensures after { self.new ≡ steps_after result self.old }

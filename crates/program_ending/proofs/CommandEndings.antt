@@ -1,4 +1,4 @@
--- What an ending of a command means that reads an input and tells of it.
+-- What an ending of a command means that reads an input and writes of it.
 use Rattle.std.proofs.Common.{inl, inr, ℕ, List, false, true≢false, sym, subst, IfOk, IfErr}
 use Rattle.std.specs.Prelude.{Vec, Result, Ok, Err}
 use Rattle.std.specs.declared.alloc.Global.{Global}
@@ -40,7 +40,7 @@ module _ (most : ℕ) (long : Refusal) (Gives : List ℕ → List ℕ → Type 0
   refused bytes ReadFault read h out = absurd h
   refused bytes WriteFault read h out = absurd h
 
-  -- an input that was read ends the command as what is told of it is written
+  -- an input that was read ends the command as its text is written
   pub read_outcome : (bytes : List ℕ) (outcome : Result (Vec ℕ Global) Ending) (ending : Ending) → ReadWhole most old.input new.input bytes → IfOk outcome (λ shown_text. Gives bytes shown_text.items)
       → IfErr outcome (Refuses (Why bytes)) → WritesResult outcome old.output new.output ending → CommandEnded most long Gives Why old new ending
   read_outcome bytes (Ok text) ending read gives refuses h = written bytes text.items ending read gives h

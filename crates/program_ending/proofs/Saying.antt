@@ -7,7 +7,7 @@ use Rattle.program_ending.specs.declared.ending.Ending.TheVariants.{Done, Stuck,
 use Rattle.program_ending.specs.declared.refusal.Refusal.TheVariants.{LongMachine, Broken, SourceFull, LongInput, BadLine, TooManyLinks, LinkCycle, LongLocks, BadLockLine}
 use Rattle.program_ending.specs.Endings.{text_of, head_of, number_of, colon_of, name_of, tail_of}
 
--- a line of words alone
+-- a line of words only
 plain : (bs : List ℕ) → ((bs ++ []) ++ []) ++ ([] ++ 10 ∷ []) ≡ bs ++ 10 ∷ []
 plain bs = ap (λ (xs : List ℕ). xs ++ 10 ∷ []) (append-nil (bs ++ []) ∙ append-nil bs)
 

@@ -1,4 +1,4 @@
--- What a command tells of an input, and why it tells nothing (own).
+-- What a command writes of an input, and why it writes nothing (own).
 use Rattle.std.specs.Prelude.{◌≡◌, ℕ, false, List, Vec, Result, Ok, Err}
 use Rattle.std.specs.declared.alloc.Global.{Global}
 use Rattle.sleep_base.specs.Faults.{Rose}
@@ -23,7 +23,7 @@ abbrev pub WritesResult : Result (Vec ℕ Global) Ending → Stream → Stream �
 WritesResult (Ok text) old new ending = Writes old new text.items false ending
 WritesResult (Err other) old new ending = (ending ≡ other) × (new ≡ old)
 
--- what an ending means of a command that reads an input within a limit, and tells of it or refuses it
+-- what an ending means of a command that reads an input within a limit, and writes of it or refuses it
 abbrev pub CommandEnded : ℕ → Refusal → (List ℕ → List ℕ → Type 0) → (List ℕ → Refusal → Type 0) → Streams → Streams → Ending → Type 0
 CommandEnded most long Gives Why old new Done = WroteResult most Gives old new Done
 CommandEnded most long Gives Why old new WriteFault = WroteResult most Gives old new WriteFault

@@ -5,7 +5,7 @@ use Rattle.program_ending.specs.declared.ending.Ending.TheVariants.{Done, Stuck,
 use Rattle.program_ending.specs.declared.refusal.Refusal.{Refusal}
 use Rattle.program_ending.specs.declared.refusal.Refusal.TheVariants.{LongMachine, Broken, SourceFull, LongInput, BadLine, TooManyLinks, LinkCycle, LongLocks, BadLockLine}
 
--- the status where an input is refused
+-- the status if an input is refused
 abbrev pub refusal_status : Refusal → ℕ
 refusal_status (SourceFull name) = 7
 refusal_status refusal = 3
@@ -25,7 +25,7 @@ status_of NoMemory = 8
 abbrev pub error_line : List ℕ → List ℕ
 error_line text = text ++ 10 ∷ []
 
--- what the program says where an input is refused
+-- what the program writes if an input is refused
 abbrev pub refusal_text : Refusal → List ℕ
 refusal_text LongMachine = error_line (codes "machine: longer than 16777216 bytes")
 refusal_text (Broken rule place) = error_line (codes "machine: rule " ++ decimal rule ++ codes ": " ++ string_bytes place)
@@ -50,7 +50,7 @@ text_of NoMemory = error_line (codes "want of memory")
 
 -- ---- its pieces
 
--- what is said of a refusal before a number or a name
+-- the text of a refusal before its number or name
 abbrev pub refusal_head : Refusal → List ℕ
 refusal_head LongMachine = codes "machine: longer than 16777216 bytes"
 refusal_head (Broken rule place) = codes "machine: rule "
@@ -62,14 +62,14 @@ refusal_head LinkCycle = codes "log: cycle"
 refusal_head LongLocks = codes "locks: longer than 16777216 bytes"
 refusal_head (BadLockLine n) = codes "locks: line "
 
--- the number of a rule or of a line, where it says one
+-- the number of a rule or of a line, if the refusal has one
 abbrev pub refusal_number : Refusal → List ℕ
 refusal_number (Broken rule place) = decimal rule
 refusal_number (BadLine n) = decimal n
 refusal_number (BadLockLine n) = decimal n
 refusal_number refusal = []
 
--- the place where a rule is broken, or the name of a source, where it says one
+-- the place at which a rule is broken, or the name of a source, if the refusal has one
 abbrev pub refusal_name : Refusal → List ℕ
 refusal_name (Broken rule place) = string_bytes place
 refusal_name (SourceFull name) = name
@@ -80,7 +80,7 @@ abbrev pub head_of : Ending → List ℕ
 head_of (Refused refusal) = refusal_head refusal
 head_of ending = text_of ending
 
--- the number, where it says one
+-- the number, if the ending has one
 abbrev pub number_of : Ending → List ℕ
 number_of (Refused refusal) = refusal_number refusal
 number_of ending = []
@@ -90,7 +90,7 @@ abbrev pub colon_of : Ending → List ℕ
 colon_of (Refused (Broken rule place)) = codes ": "
 colon_of ending = []
 
--- the place or the name, where it says one
+-- the place or the name, if the ending has one
 abbrev pub name_of : Ending → List ℕ
 name_of (Refused refusal) = refusal_name refusal
 name_of ending = []

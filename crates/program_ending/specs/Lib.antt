@@ -1,3 +1,4 @@
+-- The definitions of this crate.
 pub mod Endings
 pub mod Streams
 pub mod CommandEndings

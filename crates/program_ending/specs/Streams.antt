@@ -1,4 +1,4 @@
--- What was read and written where a command ends (own).
+-- What was read and written by the time a command ends (own).
 use Rattle.std.specs.Prelude.{◌≡◌, ◌≤◌, ◌<◌, ◌⊎◌, ℕ, Bool, true, false, List, ◌++◌, length, Vec, Option, Result, Ok, Err}
 use Rattle.std.specs.declared.alloc.Global.{Global}
 use Rattle.std.specs.Io.KnownBytes.{Consumes, Appends, IsAtEnd}
@@ -8,7 +8,7 @@ use Rattle.program_ending.specs.declared.ending.Ending.{Ending}
 use Rattle.program_ending.specs.declared.ending.Ending.TheVariants.{Done, Stuck, ReadFault, WriteFault, Refused, NoMemory}
 use Rattle.program_ending.specs.declared.refusal.Refusal.{Refusal}
 
--- a stream at a moment: the bytes that are left or that were written, where it tells them, and its count of faults
+-- a stream at a moment: the bytes that are left or that were written, if it shows them, and its count of faults
 pub record Stream : Type 0 where
   pub bytes : Option (List ℕ)
   pub faults : ℕ
@@ -57,13 +57,13 @@ KeepsOut old new = new.output ≡ old.output
 abbrev pub KeepsInput : Streams → Streams → Type 0
 KeepsInput old new = new.input ≡ old.input
 
--- a text, of a run that is stuck or not, was written whole; where a write failed, a front of it
+-- a text, of a run that is stuck or not, was written whole; if a write failed, a prefix of it was
 abbrev pub Writes : Stream → Stream → List ℕ → Bool → Ending → Type 0
 Writes old new shown_text stuck Done = (stuck ≡ false) × Appends old.bytes new.bytes shown_text
 Writes old new shown_text stuck Stuck = (stuck ≡ true) × Appends old.bytes new.bytes shown_text
 Writes old new shown_text stuck WriteFault = Rose old.faults new.faults × ((front back : List ℕ) × (shown_text ≡ front ++ back) × Appends old.bytes new.bytes front)
 Writes old new shown_text stuck _ = ⊥
 
--- the text was said on a stream, or a front of it where its count of faults rose
+-- the text was written to a stream, or a prefix of it if its count of faults rose
 abbrev pub Says : Option (List ℕ) → Option (List ℕ) → ℕ → ℕ → List ℕ → Type 0
 Says old new before now shown_text = Appends old new shown_text ⊎ ((front back : List ℕ) × (shown_text ≡ front ++ back) × Appends old new front × Rose before now)

@@ -1,3 +1,4 @@
+//! How the program ends: the status and the pieces of the text on standard error.
 ghost use Rattle.std.specs.Prelude.{◌≡◌};
 ghost use Rattle.program_ending.specs.Endings.{colon_of, head_of, name_of, number_of, status_of, tail_of};
 
@@ -7,7 +8,8 @@ use itoa::Buffer;
 /// How the program ends.
 #[derive(Debug, Drop)]
 pub enum Ending {
-    /// The text was written: a machine file, or that of a run in which nothing was left to do, or that for an input.
+    /// The text was written: a machine file, or that of a run in which nothing was left to do, or that for an
+    /// input.
     Done,
     /// The text was written, of a run in which nobody went on.
     Stuck,
@@ -57,7 +59,7 @@ impl Ending {
         }
     }
 
-    /// The number of a rule or of a line, where it says one, by this buffer.
+    /// The number of a rule or of a line if the ending has one, by this buffer.
     pub fn number<'b>(&self, buffer: &'b mut Buffer) -> &'b [u8]
         ensures { result.now ≡ number_of self.now }
     {
@@ -77,7 +79,7 @@ impl Ending {
         }
     }
 
-    /// The place where a rule is broken, or the name of a source, where it says one.
+    /// The place at which a rule is broken, or the name of a source, if the ending has one.
     pub fn name(&self) -> &[u8]
         ensures { result.now ≡ name_of self.now }
     {

@@ -1,3 +1,4 @@
+//! The whole input is read, within a limit.
 ghost use Rattle.std.specs.Prelude.{◌≡◌};
 ghost use Rattle.program_ending.specs.Streams.{ReadsInput, stream};
 
@@ -9,8 +10,8 @@ use std::alloc::Global;
 /// The most bytes that a machine file has.
 pub const MOST_MACHINE: u32 = 16_777_216;
 
-/// Reads the whole input. `Refused` with `long` where more than `most` bytes come, `ReadFault` at the first read that
-/// fails, `NoMemory` if it is out of memory.
+/// Reads the whole input. `Refused` with `long` if more than `most` bytes come, `ReadFault` at the first read
+/// that fails, `NoMemory` if it is out of memory.
 pub fn read_input<S: ByteSource>(
     alloc: Global,
     input: &mut S,

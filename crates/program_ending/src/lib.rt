@@ -1,15 +1,15 @@
-//! How the program ends: what a command has read and written by then, the status, and what is said on standard
-//! error.
+//! How the program ends: what a command has read and written by then, the status, and what it writes to
+//! standard error.
 //!
-//! Each command stands in a crate above, and reads its input and writes its text by the calls of this one. Its
+//! Each command has a crate above, and reads its input and writes its text by the calls of this one. Its
 //! tests are those of the whole program, `row_trials`.
 //!
-//! Promises: An ending's status, and its text piece by piece. An input is read whole, within its limit, or the
-//! ending says why not. A text is written whole, or up to the first write that fails. By the clauses of
+//! Promises: An ending's status, and its text piece by piece. An input is read whole, within its limit, or
+//! the ending says why not. A text is written whole, or up to the first write that fails. By the clauses of
 //! `Ending::status`, `head`, `number`, `colon`, `name`, `tail`; `read_input`, `write_run_text`, `say`.
 //!
-//! Begin reading in `src/ending.rt`, `src/refusal.rt`, `src/input.rt`, `src/run_text.rt`; `specs/Endings.antt`,
-//! `specs/Streams.antt`, `specs/CommandEndings.antt`.
+//! Begin reading in `src/ending.rt`, `src/refusal.rt`, `src/input.rt`, `src/run_text.rt`;
+//! `specs/Endings.antt`, `specs/Streams.antt`, `specs/CommandEndings.antt`.
 #![tactic(auto)]
 
 mod ending;

@@ -1,3 +1,4 @@
+//! Why an input is refused: the status and the pieces of the text.
 ghost use Rattle.std.specs.Prelude.{◌≡◌};
 ghost use Rattle.program_ending.specs.Endings.{refusal_head, refusal_name, refusal_number, refusal_status};
 
@@ -17,7 +18,7 @@ pub enum Refusal {
     LongInput,
     /// That line of a log is the first that the grammar has not, or that is missing.
     BadLine(u32),
-    /// A log adds a link where as many stand as a machine may have.
+    /// A log adds a link although the machine has as many as it may.
     TooManyLinks,
     /// A log adds a link that closes a cycle.
     LinkCycle,
@@ -55,7 +56,7 @@ impl Refusal {
         }
     }
 
-    /// The number of a rule or of a line, where it says one, by this buffer.
+    /// The number of a rule or of a line if the refusal has one, by this buffer.
     pub fn number<'b>(&self, buffer: &'b mut Buffer) -> &'b [u8]
         ensures { result.now ≡ refusal_number self.now }
     {
@@ -67,7 +68,7 @@ impl Refusal {
         }
     }
 
-    /// The place where a rule is broken, or the name of a source, where it says one.
+    /// The place at which a rule is broken, or the name of a source, if the refusal has one.
     pub fn name(&self) -> &[u8]
         ensures { result.now ≡ refusal_name self.now }
     {

@@ -1,3 +1,4 @@
+//! A text is written whole, or the ending says why not.
 ghost use Rattle.std.specs.Prelude.{◌≡◌};
 ghost use Rattle.program_ending.specs.Streams.{Writes, stream};
 ghost use Rattle.program_ending.specs.CommandEndings.{WritesResult};
@@ -5,17 +6,17 @@ ghost use Rattle.program_ending.specs.CommandEndings.{WritesResult};
 use crate::ending::Ending;
 use sleep_base::{ByteSink, write_all};
 
-/// A text that the program writes, and whether it tells of a run that was stuck.
+/// A text that the program writes, and whether it is of a run that was stuck.
 #[derive(Drop)]
 pub struct RunText {
     /// The bytes to be written.
     pub text: Vec<u8>,
-    /// Whether the run that it tells of was stuck; false for a machine file.
+    /// Whether the run was stuck; false for a machine file.
     pub stuck: bool,
 }
 
-/// Writes a text whole: `Done`, or `Stuck` if it tells of a run that was stuck. `WriteFault` at the first write
-/// that fails: a front of the text was written.
+/// Writes a text whole: `Done`, or `Stuck` if its run was stuck. `WriteFault` at the first write that fails:
+/// a prefix of the text was written.
 pub fn write_run_text<K: ByteSink>(out: &mut K, shown_text: &RunText) -> Ending
     ensures { Writes (stream (K.written out.old) (K.faults out.old)) (stream (K.written out.new) (K.faults out.new))
         shown_text.now.text.items shown_text.now.stuck result }

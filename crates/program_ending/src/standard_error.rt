@@ -19,7 +19,8 @@ fn write_both<K: ByteSink>(sink: &mut K, one: &[u8], other: &[u8]) -> Result<(),
     write_all(sink, other)
 }
 
-/// Writes three pieces, one after the other. `Failed` at the first write that fails: a front of all was written.
+/// Writes three pieces, one after the other. `Failed` at the first write that fails: a front of all was
+/// written.
 #[tactic(auto, using(sleep_base::proofs::Written::one_failed, sleep_base::proofs::Written::both_written))]
 fn write_three<K: ByteSink>(
     sink: &mut K,
@@ -34,7 +35,8 @@ fn write_three<K: ByteSink>(
     write_all(sink, third)
 }
 
-/// Writes five pieces, one after the other. `Failed` at the first write that fails: a front of all was written.
+/// Writes five pieces, one after the other. `Failed` at the first write that fails: a front of all was
+/// written.
 #[tactic(auto, using(sleep_base::proofs::Written::one_failed, sleep_base::proofs::Written::both_written))]
 fn write_five<K: ByteSink>(
     sink: &mut K,

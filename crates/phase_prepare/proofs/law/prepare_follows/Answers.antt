@@ -1,4 +1,4 @@
--- Prepare and complete over the board of a place are those of the place.
+-- The law of prepare and complete holds at each point of a log.
 use Rattle.phase_prepare.proofs.Following.{follows}
 use Rattle.phase_prepare.proofs.law.prepare_follows.Goals as goal
 

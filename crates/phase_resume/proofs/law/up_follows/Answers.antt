@@ -1,4 +1,4 @@
--- The way up over the board of a place is that of the place.
+-- The law of the way up holds at each point of a log.
 use Rattle.phase_resume.proofs.Following.{follows}
 use Rattle.phase_resume.proofs.law.up_follows.Goals as goal
 

@@ -1,4 +1,4 @@
--- The way down over the board of a place is that of the place.
+-- The law of the way down holds at each point of a log.
 use Rattle.phase_suspend.proofs.Following.{follows}
 use Rattle.phase_suspend.proofs.law.down_follows.Goals as goal
 

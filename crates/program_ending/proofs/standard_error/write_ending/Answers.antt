@@ -1,3 +1,4 @@
+-- What each piece of the text writes, one after the other, is the text of the ending.
 use Rattle.std.proofs.Common.{◌≡◌, ◌∙◌, ◌++◌, ℕ, List, ap, subst}
 use Rattle.sleep_base.specs.Whole.{WriteAll}
 use Rattle.program_ending.specs.Endings.{colon_of, head_of, name_of, number_of, tail_of}
