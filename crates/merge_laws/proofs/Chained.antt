@@ -1,4 +1,4 @@
--- Where the steps have positions without a gap and chain, and each look saw a word between two of them, the merged entries chain.
+-- If the steps have positions without a gap and chain, and each look saw a word between two of them, the merged entries chain.
 use Rattle.std.proofs.Common.{◌≡◌, ◌∙◌, ◌≤◌, ◌<◌, ◌+◌, ◌==◌, ◌&&◌, ◌||◌, ℕ, suc, nat_le, Bool, true, false, List, [], ◌∷◌, length, filter, cond, Option, Some, None, refl, sym, ap, subst, arith}
 use Rattle.std.proofs.lemmas.Bool.Decides.{nat_tests}
 use Rattle.std.specs.Prelude.{is_some}
@@ -20,11 +20,11 @@ abbrev pub LooksFrom : ℕ → List JournalEntry → Type 0
 LooksFrom n [] = Unit {0}
 LooksFrom n (e ∷ rest) = (is_word_step e ≡ false → n ≤ e.stamp.pos) × LooksFrom n rest
 
--- an entry that stands before no other of its position
+-- an entry that comes before no other of its position
 not_before : (p s p' s' : ℕ) (r : Bool) → before_or p p' (before_or s s' r) ≡ false → p' ≤ p
 not_before p s p' s' r h = grind (arith, nat_tests)
 
--- a look that does not stand before a step is at a later word
+-- a look that does not come before a step is at a later word
 step_follows : (p p' : ℕ) (r : Bool) → before_or p p' (before_or 0 1 r) ≡ false → p' < p
 step_follows p p' r h = grind (arith, nat_tests)
 
@@ -149,7 +149,7 @@ looks_start : (rest : List JournalEntry) → LooksFrom 0 rest
 looks_start [] = tt
 looks_start (e ∷ rest) = (λ look. omega arith, looks_start rest)
 
--- entries in order are chained, where their steps are and each look is at a word that these leave
+-- entries in order are chained if their steps are and each look is at a word that these leave
 pub chained_all : (entries steps : List JournalEntry) → Up precedes entries → filter is_word_step entries ≡ steps → are_counted 0 steps ≡ true → is_chained no_steps steps ≡ true
     → list_all (is_look steps) entries ≡ true → is_chained no_steps entries ≡ true
 chained_all entries steps up own counted chained looks = chained_at steps entries 0 no_steps (record {

@@ -1,4 +1,4 @@
--- Where each actor and each jump is legal by itself, the merged entries fit together.
+-- If each actor and each jump is legal by itself, the merged entries fit together.
 use Rattle.std.proofs.Common.{◌≡◌, ◌∙◌, ◌≤◌, ◌<◌, ◌+◌, ℕ, nat_lt, Bool, true, false, List, [], ◌∷◌, length, cond, refl, sym, ap, subst, arith}
 use Rattle.std.proofs.lemmas.Bool.Decides.{nat_tests}
 use Rattle.std.specs.List.{list_all}
@@ -45,7 +45,7 @@ times_preserved whole e past c h time l =
     let rise : time_of past ≤ e.time = clock_rises e past c.0 in
     h time (omega arith) ∙ ap (λ (b : Bool). cond b (e ∷ before time past) (before time past)) (no_less e.time time (omega arith))
 
--- before a jump stand the entries of earlier times
+-- before a jump come the entries of earlier times
 before_jump : (whole : List Entry) (e : Entry) (past : List Entry) → Clocked (e ∷ past) → TimesPreserved whole (e ∷ past) → time_of past < e.time → before e.time whole ≡ past
 before_jump whole e past c h l =
     let now : time_of (e ∷ past) ≡ e.time = clock_time e past c.0 in

@@ -18,7 +18,7 @@ low_filter p x (y ∷ ys) h = by (p y) (low_filter p x ys h.1)
     by true l = (h.0, l)
     by false l = l
 
--- where an entry is put among others in order, before a filter or after it
+-- an entry is put among others in order, before a filter or after it: the result is the same
 filter_put : (p : JournalEntry → Bool) (x : JournalEntry) (ys : List JournalEntry) → Up precedes ys
     → filter p (put_in_order x ys) ≡ cond (p x) (put_in_order x (filter p ys)) (filter p ys)
 filter_put p x [] u = by (p x)

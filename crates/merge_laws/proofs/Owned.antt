@@ -21,9 +21,9 @@ use Rattle.merge_laws.specs.Apart.{is_journals}
 use Rattle.merge_laws.specs.Owned.{OwnListsAreOwnEntries}
 use Rattle.merge_laws.proofs.Lists.{all_head, all_tail}
 
--- ---- an entry that stands before all others
+-- ---- an entry that precedes all others
 
--- an entry stands before all of these
+-- an entry precedes all of these
 abbrev pub Ahead : JournalEntry → List JournalEntry → Type 0
 Ahead x [] = Unit {0}
 Ahead x (y ∷ ys) = (precedes x y ≡ true) × Ahead x ys
@@ -44,14 +44,14 @@ ahead_append : (x : JournalEntry) (xs ys : List JournalEntry) → Ahead x xs →
 ahead_append x [] ys a b = b
 ahead_append x (z ∷ xs) ys a b = (a.0, ahead_append x xs ys a.1 b)
 
--- it is the first of them in order, wherever it stands among them
+-- it is the first of them in order, at whatever position of the list
 first_of_all : (x : JournalEntry) (xs ys : List JournalEntry) → Ahead x xs → Ahead x ys → in_order (xs ++ x ∷ ys) ≡ x ∷ in_order (xs ++ ys)
 first_of_all x [] ys a b = put_front x (in_order ys) (low_order x ys (ahead_low x ys b))
 first_of_all x (z ∷ xs) ys a b =
     ap (put_in_order z) (first_of_all x xs ys a.1 b)
     ∙ ap (λ (c : Bool). cond c (x ∷ put_in_order z (in_order (xs ++ ys))) (z ∷ x ∷ in_order (xs ++ ys))) a.0
 
--- ---- what rises stands ahead of the rest
+-- ---- a list that rises has its first entry before the others
 
 rise_ahead : (p s p' s' t t' : ℕ) (r : Bool) → nat_lt t t' && nat_le (p + s) p' ≡ true → before_or p p' (before_or s s' (before_or t t' r)) ≡ true
 rise_ahead p s p' s' t t' r h = grind (arith, nat_tests)
@@ -102,7 +102,7 @@ class_without i (suc n) x own h =
 apart_number : (t k : ℕ) → t < k → (t == k) ≡ false
 apart_number t k l = grind (arith, nat_tests)
 
--- an entry of one of them is the first in order, if it stands before all others
+-- an entry of one of them is the first in order if it precedes all others
 class_first : (t i n : ℕ) (x : JournalEntry) (pre own : List JournalEntry) → ((k : ℕ) → is_of k (class_of x.entry.kind) ≡ (t == k)) → i ≤ t → t < i + n
     → Ahead x pre → Ahead x own → in_order (pre ++ source_class i n (x ∷ own)) ≡ x ∷ in_order (pre ++ source_class i n own)
 class_first t i zero x pre own is low high a b = absurd (omega arith)

@@ -113,7 +113,7 @@ journals_of_all entries hs kept own =
     ∙ ap₂ (λ (x y : List JournalEntry). x ++ y) (filter_all is_journals entries kept)
     (none_of_all (λ e. is_in_journal (class_of e.kind)) 0 hs own (λ t e l i. own_is_none t (class_of e.kind) i)) ∙ append-nil entries
 
--- what a merge took of a journal, read alone, is that journal whole
+-- what a merge took of a journal, read by itself, is that whole journal
 pub journal_of_merge : (entries : List JournalEntry) (hs : List (List SourceEntry)) → list_all is_journals entries ≡ true → are_of 0 hs ≡ true → rises entries ≡ true
     → journal (past_of (stamped entries hs)) ≡ past_of entries
 journal_of_merge entries hs kept own up =

@@ -1,4 +1,4 @@
--- Where each source is legal by itself, so are the sources among all entries, and their histories have their places.
+-- If each source is legal by itself, so are the sources among all entries, and their histories have room.
 use Rattle.std.proofs.Common.{◌≡◌, ◌∙◌, ◌≤◌, ◌<◌, ◌+◌, ◌==◌, ℕ, zero, suc, nat_le, Bool, true, false, List, [], ◌∷◌, length, map, get_or, cond, refl, ap, subst, arith}
 use Rattle.std.proofs.lemmas.Bool.Decides.{nat_tests}
 use Rattle.std.proofs.lemmas.List.{length-map, length-reverse}

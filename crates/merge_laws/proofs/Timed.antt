@@ -1,4 +1,4 @@
--- Where each entry has its tick and its time to each jump, the merged entries are timed.
+-- If each entry has its tick and its time to each jump, the merged entries are timed.
 use Rattle.std.proofs.Common.{◌≡◌, ◌∙◌, ◌≤◌, ◌<◌, ◌+◌, ◌==◌, ◌&&◌, ◌||◌, ◌⊎◌, inl, inr, ℕ, nat_le, nat_lt, max, not, Bool, true, false, List, [], ◌∷◌, filter, cond, if◌then◌else◌, refl, sym, ap, subst, arith}
 use Rattle.std.proofs.lemmas.Bool.Decides.{nat_tests}
 use Rattle.std.specs.Prelude.{is_some}
@@ -45,7 +45,7 @@ each_filtered q P (x ∷ xs) h = by (q x) refl (each_filtered q P xs) h
 
 -- ---- the sides of a jump
 
--- two entries, the first ahead, stand right to each other if one of them is a jump
+-- two entries, the first earlier, are in the right order if one of them is a jump
 abbrev pub Beside : JournalEntry → JournalEntry → Type 0
 Beside x y =
     (jumps x ≡ false → jumps y ≡ true → (x.stamp.tick < y.stamp.tick) × (x.entry.time < y.entry.time))
@@ -84,7 +84,7 @@ entry_ahead e jump is h =
 two_sides : (e jump : JournalEntry) → jumps e ≡ false → jumps jump ≡ true → is_ordered e jump ≡ true → is_earlier e jump || is_later e jump ≡ true
 two_sides e jump plain leaps h = (λ i. (sym plain i) || not (sym leaps i) || is_earlier e jump || is_later e jump) ∙ h
 
--- ahead of a jump that does not stand before it
+-- an entry earlier than a jump that does not precede it
 ahead_of : (e jump : JournalEntry) → jumps e ≡ false → jumps jump ≡ true → is_ordered e jump ≡ true → precedes jump e ≡ false → is_earlier e jump ≡ true
 ahead_of e jump plain leaps right low = by (is_earlier e jump) (is_later e jump) refl (two_sides e jump plain leaps right)
   where
@@ -263,7 +263,7 @@ time_at xs x h plain = by (x.entry.time == 0) refl ((λ i. (sym plain i) || (x.e
     by true is g = inl (number_is x.entry.time 0 is)
     by false is g = inr (any_jump x.entry.time xs g)
 
--- entries in order are timed, where each has its tick and its time to each jump
+-- entries in order are timed if each has its tick and its time to each jump
 pub timed_all : (xs : List JournalEntry) → Up precedes xs → list_all (λ e. nat_lt 0 e.stamp.tick) xs ≡ true → are_raised 0 0 (filter jumps xs) ≡ true
     → list_all (λ e. list_all (is_ordered e) xs) xs ≡ true → list_all (has_time xs) xs ≡ true → is_timed 0 0 0 xs ≡ true
 timed_all xs up ticks raised sides times = timed_at xs 0 0 0 (record {

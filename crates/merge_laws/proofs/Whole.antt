@@ -1,4 +1,4 @@
--- A journal and histories that fit, each legal by itself, merge to a legal log; and to one that is over where they are.
+-- A journal and histories that fit, each legal by itself, merge to a legal log; and to one that is over if they are.
 use Rattle.std.proofs.Common.{◌≡◌, ◌∙◌, ◌+◌, ℕ, Bool, true, false, List, [], ◌∷◌, length, map, filter, reverse, cond, Option, Some, None, refl, sym, ap, subst}
 use Rattle.std.specs.Prelude.{is_some}
 use Rattle.std.specs.List.{range_with_len}
@@ -24,7 +24,7 @@ use Rattle.merge_laws.proofs.Picks.{history_of_merge, journal_of_merge, picked}
 use Rattle.merge_laws.proofs.Placing.{chain_numbers, other_keeps, placed, timed_clock}
 use Rattle.merge_laws.proofs.Sourced.{all_there, histories_fit, sources_from}
 
--- ---- what is read of the parts alone
+-- ---- what follows from the parts by themselves
 
 unkept : (p : EntryClass) → is_in_journal p ≡ false → is_jump p ≡ false
 unkept OfJournal h = absurd (cc)

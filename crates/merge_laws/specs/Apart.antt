@@ -32,7 +32,7 @@ source_past histories s = past_of (map of_source (slice_index_or histories s [])
 abbrev pub is_journals : JournalEntry → Bool
 is_journals e = is_in_journal (class_of e.entry.kind)
 
--- each history has entries of its own source alone, the first those of that number
+-- each history has entries of its own source only, the first those of that number
 abbrev pub are_of : ℕ → List (List SourceEntry) → Bool
 are_of s [] = true
 are_of s (history ∷ rest) = list_all (λ e. is_of s (class_of e.entry.kind)) history && are_of (suc s) rest
@@ -51,7 +51,7 @@ last_word journal histories = numbers (past_of (steps_of journal histories))
 
 -- ---- each source by itself
 
--- each entry of a source's history, the newest first, is legal where it stands
+-- each entry of a source's history, the newest first, is legal after the older ones
 abbrev pub IsSource : List Entry → Type 0
 IsSource [] = Unit {0}
 IsSource (e ∷ own) = SourceStep own e.time e.actor (class_of e.kind) × IsSource own
@@ -83,7 +83,8 @@ abbrev pub IsCall : Actor → List Kind → ℕ → Kind → Type 0
 IsCall (actor.Timer s) calls n k = k ≡ Expire s
 IsCall who calls n k = slice_get calls n ≡ Some k
 
--- an entry is the next of an actor with these entries so far, by the calls after each of its entries of the journal, and by whether it is inside a call
+-- an entry is the next of an actor with these entries so far, by the calls after each of its entries of the journal, and by whether it is
+-- inside a call
 abbrev pub ActorStep : Actor → (ℕ → List Kind) → (List Entry → Bool) → List Entry → Entry → EntryClass → Type 0
 ActorStep who calls inside own e OfJournal =
     (notes_of who own ≡ length (calls (length (journal own)))) × (inside own ≡ false)
@@ -92,7 +93,7 @@ ActorStep who calls inside own e (Notes s call) =
 ActorStep who calls inside own e (Moves s step) = last_is_of s who own ≡ true
 ActorStep who calls inside own e OfTime = Unit {0}
 
--- each entry of an actor, the newest first, is its next where it stands
+-- each entry of an actor, the newest first, is its next step after the older ones
 abbrev pub IsActor : Actor → (ℕ → List Kind) → (List Entry → Bool) → List Entry → Type 0
 IsActor who calls inside [] = Unit {0}
 IsActor who calls inside (e ∷ own) =
@@ -104,7 +105,7 @@ IsActor who calls inside (e ∷ own) =
 abbrev pub before : ℕ → List Entry → List Entry
 before time own = filter (λ e. nat_lt e.time time) own
 
--- a jump stands where it may, by the journal before it, what the histories had, and the word that it carries
+-- a jump is allowed by the journal before it, by what the histories had, and by the word that it carries
 abbrev pub JumpIsLegal : Machine → List Entry → (ℕ → List Entry) → Entry → EntryClass → Type 0
 JumpIsLegal m past of e OfTime = JumpStep m past (λ s. before e.time (of s)) e.now e.time
 JumpIsLegal m past of e _ = Unit {0}

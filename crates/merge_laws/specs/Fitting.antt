@@ -65,7 +65,7 @@ is_later e jump =
     nat_le jump.stamp.pos e.stamp.pos && nat_lt jump.stamp.tick e.stamp.tick
     && nat_le jump.entry.time e.entry.time
 
--- an entry that is no jump stands on one side of the other, if that is a jump
+-- an entry that is no jump comes before or after the other, if that is a jump
 abbrev pub is_ordered : JournalEntry → JournalEntry → Bool
 is_ordered e other = jumps e || not (jumps other) || is_earlier e other || is_later e other
 
@@ -76,7 +76,8 @@ has_time entries e =
 
 -- ---- all of it
 
--- each list has its own entries alone and rises, and each actor has kept its own; the steps of the word have positions without a gap and chain, each look saw a word between two of them, and each entry has its tick and its time to each jump
+-- each list has only its own entries and rises, and so has what each actor made; the steps of the word have positions without a gap and
+-- chain, each look saw a word between two of them, and each entry has its tick and its time to each jump
 pub record FitApart
     (m : Machine) (journal : List JournalEntry) (histories : List (List SourceEntry)) (own : Actor → List JournalEntry)
     : Type 0 where
@@ -102,7 +103,7 @@ FitsTogether =
     (m : Machine) (journal : List JournalEntry) (histories : List (List SourceEntry)) (own : Actor → List JournalEntry)
     → FitApart m journal histories own → AreLists m journal histories
 
--- the lists that each has kept, which fit and are legal by themselves, merge to a legal log; and to a finished or stuck one where the end holds by themselves
+-- the lists of all, which fit and are legal by themselves, merge to a legal log; and to a finished or stuck one if they are at such an end
 abbrev pub ListsMerge : Type 0
 ListsMerge =
     (m : Machine) (journal : List JournalEntry) (histories : List (List SourceEntry)) (own : Actor → List JournalEntry)

@@ -1,3 +1,4 @@
+-- The definitions of this crate.
 pub mod Apart
 pub mod Fitting
 pub mod Merging

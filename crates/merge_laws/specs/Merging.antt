@@ -15,7 +15,7 @@ use Rattle.sleep_model.specs.Numbers.{time_of}
 use Rattle.sleep_model.specs.Sources.{most_entries, stats_at}
 use Rattle.merge_laws.specs.Apart.{AreJumps, IsActor, IsSource, are_of, calls_after, is_inside, is_journals, last_word, own_entries, past_of, source_past}
 
--- each list has its own entries alone, one history a source of the machine, autosleep last, none longer than its places; and they fit
+-- each list has only its own entries, one history a source of the machine, autosleep last, none longer than its room; and they fit
 pub record AreLists (m : Machine) (journal : List JournalEntry) (histories : List (List SourceEntry)) : Type 0 where
   pub kept : list_all is_journals journal ≡ true
   pub sourced : are_of 0 histories ≡ true
@@ -66,7 +66,7 @@ MergesToLegal =
     → AreLists m journal histories → AreLegalApart m journal histories (λ who. own_entries who journal histories)
     → IsMergeOf m journal histories log → IsLegalLog m log
 
--- and where the end holds by themselves, to a finished one
+-- and to a finished one if the lists are at such an end
 abbrev pub MergesToFinished : Type 0
 MergesToFinished =
     (m : Machine) (journal : List JournalEntry) (histories : List (List SourceEntry)) (log : Log)

@@ -11,7 +11,8 @@ use Rattle.sleep_model.specs.EntryClasses.{class_of}
 use Rattle.sleep_model.specs.Sources.{is_of}
 use Rattle.merge_laws.specs.Apart.{is_journals, own_entries}
 
--- an actor has made these entries, in the order of its ticks: the journal's are its entries there, and those of each source its entries in that history
+-- an actor has made these entries, in the order of its ticks: the journal's are its entries there, and those of each source its entries in
+-- that history
 pub record IsOwnList (m : Machine) (who : Actor) (own journal : List JournalEntry) (histories : List (List SourceEntry))
     : Type 0 where
   pub rising : rises own ≡ true

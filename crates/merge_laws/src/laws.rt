@@ -5,17 +5,17 @@ ghost use Rattle.merge_laws.specs.Fitting.{FitsTogether, ListsMerge};
 ghost use Rattle.merge_laws.specs.Merging.{MergesToFinished, MergesToLegal, MergesToStuck};
 ghost use Rattle.merge_laws.specs.Owned.{OwnListsAreOwnEntries};
 
-/// Where the lists of journal, histories and actors fit, the journal and each source are legal by
-/// themselves, each actor's entries are its steps, and at each jump nobody was enabled on the journal,
-/// the histories and the word that its maker held, the merge is a legal log. Where the run is over by
-/// the journal, the histories and the last word, it is a finished or a stuck one.
+/// If the lists of journal, histories and actors fit, the journal and each source are legal by themselves,
+/// each actor's entries are its steps, and at each jump nobody was enabled on the journal, the histories and
+/// the word that its maker held, the merge is a legal log. If the run is over by the journal, the histories
+/// and the last word, it is a finished or a stuck one.
 pub fn lists_merge_to_a_legal_log()
     ensures { ListsMerge }
 {}
 
-/// Lists fit together where each shows it by itself: each has its own entries alone and rises, and so
-/// does what each actor keeps; the steps of the word have positions without a gap and chain, each look
-/// saw a word between two of them, and each entry has its tick and its time to each jump.
+/// Lists fit together if each shows it by itself: each has only its own entries and rises, and so does what
+/// each actor made; the steps of the word have positions without a gap and chain, each look saw a word
+/// between two of them, and each entry has its tick and its time to each jump.
 pub fn lists_fit_together()
     ensures { FitsTogether }
 {}
@@ -26,12 +26,12 @@ pub fn own_lists_are_own_entries()
     ensures { OwnListsAreOwnEntries }
 {}
 
-/// Where the lists fit together, and each is legal by itself, the merge is a legal log.
+/// If the lists fit together, and each is legal by itself, the merge is a legal log.
 pub fn merges_to_a_legal_log()
     ensures { MergesToLegal }
 {}
 
-/// Where the run is over by the journal, the histories and the last word, the merge is a finished log.
+/// If the run is over by the journal, the histories and the last word, the merge is a finished log.
 pub fn merges_to_a_finished_log()
     ensures { MergesToFinished }
 {}

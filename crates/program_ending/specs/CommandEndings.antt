@@ -13,12 +13,12 @@ Refuses Why (Refused refusal) = Why refusal
 Refuses Why NoMemory = Unit {0}
 Refuses Why ending = ⊥
 
--- the whole input was bytes that have a text, and that was written, or a front of it
+-- the whole input was bytes that have a text, and that was written, or a prefix of it
 abbrev pub WroteResult : ℕ → (List ℕ → List ℕ → Type 0) → Streams → Streams → Ending → Type 0
 WroteResult most Gives old new ending =
     (bytes shown_text : List ℕ) × ReadWhole most old.input new.input bytes × Gives bytes shown_text × Writes old.output new.output shown_text false ending
 
--- the text was written, or a front of it, or nothing
+-- the text was written, or a prefix of it, or nothing
 abbrev pub WritesResult : Result (Vec ℕ Global) Ending → Stream → Stream → Ending → Type 0
 WritesResult (Ok text) old new ending = Writes old new text.items false ending
 WritesResult (Err other) old new ending = (ending ≡ other) × (new ≡ old)

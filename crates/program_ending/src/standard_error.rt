@@ -9,7 +9,7 @@ use crate::ending::Ending;
 use itoa::Buffer;
 use sleep_base::{ByteSink, Failed, write_all};
 
-/// Writes one piece after the other. `Failed` at the first write that fails: a front of both was written.
+/// Writes one piece after the other. `Failed` at the first write that fails: a prefix of both was written.
 #[tactic(auto, using(sleep_base::proofs::Written::one_failed, sleep_base::proofs::Written::both_written))]
 fn write_both<K: ByteSink>(sink: &mut K, one: &[u8], other: &[u8]) -> Result<(), Failed>
     ensures bytes { WriteAll (K.written sink.old) (K.written sink.new) (K.faults sink.old) (K.faults sink.new) (one.now ++ other.now) result }
@@ -19,7 +19,7 @@ fn write_both<K: ByteSink>(sink: &mut K, one: &[u8], other: &[u8]) -> Result<(),
     write_all(sink, other)
 }
 
-/// Writes three pieces, one after the other. `Failed` at the first write that fails: a front of all was
+/// Writes three pieces, one after the other. `Failed` at the first write that fails: a prefix of all was
 /// written.
 #[tactic(auto, using(sleep_base::proofs::Written::one_failed, sleep_base::proofs::Written::both_written))]
 fn write_three<K: ByteSink>(
@@ -35,7 +35,7 @@ fn write_three<K: ByteSink>(
     write_all(sink, third)
 }
 
-/// Writes five pieces, one after the other. `Failed` at the first write that fails: a front of all was
+/// Writes five pieces, one after the other. `Failed` at the first write that fails: a prefix of all was
 /// written.
 #[tactic(auto, using(sleep_base::proofs::Written::one_failed, sleep_base::proofs::Written::both_written))]
 fn write_five<K: ByteSink>(

@@ -1,4 +1,4 @@
--- Who may go on while the machine sleeps, what wakes it, and where time jumps (kernel/power/suspend.c, suspend_enter).
+-- Who may go on while the machine sleeps, what wakes it, and when time jumps (kernel/power/suspend.c, suspend_enter).
 use Rattle.std.specs.Prelude.{◌≡◌, ◌<◌, Bool, false, not, ◌&&◌, List, Option, Some, None, slice_get}
 use Rattle.sleep_model.specs.declared.entry.Actor.{Actor}
 use Rattle.sleep_model.specs.declared.entry.Actor.TheVariants as actor
@@ -24,7 +24,8 @@ abbrev pub AwakeTask : Bool → Option Script → Type 0
 AwakeTask asleep None = Unit {0}
 AwakeTask asleep (Some s) = (asleep && not (is_line s.kind)) ≡ false
 
--- tasks, and autosleep's work, make nothing while the machine sleeps; the work makes nothing once all scripts have exited and no attempt is open (own)
+-- tasks, and autosleep's work, make nothing while the machine sleeps; the work makes nothing once all scripts have exited and no attempt is
+-- open (own)
 abbrev pub AwakeActor : Machine → List Entry → Actor → Bool → Type 0
 AwakeActor m past (actor.Script i) false = AwakeTask (sleeps_now past) (slice_get m.actors i)
 AwakeActor m past actor.Auto false = (sleeps_now past ≡ false) × (is_over m past ≡ false)
@@ -42,7 +43,8 @@ KeepsEnabled m past now who k = AwakeActor m past who (is_maker past who) × Wak
 
 -- ---- among all entries
 
--- who makes an entry of the journal may go on; time jumps, forward, to the least pending time, where nobody can make anything and something is left to do (suspend_enter; jumps are own)
+-- who makes an entry of the journal may go on; time jumps forward, to the least pending time, if nobody can make anything and something is
+-- left to do (suspend_enter; jumps are own)
 abbrev pub EnabledEntry : Machine → List Entry → Entry → EntryClass → Type 0
 EnabledEntry m past e OfJournal = KeepsEnabled m (journal past) (numbers past) e.actor e.kind
 EnabledEntry m past e OfTime =

@@ -21,7 +21,7 @@ use Rattle.rule_definitions.specs.Source.{SourceEntry}
 use Rattle.rule_definitions.specs.Steps.{StepsEntry}
 use Rattle.rule_definitions.specs.Walk.{WalkEntry}
 
--- what is asked of an entry of the journal alone
+-- a claim about entries of the journal only
 abbrev pub OnJournal : EntryClass → Type 0 → Type 0
 OnJournal OfJournal rule = rule
 OnJournal _ rule = Unit {0}
@@ -44,7 +44,8 @@ pub data Rule : Type 0 where
   Enabled : Rule
   Source : Rule
 
--- an entry of that part after these keeps that rule (kernel/power/suspend.c, kernel/power/main.c, drivers/base/power/main.c, drivers/base/power/wakeup.c)
+-- an entry of that part after these keeps that rule (kernel/power/suspend.c, kernel/power/main.c, drivers/base/power/main.c,
+-- drivers/base/power/wakeup.c)
 abbrev pub KeepsRule : Machine → List Entry → Entry → EntryClass → Rule → Type 0
 KeepsRule m past e part Links = OnJournal part (KeepsLinks m (journal past) e.kind)
 KeepsRule m past e part Numbers = KeepsNumbers past e part
@@ -62,7 +63,8 @@ KeepsRule m past e part Steps = StepsEntry m past e part
 KeepsRule m past e part Enabled = EnabledEntry m past e part
 KeepsRule m past e part Source = SourceEntry m past e part
 
--- an entry of that part after these keeps each rule (kernel/power/suspend.c, kernel/power/main.c, drivers/base/power/main.c, drivers/base/power/wakeup.c)
+-- an entry of that part after these keeps each rule (kernel/power/suspend.c, kernel/power/main.c, drivers/base/power/main.c,
+-- drivers/base/power/wakeup.c)
 pub record KeepsPart (m : Machine) (past : List Entry) (e : Entry) (part : EntryClass) : Type 0 where
   pub links : KeepsRule m past e part Links
   pub numbers : KeepsRule m past e part Numbers
@@ -80,7 +82,8 @@ pub record KeepsPart (m : Machine) (past : List Entry) (e : Entry) (part : Entry
   pub enabled : KeepsRule m past e part Enabled
   pub source : KeepsRule m past e part Source
 
--- an entry after these keeps each rule (kernel/power/suspend.c, kernel/power/main.c, drivers/base/power/main.c, drivers/base/power/wakeup.c)
+-- an entry after these keeps each rule (kernel/power/suspend.c, kernel/power/main.c, drivers/base/power/main.c,
+-- drivers/base/power/wakeup.c)
 abbrev pub KeepsEntry : Machine → List Entry → Entry → Type 0
 KeepsEntry m past e = KeepsPart m past e (class_of e.kind)
 
@@ -89,11 +92,12 @@ pub record LegalKeepsRules (m : Machine) (past : List Entry) (e : Entry) : Type 
   pub keeps : IsLegal m (e ∷ past) → KeepsEntry m past e
   pub legal : KeepsEntry m past e → IsLegal m (e ∷ past)
 
--- so after each legal list of entries, of whatever machine: what is legal is what keeps the rules (kernel/power/suspend.c, kernel/power/main.c)
+-- so after each legal list of entries, of whatever machine: what is legal is what keeps the rules (kernel/power/suspend.c,
+-- kernel/power/main.c)
 abbrev pub OneForEntries : Type 0
 OneForEntries = (m : Machine) (past : List Entry) (e : Entry) → IsLegal m past → LegalKeepsRules m past e
 
--- each entry, the newest first, keeps each rule where it stands
+-- each entry, the newest first, keeps each rule after the older ones
 abbrev pub KeepsEach : Machine → List Entry → Type 0
 KeepsEach m [] = Unit {0}
 KeepsEach m (e ∷ past) = KeepsEntry m past e × KeepsEach m past

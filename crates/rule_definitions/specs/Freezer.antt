@@ -20,7 +20,8 @@ use Rattle.sleep_model.specs.Numbers.{numbers}
 use Rattle.sleep_model.specs.EntryClasses.{EntryClass, OfJournal, journal}
 use Rattle.sleep_model.specs.Sources.{history}
 
--- a frozen task makes nothing; one that is asked says at a freeze point that it freezes, and nothing else; nobody else says so (try_to_freeze, __refrigerator)
+-- a frozen task makes nothing; one that is asked says at a freeze point that it freezes, and nothing else; nobody else says so
+-- (try_to_freeze, __refrigerator)
 abbrev pub FreezesBy : Freezing → Bool → Kind → Type 0
 FreezesBy f point kind.Frozen = (f.frozen ≡ false) × ((f.asked && point) ≡ true)
 FreezesBy f point _ = (f.frozen ≡ false) × ((f.asked && point) ≡ false)
@@ -35,7 +36,7 @@ abbrev pub FreezesTask : Freezing → Bool → Option Op → Option Script → K
 FreezesTask f begun op None k = FreezesNot k
 FreezesTask f begun op (Some s) k = FreezesBy f (freezes_at (is_user s.kind) begun op) k
 
--- tasks outside attempts of their own freeze where they are asked to, and nobody else does (try_to_freeze)
+-- tasks outside attempts of their own freeze if they are asked to, and nobody else does (try_to_freeze)
 abbrev pub FreezesActor : Machine → List Entry → Actor → Bool → Kind → Type 0
 FreezesActor m past (actor.Script i) false k = FreezesTask (freezing m i past) (position_of m past i).waits (op_of m past i) (slice_get m.actors i) k
 FreezesActor m past _ _ k = FreezesNot k
@@ -46,13 +47,14 @@ FreezeEnds m past now None (kind.Froze g end) = ⊥
 FreezeEnds m past now (Some since) (kind.Froze g end) = froze_due past now g since (left m g past) ≡ Makes (kind.Froze g end)
 FreezeEnds m past now _ _ = Unit {0}
 
--- tasks freeze where they are asked to, and a freeze ends rightly (try_to_freeze, try_to_freeze_tasks)
+-- tasks freeze if they are asked to, and a freeze ends rightly (try_to_freeze, try_to_freeze_tasks)
 abbrev pub KeepsFreezer : Machine → List Entry → EventNow → Actor → Kind → Type 0
 KeepsFreezer m past now who k = FreezesActor m past who (is_maker past who) k × FreezeEnds m past now (freeze_since past) k
 
 -- ---- among all entries
 
--- a task stands before an entry of the journal: it has made the calls that come before that, and is inside none (wakeup_source_report_event)
+-- a task is at its turn before an entry of the journal: it has made the calls that come before that, and is inside none
+-- (wakeup_source_report_event)
 abbrev pub is_at_turn : Machine → List Entry → Actor → Bool
 is_at_turn m past who =
     (made (length m.sources + 1) (λ s. history s past) who == calls_due m who (journal past))
@@ -66,7 +68,7 @@ asked_at turn f = record f { asked = turn && f.asked }
 abbrev pub asked_now : Machine → List Entry → ℕ → Freezing
 asked_now m past i = asked_at (is_at_turn m past (actor.Script i)) (freezing m i (journal past))
 
--- tasks outside attempts of their own freeze where they are asked to and come to it, and nobody else does (try_to_freeze)
+-- tasks outside attempts of their own freeze if they are asked to and come to it, and nobody else does (try_to_freeze)
 abbrev pub FreezesEntry : Machine → List Entry → Actor → Bool → Kind → Type 0
 FreezesEntry m past (actor.Script i) false k =
     FreezesTask (asked_now m past i) (position_of m (journal past) i).waits (op_of m (journal past) i) (slice_get m.actors i) k
@@ -83,7 +85,8 @@ GoesOnEntry m past (actor.Script i) false =
     GoesOn (asked_now m past i) (position_of m (journal past) i).waits (op_of m (journal past) i) (slice_get m.actors i)
 GoesOnEntry m past _ _ = Unit {0}
 
--- tasks freeze where they are asked to and come to it, frozen ones make nothing, and a freeze ends rightly (try_to_freeze, try_to_freeze_tasks)
+-- tasks freeze if they are asked to and come to it, frozen ones make nothing, and a freeze ends rightly (try_to_freeze,
+-- try_to_freeze_tasks)
 abbrev pub FreezerEntry : Machine → List Entry → Entry → EntryClass → Type 0
 FreezerEntry m past e OfJournal =
     FreezesEntry m past e.actor (is_maker (journal past) e.actor) e.kind

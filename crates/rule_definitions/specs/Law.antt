@@ -18,7 +18,8 @@ use Rattle.rule_definitions.specs.Restored.{KeepsRestored}
 abbrev pub IsDue : Machine → List Entry → EventNow → Actor → Kind → Type 0
 IsDue m past now who k = due m past who now ≡ Makes k
 
--- after a legal journal what is due keeps all rules, and, after any entries, what keeps most of them is due (kernel/power/suspend.c, kernel/power/main.c)
+-- after a legal journal what is due keeps all rules, and, after any entries, what keeps most of them is due (kernel/power/suspend.c,
+-- kernel/power/main.c)
 pub record AreOne (m : Machine) (past : List Entry) (now : EventNow) (who : Actor) (k : Kind) : Type 0 where
   pub keeps : JournalPart m past → IsDue m past now who k → KeepsAll m past now who k
   pub makes : KeepsMost m past now who k → IsDue m past now who k
@@ -47,11 +48,13 @@ OneForMakers =
     (m : Machine) (past : List Entry) (now : EventNow) (who : Actor) (k : Kind) → is_maker past who ≡ true
     → AreOne m past now who k
 
--- so for every actor: for each machine, after each legal journal, an entry of the journal is due exactly if it keeps all rules (kernel/power/suspend.c, kernel/power/main.c)
+-- so for every actor: for each machine, after each legal journal, an entry of the journal is due exactly if it keeps all rules
+-- (kernel/power/suspend.c, kernel/power/main.c)
 abbrev pub OneForAll : Type 0
 OneForAll = (m : Machine) (past : List Entry) (now : EventNow) (who : Actor) (k : Kind) → AreOne m past now who k
 
--- after a legal journal what keeps most rules undoes only what is owed, and ends an attempt only if nothing is (suspend_devices_and_enter, suspend_finish)
+-- after a legal journal what keeps most rules undoes only what is owed, and ends an attempt only if nothing is (suspend_devices_and_enter,
+-- suspend_finish)
 abbrev pub OwedFollows : Type 0
 OwedFollows =
     (m : Machine) (past : List Entry) (now : EventNow) (who : Actor) (k : Kind) → JournalPart m past

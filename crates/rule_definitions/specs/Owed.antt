@@ -6,7 +6,7 @@ use Rattle.sleep_model.specs.declared.entry.Kind.TheVariants as kind
 use Rattle.sleep_model.specs.declared.machine.Machine.{Machine}
 use Rattle.sleep_model.specs.Laws.{Owed}
 
--- an undo stands only for what an entry before it did and none has undone since; waking is no undo (dpm_resume, dpm_complete, suspend_finish)
+-- an undo is only for what an entry before it did and none has undone since; waking is no undo (dpm_resume, dpm_complete, suspend_finish)
 abbrev pub KeepsOwed : Machine → List Entry → Kind → Type 0
 KeepsOwed m past (kind.Wake by_event) = Unit {0}
 KeepsOwed m past k = Owed m past k

@@ -36,7 +36,8 @@ IsOfUp p (kind.End q d r) = q ≡ p
 IsOfUp p (kind.Done q r) = q ≡ p
 IsOfUp p _ = ⊥
 
--- an entry of that row: the thing that is next, what the machine answers for it, and what a test finds (enter_state, suspend_devices_and_enter, suspend_enter)
+-- an entry of that row: the thing that is next, what the machine answers for it, and what a test finds (enter_state,
+-- suspend_devices_and_enter, suspend_enter)
 abbrev pub IsOfRow : Machine → List Entry → EventNow → Stage → Kind → Type 0
 IsOfRow m past now stage.Notifies (kind.NotifyPrepare x r) = (next_called m past ≡ Some x) × (r ≡ answered m past (what.Notifier x))
 IsOfRow m past now (stage.Freezes g) (kind.Freeze h) = (h ≡ g) × (freeze_since past ≡ None)

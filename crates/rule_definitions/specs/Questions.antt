@@ -1,4 +1,4 @@
--- What several rules ask: where a script stands, who makes the open attempt, which row of its table is under way.
+-- What several rules ask: the position of a script, who makes the open attempt, which row of its table is under way.
 use Rattle.std.specs.Prelude.{ℕ, Bool, true, List, length, Option, Some, None, is_some, slice_get}
 use Rattle.sleep_model.specs.declared.entry.Actor.{Actor}
 use Rattle.sleep_model.specs.declared.entry.Entry.{Entry}
@@ -17,7 +17,7 @@ use Rattle.sleep_model.specs.Path.{maker, is_actor}
 use Rattle.sleep_model.specs.Positions.{positions, position_at}
 use Rattle.sleep_model.specs.Table.{stage_of, next_stage, by_case}
 
--- where script i stands (own)
+-- the position of script i (own)
 abbrev pub position_of : Machine → List Entry → ℕ → ScriptPosition
 position_of m past i = position_at (positions (length m.actors) past) i
 
@@ -48,6 +48,7 @@ row_at m past (Some here) = Some (by_case (has_more m past here) here (next_stag
 abbrev pub row_now : Machine → List Entry → Option Stage
 row_now m past = row_at m past (stage_of past)
 
--- what a device does at its turn: an error lets an asynchronous one do nothing, a wakeup or direct-complete passes it over, else its callback begins (__device_suspend)
+-- what a device does at its turn: an error lets an asynchronous one do nothing, a wakeup or direct-complete passes it over, else its
+-- callback begins (__device_suspend)
 abbrev pub turn_of : Machine → List Entry → EventNow → Phase → ℕ → Kind
 turn_of m past now p d = unless_failed (phase_failed past) p d (taken m past now p d)

@@ -25,22 +25,24 @@ use Rattle.rule_definitions.specs.Questions.{is_maker, position_of, op_of}
 
 -- ---- an entry of anybody whose own step is another: there it waits nowhere, and has no text and no number
 
--- a read that nobody waits in: the count where no event is in progress, else that it waits (pm_get_wakeup_count)
+-- a read that nobody waits in: the count if no event is in progress, else that it waits (pm_get_wakeup_count)
 abbrev pub IsReadElse : EventNow → Kind → Type 0
 IsReadElse now k = read_due now false false ≡ Makes k
 
--- a save that nobody waits in, of whatever number: by the lock, which another holds or nobody, by autosleep and the count (wakeup_count_store, pm_save_wakeup_count)
+-- a save that nobody waits in, of whatever number: by the lock, which another holds or nobody, by autosleep and the count
+-- (wakeup_count_store, pm_save_wakeup_count)
 abbrev pub IsSaveElse : List Entry → EventNow → Actor → ℕ → Kind → Type 0
 IsSaveElse past now who c k =
     (is_actor who (holder past) ≡ false) × (count_due (is_some (holder past)) (is_on past) false false now c ≡ Makes k)
 
--- a write to the state that nobody waits in: by the lock, which another holds or nobody, and by autosleep; it wants no save and has no text that is bad (state_store)
+-- a write to the state that nobody waits in: by the lock, which another holds or nobody, and by autosleep; it wants no save and has no text
+-- that is bad (state_store)
 abbrev pub IsWriteElse : List Entry → Actor → Kind → Type 0
 IsWriteElse past who k =
     (is_actor who (holder past) ≡ false)
     × (state_due (is_some (holder past)) (is_on past) false false true (kind.Attempt (attempts past + 1) (in_force past)) ≡ Makes k)
 
--- a save of the work: where the lock is free, by its number and the count (try_to_suspend)
+-- a save of the work: while the lock is free, by its number and the count (try_to_suspend)
 abbrev pub IsAutoSave : List Entry → EventNow → ℕ → Kind → Type 0
 IsAutoSave past now c k = (holder past ≡ None) × (auto_save now c ≡ k)
 
@@ -61,7 +63,7 @@ ReadsElse past now who _ = Unit {0}
 
 -- ---- an entry of a task at its operation
 
--- at a read: the count where no event is in progress, else that it waits, or gives up (pm_get_wakeup_count)
+-- at a read: the count if no event is in progress, else that it waits, or gives up (pm_get_wakeup_count)
 abbrev pub IsRead : EventNow → ScriptPosition → Bool → Option Op → Kind → Type 0
 IsRead now position asked (Some op.Read) k = read_due now position.waits asked ≡ Makes k
 IsRead now position asked _ k = IsReadElse now k
@@ -113,7 +115,8 @@ ReadsTask past now who position asked o k = ReadsElse past now who k
 
 -- ---- an entry of autosleep's work, and of all others
 
--- an entry of autosleep's work: it reads where no event is in progress, saves where the lock is free, and begins an attempt where autosleep is on (try_to_suspend)
+-- an entry of autosleep's work: it reads if no event is in progress, saves if the lock is free, and begins an attempt if autosleep is on
+-- (try_to_suspend)
 abbrev pub ReadsWork : List Entry → EventNow → Work → Kind → Type 0
 ReadsWork past now Reading (kind.Read c) = ((now.inpr == 0) ≡ true) × (c ≡ visible now)
 ReadsWork past now (Saving c) (kind.AutoSaved b) = (holder past ≡ None) × (auto_save now c ≡ kind.AutoSaved b)
@@ -127,6 +130,7 @@ ReadsActor m past now (actor.Script i) false k = ReadsTask past now (actor.Scrip
 ReadsActor m past now actor.Auto false k = ReadsWork past now (work past) k
 ReadsActor m past now who _ k = ReadsElse past now who k
 
--- reads, saves and writes answer by the word, the lock, autosleep, their number and their text (kernel/power/main.c, drivers/base/power/wakeup.c)
+-- reads, saves and writes answer by the word, the lock, autosleep, their number and their text (kernel/power/main.c,
+-- drivers/base/power/wakeup.c)
 abbrev pub KeepsReads : Machine → List Entry → EventNow → Actor → Kind → Type 0
 KeepsReads m past now who k = ReadsActor m past now who (is_maker past who) k

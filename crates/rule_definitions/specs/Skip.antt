@@ -13,20 +13,22 @@ use Rattle.phase_table.specs.Phases.{is_down}
 use Rattle.sleep_model.specs.Devices.{callback, phase_failed, next_down, waits_below, state_in, is_async_device}
 use Rattle.rule_definitions.specs.Questions.{row_now, turn_of}
 
--- the walk down stands at device d: no callback runs, no error stands, d is the last that the phase has not taken, and all below it are through (dpm_suspend, dpm_wait_for_subordinate)
+-- the walk down is at device d: no callback runs, there is no error, d is the last that the phase has not taken, and all below it are done
+-- (dpm_suspend, dpm_wait_for_subordinate)
 pub record IsNextDown (m : Machine) (past : List Entry) (p : Phase) (d : ℕ) : Type 0 where
   pub free : callback past ≡ None
   pub well : phase_failed past ≡ None
   pub next : next_down m past p ≡ Some d
   pub waits : waits_below m past p d ≡ None
 
--- device d was scheduled on the way down, and all below it are through (async_suspend, dpm_wait_for_subordinate)
+-- device d was scheduled on the way down, and all below it are done (async_suspend, dpm_wait_for_subordinate)
 pub record IsScheduledDown (m : Machine) (past : List Entry) (p : Phase) (d : ℕ) : Type 0 where
   pub down : is_down p ≡ true
   pub states : state_in m past p d ≡ state.Scheduled
   pub waits : waits_below m past p d ≡ None
 
--- it is device d's turn in phase p: an asynchronous one was scheduled there, for another the walk of that phase is under way (dpm_suspend, async_suspend)
+-- it is device d's turn in phase p: an asynchronous one was scheduled there, for another the walk of that phase is under way (dpm_suspend,
+-- async_suspend)
 abbrev pub IsTurn : Machine → List Entry → Phase → ℕ → Bool → Option Stage → Type 0
 IsTurn m past p d true row = IsScheduledDown m past p d
 IsTurn m past p d false (Some (stage.Downs q)) = (p ≡ q) × IsNextDown m past q d

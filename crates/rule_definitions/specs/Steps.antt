@@ -99,7 +99,7 @@ IsScriptStep m past position o (Some s) k = (position.exited ≡ false) × IsSte
 
 -- ---- autosleep's work, and devices
 
--- an entry of the work, where it stands so (try_to_suspend)
+-- an entry of the work, in that state of it (try_to_suspend)
 abbrev pub IsWorkStep : Machine → List Entry → EventNow → Work → Kind → Type 0
 IsWorkStep m past now Resting kind.AutoRun = may_run m past ≡ true
 IsWorkStep m past now Reading (kind.Read c) = Unit {0}
@@ -114,14 +114,16 @@ IsWorkStep m past now Closing kind.AutoAgain = is_on past ≡ true
 IsWorkStep m past now Closing kind.AutoOff = is_on past ≡ false
 IsWorkStep m past now _ _ = ⊥
 
--- an entry of asynchronous device d: where it is scheduled it begins or is passed over, inside its callback it ends (async_suspend, async_resume)
+-- an entry of asynchronous device d: if it is scheduled it begins or is passed over, inside its callback it ends (async_suspend,
+-- async_resume)
 abbrev pub IsDeviceStep : ℕ → AsyncWork → Kind → Type 0
 IsDeviceStep d (Scheduled p) (kind.Begin q e) = (e ≡ d) × (q ≡ p)
 IsDeviceStep d (Scheduled p) (kind.Skip q e cause) = (e ≡ d) × (q ≡ p)
 IsDeviceStep d (Inside p) (kind.End q e r) = (e ≡ d) × (q ≡ p)
 IsDeviceStep d _ _ = ⊥
 
--- an entry of an attempt, whose walk itself begins, ends and passes over synchronous devices alone (enter_state, suspend_devices_and_enter, suspend_enter, dpm_async_fn)
+-- an entry of an attempt, whose walk itself begins, ends and passes over only synchronous devices (enter_state, suspend_devices_and_enter,
+-- suspend_enter, dpm_async_fn)
 abbrev pub IsMakerStep : Machine → Kind → Type 0
 IsMakerStep m (kind.Begin p d) = is_async_device m d ≡ false
 IsMakerStep m (kind.End p d r) = is_async_device m d ≡ false
@@ -175,7 +177,8 @@ is_inside own who = is_left (owed own) && is_actor who (caller own)
 abbrev pub IsOfCall : List Entry → Actor → ℕ → WordKind → Type 0
 IsOfCall past who s step = (is_inside (history s past) who ≡ true) × IsNext step (owed (history s past))
 
--- an entry of the journal is its actor's next step, once the calls before it are made whole; a note is its actor's next call; a step of the word is owed by its actor; time makes the jumps (own)
+-- an entry of the journal is its actor's next step, once the calls before it are made whole; a note is its actor's next call; a step of the
+-- word is owed by its actor; time makes the jumps (own)
 abbrev pub StepsEntry : Machine → List Entry → Entry → EntryClass → Type 0
 StepsEntry m past e OfJournal =
     KeepsSteps m (journal past) (numbers past) e.actor e.kind × IsOwnTurn m (journal past) (λ s. history s past) e.actor

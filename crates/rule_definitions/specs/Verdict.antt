@@ -30,7 +30,8 @@ pub record BreaksFirst (m : Machine) (past : List Entry) (e : Entry) (rule : Rul
   pub breaks : KeepsRule m past e (class_of e.kind) rule → ⊥
   pub lesser : (other : Rule) → number_of other < number_of rule → KeepsRule m past e (class_of e.kind) other
 
--- the first bad line of a log, from 1, and its number: an entry after which all is well, with the least rule that it breaks; where all entries are well, the first line of statistics that is not its source's; where these are, the end of a log that is not finished (own)
+-- the first bad line of a log, from 1, and its number: an entry before which all is well, with the least rule that it breaks; if all
+-- entries are well, the first line of statistics that is not its source's; if these are, the end of a log that is not finished (own)
 pub data IsFirstBad (m : Machine) (log : Log) : ℕ → ℕ → Type 0 where
   AtEntry : (later past : List Entry) (e : Entry) (rule : Rule) → reverse log.entries ≡ later ++ e ∷ past → KeepsEach m past → BreaksFirst m past e rule → IsFirstBad m log (length past + 1) (number_of rule)
   AtStats : (k : ℕ) → KeepsEach m (reverse log.entries) → k < length log.stats → take k log.stats ≡ take k (stats_of m (reverse log.entries)) → (slice_get log.stats k ≡ slice_get (stats_of m (reverse log.entries)) k → ⊥) → IsFirstBad m log (length log.entries + k + 1) 22

@@ -32,7 +32,8 @@ use Rattle.rule_definitions.specs.Steps.{is_inside}
 
 -- ---- prepare and complete
 
--- while prepare is under way and no error stands the next device is prepared, and answers what the machine answers (dpm_prepare, device_prepare)
+-- while prepare is under way and there is no error the next device is prepared, and answers what the machine answers (dpm_prepare,
+-- device_prepare)
 abbrev pub PreparesAt : Machine → List Entry → ℕ → ℤ → Option Stage → Type 0
 PreparesAt m past d r (Some stage.Prepares) =
     (phase_failed past ≡ None) × (next_prepared m past ≡ Some d)
@@ -46,7 +47,8 @@ CompletesAt m past d _ = ⊥
 
 -- ---- a device is scheduled
 
--- a phase on the way down schedules the device that is next, if it is asynchronous; one on the way up each of those that are down, first of all (dpm_suspend, dpm_resume, dpm_async_fn)
+-- a phase on the way down schedules the device that is next, if it is asynchronous; one on the way up each of those that are down, first of
+-- all (dpm_suspend, dpm_resume, dpm_async_fn)
 abbrev pub SchedulesAt : Machine → List Entry → Phase → ℕ → Option Stage → Type 0
 SchedulesAt m past p d (Some (stage.Downs q)) =
     (p ≡ q) × (callback past ≡ None) × (phase_failed past ≡ None) × (next_down m past q ≡ Some d) × (is_async_device m d ≡ true)
@@ -55,19 +57,20 @@ SchedulesAt m past p d _ = ⊥
 
 -- ---- a callback begins
 
--- an asynchronous device that was scheduled begins once all below it are through, or all above it are up (async_suspend, async_resume)
+-- an asynchronous device that was scheduled begins once all below it are done, or all above it are up (async_suspend, async_resume)
 abbrev pub BeginsAsync : Machine → List Entry → EventNow → Phase → ℕ → Bool → Type 0
 BeginsAsync m past now p d true = IsScheduledDown m past p d × (turn_of m past now p d ≡ kind.Begin p d)
 BeginsAsync m past now p d false = (state_in m past (mirror p) d ≡ state.Rescheduled) × (waits_above m past (mirror p) d ≡ None)
 
--- the walk up stands at device d: no callback runs, none is left to be scheduled, d is the first that is down, and all above it are up (dpm_resume, dpm_wait_for_superior)
+-- the walk up is at device d: no callback runs, none is left to be scheduled, d is the first that is down, and all above it are up
+-- (dpm_resume, dpm_wait_for_superior)
 pub record IsNextUp (m : Machine) (past : List Entry) (p : Phase) (d : ℕ) : Type 0 where
   pub free : callback past ≡ None
   pub scheduled : next_to_schedule m past p ≡ None
   pub next : next_up m past p ≡ Some d
   pub waits : waits_above m past p d ≡ None
 
--- a synchronous device begins where the walk stands at it, and nothing passes it over (dpm_suspend, dpm_resume)
+-- a synchronous device begins if the walk is at it, and nothing passes it over (dpm_suspend, dpm_resume)
 abbrev pub BeginsAt : Machine → List Entry → EventNow → Phase → ℕ → Option Stage → Type 0
 BeginsAt m past now p d (Some (stage.Downs q)) = (p ≡ q) × IsNextDown m past q d × (turn_of m past now q d ≡ kind.Begin q d)
 BeginsAt m past now p d (Some (stage.Ups q)) = (p ≡ q) × IsNextUp m past (mirror q) d
@@ -80,7 +83,7 @@ BeginsBy m past now p d false row = BeginsAt m past now p d row
 
 -- ---- a callback ends
 
--- an asynchronous device ends where it is inside its callback (async_suspend, async_resume)
+-- an asynchronous device ends if it is inside its callback (async_suspend, async_resume)
 abbrev pub EndsAsync : Machine → List Entry → Phase → ℕ → Bool → Type 0
 EndsAsync m past p d true = state_in m past p d ≡ state.Suspending
 EndsAsync m past p d false = state_in m past (mirror p) d ≡ state.Resuming
@@ -90,7 +93,7 @@ abbrev pub IsInside : ℕ → Option Callback → Type 0
 IsInside d None = ⊥
 IsInside d (Some c) = d ≡ c.device
 
--- a synchronous device ends where the walk is inside its callback (dpm_run_callback)
+-- a synchronous device ends if the walk is inside its callback (dpm_run_callback)
 abbrev pub EndsAt : List Entry → Phase → ℕ → Option Stage → Type 0
 EndsAt past p d (Some (stage.Downs q)) = (p ≡ q) × IsInside d (callback past)
 EndsAt past p d (Some (stage.Ups q)) = (p ≡ q) × IsInside d (callback past)
@@ -107,13 +110,14 @@ EndsBy m past p d false row = EndsAt past p d row
 abbrev pub is_done : Option Errno → Option ℕ → Bool
 is_done error next = is_some error || is_none next
 
--- a phase on the way down is done where no callback runs, none that was scheduled is under way, and it is through (dpm_suspend, async_synchronize_full)
+-- a phase on the way down is done if no callback runs, none that was scheduled is under way, and the walk is done (dpm_suspend,
+-- async_synchronize_full)
 pub record IsDownDone (m : Machine) (past : List Entry) (p : Phase) : Type 0 where
   pub free : callback past ≡ None
   pub waits : waits_down m past p ≡ None
   pub through : is_done (phase_failed past) (next_down m past p) ≡ true
 
--- a phase on the way up, whose mirror is p, is done where no callback runs and all are up (dpm_resume, async_synchronize_full)
+-- a phase on the way up, whose mirror is p, is done if no callback runs and all are up (dpm_resume, async_synchronize_full)
 pub record IsUpDone (m : Machine) (past : List Entry) (p : Phase) : Type 0 where
   pub free : callback past ≡ None
   pub scheduled : next_to_schedule m past p ≡ None
@@ -130,7 +134,8 @@ DoneAt m past p _ = ⊥
 
 -- ---- all
 
--- devices are taken in order, each after those that it waits for, while their phase is under way, and answer what the machine answers (drivers/base/power/main.c)
+-- devices are taken in order, each after those that it waits for, while their phase is under way, and answer what the machine answers
+-- (drivers/base/power/main.c)
 abbrev pub KeepsWalk : Machine → List Entry → EventNow → Kind → Type 0
 KeepsWalk m past now (kind.Prepare d r) = PreparesAt m past d r (row_now m past)
 KeepsWalk m past now (kind.Complete d) = CompletesAt m past d (row_now m past)
@@ -157,7 +162,8 @@ abbrev pub ReportsMade : Machine → List Entry → Actor → Kind → Type 0
 ReportsMade m past who (kind.End p d r) = IsOwnTurn m (journal past) (λ s. history s past) who
 ReportsMade m past who _ = Unit {0}
 
--- it is the device whose callback the actor is inside: an asynchronous device itself, for anybody else the one that the walk is inside (dpm_run_callback)
+-- it is the device whose callback the actor is inside: an asynchronous device itself, for anybody else the one that the walk is inside
+-- (dpm_run_callback)
 abbrev pub IsOwnCallback : List Entry → Actor → ℕ → Type 0
 IsOwnCallback past (actor.Dev d) e = e ≡ d
 IsOwnCallback past who e = IsInside e (callback past)
@@ -167,7 +173,8 @@ abbrev pub EndsOwn : List Entry → Actor → Kind → Type 0
 EndsOwn past who (kind.End p e r) = IsOwnCallback past who e
 EndsOwn past who _ = ⊥
 
--- devices are taken in order and answer what the machine answers; inside a callback its maker makes its reports in order, with their steps, then its end, and nothing else (drivers/base/power/main.c)
+-- devices are taken in order and answer what the machine answers; inside a callback its maker makes its reports in order, with their steps,
+-- then its end, and nothing else (drivers/base/power/main.c)
 abbrev pub WalkEntry : Machine → List Entry → Entry → EntryClass → Type 0
 WalkEntry m past e OfJournal =
     KeepsWalk m (journal past) (numbers past) e.kind × ReportsMade m past e.actor e.kind

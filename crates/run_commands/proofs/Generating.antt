@@ -33,7 +33,7 @@ ends_as m log run = by run.over
     by (inl finished) = subst (λ end. EndsAs m log (is_stuck end)) (sym finished.says) finished
     by (inr stuck) = subst (λ end. EndsAs m log (is_stuck end)) (sym stuck.says) stuck
 
--- the line of the numbers of a log is told of its run
+-- the line of the numbers of a log says what its run says
 pub line_text : (seed devices : ℕ) (m : Machine) (log : Log) (counts : LogCounts) (stuck : Bool) (shown_text : List ℕ) → m ≡ generated seed devices → IsRun m log → stuck ≡ is_stuck log.end
     → counts ≡ counts_of log → shown_text ≡ count_line counts stuck → IsLineOf seed devices shown_text stuck
 line_text seed devices m log counts stuck shown_text is run ending counted line = record {
@@ -43,7 +43,7 @@ line_text seed devices m log counts stuck shown_text is run ending counted line 
   is_line = line ∙ ap (λ c. count_line c stuck) counted;
 }
 
--- a file that was written, or a front of it
+-- a file that was written, or a prefix of it
 pub gen_ended : (seed devices : ℕ) (old new : Stream) (shown_text : List ℕ) (ending : Ending) → shown_text ≡ spelling (generated seed devices) → Writes old new shown_text false ending → GenEnded seed devices old new ending
 gen_ended seed devices old new shown_text ending is h = by ending (subst (λ text. Writes old new text false ending) is h)
   where
@@ -57,7 +57,7 @@ gen_ended seed devices old new shown_text ending is h = by ending (subst (λ tex
     by (Refused refusal) h = h
     by NoMemory h = absurd h
 
--- a line that was written, or a front of it
+-- a line that was written, or a prefix of it
 pub soak_ended : (seed devices : ℕ) (old new : Stream) (shown_text : List ℕ) (stuck : Bool) (ending : Ending) → IsLineOf seed devices shown_text stuck → Writes old new shown_text stuck ending → SoakEnded seed devices old new ending
 soak_ended seed devices old new shown_text stuck Done line h = (shown_text, stuck, line, h)
 soak_ended seed devices old new shown_text stuck Stuck line h = (shown_text, stuck, line, h)

@@ -1,4 +1,4 @@
--- What was read and written where a run of a file, gen or soak ends (own).
+-- What was read and written by the time that a run of a file, gen or soak ends (own).
 use Rattle.std.specs.Prelude.{◌≡◌, ℕ, Bool, true, false, List, string_bytes, Some, Result, Ok, Err}
 use Rattle.sleep_base.specs.Faults.{Rose}
 use Rattle.sleep_model.specs.declared.log.Log.{Log}
@@ -60,7 +60,7 @@ abbrev pub IsFullNamed : Machine → ℕ → Ending → Type 0
 IsFullNamed m s (Refused (SourceFull name)) = name ≡ source m s
 IsFullNamed m s _ = ⊥
 
--- how the program ends where a run gives no log: a full source is named, and only out of memory says out of memory
+-- how the program ends if a run gives no log: a full source is named, and only a lack of memory is reported as such
 abbrev pub IsEndingOfRun : Machine → RunFault → Ending → Type 0
 IsEndingOfRun m (fault.SourceFull s) ending = IsFullNamed m s ending
 IsEndingOfRun m fault.Mem ending = ending ≡ NoMemory
@@ -81,7 +81,7 @@ abbrev pub GivesRun : List ℕ → Result Ran Ending → Type 0
 GivesRun bytes (Ok ran) = IsRunOf bytes ran.machine ran.log
 GivesRun bytes (Err ending) = Refuses (RefusesRun bytes) ending
 
--- the text of a machine's log was written, or a front of it, or memory ran out before
+-- the text of a machine's log was written, or a prefix of it, or memory ran out before
 abbrev pub WritesText : Machine → Log → Stream → Stream → Ending → Type 0
 WritesText machine log old new NoMemory = new ≡ old
 WritesText machine log old new ending = Writes old new (text machine log) (is_stuck log.end) ending
@@ -94,7 +94,7 @@ WritesLog ran = WritesText ran.machine ran.log
 abbrev pub RanFile : Stream → Stream → List ℕ → Bool → Type 0
 RanFile old new shown_text stuck = (bytes : List ℕ) × ReadWhole most_machine old new bytes × IsLogOf bytes shown_text stuck
 
--- the log's text was written, or a front of it
+-- the log's text was written, or a prefix of it
 abbrev pub WroteLog : Streams → Streams → Ending → Type 0
 WroteLog old new ending = (shown_text : List ℕ) × (stuck : Bool) × RanFile old.input new.input shown_text stuck × Writes old.output new.output shown_text stuck ending
 
@@ -113,7 +113,7 @@ RunEnded old new NoForm = ⊥
 
 -- ---- gen
 
--- what an ending of gen means: the file of the generator's machine was written, or a front of it, or memory ran out
+-- what an ending of gen means: the file of the generator's machine was written, or a prefix of it, or memory ran out
 abbrev pub GenEnded : ℕ → ℕ → Stream → Stream → Ending → Type 0
 GenEnded seed devices old new NoMemory = new ≡ old
 GenEnded seed devices old new ending = Writes old new (spelling (generated seed devices)) false ending
@@ -127,7 +127,7 @@ pub record IsLineOf (seed devices : ℕ) (shown_text : List ℕ) (stuck : Bool) 
   pub ends : EndsAs (generated seed devices) log stuck
   pub is_line : shown_text ≡ count_line (counts_of log) stuck
 
--- what an ending of soak means: the line was written, or a front of it, or memory ran out
+-- what an ending of soak means: the line was written, or a prefix of it, or memory ran out
 abbrev pub SoakEnded : ℕ → ℕ → Stream → Stream → Ending → Type 0
 SoakEnded seed devices old new NoMemory = new ≡ old
 SoakEnded seed devices old new ending =

@@ -23,7 +23,8 @@ use std::alloc::Global;
 use std::sync::Wait;
 use std::thread::Threads;
 
-/// The file of the generated machine of a seed with this number of devices. `Mem` if there is no memory for it.
+/// The file of the generated machine of a seed with this number of devices. `Mem` if there is no memory for
+/// it.
 fn file_of(alloc: Global, seed: u64, devices: u32) -> Result<Vec<u8>, Mem>
     requires some { 1 ≤ devices }
     requires few { devices ≤ 1000 }

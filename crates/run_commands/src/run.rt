@@ -28,7 +28,7 @@ fn full(machine: &Machine, source: u32) -> Ending
     }
 }
 
-/// How the program ends where a run gives no log: a full source is named, and never told as out of memory.
+/// How the program ends if a run gives no log: a full source is named, and never reported as out of memory.
 fn without_log(machine: &Machine, fault: RunFault) -> Ending
     requires { Fails machine.now fault }
     ensures { IsEndingOfRun machine.now fault result }
@@ -46,8 +46,9 @@ pub struct Ran {
     pub log: ApartLog,
 }
 
-/// The machine that the bytes spell with the log of its run by this number of workers, or how the program ends without one: `Broken` where
-/// they break a rule and so spell none, `SourceFull` if a source's history has no place for a call, `NoMemory` if there is no memory.
+/// The machine that the bytes spell with the log of its run by this number of workers, or how the program
+/// ends without one: `Broken` if they break a rule and so spell none, `SourceFull` if a source's history has
+/// no place for a call, `NoMemory` if there is no memory.
 #[tactic(auto, using(crate::proofs::Filling::ended_fault))]
 fn run_of_bytes<R: Threads + Wait + Sync, G: Gate + Sync>(
     rt: &R,
@@ -90,8 +91,8 @@ fn write_text<K: ByteSink>(alloc: Global, out: &mut K, machine: &Machine, log: &
     }
 }
 
-/// Writes the log of a run as its text is put together: `Done`, or `Stuck` if the run was stuck. `NoMemory` before
-/// anything was written, `WriteFault` at the first write that fails: a front of the text was written.
+/// Writes the log of a run as its text is put together: `Done`, or `Stuck` if the run was stuck. `NoMemory`
+/// before anything was written, `WriteFault` at the first write that fails: a prefix of the text was written.
 fn write_whole<K: ByteSink>(alloc: Global, out: &mut K, ran: Ran) -> Ending
     ensures { WritesLog ran (stream (K.written out.old) (K.faults out.old)) (stream (K.written out.new) (K.faults out.new)) result }
 {
@@ -105,7 +106,8 @@ fn write_whole<K: ByteSink>(alloc: Global, out: &mut K, ran: Ran) -> Ending
     ending
 }
 
-/// Writes the log of a run, whose text is made in slices on threads, one for each worker. Ends as `write_whole`.
+/// Writes the log of a run, whose text is made in slices on threads, one for each worker. Ends as
+/// `write_whole`.
 fn write_slices<R: Threads + Sync, K: ByteSink>(
     rt: &R,
     alloc: Global,
@@ -128,7 +130,8 @@ fn write_slices<R: Threads + Sync, K: ByteSink>(
     }
 }
 
-/// Writes the log of a run by this number of workers, who make its text in slices where that is worth their threads.
+/// Writes the log of a run by this number of workers, who make its text in slices if that is worth their
+/// threads.
 fn write_log<R: Threads + Sync, K: ByteSink>(
     rt: &R,
     alloc: Global,

@@ -47,7 +47,7 @@ first_many [] = refl
 first_many (Calls n ∷ rest) = omega (arith, first_many rest)
 first_many (Turns ∷ rest) = refl
 
--- so many stand right before a turn
+-- so many calls are made right before a turn
 many : (ps : List Piece) (k : ℕ) → calls_ahead ps k + length (calls_at ps k) ≡ calls_before ps k
 many ps zero = omega (arith, first_many ps)
 many [] (suc k) = refl
@@ -55,7 +55,7 @@ many (Calls n ∷ rest) (suc k) = omega (arith, many rest (suc k))
 many (Turns ∷ rest) (suc zero) = omega (arith, first_many rest)
 many (Turns ∷ rest) (suc (suc k)) = many rest (suc k)
 
--- no more stand before a turn than there are
+-- no more calls are made before a turn than there are
 fit : (ps : List Piece) (k : ℕ) → calls_before ps k ≤ length (all_calls ps)
 fit [] k = omega arith
 fit (Calls n ∷ rest) k = omega (arith, fit rest k)

@@ -46,7 +46,7 @@ filter_map p f (x ∷ xs) = by_case (filter_map p f xs) (p (f x))
     by_case rest true = ap (λ rest. f x ∷ rest) rest
     by_case rest false = rest
 
--- the operations that make entries stand at the kept places
+-- the operations that make entries have the indices that the list has
 pub entry_steps_are : (s : Script) → entry_steps s ≡ map (op_at s.steps) (entry_indices s.steps (expanded s))
 entry_steps_are s = ap (filter makes_entry) (sym (ops_are s)) ∙ filter_map makes_entry (op_at s.steps) (expanded s)
 
@@ -79,7 +79,7 @@ places_few s n few = omega (arith, few, sym (length-map (expanded s) (op_at s.st
 
 -- ---- the calls
 
--- the calls before a turn of these operations, where so many were made before
+-- the calls before a turn of these operations, if so many were made before
 calls_are : (source : ℕ) (ops : List Op) (n k : ℕ) → count_or (slice_get (turns_from n ops) k) (calls_after n ops) ≡ n + calls_before (flat_map (pieces_of source) ops) k
 calls_are source [] n k = omega arith
 calls_are source (op.Awake s ∷ ops) n k = calls_are source ops (n + 1) k ∙ omega arith

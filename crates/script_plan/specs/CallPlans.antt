@@ -16,7 +16,7 @@ pub record ScriptCalls : Type 0 where
   pub source : ℕ
   pub script : Script
 
--- a script, where autosleep has that source (own)
+-- a script, if autosleep has that source (own)
 abbrev pub with_source : ℕ → Script → ScriptCalls
 with_source source s = record { source = source; script = s }
 
@@ -30,7 +30,7 @@ calls_of_autosleep source true =
     record { source = source; call = call.Awake } ∷ record { source = source; call = call.Relax } ∷ []
 calls_of_autosleep source false = []
 
--- the calls that an operation makes, where autosleep has that source (autosleep_store)
+-- the calls that an operation makes, if autosleep has that source (autosleep_store)
 abbrev pub calls_made_by : ℕ → Op → List Report
 calls_made_by source (op.Awake s) = record { source = s; call = call.Awake } ∷ []
 calls_made_by source (op.Relax s) = record { source = s; call = call.Relax } ∷ []
@@ -43,7 +43,7 @@ abbrev pub calls_made : ℕ → List Op → List Report
 calls_made source [] = []
 calls_made source (op ∷ ops) = calls_made_by source op ++ calls_made source ops
 
--- how many calls stand before the turn in front of that one, and none before the first (own)
+-- how many calls are made before the turn that precedes that one, and none before the first (own)
 abbrev pub calls_ahead : List Piece → ℕ → ℕ
 calls_ahead ps zero = 0
 calls_ahead ps (suc k) = calls_before ps k

@@ -1,3 +1,4 @@
+-- The definitions of this crate.
 pub mod CallPlans
 pub mod PlanFields
 pub mod Plans

@@ -18,7 +18,7 @@ round_from at (s ∷ ss) = replicate s.times at ++ round_from (suc at) ss
 abbrev pub expanded : Script → List ℕ
 expanded s = times_over s.repeat (round_from 0 s.steps)
 
--- the operation of a step, and Read where there is none
+-- the operation of a step, and Read if there is none
 abbrev pub op_or_read : Option Step → Op
 op_or_read None = op.Read
 op_or_read (Some s) = s.op
@@ -47,12 +47,12 @@ calls_in (op.Event s ms hard) = 1
 calls_in (op.Autosleep text) = one_or_two false (is_mem text || is_off text)
 calls_in _ = 0
 
--- where n calls were made before it: the calls before the turns of a write to autosleep, whose text is good or not (pm_autosleep_set_state)
+-- after n calls: the calls before the turns of a write to autosleep, whose text is good or not (pm_autosleep_set_state)
 abbrev pub turns_of_autosleep : ℕ → Bool → List ℕ
 turns_of_autosleep before true = (before + 1) ∷ (before + 2) ∷ []
 turns_of_autosleep before false = before ∷ []
 
--- where n calls were made before it: the calls before each of an operation's turns
+-- after n calls: the calls before each of an operation's turns
 abbrev pub turns_in : ℕ → Op → List ℕ
 turns_in before (op.Awake s) = []
 turns_in before (op.Relax s) = []
@@ -60,12 +60,12 @@ turns_in before (op.Event s ms hard) = []
 turns_in before (op.Autosleep text) = turns_of_autosleep before (is_mem text || is_off text)
 turns_in before _ = before ∷ []
 
--- where n calls were made before: the calls before each turn of these operations
+-- after n calls: the calls before each turn of these operations
 abbrev pub turns_from : ℕ → List Op → List ℕ
 turns_from before [] = []
 turns_from before (op ∷ ops) = turns_in before op ++ turns_from (before + calls_in op) ops
 
--- where n calls were made before: the calls after these operations
+-- after n calls: the calls after these operations
 abbrev pub calls_after : ℕ → List Op → ℕ
 calls_after before [] = before
 calls_after before (op ∷ ops) = calls_after (before + calls_in op) ops
@@ -75,7 +75,7 @@ abbrev pub count_or : Option ℕ → ℕ → ℕ
 count_or None last = last
 count_or (Some calls) last = calls
 
--- how many calls stand before the turn with number k, from 0, or before the end
+-- how many calls are made before the turn with number k, from 0, or before the end
 abbrev pub calls_before : List Piece → ℕ → ℕ
 calls_before [] k = 0
 calls_before (Calls note ∷ rest) k = calls_before rest k + 1

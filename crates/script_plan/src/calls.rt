@@ -17,8 +17,8 @@ fn call_on(source: u32, call: SourceCall) -> Report
     Report { source, call }
 }
 
-/// The calls that an operation makes, where autosleep has that source: a good write keeps the system awake
-/// while autosleep is set (`pm_autosleep_set_state`).
+/// The calls that an operation makes, if autosleep has that source: a good write keeps the system awake while
+/// autosleep is set (`pm_autosleep_set_state`).
 fn push_calls(calls: &mut Vec<Report>, autosleep: u32, op: &Op) -> Result<(), Mem>
     ensures { OnOk result (calls.new.items ≡ calls.old.items ++ calls_made_by autosleep op.now) }
 {

@@ -1,3 +1,4 @@
+//! The plan of a script: its operations turn by turn, and the calls on sources before each turn.
 ghost use Rattle.std.specs.Prelude.{◌≡◌, ◌≤◌, ◌<◌, ◌+◌, ◌^◌, ◌++◌, ◌||◌, length, map, OnOk, IfOk, option_copied, slice_get, All, List, ℕ};
 ghost use Rattle.sleep_model.specs.Places.{all_operations};
 ghost use Rattle.sleep_model.specs.Scripts.{makes_entry};
@@ -53,7 +54,7 @@ fn calls_in(op: &Op) -> u32
     }
 }
 
-/// The calls before each of an operation's turns, where `before` calls were made before it.
+/// The calls before each of an operation's turns, if `before` calls were made before it.
 fn push_turns(turns: &mut Vec<u32>, before: u32, op: &Op) -> Result<(), Mem>
     requires { before < 2 ^ 31 }
     ensures { OnOk result (turns.new.items ≡ turns.old.items ++ turns_in before op.now) }
@@ -69,7 +70,7 @@ fn push_turns(turns: &mut Vec<u32>, before: u32, op: &Op) -> Result<(), Mem>
     Ok(())
 }
 
-/// How many calls stand before each turn of a script, and how many it makes in all.
+/// How many calls are made before each turn of a script, and how many it makes in all.
 #[derive(Drop)]
 pub(crate) struct CallCounts {
     before_turns: Vec<u32>,
@@ -80,7 +81,7 @@ impl CallCounts {
     ghost use Rattle.std.specs.Prelude.{slice_get};
     ghost use Rattle.script_plan.specs.Plans.{count_or};
 
-    /// How many calls stand before the turn with that number, or before the end after the last.
+    /// How many calls are made before the turn with that number, or before the end after the last.
     pub(crate) fn before_turn(&self, turn: usize) -> u32
         ensures { result ≡ count_or (slice_get self.now.before_turns.items turn) self.now.all }
     {
@@ -112,8 +113,8 @@ pub(crate) fn count_calls(
     Ok(CallCounts { before_turns, all })
 }
 
-/// A script whose steps are taken and counted once, so that each turn finds its own at once. Contracts see the script,
-/// and the source that autosleep has.
+/// A script whose steps are taken and counted once, so that each turn finds its own at once. Contracts see
+/// the script, and the source that autosleep has.
 #[derive(Drop)]
 pub struct Plan<'m> {
     script: &'m Script,
@@ -143,8 +144,8 @@ impl<'m> Plan<'m> {
     ghost use Rattle.script_plan.specs.CallPlans.{noted, calls_ahead};
     ghost use Rattle.script_plan.specs.Plans.{calls_before};
 
-    /// The plan of a script, which makes at most 200,000 steps, where autosleep has that source. `Mem` if there is no
-    /// memory.
+    /// The plan of a script, which makes at most 200,000 steps, if autosleep has that source. `Mem` if there
+    /// is no memory.
     pub fn new(alloc: Global, script: &'m Script, autosleep: u32) -> Result<Self, Mem>
         requires { length (operations script.now) ≤ 200000 }
         ensures { IfOk result (λ p. p ≡ record { source = autosleep; script = script.now }) }
@@ -169,14 +170,14 @@ impl<'m> Plan<'m> {
         Some(op_at(steps, at))
     }
 
-    /// How many calls on sources stand before the turn with that number, from 0, or before its exit.
+    /// How many calls on sources are made before the turn with that number, from 0, or before its exit.
     pub fn calls_before(&self, turn: usize) -> u32
         ensures { (source : ℕ) → result ≡ calls_before (pieces source self.now.script) turn }
     {
         self.counts.before_turn(turn)
     }
 
-    /// How many calls stand before the turn in front of that one.
+    /// How many calls are made before the turn that precedes that one.
     fn ahead(&self, turn: usize) -> usize
         ensures { result ≡ calls_ahead (pieces self.now.source self.now.script) turn }
     {
@@ -197,8 +198,8 @@ impl<'m> Plan<'m> {
     }
 }
 
-/// The plan of each script of a machine, which make at most 200,000 steps in all, where autosleep has that source. `Mem`
-/// where there is no memory.
+/// The plan of each script of a machine, which make at most 200,000 steps in all, if autosleep has that
+/// source. `Mem` if there is no memory.
 pub fn plans_of(alloc: Global, scripts: &[Script], source: u32) -> Result<Vec<Plan<'_>>, Mem>
     requires { length (all_operations scripts.now) ≤ 200000 }
     ensures { IfOk result (λ v. v.items ≡ map (with_source source) scripts.now) }

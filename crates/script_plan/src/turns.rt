@@ -5,8 +5,8 @@ ghost use Rattle.sleep_model.specs.Calls.{ends_turn};
 
 use sleep_model::Kind;
 
-/// Whether an entry ends a turn of its actor's own steps: a step, or the setting of autosleep, which a good write
-/// has beside its end (`pm_autosleep_set_state`).
+/// Whether an entry ends a turn of its actor's own steps: a step, or the setting of autosleep, which a good
+/// write has besides its end (`pm_autosleep_set_state`).
 pub fn ends_turn(kind: Kind) -> bool
     ensures { result ≡ ends_turn kind }
 {

@@ -14,7 +14,7 @@ read_back EBUSY = refl
 read_back ENODEV = refl
 read_back EINVAL = refl
 
--- where no error has that name, none does
+-- if no error has that name, the search finds none
 pub none_named : (w : List ℕ) (r : Option Errno) → r ≡ error_named w → IfNone r ((e : Errno) → w ≢ name_of e)
 none_named w None e = λ x h. absurd (let f : None ≡ Some x = e ∙ (ap error_named h ∙ read_back x) in cc)
 none_named w (Some q) e = tt

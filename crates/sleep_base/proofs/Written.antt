@@ -15,7 +15,7 @@ appends_both (Some xs) (Some ys) (Some zs) one other h g = g ∙ (ap (λ bs. bs 
 pub one_failed : (old new : Option (List ℕ)) (before now : ℕ) (one other : List ℕ) (fault : Failed) → WriteAll old new before now one (Err fault) → WriteAll old new before now (one ++ other) (Err fault)
 one_failed old new before now one other fault h = (h.0, h.1 ++ other, ap (λ bs. bs ++ other) h.2 ∙ append_assoc h.0 h.1 other, h.3, h.4)
 
--- the second was written, or a front of it
+-- the second was written, or a prefix of it
 pub both_written : (old mid new : Option (List ℕ)) (before then now : ℕ) (one other : List ℕ) (result : Result Unit Failed) → Appends old mid one → before ≤ then → WriteAll mid new then now other result
     → WriteAll old new before now (one ++ other) result
 both_written old mid new before then now one other (Ok x) h l g = appends_both old mid new one other h g

@@ -1,3 +1,4 @@
+-- The definitions of this crate.
 pub mod Calls
 pub mod Digits
 pub mod Errno

@@ -1,4 +1,4 @@
--- What reading to the end and writing to the end tell.
+-- What a read to the end and a write to the end promise.
 use Rattle.std.specs.Prelude.{◌≡◌, ◌<◌, ◌≤◌, ℕ, List, ◌++◌, length, Vec, Option, Result, Ok, Err}
 use Rattle.std.specs.declared.alloc.Global.{Global}
 use Rattle.std.specs.Io.KnownBytes.{Consumes, IsAtEnd, Appends}
@@ -18,7 +18,7 @@ ReadAll old new before now limit (Err Fault) = Took old new (λ n. n ≤ limit) 
 ReadAll old new before now limit (Err TooLong) = Took old new (λ n. limit < n)
 ReadAll old new before now limit (Err Mem) = Took old new (λ n. n ≤ limit)
 
--- how `write_all` ends: with all bytes written, or a front of them and a fault
+-- how `write_all` ends: with all bytes written, or a prefix of them and a fault
 abbrev pub WriteAll : Option (List ℕ) → Option (List ℕ) → ℕ → ℕ → List ℕ → Result Unit Failed → Type 0
 WriteAll old new before now bytes (Ok _) = Appends old new bytes
 WriteAll old new before now bytes (Err _) = (front back : List ℕ) × (bytes ≡ front ++ back) × Appends old new front × Rose before now

@@ -1,3 +1,4 @@
+//! Whether bytes are decimal digits.
 ghost use Rattle.std.specs.Prelude.{◌≡◌};
 ghost use Rattle.std.specs.List.{list_all};
 ghost use Rattle.sleep_base.specs.Digits.{is_digit};

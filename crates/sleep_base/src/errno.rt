@@ -1,3 +1,4 @@
+//! The error numbers of the kernel and their names.
 ghost use Rattle.std.specs.Prelude.{◌≡◌, ◌≢◌, IfSome, IfNone, bytes_eq};
 ghost use Rattle.sleep_base.specs.declared.errno.Errno.{Errno};
 ghost use Rattle.sleep_base.specs.Errno.{number_of, name_of, error_named, error_of_number};

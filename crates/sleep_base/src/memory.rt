@@ -1,3 +1,4 @@
+//! A source and a sink of bytes in memory, which can be told to fail.
 ghost use Rattle.std.specs.Prelude.{◌≡◌, ◌<◌, ◌≤◌, ◌-◌, ◌↔◌, ◌⊎◌, Some, IfOk, IsErr, [], length, drop, min, vec_len, vec_capacity};
 ghost use Rattle.std.specs.Io.{ReadsAtMost};
 ghost use Rattle.std.specs.Io.KnownBytes.{ReadConsumes, WriteAppends};
@@ -21,8 +22,8 @@ pub struct MemSource {
 }
 
 impl MemSource {
-    /// A source of these bytes that gives at most `chunk` of them, 1 or more, a call.
-    /// The calls whose numbers, from 1, stand in `fails` fail.
+    /// A source of these bytes that gives at most `chunk` of them, 1 or more, a call. The calls whose
+    /// numbers, from 1, are in `fails` fail.
     pub fn new(bytes: Vec<u8>, chunk: usize, fails: Vec<u64>) -> MemSource
         requires { 1 ≤ chunk }
         ensures left { ⟦<MemSource as ByteSource>⟧.left result ≡ Some bytes.items }
@@ -59,6 +60,7 @@ impl ByteSource for MemSource {
 
     ghost faults = { λ s. s.faults };
 
+    /// Reads as many bytes as the buffer and `chunk` allow, if this call is not to fail.
     fn read(&mut self, buf: &mut [u8]) -> Result<usize, Failed>
         requires { 0 < length buf.old }
         ensures bound { ReadsAtMost result buf.new }
@@ -98,9 +100,9 @@ pub struct MemSink {
 }
 
 impl MemSink {
-    /// An empty sink that takes `room` bytes in all, at most `chunk` of them, 1 or more, a call.
-    /// The calls whose numbers, from 1, stand in `fails` fail, and so does each call once the room
-    /// is used up. `Mem` if there is no memory for `room` bytes.
+    /// An empty sink that takes `room` bytes in all, at most `chunk` of them, 1 or more, a call. The calls
+    /// whose numbers, from 1, are in `fails` fail, and so does each call once the room is used up. `Mem` if
+    /// there is no memory for `room` bytes.
     pub fn new(alloc: Global, room: usize, chunk: usize, fails: Vec<u64>) -> Result<MemSink, Mem>
         requires { 1 ≤ chunk }
         ensures written { IfOk result (λ sink. ⟦<MemSink as ByteSink>⟧.written sink ≡ Some []) }
@@ -139,6 +141,7 @@ impl ByteSink for MemSink {
 
     ghost faults = { λ s. s.faults };
 
+    /// Writes as many bytes as the room and `chunk` allow, if this call is not to fail.
     fn write(&mut self, piece: &[u8]) -> Result<usize, Failed>
         requires { 0 < length piece.now }
         ensures count { IfOk result (λ n. (1 ≤ n) × (n ≤ length piece.now)) }

@@ -1,3 +1,4 @@
+//! Bytes in and out with counted faults, and out of memory.
 ghost use Rattle.std.specs.Prelude.{◌≤◌, ◌<◌, ℕ, List, Option, IfOk, length};
 ghost use Rattle.std.specs.Io.{ReadsAtMost};
 ghost use Rattle.std.specs.Io.KnownBytes.{ReadConsumes, WriteAppends};
@@ -27,8 +28,8 @@ impl<T: Drop> From<AllocFailed<T>> for Mem {
     }
 }
 
-/// Out of memory, where a value has to be let go of. Its type is a parameter, so that no proof of a caller follows the
-/// value's parts, which would take minutes of some (`docs/PROOF_COSTS.md`).
+/// Out of memory, for a caller that has to drop a value. Its type is a parameter, so that no proof of a
+/// caller follows the value's parts, which would take minutes of some (`docs/PROOF_COSTS.md`).
 pub fn lost<A: Drop>(_value: A) -> Mem {
     Mem
 }
@@ -38,16 +39,16 @@ pub fn lost<A: Drop>(_value: A) -> Mem {
 #[error("a read or a write failed")]
 pub struct Failed;
 
-/// Where bytes come from.
+/// A source of bytes.
 pub trait ByteSource {
-    /// The bytes that reads will give from here on, where they are known.
+    /// The bytes that reads will give from here on, if they are known.
     ghost left: { Self → Option (List ℕ) };
 
     /// How many reads have failed.
     ghost faults: { Self → ℕ };
 
-    /// Fills the front of `buf` and tells how many bytes: 0 only at the end.
-    /// `Failed` if the read failed: it took no byte, and the count of faults rose.
+    /// Fills the front of `buf` and answers how many bytes: 0 only at the end. `Failed` if the read failed:
+    /// it took no byte, and the count of faults rose.
     fn read(&mut self, buf: &mut [u8]) -> Result<usize, Failed>
         requires { 0 < length buf.old }
         ensures bound { ReadsAtMost result buf.new }
@@ -55,16 +56,16 @@ pub trait ByteSource {
         ensures cause { HasCause (faults self.old) (faults self.new) result };
 }
 
-/// Where bytes go.
+/// A sink of bytes.
 pub trait ByteSink {
-    /// The bytes that were written, where they are known.
+    /// The bytes that were written, if they are known.
     ghost written: { Self → Option (List ℕ) };
 
     /// How many writes have failed.
     ghost faults: { Self → ℕ };
 
-    /// Writes the front of `piece` and tells how many bytes: at least 1.
-    /// `Failed` if the write failed: it wrote no byte, and the count of faults rose.
+    /// Writes the front of `piece` and answers how many bytes: at least 1. `Failed` if the write failed: it
+    /// wrote no byte, and the count of faults rose.
     fn write(&mut self, piece: &[u8]) -> Result<usize, Failed>
         requires { 0 < length piece.now }
         ensures count { IfOk result (λ n. (1 ≤ n) × (n ≤ length piece.now)) }

@@ -1,3 +1,4 @@
+//! Standard input, output and error as a source and sinks with counted faults.
 ghost use Rattle.std.specs.Prelude.{◌≡◌};
 ghost use Rattle.sleep_base.specs.Streams.{IsOutput, IsError};
 
@@ -44,6 +45,7 @@ impl<R: Read> ByteSource for StdSource<R> {
 
     ghost faults = { λ s. s.faults };
 
+    /// Reads once, and counts a read that fails.
     fn read(&mut self, buf: &mut [u8]) -> Result<usize, Failed> {
         match self.reader.read(buf) {
             Ok(n) => Ok(n),
@@ -126,6 +128,7 @@ impl<W: Write> ByteSink for StdSink<W> {
 
     ghost faults = { λ s. s.faults };
 
+    /// Writes once, and counts a write that fails or takes no byte.
     fn write(&mut self, piece: &[u8]) -> Result<usize, Failed> {
         match self.writer.write(piece) {
             Ok(n) if n > 0 => Ok(n),

@@ -1,3 +1,4 @@
+//! A wait without end, unless a condition holds.
 ghost use Rattle.std.specs.Prelude.{◌≡◌, true};
 
 use std::sync::Wait;

@@ -1,3 +1,4 @@
+//! A source is read to its end, and a text is written whole.
 ghost use Rattle.std.specs.Prelude.{◌≡◌, ◌≤◌};
 ghost use Rattle.sleep_base.specs.declared.whole.ReadStop.TheVariants.{Fault, Mem};
 ghost use Rattle.sleep_base.specs.Whole.{ReadAll, WriteAll};
@@ -65,7 +66,7 @@ pub fn read_all<S: ByteSource>(
     }
 }
 
-/// Writes all of `bytes`, which may be empty. `Failed` at the first write that fails: a front of
+/// Writes all of `bytes`, which may be empty. `Failed` at the first write that fails: a prefix of
 /// `bytes` was written.
 pub fn write_all<K: ByteSink>(sink: &mut K, bytes: &[u8]) -> Result<(), Failed>
     ensures bytes { WriteAll (K.written sink.old) (K.written sink.new)

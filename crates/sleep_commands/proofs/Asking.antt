@@ -1,4 +1,4 @@
--- What the words ask for, and what is done of it where memory is short.
+-- What the words ask for, and what is done of it if memory is short.
 use Rattle.std.proofs.Common.{ℕ, Option, Some, None, refl}
 use Rattle.command_line.specs.declared.command.Command.{Command}
 use Rattle.command_line.specs.declared.command.Command.TheVariants.{Run, Gen, Soak, Check, Locks, Stats, Idle}

@@ -69,7 +69,7 @@ run_completes workers old new ReadFault h = λ bytes is m spells none faults. ab
 run_completes workers old new WriteFault h = λ bytes is m spells none faults. absurd (rose_not old.output.faults new.output.faults h.3.0 faults.1)
 run_completes workers old new NoMemory h = λ bytes is m spells none faults. inr (inr refl)
 
--- a command that tells of an input which is not refused
+-- a command that writes of an input which is not refused
 command_completes : (most : ℕ) (long : Refusal) (Gives : List ℕ → List ℕ → Type 0) (Why : List ℕ → Refusal → Type 0) (old new : Streams) (ending : Ending) → CommandEnded most long Gives Why old new ending
     → (bytes : List ℕ) → IsInput most old bytes → ((refusal : Refusal) → Why bytes refusal → ⊥) → NoFaults old new → IsOneOf Done Done (status_of ending)
 command_completes most long Gives Why old new Done h bytes is none faults = inl refl
@@ -113,7 +113,7 @@ check_completes old new ReadFault h = λ bytes is m few spells faults. absurd (r
 check_completes old new WriteFault h = λ bytes is m few spells faults. absurd (rose_not old.output.faults new.output.faults h.5.0 faults.1)
 check_completes old new NoMemory h = λ bytes is m few spells faults. (λ good. inr (inr refl), λ bad. inr (inr refl))
 
--- gen tells of no run that is stuck
+-- gen writes of no run that is stuck
 gen_completes : (seed devices : ℕ) (old new : Stream) (ending : Ending) → GenEnded seed devices old new ending → NoFault old.faults new.faults → IsOneOf Done Done (status_of ending)
 gen_completes seed devices old new Done h none = inl refl
 gen_completes seed devices old new Stuck h none = absurd (true≢false (sym h.0))

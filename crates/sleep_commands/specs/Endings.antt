@@ -1,4 +1,4 @@
--- What the program has read and written where it ends so (own).
+-- What the program has read and written by the time that it ends so (own).
 use Rattle.std.specs.Prelude.{◌≡◌, ◌≤◌, ◌<◌, ◌-◌, ◌^◌, ◌⊎◌, ℕ, List, length, Option, Some, None}
 use Rattle.sleep_model.specs.declared.log.Log.{Log}
 use Rattle.sleep_model.specs.declared.machine.Machine.{Machine}
@@ -27,7 +27,7 @@ IsRefusal NoForm = Unit {0}
 IsRefusal NoMemory = Unit {0}
 IsRefusal _ = ⊥
 
--- what an ending means, by what the words ask for; where they are of no form, nothing is read or written
+-- what an ending means, by what the words ask for; if they are of no form, nothing is read or written
 abbrev pub Ended : Option Command → Streams → Streams → Ending → Type 0
 Ended None old new ending = IsRefusal ending × KeepsInput old new × KeepsOut old new
 Ended (Some (Run workers)) old new ending = RunEnded old new ending
@@ -59,7 +59,10 @@ NoFaults old new = NoFault old.input.faults new.input.faults × NoFault old.outp
 abbrev pub IsInput : ℕ → Streams → List ℕ → Type 0
 IsInput most now bytes = (now.input.bytes ≡ Some bytes) × (length bytes ≤ most)
 
--- completeness, where no fault is counted: an input that spells a machine none of whose sources can be filled gives a log, of a run that is finished or stuck; gen writes its file, soak its line, idle the text of its log, check whether the text after a machine is that of a log that is legal and finished, locks the answers to lines that are not refused, and stats the text for a machine and a log that fits it, no link of which is refused; or memory ran out
+-- completeness, if no fault is counted: an input that spells a machine none of whose sources can be filled gives a log, of a run that is
+-- finished or stuck; gen writes its file, soak its line, idle the text of its log, check whether the text after a machine is that of a log
+-- that is legal and finished, locks the answers to lines that are not refused, and stats the text for a machine and a log that fits it, no
+-- link of which is refused; or memory ran out
 abbrev pub Completes : Option Command → Streams → Streams → ℕ → Type 0
 Completes None old new status = IsOneOf NoForm NoForm status
 Completes (Some (Run workers)) old new status =

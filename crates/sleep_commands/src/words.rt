@@ -1,3 +1,4 @@
+//! The command that the words of the call ask for, run to its ending and its status.
 ghost use Rattle.std.specs.Prelude.{◌≡◌, ◌≤◌, map, string_bytes};
 ghost use Rattle.command_line.specs.Words.{IsInRange, command_of};
 ghost use Rattle.program_ending.specs.declared.ending.Ending.{Ending};
@@ -80,36 +81,43 @@ fn do_words<R: Threads + Wait + Sync, S: ByteSource, K: ByteSink, G: Gate + Sync
 
 /// The whole program. The first word is its name, and those after it say what it does:
 ///
-/// - `run`, or `run --workers N`, also in one word as `--workers=N`: reads a machine file from `input`, runs the machine
-///   by N workers, 1 to 64 and else 4, and writes its log to `out`; `gate` sees the workers' turns.
-/// - `gen SEED DEVICES`: writes the file of the generated machine of a seed of 64 bits with 1 to 1,000 devices.
+/// - `run`, or `run --workers N`, also in one word as `--workers=N`: reads a machine file from `input`, runs
+///   the machine by N workers, 1 to 64 and else 4, and writes its log to `out`; `gate` sees the workers'
+///   turns.
+/// - `gen SEED DEVICES`: writes the file of the generated machine of a seed of 64 bits with 1 to 1,000
+///   devices.
 /// - `soak SEED DEVICES`: runs that machine, and writes the line of its log's numbers.
-/// - `check`: reads a machine file of one line and a log of it after that, and writes whether the log is legal and finished,
-///   else its first bad line and the number of the rule that this breaks.
-/// - `locks`: reads lines that lock and unlock names, and writes their answers and the statistics of each name.
-/// - `stats`: reads a machine file of one line and a log of it after that, and writes what the log counts, its last
-///   failures, the longest chain of devices at its end, and each device's level.
-/// - `idle WAKERS EVENTS SESSIONS`, with the option of `run` before these, between them or after them: runs 1 to 16 wakers of 1 to
-///   1,000 events each against the idler of 1 to 1,000 sessions, and writes the log of suspend-to-idle.
+/// - `check`: reads a machine file of one line and a log of it after that, and writes whether the log is
+///   legal and finished, else its first bad line and the number of the rule that this breaks.
+/// - `locks`: reads lines that lock and unlock names, and writes their answers and the statistics of each
+///   name.
+/// - `stats`: reads a machine file of one line and a log of it after that, and writes what the log counts,
+///   its last failures, the longest chain of devices at its end, and each device's level.
+/// - `idle WAKERS EVENTS SESSIONS`, with the option of `run` before these, between them or after them: runs 1
+///   to 16 wakers of 1 to 1,000 events each against the idler of 1 to 1,000 sessions, and writes the log of
+///   suspend-to-idle.
 ///
 /// The answer is the status, and `err` says what it means:
 ///
-/// - 0: the text was written; of a run, one in which nothing was left to do. 6: of a run in which nobody went on.
-/// - 1: the text was written, of a log that `check` read and that is not legal, or not finished, or of lines that are no log's.
+/// - 0: the text was written; of a run, one in which nothing was left to do. 6: of a run in which nobody went
+///   on.
+/// - 1: the text was written, of a log that `check` read and that is not legal, or not finished, or of lines
+///   that are no log's.
 /// - 2: the words are others; nothing is read or written. Other words may give 8 instead, and nothing else.
-/// - 3: the input is longer than 16,777,216 bytes, or it breaks a rule of the format; `err` has the first rule with its
-///   place. To `locks` a line is of no form, and `err` has its number. To `check` the machine is such. To `stats` the machine or the
-///   log is such, and `err` says which, or with `log: links` or `log: cycle` that a link of the log is refused. Such an input may give
-///   4 or 8 instead, and nothing else.
-/// - 4: a read failed. 5: a write failed, after a front of the text.
+/// - 3: the input is longer than 16,777,216 bytes, or it breaks a rule of the format; `err` has the first
+///   rule with its place. To `locks` a line is of no form, and `err` has its number. To `check` the machine
+///   is such. To `stats` the machine or the log is such, and `err` says which, or with `log: links` or `log:
+///   cycle` that a link of the log is refused. Such an input may give 4 or 8 instead, and nothing else.
+/// - 4: a read failed. 5: a write failed, after a prefix of the text.
 /// - 7: the history of a wakeup source has no place left for a call, in a run or by a line of `locks`.
 /// - 8: there was no memory.
 ///
-/// At 2, 3, 4, 7 and 8 nothing is written to `out`. If no fault is counted, an input that spells a machine none
-/// of whose sources can be filled gives 0, 6 or 8, `gen` and `idle` give 0 or 8, `soak` 0, 6 or 8, `check` 0 or 8 of a machine and
-/// the text of a log that is legal and finished, and 1 or 8 of a machine and any other text, `locks` 0 or 8 of lines that are of a
-/// form and fill no source, and `stats` 0 or 8 of a machine and a log that fits it, no link of which is refused.
-/// `gen`, `soak` and `idle` leave `input` unread.
+/// At 2, 3, 4, 7 and 8 nothing is written to `out`. If no fault is counted, an input that spells a machine
+/// none of whose sources can be filled gives 0, 6 or 8, `gen` and `idle` give 0 or 8, `soak` 0, 6 or 8,
+/// `check` 0 or 8 of a machine and the text of a log that is legal and finished, and 1 or 8 of a machine and
+/// any other text, `locks` 0 or 8 of lines that are of a form and fill no source, and `stats` 0 or 8 of a
+/// machine and a log that fits it, no link of which is refused. `gen`, `soak` and `idle` leave `input`
+/// unread.
 pub fn run_words<R: Threads + Wait + Sync, S: ByteSource, K: ByteSink, G: Gate + Sync>(
     rt: &R,
     alloc: Global,

@@ -1,4 +1,4 @@
--- A source begins an event where none is in progress, and finishes it, or makes a hard step, where one is.
+-- A source begins an event only if none of its own is in progress, and finishes it, or makes a hard step, only if one is.
 use Rattle.std.proofs.Common.{◌≡◌, ◌≢◌, ◌≤◌, ◌<◌, ◌+◌, ◌++◌, ◌∙◌, ℕ, zero, suc, Bool, true, false, ◌==◌, List, [], ◌∷◌, Option, Some, None, refl, sym, ap, subst, cond, is_some, arith}
 use Rattle.std.proofs.lemmas.Bool.{eqb-true, true≢false}
 use Rattle.std.proofs.lemmas.Bool.Decides.{nat_tests}
@@ -13,7 +13,7 @@ use Rattle.sleep_model.specs.Sources.{history, is_of, since, since_after, owed, 
 
 -- ---- the steps that a source owes
 
--- these steps may follow: a start where no event of the source is in progress, a finish and a hard step where one is
+-- these steps may follow: a start if no event of the source is in progress, a finish and a hard step if one is
 abbrev pub Runs : Bool → List WordKind → Type 0
 Runs active [] = Unit {0}
 Runs active (step.Start ∷ steps) = (active ≡ false) × Runs true steps
@@ -105,7 +105,7 @@ one_most : (o : Option ℕ) → one_of o ≤ 1
 one_most None = omega arith
 one_most (Some t) = omega arith
 
--- where the others stay as they were, one source more is active at most
+-- if the others stay as they were, at most one source more is active
 pub active_more : (n t : ℕ) (f g : ℕ → Option ℕ) → ((s : ℕ) → s ≢ t → g s ≡ f s) → active n g ≤ active n f + 1
 active_more n t f g same = by_place n
   where
@@ -133,7 +133,7 @@ one_none (Some t) e = absurd (true≢false e)
 pub active_some : (t : ℕ) (f : ℕ → Option ℕ) → is_some (f t) ≡ true → 0 < active (suc t) f
 active_some t f e = omega (arith, one_some (f t) e)
 
--- where the others stay as they were and one source is active no longer, they are fewer by one
+-- if the others stay as they were and one source is active no longer, they are fewer by one
 pub active_less : (t : ℕ) (f g : ℕ → Option ℕ) (most : ℕ) → is_some (f t) ≡ true → is_some (g t) ≡ false → ((s : ℕ) → s ≢ t → g s ≡ f s) → ((n : ℕ) → active n f ≤ most) → (n : ℕ) → active n g + 1 ≤ most
 active_less t f g most was is same h n = omega (arith, below_both, beyond (n + suc t) (omega arith), h (n + suc t))
   where

@@ -24,7 +24,8 @@ use Rattle.sleep_laws.proofs.Telling.{none≢some}
 
 -- ---- by the side of the table
 
--- going down nothing failed or entered yet, and the machine is awake; at the entering it sleeps where it has entered; coming up it has entered exactly if nothing failed
+-- going down nothing failed or entered yet, and the machine is awake; at the entering it sleeps if it has entered; coming up it has entered
+-- exactly if nothing failed
 abbrev pub SideAt : Option Stage → Option Errno → Bool → Option Sleep → Type 0
 SideAt None f n s = s ≡ None
 SideAt (Some stage.Notifies) f n s = (f ≡ None) × (n ≡ false) × (s ≡ None)
@@ -106,7 +107,7 @@ or_second : (b c : Bool) → (b || c) ≡ false → c ≡ false
 or_second true c e = absurd (true≢false e)
 or_second false c e = e
 
--- no error stands in the phase where nothing disturbs
+-- the phase has no error if nothing disturbs
 no_error : (past : List Entry) (r : Errno) → IsQuiescent past → disturbed past ≡ false → phase_failed past ≡ Some r → ⊥
 no_error past r h e f = none≢some r (sym (h e).1 ∙ f)
 

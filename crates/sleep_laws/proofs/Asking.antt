@@ -106,7 +106,7 @@ frozen_stay g o n (s ∷ ss) (f ∷ fs) zero e = e
 frozen_stay g o n (s ∷ ss) (f ∷ fs) (suc i) e =
     both_more (is_asked g o n s.kind f) (asked_from g o (suc n) ss fs) (is_asked g o n s.kind f) (asked_from g o (suc n) ss (slice_set fs i (record (freezing_at fs i) { frozen = true }))) (λ x. x) (frozen_stay g o (suc n) ss fs i) e
 
--- and where a task freezes
+-- and after a task freezes
 put_stay : (g : Group) (o : Option Actor) (ss : List Script) (fs : List Freezing) (who : Actor) → asked_from g o 0 ss fs ≡ true → asked_from g o 0 ss (put_frozen who fs) ≡ true
 put_stay g o ss fs (actor.Script i) e = frozen_stay g o 0 ss fs i e
 put_stay g o ss fs actor.Auto e = e

@@ -1,4 +1,4 @@
--- Where a device stands in the three pairs of phases, and how an entry moves it.
+-- The state of a device in the three pairs of phases, and how an entry changes it.
 use Rattle.std.proofs.Common.{◌≡◌, ◌≢◌, ◌≤◌, ◌<◌, ◌∙◌, ℕ, Bool, true, false, ◌==◌, nat_lt, List, [], ◌∷◌, ◌⊎◌, inl, inr, length, slice_set, Option, Some, None, refl, sym, ap, subst, cond, arith}
 use Rattle.std.proofs.lemmas.Bool.{eqb-true, true≢false, or_cases}
 use Rattle.std.proofs.lemmas.Bool.Decides.{nat_tests}
@@ -22,26 +22,26 @@ use Rattle.sleep_model.proofs.Dependents.{among_first, among_rest}
 use Rattle.sleep_laws.proofs.Telling.{some≢none}
 use Rattle.sleep_laws.proofs.Activity.{different}
 
--- ---- a device's three stands
+-- ---- a device's three states
 
--- where a device stands in suspend, late and noirq, and their mirrors
+-- the state of a device in suspend, late and noirq, and their mirrors
 pub record Three : Type 0 where
   pub suspend : PhaseState
   pub late : PhaseState
   pub noirq : PhaseState
 
--- where it stands in that phase
+-- its state in that phase
 abbrev pub at : Three → Phase → PhaseState
 at t phase.Suspend = t.suspend
 at t phase.Late = t.late
 at t phase.Noirq = t.noirq
 at t _ = state.Unprepared
 
--- where device d stands
+-- the states of device d
 abbrev pub three : Machine → List Entry → ℕ → Three
 three m past d = record { suspend = state_in m past phase.Suspend d; late = state_in m past phase.Late d; noirq = state_in m past phase.Noirq d }
 
--- where a device stands after an entry of its own
+-- the states of a device after an entry of its own
 abbrev pub three_after : Kind → Three → Three
 three_after k t = record { suspend = phase_state_after phase.Suspend k t.suspend; late = phase_state_after phase.Late k t.late; noirq = phase_state_after phase.Noirq k t.noirq }
 
@@ -72,7 +72,7 @@ in_range xs d h = by_test (nat_lt d (length xs)) refl
     by_test true e = grind (arith, nat_tests)
     by_test false e = let l : length xs ≤ d = grind (arith, nat_tests) in absurd (true≢false (sym h ∙ ap is_prepared (get_or_past xs d state.Unprepared l)))
 
--- three lists of stands of one length, where the one at d is set
+-- three lists of states of one length, of which the one at d is set
 set_three : (P : Three → Type 0) (a b c : List PhaseState) (d x : ℕ) (u v w : PhaseState) → length b ≡ length a → length c ≡ length a → P (record { suspend = state_at a x; late = state_at b x; noirq = state_at c x }) → (x ≡ d → P (record { suspend = u; late = v; noirq = w })) → P (record { suspend = state_at (slice_set a d u) x; late = state_at (slice_set b d v) x; noirq = state_at (slice_set c d w) x })
 set_three P a b c d x u v w lb lc old new = by_test (x == d) refl (nat_lt d (length a)) refl
   where
@@ -95,7 +95,7 @@ set_three P a b c d x u v w lb lc old new = by_test (x == d) refl (nat_lt d (len
         (subst (λ (ys : List PhaseState). P (record { suspend = state_at a x; late = state_at ys x; noirq = state_at (slice_set c d w) x })) (sym (set_past b d v (omega (arith, lb))))
         (subst (λ (ys : List PhaseState). P (record { suspend = state_at a x; late = state_at b x; noirq = state_at ys x })) (sym (set_past c d w (omega (arith, lc)))) old))
 
--- an entry keeps what holds of each device, where it keeps that of the device that it moves
+-- an entry preserves what holds of each device if it preserves that of the device that it moves
 pub moved : (m : Machine) (past : List Entry) (e : Entry) (d : ℕ) → device_of e.kind ≡ Some d → (P : Three → Type 0) (x : ℕ) → P (three m past x) → (x ≡ d → P (three_after e.kind (three m past d))) → P (three m (e ∷ past) x)
 moved m past e d is P x old new =
     let n : ℕ = length m.devices in
@@ -106,11 +106,11 @@ moved m past e d is P x old new =
 pub moved_all : (m : Machine) (past : List Entry) (e : Entry) (d : ℕ) → device_of e.kind ≡ Some d → (P : ℕ → Three → Type 0) → ((x : ℕ) → P x (three m past x)) → P d (three_after e.kind (three m past d)) → (x : ℕ) → P x (three m (e ∷ past) x)
 moved_all m past e d is P old new x = moved m past e d is (P x) x (old x) (λ same. subst (λ (y : ℕ). P y (three_after e.kind (three m past d))) (sym same) new)
 
--- an entry leaves another device where it stands
+-- an entry leaves the state of another device as it was
 pub moved_other : (m : Machine) (past : List Entry) (e : Entry) (d : ℕ) → device_of e.kind ≡ Some d → (x : ℕ) → x ≢ d → three m (e ∷ past) x ≡ three m past x
 moved_other m past e d is x other = moved m past e d is (λ t. t ≡ three m past x) x refl (λ same. absurd (other same))
 
--- an entry moves its device, where that is prepared
+-- an entry moves its device if that is prepared
 pub moved_own : (m : Machine) (past : List Entry) (e : Entry) (d : ℕ) → device_of e.kind ≡ Some d → is_prepared (state_in m past phase.Suspend d) ≡ true → three m (e ∷ past) d ≡ three_after e.kind (three m past d)
 moved_own m past e d is p =
     let n : ℕ = length m.devices in
@@ -123,9 +123,9 @@ moved_own m past e d is p =
     same_three : {a b c x y z : PhaseState} → a ≡ x → b ≡ y → c ≡ z → ◌≡◌ {A = Three} (record { suspend = a; late = b; noirq = c }) (record { suspend = x; late = y; noirq = z })
     same_three f g h = cc
 
--- ---- one pair of phases alone
+-- ---- one pair of phases by itself
 
--- in phase p the device stands so, in another as before
+-- in phase p the device has that state, in another the one that it had
 pub data Change (p : Phase) (s : PhaseState) (before after : Three) (q : Phase) : Type 0 where
   Here : q ≡ p → at after q ≡ s → Change p s before after q
   Elsewhere : at after q ≡ at before q → Change p s before after q
@@ -145,7 +145,7 @@ turned_down _ _ s up t InNoirq InSuspend = Elsewhere refl
 turned_down _ _ s up t InNoirq InLate = Elsewhere refl
 turned_down _ _ s up t InNoirq InNoirq = Here refl refl
 
--- each of the three stands so
+-- each of the three states is that
 abbrev pub all_three : PhaseState → Three
 all_three s = record { suspend = s; late = s; noirq = s }
 
@@ -189,7 +189,7 @@ last_found test (x ∷ xs) d e = by_rest (last_where test xs) refl (last_found t
     by_rest None l rest true t f = let same : x ≡ d = cc in record { passes = subst (λ (y : ℕ). test y ≡ true) same t; among = subst (λ (y : ℕ). is_among (x ∷ xs) y ≡ true) same (among_first x xs) }
     by_rest None l rest false t f = absurd (cc)
 
--- where none is found none passes
+-- if none is found none passes
 pub first_none : (test : ℕ → Bool) (xs : List ℕ) → first_where test xs ≡ None → (d : ℕ) → is_among xs d ≡ true → test d ≡ false
 first_none test [] e d m = absurd (true≢false (sym m))
 first_none test (x ∷ xs) e d m = by_test (λ f. first_none test xs f d) (test x) refl e (or_cases (x == d) (is_among xs d) m)

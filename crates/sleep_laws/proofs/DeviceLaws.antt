@@ -40,7 +40,7 @@ use Rattle.sleep_model.proofs.Dependents.{among_first, among_rest}
 
 -- ---- small facts
 
--- each of a list passes where each that is among it does
+-- each of a list passes if each that is among it does
 all_pass : (test : ℕ → Bool) (xs : List ℕ) → ((x : ℕ) → is_among xs x ≡ true → test x ≡ true) → list_all test xs ≡ true
 all_pass test [] h = refl
 all_pass test (x ∷ xs) h = rw (h x (among_first x xs)) (all_pass test xs (λ y m. h y (among_rest x xs y m)))
@@ -57,7 +57,7 @@ not_down _ InResumeNoirq = refl
 
 -- ---- dependents go down first
 
--- a device that goes down without an error, and is through, is down or direct-complete
+-- a device that goes down without an error, and is done, is down or direct-complete
 through_well : (s : PhaseState) → when_going false s ≡ true → is_not_down s ≡ false → is_down_or_direct s ≡ true
 through_well state.Direct h u = refl
 through_well state.Suspended h u = refl
@@ -79,7 +79,7 @@ down_goes _ InSuspend = refl
 down_goes _ InLate = refl
 down_goes _ InNoirq = refl
 
--- only where devices go down may one be scheduled on the way down
+-- a device may be scheduled on the way down only while devices go down
 scheduled_going : (a : Mood) (e : Bool) → allows a e state.Scheduled ≡ true → a ≡ Going
 scheduled_going Going e h = refl
 scheduled_going Empty e h = never h
@@ -147,7 +147,7 @@ suppliers_first m past e h = suppliers_moved m past e.now e.actor e.kind (moved 
 
 -- ---- what is owed of devices
 
--- what a callback of the maker tells of its device
+-- what a callback of the maker says of its device
 pub inside_is : (m : Machine) (past : List Entry) (o : Option Callback) (q p : Phase) (d : ℕ) (s : PhaseState) → Down p → o ≡ Some (record { phase = q; device = d }) → InsideIf m o s p (three m past) → state_in m past p d ≡ s
 inside_is m past o q p d s i e h = sym (at_is m past p d i) ∙ (subst (λ (c : Option Callback). InsideIf m c s p (three m past)) e h).inside
 
@@ -211,7 +211,7 @@ owed_moved m past now _ _ h (Owns d k x) = own_owed m past now d k x
 pub owed_device : (m : Machine) (past : List Entry) (e : Entry) → JournalPart m (e ∷ past) → DeviceOwed m past e.kind
 owed_device m past e h = owed_moved m past e.now e.actor e.kind h.1 (moved m past e h)
 
--- ---- none is left where an attempt is over
+-- ---- no device is in a phase once an attempt is over
 
 empty_is : (s : PhaseState) → when_empty s ≡ true → s ≡ state.Unprepared
 empty_is state.Unprepared h = refl
@@ -247,11 +247,11 @@ restored_moved m past now _ _ h (Makes who here there k a e c x) = maker_restore
 restored_moved m past now _ _ h (Beside who k a x) = outside_restored m past k x
 restored_moved m past now _ _ h (Owns d k x) = own_restored m past now d k x
 
--- no device stands in a phase where an attempt is over
+-- no device is in a phase once an attempt is over
 pub stands_restored : (m : Machine) (past : List Entry) (e : Entry) → JournalPart m (e ∷ past) → StandsRestored m past e.kind
 stands_restored m past e h = restored_moved m past e.now e.actor e.kind h.1 (moved m past e h)
 
--- ---- all are down where the machine enters
+-- ---- all are down when the machine enters
 
 settled_down : (s t : PhaseState) → when_settled s ≡ true → is_prepared s ≡ true → (is_direct_complete s ≡ true → is_direct_complete t ≡ true) → (is_down_in s || is_direct_complete t) ≡ true
 settled_down state.Suspended t h p a = refl
@@ -299,7 +299,7 @@ enters_moved m past now _ _ h (Makes who here there k a e c x) = maker_enters m 
 enters_moved m past now _ _ h (Beside who k a x) = outside_enters m past k x
 enters_moved m past now _ _ h (Owns d k x) = own_enters m past now d k x
 
--- each device of the order is down, or was direct-complete, where the machine enters
+-- each device of the order is down, or was direct-complete, when the machine enters
 pub devices_down : (m : Machine) (past : List Entry) (e : Entry) → JournalPart m (e ∷ past) → DevicesAsleep m past e.kind
 devices_down m past e h = enters_moved m past e.now e.actor e.kind h.1 (moved m past e h)
 
@@ -309,7 +309,7 @@ devices_down m past e h = enters_moved m past e.now e.actor e.kind h.1 (moved m 
 pub all_owed : (m : Machine) (past : List Entry) (e : Entry) → JournalPart m (e ∷ past) → Owed m past e.kind
 all_owed m past e h = owed m past e h (owed_device m past e h)
 
--- where an attempt is over nothing is owed
+-- nothing is owed once an attempt is over
 pub all_restored : (m : Machine) (past : List Entry) (e : Entry) → JournalPart m (e ∷ past) → Restored m past e.kind
 all_restored m past e h = restored m past e h (stands_restored m past e h)
 
@@ -360,7 +360,7 @@ scheduled_at (Some (stage.PlatformUp a)) q e i h = absurd (in_platform_up a q e 
 scheduled_at None q e i h = never h
 scheduled_at (Some _) q e i h = never h
 
--- a device that was scheduled on the way down stands in its phase
+-- the phase under way is that of a device which was scheduled on the way down
 pub scheduled_stage : (m : Machine) (past : List Entry) → JournalPart m past → (p : Phase) (d : ℕ) → Down p → state_in m past p d ≡ state.Scheduled → stage_of past ≡ Some (stage.Downs p)
 scheduled_stage m past h p d i e =
     let s : DevicePhases m past (stage_of past) = device_phases m past h in

@@ -1,4 +1,4 @@
--- Where the devices stand at each stage of an attempt.
+-- The states that devices have at each stage of an attempt.
 use Rattle.std.proofs.Common.{◌≡◌, ◌∙◌, ℕ, Bool, true, false, List, ◌∷◌, is_some, Option, Some, None, refl, sym, ap, subst, cond}
 use Rattle.std.proofs.lemmas.Bool.{true≢false}
 use Rattle.sleep_base.specs.declared.errno.Errno.{Errno}
@@ -52,7 +52,8 @@ pub when_any : (b : Bool) (what : Type 0) → what → When b what
 when_any true what h = h
 when_any false what h = tt
 
--- what holds of device d of that order, which is asynchronous or not, by what the devices have come to, whether all are prepared, and whether an error stands
+-- what holds of device d of that order, which is asynchronous or not, by what the devices have come to, whether all are prepared, and
+-- whether there is an error
 pub record IsFine (o : List ℕ) (async : Bool) (moods : Phase → Mood) (full error : Bool) (d : ℕ) (t : Three) : Type 0 where
   pub allowed : (q : Phase) → Down q → allows (moods q) error (at t q) ≡ true
   pub alike : (q : Phase) → Down q → is_prepared (at t q) ≡ is_prepared t.suspend
@@ -66,7 +67,7 @@ at_all _ s InSuspend = refl
 at_all _ s InLate = refl
 at_all _ s InNoirq = refl
 
--- an unprepared device stands rightly, whatever the devices have come to
+-- an unprepared device has a state that is allowed, whatever the devices have come to
 pub unprepared_fine : (o : List ℕ) (async : Bool) (moods : Phase → Mood) (error : Bool) (d : ℕ) → IsFine o async moods false error d (all_three state.Unprepared)
 unprepared_fine o async moods error d = record {
   allowed = λ q i. subst (λ (s : PhaseState). allows (moods q) error s ≡ true) (sym (at_all q state.Unprepared i)) (allows_unprepared (moods q) error);
@@ -77,7 +78,7 @@ unprepared_fine o async moods error d = record {
   scheduled = λ q i e. absurd (true≢false (sym e ∙ ap is_scheduled (at_all q state.Unprepared i)));
 }
 
--- a device that no phase has stands rightly in any order
+-- a device that no phase has is allowed in any order
 empty_unprepared : (error : Bool) (s : PhaseState) → allows Empty error s ≡ true → is_prepared s ≡ false
 empty_unprepared error state.Unprepared h = refl
 empty_unprepared error _ h = absurd (true≢false (sym h))
@@ -92,7 +93,7 @@ empty_fine o after async error d t h = record {
   scheduled = h.scheduled;
 }
 
--- a prepared one stands rightly where none is taken
+-- a prepared one has a state that is allowed while none is taken
 pub prepared_fine : (o : List ℕ) (async error : Bool) (d : ℕ) → is_among o d ≡ true → IsFine o async (λ q. Fresh) false error d (all_three state.Prepared)
 prepared_fine o async error d among = record {
   allowed = λ q i. ap when_fresh (at_all q state.Prepared i);
@@ -115,11 +116,11 @@ module _ (o : List ℕ) (async : Bool) (moods : Phase → Mood) (full error : Bo
     scheduled = h.scheduled;
   }
 
-  -- the devices come to something else, where this one stands rightly
+  -- the devices come to something else, and this one has a state that is allowed
   pub fine_else : (then : Phase → Mood) (all after : Bool) → ((q : Phase) → Down q → allows (then q) after (at t q) ≡ true) → When all (is_among o d ≡ true → is_prepared t.suspend ≡ true) → IsFine o async then all after d t
   fine_else then all after right every = record { allowed = right; alike = h.alike; of_order = h.of_order; alone = h.alone; prepared = every; scheduled = h.scheduled }
 
-  -- the device stands unprepared if it is not of the order
+  -- the device is unprepared if it is not of the order
   pub outside : is_among o d ≡ false → (q : Phase) → Down q → at t q ≡ state.Unprepared
   outside out q i = unprepared_is (at t q) (h.alike q i ∙ by_test (is_prepared t.suspend) refl)
     where
@@ -172,15 +173,15 @@ module _ (o : List ℕ) (async : Bool) (moods : Phase → Mood) (full error : Bo
 
 -- ---- all devices
 
--- whether an error stands in the phase that is open
+-- whether the phase that is open has an error
 abbrev pub errs : List Entry → Bool
 errs past = is_some (phase_failed past)
 
--- each device stands rightly
+-- each device has a state that is allowed
 abbrev pub Fines : Machine → List Entry → (Phase → Mood) → Bool → Type 0
 Fines m past moods full = (d : ℕ) → IsFine (order m past) (is_async_device m d) moods full (errs past) d (three m past d)
 
--- the maker is inside the callback of a synchronous device, which stands so in phase p
+-- the maker is inside the callback of a synchronous device, which has that state in phase p
 pub record Inside (m : Machine) (c : Callback) (s : PhaseState) (p : Phase) (states : ℕ → Three) : Type 0 where
   pub beside : is_async_device m c.device ≡ false
   pub inside : at (states c.device) p ≡ s
@@ -199,7 +200,7 @@ abbrev pub CallIf : Machine → Option Stage → Option Callback → (ℕ → Th
 CallIf m None o states = o ≡ None
 CallIf m (Some s) o states = CallAt m s o states
 
--- where the devices stand at a stage
+-- the states of devices at a stage
 abbrev pub DevicePhases : Machine → List Entry → Option Stage → Type 0
 DevicePhases m past st = Fines m past (λ q. mood_if st q) (is_full_if st) × CallIf m st (callback past) (three m past)
 
@@ -213,7 +214,7 @@ module _ (m : Machine) (past : List Entry) (e : Entry) (d : ℕ) (is : device_of
       (λ x. fine_more (order m past) (is_async_device m x) moods full (errs past) x (three m past x) (h x) (errs (e ∷ past)) more)
       (fine_turn (order m past) (is_async_device m d) moods full (errs past) d (three m past d) (h d) p i s (three_after e.kind (three m past d)) changes (errs (e ∷ past)) ready (ap is_prepared here ∙ was) (ap is_direct_complete here ∙ apart) right more lone gives))
 
--- ---- what the moods tell
+-- ---- what the moods say
 
 pub going_allows : (p : Phase) → Down p → (e : Bool) (s : PhaseState) → when_going e s ≡ true → allows (in_down p p) e s ≡ true
 going_allows _ InSuspend e s h = h
@@ -225,7 +226,7 @@ coming_allows _ InResume e s h = h
 coming_allows _ InEarly e s h = h
 coming_allows _ InResumeNoirq e s h = h
 
--- a device that is scheduled, or inside its callback, on the way down stands so only while they go down
+-- a device that is scheduled, or inside its callback, on the way down is so only while they go down
 pub scheduled_goes : (a : Mood) (e f : Bool) (s : PhaseState) → allows a e state.Scheduled ≡ true → when_going f s ≡ true → allows a f s ≡ true
 scheduled_goes Going e f s k h = h
 scheduled_goes Empty e f s k h = absurd (true≢false (sym k))
@@ -277,7 +278,7 @@ fails_error _ InSuspend (Some x) before = refl
 fails_error _ InLate (Some x) before = refl
 fails_error _ InNoirq (Some x) before = refl
 
--- an error stands on
+-- an error stays
 pub error_stays : (p : Phase) (r before : Option Errno) → is_some before ≡ true → is_some (error_in p r before) ≡ true
 error_stays p None before h = h
 error_stays p (Some x) before h = by_test (is_down p)

@@ -121,7 +121,7 @@ down_settled _ InSuspend = tt
 down_settled _ InLate = refl
 down_settled _ InNoirq = (refl, refl)
 
--- ---- what stands in the way of the maker
+-- ---- what the maker has to wait for
 
 -- a device cannot go on
 abbrev StuckAt : Machine → List Entry → EventNow → ℕ → Type 0
@@ -308,7 +308,7 @@ module _ (m : Machine) (past : List Entry) (ranks : IsRanked m past) (now : Even
       by_state state.Unprepared e t o = true≢false (sym t ∙ ap is_not_up e)
       by_state _ e t o = true≢false (sym t ∙ ap is_not_up e)
 
-  -- none is low, where none is down that has to be taken next
+  -- none is down if none is down that has to be taken next
   none_not_up : next_to_schedule m past (mirror p) ≡ None → ((g : ℕ) → first_where (λ d. is_not_up (state_in m past (mirror p) d)) (order m past) ≡ Some g → state_in m past (mirror p) g ≡ state.Suspended → is_async_device m g ≡ false → ⊥) → (d : ℕ) → is_among (order m past) d ≡ true → is_not_up (state_in m past (mirror p) d) ≡ true → ⊥
   none_not_up n sync d o low =
       let l = first_there (λ x. is_not_up (state_in m past (mirror p) x)) (order m past) d o low in
@@ -336,7 +336,7 @@ module _ (m : Machine) (past : List Entry) (ranks : IsRanked m past) (now : Even
       is_of_order : (g : ℕ) → first_where (λ x. is_not_up (state_in m past (mirror p) x)) (order m past) ≡ Some g → is_among (order m past) g ≡ true
       is_of_order g l = (first_found (λ x. is_not_up (state_in m past (mirror p) x)) (order m past) g l).among
 
-      -- no synchronous device is down where none is taken next
+      -- no synchronous device is down if none is taken next
       none_next : next_up m past (mirror p) ≡ None → (g : ℕ) → first_where (λ x. is_not_up (state_in m past (mirror p) x)) (order m past) ≡ Some g → state_in m past (mirror p) g ≡ state.Suspended → is_async_device m g ≡ false → ⊥
       none_next n g l s a = true≢false (sym (sync_test g s a) ∙ first_none (λ x. is_down_in (state_in m past (mirror p) x) && not (is_async_device m x)) (order m past) n g (is_of_order g l))
 
@@ -501,7 +501,7 @@ none_of m past of now who (suc n) h i l = by_test (i == n) refl (λ k. none_of m
 pub not_made : (m : Machine) (past : List Entry) (of : ℕ → List Entry) (now : EventNow) (who : Actor) → is_enabled m past of now who ≡ false → is_made (due m past who now) ≡ false
 not_made m past of now who e = or_right_false (is_calling (length m.sources + 1) of who || nat_lt (made (length m.sources + 1) of who) (calls_due m who past)) (is_made (due m past who now)) e
 
--- where nobody can make anything and no moment is pending no attempt is open
+-- if nobody can make anything and no moment is pending no attempt is open
 pub no_attempt : (m : Machine) (past : List Entry) → IsRanked m past → JournalPart m past → (of : ℕ → List Entry) (now : EventNow) → is_idle m past of now ≡ true → next_time m past of ≡ None → maker past ≡ None
 no_attempt m past ranks journal of now idle timeless = by_maker (maker past) refl (lock_agrees m past journal).2 (maker_in m past journal)
   where

@@ -1,4 +1,4 @@
--- All is down where the machine enters.
+-- All is down when the machine enters.
 use Rattle.std.proofs.Common.{◌≡◌, ◌∙◌, ◌+◌, ℕ, suc, Bool, true, false, not, ◌&&◌, ◌||◌, List, [], ◌∷◌, Option, Some, cond, length, refl, sym, ap, arith}
 use Rattle.std.specs.List.{list_all}
 use Rattle.std.proofs.lemmas.List.{length-set, length-replicate}
@@ -104,7 +104,7 @@ all_rest g m past e a =
 
 -- ---- the entering
 
--- where the maker enters, all that sleep wants down is down, if the devices are
+-- when the maker enters, all that sleep wants down is down, if the devices are
 abbrev pub DevicesAsleep : Machine → List Entry → Kind → Type 0
 DevicesAsleep m past (kind.Enter false) = list_all (is_asleep m past) (order m past) ≡ true
 DevicesAsleep m past _ = Unit {0}
@@ -138,6 +138,6 @@ enters_moved m past now who k h (Makes _ here there _ a e c x) d = enters_made m
 enters_moved m past now who k h (Beside _ _ a x) d = enters_outside m past k x
 enters_moved m past now _ k h (Owns y _ x) d = enters_own m past now y k x
 
--- the machine enters only if all is down, where the devices are
+-- the machine enters only if all is down, provided that the devices are
 pub enters_down : (m : Machine) (past : List Entry) (e : Entry) → JournalPart m (e ∷ past) → DevicesAsleep m past e.kind → EntersDown m past e.kind
 enters_down m past e h d = enters_moved m past e.now e.actor e.kind h.1 (moved m past e h) d

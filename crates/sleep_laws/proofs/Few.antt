@@ -102,7 +102,7 @@ few_entries m sources past fit =
     λ s l. (let one : nat_le (length (history s past)) most_entries ≡ true = passes (is_short past) 0 (length m.sources + 1) s fit.short (omega arith) (omega (arith, l)) in grind (arith, nat_tests)) in
     omega (arith, few_places past (length m.sources + 1) short, sources)
 
--- so few steps are made in a legal list of entries that no part of the word comes near its end
+-- so few steps are made in a legal list of entries that no part of the word comes near its limit
 pub few_moves : (m : Machine) → length m.sources ≤ 255 → (past : List Entry) → HistoriesFit m past → (numbers past).inpr + (numbers past).count + (numbers past).hard ≤ 15360000
 few_moves m sources past fit = omega (arith, moves_placed m past fit.there, few_entries m sources past fit)
 

@@ -1,4 +1,4 @@
--- Flags by number, and what a search tells of them.
+-- Flags by number, and what a search says of them.
 use Rattle.std.proofs.Common.{◌≡◌, ◌≤◌, ◌<◌, ◌+◌, ◌-◌, ◌∙◌, int_lt, length-set, ℕ, zero, suc, Bool, true, false, not, ◌==◌, ◌&&◌, ◌||◌, List, [], ◌∷◌, length, replicate, Option, Some, None, cond, refl, sym, ap, arith, slice_set}
 use Rattle.std.specs.List.{list_all, range_with_len}
 use Rattle.std.proofs.lemmas.Bool.{true≢false}
@@ -38,7 +38,7 @@ first_among p (y ∷ ys) x e = by_test (first_among p ys x) (p y) e
     by_test rest true e = ap (λ z. y == z || is_among ys x) (sym (some_is y x e)) ∙ ap (λ b. b || is_among ys x) (same y)
     by_test rest false e = ap (λ b. y == x || b) (rest e) ∙ or-true (y == x)
 
--- where none is found none passes
+-- if none is found none passes
 pub first_none : (p : ℕ → Bool) (xs : List ℕ) → first_where p xs ≡ None → list_all (λ x. not (p x)) xs ≡ true
 first_none p [] e = refl
 first_none p (x ∷ xs) e = by_test (first_none p xs) (p x) e
@@ -56,7 +56,7 @@ last_none p (x ∷ xs) e = by_rest (last_none p xs) (last_where p xs) refl (p x)
     by_rest rest None f true e = absurd (some≢none x e)
     by_rest rest None f false e = rest f
 
--- all of these pass where each that passes does not fail
+-- all of these pass if each that passes does not fail
 pub all_twice : (p : ℕ → Bool) (xs : List ℕ) → list_all (λ x. not (not (p x))) xs ≡ true → list_all p xs ≡ true
 all_twice p [] e = refl
 all_twice p (x ∷ xs) e = by_test (all_twice p xs) (p x) e
@@ -130,7 +130,7 @@ ranked_all n (x ∷ xs) d l h = among_put (record { number = n; priority = x.pri
 
 -- ---- flags
 
--- no flag is set where none among the first n is
+-- no flag is set if none among the first n is
 pub cleared : (xs : List Bool) (n : ℕ) → length xs ≡ n → ((k : ℕ) → k < n → is_so xs k ≡ false) → xs ≡ replicate n false
 cleared [] zero e f = refl
 cleared [] (suc n) e f = absurd (omega arith)
@@ -179,14 +179,14 @@ not_true : (b : Bool) → not b ≡ true → b ≡ false
 not_true true e = absurd (true≢false (sym e))
 not_true false e = refl
 
--- where no notifier is owed its post, none is
+-- if no notifier is owed its post, none is notified
 pub none_notified : (m : Machine) (past : List Entry) → next_posted m past ≡ None → notified_flags m past ≡ replicate (length m.notifiers) false
 none_notified m past e =
     let all : list_all (λ x. not (is_so (notified_flags m past) x)) (call_order m) ≡ true = first_none (is_so (notified_flags m past)) (call_order m) e in
     cleared (notified_flags m past) (length m.notifiers) (notified_flags_length (length m.notifiers) past)
     (λ k l. not_true (is_so (notified_flags m past) k) (all_at (λ x. not (is_so (notified_flags m past) x)) (call_order m) k all (ranked_all 0 m.notifiers k (omega arith) (omega arith))))
 
--- where no part of the core is to be resumed, none is suspended
+-- if no part of the core is to be resumed, none is suspended
 pub none_stopped : (m : Machine) (past : List Entry) → next_started m past ≡ None → stopped (length m.syscore) past ≡ replicate (length m.syscore) false
 none_stopped m past e =
     let flags : List Bool = stopped (length m.syscore) past in
@@ -198,7 +198,7 @@ all_but_first : (flags : List Bool) (n : ℕ) → list_all (λ x. not (is_so fla
 all_but_first flags n all z zero l = z
 all_but_first flags n all z (suc k) l = not_true (is_so flags (suc k)) (all_at (λ x. not (is_so flags x)) (range_with_len 1 (n - 1)) (suc k) all (in_run 1 (n - 1) (suc k) (omega arith) (omega arith)))
 
--- where no other processor is to be started, and the first is on, none is off
+-- if no other processor is to be started, and the first is on, none is off
 pub none_off : (m : Machine) (past : List Entry) → is_so (cpus_off m.cpus past) 0 ≡ false → next_cpu_on m past ≡ None → cpus_off m.cpus past ≡ replicate m.cpus false
 none_off m past z e =
     let flags : List Bool = cpus_off m.cpus past in

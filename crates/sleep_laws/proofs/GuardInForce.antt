@@ -69,7 +69,7 @@ no_error_in p (Some x) before e = by_test (is_down p) e
     by_test true f = absurd (some≢none x f)
     by_test false f = f
 
--- what is held after an entry
+-- what is in force after an entry
 abbrev InForceAfter : List Entry → EventNow → Kind → Option Stage → Type 0
 InForceAfter past now k before = InForceIf (stage_after k before) (phase_failed_after k (phase_failed past)) (guard_after k (guard_of past)) (force_after (count_effect k) now (in_force past))
 
@@ -123,7 +123,7 @@ in_force_made m past now _ _ h _ = h
 
 -- ---- the guard after an entry
 
--- an entry that leaves the count in force, and no error where none stood
+-- an entry that leaves the count in force, and no error if there was none
 in_force_less : (st : Option Stage) (e f : Option Errno) (guard force : Option ℕ) → (f ≡ None → e ≡ None) → InForceIf st e guard force → InForceIf st f guard force
 in_force_less None e f guard force l h = tt
 in_force_less (Some (stage.Downs p)) e f guard force l h = λ x. h (l x)
@@ -134,7 +134,7 @@ in_force_less (Some _) e f guard force l h = h
 abbrev GuardedAfter : List Entry → EventNow → Kind → Type 0
 GuardedAfter past now k = InForceAfter past now k (stage_of past)
 
--- where nobody holds the lock no attempt is open
+-- if nobody holds the lock no attempt is open
 free_stage : (o h : Option Actor) (s : Option Stage) → HolderOf o h → StageMaker o s → h ≡ None → s ≡ None
 free_stage None h None l t e = refl
 free_stage None h (Some s) l t e = absurd t
@@ -158,7 +158,7 @@ work_guards m past now _ _ l h (WorkMade.SavesNot c free s) = unheld m past l fr
 work_guards m past now _ _ l h (WorkMade.Attempts c on) = refl
 work_guards m past now _ _ l h _ = h
 
--- a device finds a wakeup in a phase on the way down alone
+-- a device finds a wakeup only in a phase on the way down
 device_guards : (m : Machine) (past : List Entry) (now : EventNow) (d : ℕ) (k : Kind) → ((p : Phase) → Down p → state_in m past p d ≡ state.Scheduled → stage_of past ≡ Some (stage.Downs p)) → InForceIf (stage_of past) (phase_failed past) (guard_of past) (in_force past) → DeviceMade m past now d k → GuardedAfter past now k
 device_guards m past now d _ going h (DeviceMade.OwnFinds p down g f t w) =
     subst (λ (x : Option Stage). InForceIf x (Some EBUSY) (guard_of past) (force_after Finds now (in_force past))) (sym (going p down g.states)) (λ e. absurd (some≢none EBUSY e))
@@ -233,7 +233,8 @@ pub all_say : (m : Machine) (past : List Entry) → JournalPart m past → AllSa
 all_say m [] h = tt
 all_say m (e ∷ past) h = (entry_says m past e.now e.actor e.kind (in_force_at m past h.1) (entry_made m past e h), all_say m past h.1)
 
--- attempts under a saved count enter only if nothing came since, in each legal list of entries of each machine that has not too many sources
+-- attempts under a saved count enter only if nothing came since, in each legal list of entries of each machine that has not too many
+-- sources
 pub guarded_sleep : (m : Machine) → length m.sources ≤ 255 → (past : List Entry) → IsLegal m past → GuardedSleep past
 guarded_sleep m sources past h = guarded_of past h.sources h.placed (all_say m (journal past) h.journal) (few_registered m sources past h)
 

@@ -255,7 +255,7 @@ module _ (past : List Entry) (h : IsGuarded past) where
       own_step e (Notes s made) i = absurd i
       own_step e (Moves s w) i = absurd i
 
--- what an entry of the journal says, where there is one
+-- what an entry of the journal says, if there is one
 abbrev SaysIf : List Entry → EventNow → Kind → EntryClass → Type 0
 SaysIf past now k OfJournal = Says past now k
 SaysIf past now k OfTime = Says past now k

@@ -1,4 +1,4 @@
--- What the stage of an attempt tells exactly: interrupts, and the steps of the platform that are owed their undo.
+-- What the stage of an attempt says exactly: interrupts, and the steps of the platform that are owed their undo.
 use Rattle.std.proofs.Common.{◌≡◌, ℕ, Bool, true, false, List, ◌∷◌, Option, Some, None, refl}
 use Rattle.sleep_model.specs.declared.entry.Actor.{Actor}
 use Rattle.sleep_model.specs.declared.entry.Actor.TheVariants as actor
@@ -70,7 +70,7 @@ late_at (Some stage.StartsCpus) = true
 late_at (Some (stage.PlatformUp undo.Wake)) = true
 late_at _ = false
 
--- interrupts and the platform are as the stage tells
+-- interrupts and the platform are as the stage says
 abbrev pub Exact : Option Stage → List Entry → Type 0
 Exact s past = (irqs_off past ≡ irqs_at s) × (owes_platform down.Begin past ≡ begun_at s) × (owes_platform down.Prepare past ≡ prepared_at s) × (owes_platform down.PrepareLate past ≡ late_at s)
 

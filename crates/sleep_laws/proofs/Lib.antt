@@ -1,3 +1,4 @@
+-- The lemmas of this crate.
 pub mod Activity
 pub mod Answering
 pub mod Asking

@@ -33,7 +33,7 @@ abbrev pub HolderOf : Option Actor → Option Actor → Type 0
 HolderOf None h = Unit {0}
 HolderOf (Some who) h = h ≡ Some who
 
--- the work holds the lock where it is to make an attempt
+-- the work holds the lock if it is to make an attempt
 abbrev pub WorkHolds : Work → Option Actor → Type 0
 WorkHolds (Attempting c) h = h ≡ Some actor.Auto
 WorkHolds _ h = Unit {0}
@@ -57,7 +57,7 @@ script≢auto i e = subst IsTask e tt
     IsTask (Some (actor.Script j)) = Unit {0}
     IsTask _ = ⊥
 
--- nobody makes an attempt where nobody holds the lock
+-- nobody makes an attempt if nobody holds the lock
 free_maker : (o h : Option Actor) → HolderOf o h → h ≡ None → o ≡ None
 free_maker None h e f = refl
 free_maker (Some a) h e f = absurd (some≢none a (sym e ∙ f))
@@ -99,7 +99,7 @@ task_lock m past now i _ (TaskMade.Steps s k op go e step) a h = step_lock m pas
 
 -- ---- the work
 
--- where the work is to make an attempt nobody makes one
+-- if the work is to make an attempt nobody makes one
 idle_maker : (o h : Option Actor) → HolderOf o h → h ≡ Some actor.Auto → is_actor actor.Auto o ≡ false → o ≡ None
 idle_maker None h e f a = refl
 idle_maker (Some x) h e f a = absurd (true≢false (ap (is_actor actor.Auto) (sym f ∙ e) ∙ a))
@@ -372,7 +372,8 @@ moved m past e h = entry_moved m past e.now e.actor e.kind (entry_made m past e 
 abbrev pub entry_of : ℕ → EventNow → Actor → Kind → Entry
 entry_of time now who k = record { time = time; now = now; actor = who; kind = k }
 
--- what is kept, by stages, at each place of a journal: from its beginning, by an attempt's, past a stage that has nothing left, by what the maker makes, by what touches no attempt, and by devices
+-- an invariant by stages, preserved at each point of a journal: at its beginning, when an attempt begins, past a stage that has nothing
+-- left, by what the maker makes, by what touches no attempt, and by devices
 pub record StageInvariant (m : Machine) (I : Option Stage → List Entry → Type 0) : Type 0 where
   pub starts : I None []
   pub opens : (past : List Entry) (time : ℕ) (now : EventNow) (who : Actor) (n : ℕ) (guarded : Option ℕ) → I None past → I (Some stage.Notifies) (entry_of time now who (kind.Attempt n guarded) ∷ past)
@@ -396,11 +397,11 @@ invariant_step m I r past time now who k x (Makes _ here there _ a e c d) h =
 invariant_step m I r past time now who k x (Beside _ _ a d) h = subst (λ (s : Option Stage). I s (entry_of time now who k ∷ past)) (sym (outside_stage k (stage_of past) d)) (r.beside past time now who k (stage_of past) x a d h)
 invariant_step m I r past time now _ k x (Owns d _ y) h = subst (λ (s : Option Stage). I s (entry_of time now (actor.Dev d) k ∷ past)) (sym (own_stage m past now d k (stage_of past) y)) (r.owns past time now d k (stage_of past) y h)
 
--- what is kept by stages holds at each place
+-- an invariant by stages holds at each point
 pub at_stage : (m : Machine) (I : Option Stage → List Entry → Type 0) → StageInvariant m I → (past : List Entry) → JournalPart m past → I (stage_of past) past
 at_stage m I r [] h = r.starts
 at_stage m I r (e ∷ past) h = invariant_step m I r past e.time e.now e.actor e.kind (entry_made m past e h) (moved m past e h) (at_stage m I r past h.1)
 
--- where an entry was made by the maker, what is kept by stages holds at the stage where it was made
+-- if an entry was made by the maker, an invariant by stages holds at the stage at which it was made
 pub at_made : (m : Machine) (I : Option Stage → List Entry → Type 0) → StageInvariant m I → (past : List Entry) → JournalPart m past → (here there : Stage) → stage_of past ≡ Some here → Comes m past here there → I (Some there) past
 at_made m I r past h here there e c = r.comes past here there c (subst (λ (s : Option Stage). I s past) e (at_stage m I r past h))

@@ -1,4 +1,4 @@
--- What was due where an entry was made, in families: by the attempt's maker at a stage, by a task, by the work, by a device, by time.
+-- What was due when an entry was made, in families: by the attempt's maker at a stage, by a task, by the work, by a device, by time.
 use Rattle.std.proofs.Common.{◌≡◌, ◌+◌, ℕ, ℤ, Bool, true, false, not, ◌==◌, ◌&&◌, List, [], length, Option, Some, None, slice_get}
 use Rattle.sleep_base.specs.declared.errno.Errno.{Errno}
 use Rattle.sleep_base.specs.declared.errno.Errno.TheVariants.{EINTR, EBUSY, EINVAL}
@@ -64,7 +64,7 @@ pub data Up : Phase → Type 0 where
 
 -- ---- the maker of the open attempt
 
--- the walk down stands at a synchronous device, whose turn it is
+-- the walk down is at a synchronous device, whose turn it is
 pub record AtTurn (m : Machine) (past : List Entry) (p : Phase) (d : ℕ) : Type 0 where
   pub free : callback past ≡ None
   pub well : phase_failed past ≡ None
@@ -157,7 +157,7 @@ pub data Made (m : Machine) (past : List Entry) (now : EventNow) : Stage → Kin
   Posts : (x : ℕ) → next_posted m past ≡ Some x → Made m past now stage.Posts (kind.NotifyPost x)
   Ends : Made m past now stage.Ends (kind.Over (attempts past) (failed past))
 
--- the stage that the maker comes to: the one under way, or the one after it where that has nothing left
+-- the stage that the maker comes to: the one under way, or the one after it if that has nothing left
 pub data Comes (m : Machine) (past : List Entry) : Stage → Stage → Type 0 where
   AtOnce : (here : Stage) → Comes m past here here
   PastNotifiers : next_called m past ≡ None → Comes m past stage.Notifies (stage.Freezes group.User)
@@ -200,7 +200,7 @@ pub data StepMade (m : Machine) (past : List Entry) (now : EventNow) (position :
   SetsLink : (supplier consumer : ℕ) (active : Bool) (r : Option Errno) → link_state_due m past supplier consumer ≡ r → StepMade m past now position asked (Some (op.LinkState supplier consumer active)) (kind.LinkState supplier consumer active r)
   AsksRuntime : (d : ℕ) (to_suspended : Bool) → StepMade m past now position asked (Some (op.Runtime d to_suspended)) (kind.RuntimeAsk d to_suspended (runtime_due m d to_suspended past))
 
--- where script i stands (own)
+-- the position of script i (own)
 abbrev pub position_of : Machine → List Entry → ℕ → ScriptPosition
 position_of m past i = position_at (positions (length m.actors) past) i
 
@@ -218,7 +218,7 @@ pub data TaskMade (m : Machine) (past : List Entry) (now : EventNow) (i : ℕ) :
 
 -- ---- the autosleep work
 
--- what the work makes outside attempts of its own, by where it stands
+-- what the work makes outside attempts of its own, by its state
 pub data WorkMade (m : Machine) (past : List Entry) (now : EventNow) : Work → Kind → Type 0 where
   Runs : WorkMade m past now Resting kind.AutoRun
   Reads : (now.inpr == 0) ≡ true → WorkMade m past now Reading (kind.Read (visible now))
@@ -253,7 +253,7 @@ pub data DeviceMade (m : Machine) (past : List Entry) (now : EventNow) (d : ℕ)
 
 -- ---- all
 
--- an entry of that actor and kind stands rightly after these: by the open attempt's maker, by a task, by the work, by a device, or a jump
+-- an entry of that actor and kind is rightly made after these: by the open attempt's maker, by a task, by the work, by a device, or a jump
 pub data EntryMade (m : Machine) (past : List Entry) (now : EventNow) : Actor → Kind → Type 0 where
   ByMaker : (who : Actor) (here there : Stage) (k : Kind) → is_actor who (maker past) ≡ true → stage_of past ≡ Some here → Comes m past here there → Made m past now there k → EntryMade m past now who k
   ByTask : (i : ℕ) (k : Kind) → is_actor (actor.Script i) (maker past) ≡ false → TaskMade m past now i k → EntryMade m past now (actor.Script i) k

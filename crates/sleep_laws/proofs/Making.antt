@@ -42,9 +42,9 @@ use Rattle.sleep_model.specs.Walk.{or_else}
 use Rattle.sleep_model.specs.Word.{position}
 use Rattle.sleep_laws.proofs.Made.{Down, InSuspend, InLate, InNoirq, Up, InResume, InEarly, InResumeNoirq, AtTurn, Breaks, Settles, Rises, Made, Comes, AtOnce, PastNotifiers, PastCpus, PastParts, PastPartsUp, PastCpusUp, PastPosts, EntryMade, ByMaker}
 
--- ---- what is due, where something is
+-- ---- what is due, if something is
 
--- what holds of the kind that is due; the other where there is nothing left
+-- what holds of the kind that is due; the other claim if there is nothing left
 abbrev pub OnDue : (Kind → Type 0) → Type 0 → Due → Type 0
 OnDue P none (Makes k) = P k
 OnDue P none (Waits w) = Unit {0}
@@ -193,7 +193,7 @@ prepare_made m past now none None None e f = Made.Prepared e f
 
 -- ---- a phase on the way down
 
--- no error is a callback's own where none stands in the phase
+-- no error is a callback's own if the phase has none
 own_none_after : (k : Kind) (own : Bool) (mine all : Option Errno) → (all ≡ None → mine ≡ None) → phase_failed_after k all ≡ None → own_error_after k own mine ≡ None
 own_none_after (kind.Attempt n guarded) own mine all h e = refl
 own_none_after (kind.Done p r) own mine all h e = refl
@@ -222,7 +222,7 @@ own_none_after (kind.Skip p d skip.Error) own mine all h e = h e
 own_none_after (kind.Skip p d skip.Direct) own mine all h e = h e
 own_none_after _ own mine all h e = h e
 
--- where no error stands in the phase none is a synchronous callback's
+-- if the phase has no error none is a synchronous callback's
 pub no_own_error : (past : List Entry) → phase_failed past ≡ None → own_error past ≡ None
 no_own_error [] e = refl
 no_own_error (e ∷ past) f = own_none_after e.kind (is_device e.actor) (own_error past) (phase_failed past) (no_own_error past) f
@@ -230,7 +230,7 @@ no_own_error (e ∷ past) f = own_none_after e.kind (is_device e.actor) (own_err
 well_answers : (past : List Entry) → phase_failed past ≡ None → phase_error past ≡ None
 well_answers past e = rw (no_own_error past e) e
 
--- some error is answered where one stands
+-- some error is answered if there is one
 some_error : (mine all : Option Errno) (x : Errno) → all ≡ Some x → (r : Errno) × (or_else mine all ≡ Some r)
 some_error None all x e = (x, e)
 some_error (Some r) all x e = (r, refl)

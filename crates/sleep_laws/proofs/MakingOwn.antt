@@ -200,7 +200,7 @@ abbrev HasWork : AsyncWork → Type 0
 HasWork Idle = ⊥
 HasWork _ = Unit {0}
 
--- what the work of a device tells of where it stands
+-- what the work of a device says of its state
 abbrev WorkOfState : (Phase → PhaseState) → AsyncWork → Type 0
 WorkOfState on Idle = Unit {0}
 WorkOfState on (Scheduled p) = (Down p × (on p ≡ state.Scheduled)) ⊎ (Up p × (on (mirror p) ≡ state.Rescheduled))
@@ -248,7 +248,7 @@ inside_made : (m : Machine) (past : List Entry) (now : EventNow) (d : ℕ) (p : 
 inside_made m past now d p r a w (inl h) = DeviceMade.OwnEnds p r h.0 a w h.1
 inside_made m past now d p r a w (inr h) = DeviceMade.OwnRose p r h.0 a w h.1
 
--- an asynchronous device has the work that its stands tell
+-- an asynchronous device has the work that its states say
 async_tells : (m : Machine) (past : List Entry) (d : ℕ) (b : Bool) → is_async_device m d ≡ b → (w : AsyncWork) → async_work m past d ≡ w → (w ≡ Idle) ⊎ ((b ≡ true) × WorkOfState (λ q. state_in m past q d) w)
 async_tells m past d false e w f = inl (sym f ∙ rw e refl)
 async_tells m past d true e w f = inr (refl, subst (WorkOfState (λ q. state_in m past q d)) (sym (rw e refl) ∙ f) (work_by_tells (λ q. state_in m past q d)))
@@ -309,7 +309,7 @@ entry_made m past e h = step_of m past e.time e.now e.actor e.kind h.0
 
 -- ---- a step of the maker's
 
--- the stage after what the maker makes is the same from where it stood and from where it has come to
+-- the stage after what the maker makes is the same from where it was and from where it has come to
 pub stage_comes : (m : Machine) (past : List Entry) (now : EventNow) (here there : Stage) (k : Kind) → Comes m past here there → Made m past now there k → stage_after k (Some here) ≡ stage_after k (Some there)
 stage_comes m past now _ _ k (AtOnce here) h = refl
 stage_comes m past now _ _ k (PastNotifiers e) h = past_freeze m past now k h
@@ -342,7 +342,7 @@ stage_comes m past now _ _ k (PastPosts e) h = past_posts m past now k h
     past_posts : (m : Machine) (past : List Entry) (now : EventNow) (k : Kind) → Made m past now stage.Ends k → stage_after k (Some stage.Posts) ≡ stage_after k (Some stage.Ends)
     past_posts m past now _ Made.Ends = refl
 
--- what holds at the stage under way, kept by coming to the stage where the entry is made, and by the entry, holds after it
+-- what holds at the stage under way, preserved by coming to the stage at which the entry is made, and by the entry, holds after it
 pub by_maker : (m : Machine) (past : List Entry) (now : EventNow) (k : Kind) (here there : Stage) (Before After : Option Stage → Type 0) → stage_of past ≡ Some here → Comes m past here there → Made m past now there k → (Before (Some here) → Before (Some there)) → (Before (Some there) → After (stage_after k (Some there))) → Before (stage_of past) → After (stage_after k (stage_of past))
 by_maker m past now k here there Before After e c h comes makes b =
     let at : Before (Some here) = subst Before e b in

@@ -11,7 +11,8 @@ use Rattle.phase_table.specs.declared.phase.Phase.{Phase}
 use Rattle.phase_table.specs.declared.phase.Phase.TheVariants as phase
 use Rattle.sleep_model.specs.PhaseStates.{is_ready, is_going_down, is_prepared, is_not_up}
 
--- what the devices have come to in a pair of phases: none is prepared, none is taken, they go down, they are down, a failure has stopped them, they come up, they are up
+-- what the devices have come to in a pair of phases: none is prepared, none is taken, they go down, they are down, a failure has stopped
+-- them, they come up, they are up
 pub data Mood : Type 0 where
   Empty : Mood
   Fresh : Mood
@@ -127,7 +128,7 @@ when_risen state.Direct = true
 when_risen state.Resumed = true
 when_risen _ = false
 
--- where a device may stand, by what the devices have come to; a failed one stands in a phase on the way down only beside an error
+-- the states that a device may have, by what the devices have come to; one is failed in a phase on the way down only if there is an error
 abbrev pub allows : Mood → Bool → PhaseState → Bool
 allows Empty error s = when_empty s
 allows Fresh error s = when_fresh s
@@ -206,7 +207,7 @@ pub unprepared_is : (s : PhaseState) → is_prepared s ≡ false → s ≡ state
 unprepared_is state.Unprepared h = refl
 unprepared_is _ h = absurd (true≢false h)
 
--- an error that comes forbids no stand
+-- an error that comes forbids no state
 pub allows_more : (a : Mood) (e f : Bool) (s : PhaseState) → (e ≡ true → f ≡ true) → allows a e s ≡ true → allows a f s ≡ true
 allows_more Going e f state.Failed l h = l h
 allows_more Going e f state.Unprepared l h = h
@@ -218,7 +219,7 @@ allows_more Going e f state.Suspended l h = h
 allows_more Going e f _ l h = h
 allows_more _ e f s l h = h
 
--- an unprepared device may stand anywhere
+-- an unprepared device is allowed anywhere
 pub allows_unprepared : (a : Mood) (e : Bool) → allows a e state.Unprepared ≡ true
 allows_unprepared Empty e = refl
 allows_unprepared Fresh e = refl

@@ -67,7 +67,7 @@ owed_moved m past now who k h (Makes _ here there _ a e c x) d = owed_made m pas
 owed_moved m past now who k h (Beside _ _ a x) d = owed_outside m past k x
 owed_moved m past now _ k h (Owns y _ x) d = owed_own m past now y k x d
 
--- only what is owed is undone, where that holds of devices
+-- only what is owed is undone, if that holds of devices
 pub owed : (m : Machine) (past : List Entry) (e : Entry) → JournalPart m (e ∷ past) → DeviceOwed m past e.kind → Owed m past e.kind
 owed m past e h d = owed_moved m past e.now e.actor e.kind h.1 (moved m past e h) d
 
@@ -96,6 +96,6 @@ found_moved m past now who k (Makes _ here there _ a e c x) = found_made m past 
 found_moved m past now who k (Beside _ _ a x) = found_outside past now k x
 found_moved m past now _ k (Owns y _ x) = found_own m past now y k x
 
--- a test that found a wakeup stands only if one is pending at the word that it saw
+-- a test that found a wakeup is made only if one is pending at the word that it saw
 pub found_pending : (m : Machine) (past : List Entry) (e : Entry) → JournalPart m (e ∷ past) → FoundPending past e.now (count_effect e.kind)
 found_pending m past e h = found_moved m past e.now e.actor e.kind (moved m past e h)

@@ -1,4 +1,4 @@
--- Where the devices stand from stage to stage, and so at each place of a legal journal.
+-- The states of devices from stage to stage, and so at each point of a legal journal.
 use Rattle.std.proofs.Common.{◌≡◌, ◌≤◌, ◌∙◌, ℕ, Bool, true, false, nat_lt, arith, List, [], ◌∷◌, length, replicate, is_some, Option, Some, None, refl, sym, ap, subst}
 use Rattle.std.proofs.lemmas.Bool.{true≢false}
 use Rattle.std.proofs.lemmas.Bool.Decides.{nat_tests}
@@ -41,7 +41,7 @@ module _ (m : Machine) (past : List Entry) where
   full_fine : (moods : Phase → Mood) → Fines m past moods true → (x : ℕ) → is_among (order m past) x ≡ true → is_prepared (state_in m past phase.Suspend x) ≡ true
   full_fine moods h x = (h x).prepared
 
-  -- no device is scheduled and not through, where the walk down waits for none
+  -- no device is scheduled and not done, if the walk down waits for none
   none_goes : (moods : Phase → Mood) (full : Bool) → Fines m past moods full → (p : Phase) → Down p → waits_down m past p ≡ None → (x : ℕ) → is_going_down (at (three m past x) p) ≡ false
   none_goes moods full h p i w x =
       none_so (order m past) (is_async_device m x) moods full (errs past) x (three m past x) (h x) is_going_down refl p i
@@ -101,7 +101,7 @@ module _ (m : Machine) (past : List Entry) (time : ℕ) (now : EventNow) (who : 
       allowed x _ InLate a = fresh_risen (at (three m past x) phase.Late) a
       allowed x _ InNoirq a = fresh_risen (at (three m past x) phase.Noirq) a
 
-  -- all stay settled where the attempt turns back
+  -- all stay settled if the attempt turns back
   turns_back : (full : Bool) → Fines m past (λ q. Settled) full → Fines m past (λ q. Settled) false
   turns_back full h = else_fines m past (λ q. Settled) (λ q. Settled) full false (errs past) h (λ x q i a. a) (λ x. tt)
 
@@ -232,7 +232,7 @@ module _ (m : Machine) (past : List Entry) (time : ℕ) (now : EventNow) (who : 
           unprepared (at (three m past x) q)
           ((h.0 x).alike q i ∙ none_so (order m past) (is_async_device m x) (λ r. Risen) false (errs past) x (three m past x) (h.0 x) is_prepared refl phase.Suspend InSuspend (λ o. last_none (λ d. is_prepared (state_in m past phase.Suspend d)) (order m past) n x o))
 
-  -- what the maker makes leaves the devices where they may stand at the stage after
+  -- what the maker makes leaves the devices in states that they may have at the stage after
   pub maker_stands : (there : Stage) (k : Kind) → Made m past now there k → DevicePhases m past (Some there) → DevicePhases m (by k ∷ past) (stage_after k (Some there))
   maker_stands _ _ Made.PlatformBegins h = platform_begins h
   maker_stands _ _ Made.PlatformPrepares h = platform_prepares h
@@ -297,7 +297,7 @@ stands_comes m past _ _ (PastPartsUp e) h = h
 stands_comes m past _ _ (PastCpusUp e) h = h
 stands_comes m past _ _ (PastPosts e) h = h
 
--- links change where no attempt is open, so that no phase has a device
+-- links change while no attempt is open, so that no phase has a device
 relinked : (m : Machine) (past : List Entry) (e : Entry) (s : Option Stage) → s ≡ None → ((d : ℕ) → three m (e ∷ past) d ≡ three m past d) → errs (e ∷ past) ≡ errs past → callback (e ∷ past) ≡ callback past → DevicePhases m past s → DevicePhases m (e ∷ past) s
 relinked m past e s none same failed calls h = subst (λ (o : Option Stage). DevicePhases m (e ∷ past) o) (sym none) (by_none (subst (λ (o : Option Stage). DevicePhases m past o) none h))
   where
@@ -327,10 +327,10 @@ device_phases_invariant m = record {
   owns = λ past time now d k s x h. device_stands m past time now d s k h x;
 }
 
--- where the devices stand at each place of a legal journal
+-- the states of devices at each point of a legal journal
 pub device_phases : (m : Machine) (past : List Entry) → JournalPart m past → DevicePhases m past (stage_of past)
 device_phases m past h = at_stage m (λ (s : Option Stage) (l : List Entry). DevicePhases m l s) (device_phases_invariant m) past h
 
--- and at the stage where the maker makes an entry
+-- and at the stage at which the maker makes an entry
 pub device_phases_made : (m : Machine) (past : List Entry) → JournalPart m past → (here there : Stage) → stage_of past ≡ Some here → Comes m past here there → DevicePhases m past (Some there)
 device_phases_made m past h here there e c = at_made m (λ (s : Option Stage) (l : List Entry). DevicePhases m l s) (device_phases_invariant m) past h here there e c

@@ -1,4 +1,4 @@
--- Which devices stand after which in the order, and what a search finds there.
+-- Which devices come after which in the order, and what a search finds there.
 use Rattle.std.proofs.Common.{◌≡◌, ◌≤◌, ◌<◌, ◌+◌, ◌∙◌, ℕ, Bool, true, false, ◌==◌, nat_lt, List, [], ◌∷◌, ◌⊎◌, inl, inr, length, slice_get, get_or, Option, Some, None, refl, sym, ap, subst, cond, arith}
 use Rattle.std.proofs.lemmas.Bool.{eqb-true, true≢false, or_cases, or_left, or_right}
 use Rattle.std.proofs.lemmas.Bool.Decides.{nat_tests}
@@ -16,7 +16,7 @@ use Rattle.sleep_model.proofs.Dependents.{among_app, among_first, among_rest, wi
 use Rattle.sleep_model.proofs.Walks.{AllDifferent}
 use Rattle.sleep_laws.proofs.Boards.{last_found, first_none, last_none}
 
--- e stands after d
+-- e comes after d
 abbrev pub After : List ℕ → ℕ → ℕ → Type 0
 After [] d e = ⊥
 After (x ∷ xs) d e = ((x ≡ d) × (is_among xs e ≡ true)) ⊎ After xs d e
@@ -31,7 +31,7 @@ after_last_word [] d e h = absurd h
 after_last_word (x ∷ xs) d e (inl h) = among_rest x xs e h.1
 after_last_word (x ∷ xs) d e (inr h) = among_rest x xs e (after_last_word xs d e h)
 
--- what hangs right below a device of an order stands after it
+-- what hangs right below a device of an order comes after it
 pub order_after : (dependents_of : ℕ → List ℕ) (xs : List ℕ) → IsOrder dependents_of xs → (d e : ℕ) → is_among xs d ≡ true → is_among (dependents_of d) e ≡ true → After xs d e
 order_after dependents_of [] h d e m b = absurd (true≢false (sym m))
 order_after dependents_of (x ∷ xs) h d e m b = by_place (or_cases (x == d) (is_among xs d) m) (λ k. order_after dependents_of xs h.2 d e k b)
@@ -72,7 +72,7 @@ first_before test (x ∷ xs) h d e l b = by_test (test x) refl l b (λ k c. firs
     by_test false f g (inl c) rest = subst (λ (y : ℕ). test y ≡ false) c.0 f
     by_test false f g (inr c) rest = rest g c
 
--- one that passes is the first that does, or stands after it
+-- one that passes is the first that does, or comes after it
 pub first_or_after : (test : ℕ → Bool) (xs : List ℕ) (d e : ℕ) → first_where test xs ≡ Some d → test e ≡ true → is_among xs e ≡ true → (d ≡ e) ⊎ After xs d e
 first_or_after test [] d e l p m = absurd (true≢false (sym m))
 first_or_after test (x ∷ xs) d e l p m = by_test (test x) refl l (or_cases (x == e) (is_among xs e) m) (λ k n. first_or_after test xs d e k p n)
@@ -87,7 +87,7 @@ first_or_after test (x ∷ xs) d e l p m = by_test (test x) refl l (or_cases (x 
     by_test false f g (inl s) rest = absurd (true≢false (sym p ∙ (ap test (sym (eqb-true x e s)) ∙ f)))
     by_test false f g (inr n) rest = wrap (rest g n)
 
--- a search finds something where one passes
+-- a search finds something if one passes
 pub last_there : (test : ℕ → Bool) (xs : List ℕ) (d : ℕ) → is_among xs d ≡ true → test d ≡ true → (g : ℕ) × (last_where test xs ≡ Some g)
 last_there test xs d m p = by_option (last_where test xs) refl
   where
@@ -130,7 +130,7 @@ above_below m past d e h = by_cases (or_cases (is_among (parent_of (slice_get ps
     by_cases (inl p) = among_app (children_from e 0 ps) (consumers_of e ls) d ∙ or_left (is_among (children_from e 0 ps) d) (is_among (consumers_of e ls) d) (child_of ps e d (sym (among_parent ps d e) ∙ p))
     by_cases (inr s) = among_app (children_from e 0 ps) (consumers_of e ls) d ∙ or_right (is_among (children_from e 0 ps) d) (is_among (consumers_of e ls) d) (consumers_linked ls e d ∙ (sym (suppliers_linked ls e d) ∙ s))
 
--- the devices of a machine stand in an order, each before all that must sleep before it (dpm_list)
+-- the devices of a machine have an order, each before all that must sleep before it (dpm_list)
 abbrev pub IsRanked : Machine → List Entry → Type 0
 IsRanked m past = IsOrder (below m past) (order m past)
 

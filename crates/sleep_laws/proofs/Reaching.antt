@@ -114,7 +114,7 @@ left_preserved g ss fs places who k m e = positions_kept g ss fs places who (pos
 
 -- ---- by stages
 
--- where that is so
+-- the claim, if that is so
 abbrev pub IfSo : Bool → Type 0 → Type 0
 IfSo true P = P
 IfSo false P = Unit {0}

@@ -1,4 +1,4 @@
--- The word since a read: where it shows the same count, and no event is in progress, no step was made on it.
+-- The word since a read: if it shows the same count, and no event is in progress, no step was made on it.
 use Rattle.std.proofs.Common.{◌≡◌, ◌<◌, ◌+◌, ◌%◌, ◌∙◌, ℕ, Bool, true, false, not, ◌==◌, ◌||◌, nat_lt, List, [], ◌∷◌, Option, Some, None, refl, sym, ap, subst, cond, arith}
 use Rattle.std.proofs.lemmas.Bool.Decides.{nat_tests}
 use Rattle.sleep_model.specs.declared.word.EventNow.{EventNow}
@@ -16,7 +16,7 @@ abbrev pub advance : List WordKind → EventNow → EventNow
 advance [] word = word
 advance (s ∷ steps) word = after_step (Some s) (advance steps word)
 
--- a hard step and a finish are made where an event is in progress
+-- a hard step and a finish are made only if an event is in progress
 abbrev pub IsSound : WordKind → EventNow → Type 0
 IsSound step.Start word = Unit {0}
 IsSound step.Finish word = 0 < word.inpr

@@ -209,7 +209,7 @@ first_on (suc n) = refl
 pub undone_invariant : (m : Machine) → StageInvariant m (IsUndone m)
 undone_invariant m = record { starts = (refl, refl, refl, refl, refl, first_on m.cpus); opens = λ past time now who n guarded h. (tt, h.1, h.2, h.3, h.4, h.5); comes = undone_comes m; makes = undone_makes m; beside = undone_beside m; owns = undone_owns m }
 
--- at the end of an attempt nothing is owed, where no device stands in a phase
+-- at the end of an attempt nothing is owed, if no device is in a phase
 pub nothing_owed : (m : Machine) (past : List Entry) → JournalPart m past → (here : Stage) → stage_of past ≡ Some here → Comes m past here stage.Ends → NoneIsInPhase m phase.Suspend past → NoneIsInPhase m phase.Late past → NoneIsInPhase m phase.Noirq past → NothingOwed m past
 nothing_owed m past h here e c suspend late noirq =
     let u : IsUndone m (Some stage.Ends) past = at_made m (IsUndone m) (undone_invariant m) past h here stage.Ends e c in
@@ -218,7 +218,7 @@ nothing_owed m past h here e c suspend late noirq =
 
 -- ---- the law
 
--- the part of the law that is on devices: where an attempt is over none stands in a phase
+-- the part of the law that is on devices: once an attempt is over none is in a phase
 abbrev pub StandsRestored : Machine → List Entry → Kind → Type 0
 StandsRestored m past (kind.Over n r) = NoneIsInPhase m phase.Suspend past × NoneIsInPhase m phase.Late past × NoneIsInPhase m phase.Noirq past
 StandsRestored m past _ = Unit {0}
@@ -241,6 +241,6 @@ restored_moved m past now who k h (Makes _ here there _ a e c x) d = restored_ma
 restored_moved m past now who k h (Beside _ _ a x) d = restored_outside m past k x
 restored_moved m past now _ k h (Owns y _ x) d = restored_own m past now y k x
 
--- where an attempt is over nothing is owed, where no device stands in a phase
+-- once an attempt is over nothing is owed, if no device is in a phase
 pub restored : (m : Machine) (past : List Entry) (e : Entry) → JournalPart m (e ∷ past) → StandsRestored m past e.kind → Restored m past e.kind
 restored m past e h d = restored_moved m past e.now e.actor e.kind h.1 (moved m past e h) d

@@ -1,4 +1,5 @@
--- An entry of a device leaves the devices where they may stand: the maker's walks, prepare and complete, and the device's own entries.
+-- An entry of a device leaves the devices in states that they may have: the maker's walks, prepare and complete, and the device's own
+-- entries.
 use Rattle.std.proofs.Common.{◌≡◌, ◌∙◌, ℕ, ℤ, pos, negsuc, Bool, true, false, not, ◌&&◌, List, ◌∷◌, is_some, Option, Some, None, refl, sym, ap, subst}
 use Rattle.std.proofs.lemmas.Bool.{true≢false}
 use Rattle.sleep_base.specs.declared.errno.Errno.{Errno}
@@ -34,7 +35,7 @@ and_both true true e = (refl, refl)
 and_both true false e = never e
 and_both false b e = never e
 
--- where no callback runs
+-- if no callback runs
 pub free_call : (m : Machine) (o : Option Callback) (s : PhaseState) (p : Phase) (states : ℕ → Three) → o ≡ None → InsideIf m o s p states
 free_call m o s p states e = subst (λ (x : Option Callback). InsideIf m x s p states) (sym e) tt
 
@@ -87,7 +88,7 @@ module _ (m : Machine) (past : List Entry) (time : ℕ) (now : EventNow) (who : 
     free_call m (callback past) state.Suspending p (three m (by (kind.Skip p d skip.Direct) ∷ past)) t.free,
   )
 
-  -- a device that stands prepared in one phase is prepared
+  -- a device that is prepared in one phase is prepared
   pub prepared_all : (moods : Phase → Mood) (full : Bool) → Fines m past moods full → (p : Phase) (d : ℕ) (s : PhaseState) → Down p → state_in m past p d ≡ s → is_prepared s ≡ true → is_prepared (state_in m past phase.Suspend d) ≡ true
   prepared_all moods full h p d s i e r = sym ((h d).alike p i) ∙ (ap is_prepared (at_is m past p d i ∙ e) ∙ r)
 
@@ -287,7 +288,7 @@ module _ (m : Machine) (past : List Entry) (time : ℕ) (now : EventNow) (d : �
     calls (kind.End p d r) refl,
   )
 
--- a device's own entry leaves the devices where they may stand
+-- a device's own entry leaves the devices in states that they may have
 pub device_stands : (m : Machine) (past : List Entry) (time : ℕ) (now : EventNow) (d : ℕ) (st : Option Stage) (k : Kind) → DevicePhases m past st → DeviceMade m past now d k → DevicePhases m (record { time = time; now = now; actor = actor.Dev d; kind = k } ∷ past) st
 device_stands m past time now d st _ h (DeviceMade.OwnFails p r i g f) = own_fails m past time now d st h g.beside p r i g.states f
 device_stands m past time now d st _ h (DeviceMade.OwnFinds p i g f t w) = own_finds m past time now d st h g.beside p i g.states

@@ -53,7 +53,7 @@ IsCalled (Some c) x = c.device ≡ x
 abbrev pub TakesLast : Machine → List Entry → Phase → Type 0
 TakesLast m past p = (x e : ℕ) → After (order m past) x e → is_ready (at (three m past x) p) ≡ false → is_ready (at (three m past e) p) ≡ false
 
--- a synchronous device that stands so is the one whose callback the maker runs
+-- a synchronous device that has such a state is the one whose callback the maker runs
 abbrev pub Calls : Machine → List Entry → Phase → (PhaseState → Bool) → Type 0
 Calls m past p test = (x : ℕ) → test (at (three m past x) p) ≡ true → is_async_device m x ≡ false → IsCalled (callback past) x
 
@@ -89,7 +89,7 @@ going_apart : (s : PhaseState) (e : Bool) → allows Going e s ≡ true → is_r
 going_apart state.Resuming e h = never h
 going_apart _ e h = refl
 
--- no device stands so
+-- no device has such a state
 none_called : (m : Machine) (past : List Entry) (p : Phase) (test : PhaseState → Bool) → ((x : ℕ) → test (at (three m past x) p) ≡ false) → (after : List Entry) → ((x : ℕ) → at (three m after x) p ≡ at (three m past x) p) → Calls m after p test
 none_called m past p test none after same x t a = absurd (true≢false (sym t ∙ (ap test (same x) ∙ none x)))
 
@@ -108,7 +108,7 @@ rises_apart m past moods full h p i a apart f x = apart (at (three m past x) p) 
 -- ---- an entry of a device
 
 module _ (m : Machine) (past : List Entry) (e : Entry) (d : ℕ) (is : device_of e.kind ≡ Some d) where
-  -- the others stand where they stood
+  -- the others keep their states
   others : (x : ℕ) → (x == d) ≡ false → three m (e ∷ past) x ≡ three m past x
   others x apart = moved_other m past e d is x (different x d apart)
 
@@ -133,7 +133,7 @@ module _ (m : Machine) (past : List Entry) (e : Entry) (d : ℕ) (is : device_of
     goes_on : ((x : ℕ) → is_ready (at (three m (e ∷ past) x) p) ≡ is_ready (at (three m past x) p)) → TakesLast m (e ∷ past) p
     goes_on same x y b r = same y ∙ h x y (subst (λ (o : List ℕ). After o x y) (order_stays m past e d is) b) (sym (same x) ∙ r)
 
-  -- a device that moves in phase q between stands that are both taken leaves each as ready as it was
+  -- a device that moves in phase q between states that are both taken leaves each as ready as it was
   same_ready : (q : Phase) (b s : PhaseState) → at (three m past d) q ≡ b → is_ready b ≡ false → is_ready s ≡ false → (p : Phase) → Change q s (three m past d) (three_after e.kind (three m past d)) p → (x : ℕ) → is_ready (at (three m (e ∷ past) x) p) ≡ is_ready (at (three m past x) p)
   same_ready q b s was rb rs p change x =
       moved m past e d is (λ (t : Three). is_ready (at t p) ≡ is_ready (at (three m past x) p)) x refl (λ same. by_change same change)
@@ -148,7 +148,7 @@ module _ (m : Machine) (past : List Entry) (e : Entry) (d : ℕ) (is : device_of
   -- ---- callbacks
 
   module _ (p : Phase) (test : PhaseState → Bool) (h : Calls m past p test) where
-    -- the device comes to stand otherwise, and the callback is as before
+    -- the device comes to another state, and the callback is as before
     calls_on : callback (e ∷ past) ≡ callback past → test (at (three m (e ∷ past) d) p) ≡ false → Calls m (e ∷ past) p test
     calls_on same out x t a = by_test (x == d) refl
       where
@@ -188,7 +188,7 @@ module _ (m : Machine) (past : List Entry) (time : ℕ) (now : EventNow) (who : 
   abbrev by : Kind → Entry
   by k = record { time = time; now = now; actor = who; kind = k }
 
-  -- where the device stands that a walk down takes, or that ends its callback
+  -- the states of the device that a walk down takes, or that ends its callback
   stood_down : (p : Phase) (d : ℕ) (i : Down p) (k : Kind) (b s : PhaseState) (up : Three) → device_of k ≡ Some d → three_after k (three m past d) ≡ turned p s up (three m past d) → state_in m past p d ≡ b → is_prepared b ≡ true → DevicePhases m past (Some (stage.Downs p)) → at (three m (by k ∷ past) d) p ≡ s
   stood_down p d i k b s up is turns was ready h =
       ap (λ (t : Three). at t p) (moved_own m past (by k) d is (prepared_all m past time now who task (in_down p) true h.0 p d b i was ready) ∙ turns)
@@ -318,7 +318,7 @@ device_walks m past time now d k st (DeviceMade.OwnRose p r u a x s) w =
 
 -- ---- at each place
 
--- where the devices stand, and how their walk goes on
+-- the states of devices, and how their walk goes on
 abbrev pub Underway : Machine → Option Stage → List Entry → Type 0
 Underway m st past = DevicePhases m past st × WalksIf m past st
 

@@ -1,4 +1,4 @@
--- What is so where a run can go no further.
+-- What is so if a run can go no further.
 use Rattle.std.specs.Prelude.{◌≡◌, ◌⊎◌, true, List, reverse, None}
 use Rattle.sleep_model.specs.declared.entry.Entry.{Entry}
 use Rattle.sleep_model.specs.declared.log.Log.{Log}
@@ -12,13 +12,14 @@ use Rattle.sleep_model.specs.EntryClasses.{journal}
 use Rattle.sleep_model.specs.Path.{maker}
 use Rattle.sleep_model.specs.Sources.{history}
 
--- each device is registered after its parent, the links may be added in turn, so that no device hangs below itself, and the scripts name what is there (device_add, device_link_add)
+-- each device is registered after its parent, the links may be added in turn, so that no device hangs below itself, and the scripts name
+-- what is there (device_add, device_link_add)
 pub record IsOrdered (m : Machine) : Type 0 where
   pub parents : EachAfterParent 0 (parents_of m.devices)
   pub links : AreLinks (parents_of m.devices) (reverse m.links)
   pub scripts : AreScripts m m.actors
 
--- where nobody can make anything and no moment is pending no attempt is open (system_transition_mutex)
+-- if nobody can make anything and no moment is pending no attempt is open (system_transition_mutex)
 abbrev pub IsClosedIfIdle : Machine → List Entry → Type 0
 IsClosedIfIdle m past =
     is_idle m (journal past) (λ s. history s past) (numbers past) ≡ true → next_time m (journal past) (λ s. history s past) ≡ None

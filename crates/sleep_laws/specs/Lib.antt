@@ -1,3 +1,4 @@
+-- The definitions of this crate.
 pub mod Ends
 pub mod Laws
 pub mod Linked

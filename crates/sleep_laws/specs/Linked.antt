@@ -1,4 +1,4 @@
--- How the links and the order stand at each place of a legal log.
+-- The links and the order at each point of a legal log.
 use Rattle.std.specs.Prelude.{◌≡◌, true, List, is_some}
 use Rattle.sleep_model.specs.declared.entry.Entry.{Entry}
 use Rattle.sleep_model.specs.declared.machine.Machine.{Machine}
@@ -12,7 +12,8 @@ use Rattle.sleep_laws.specs.Ends.{IsOrdered}
 abbrev pub LinksStay : Machine → List Entry → Entry → Type 0
 LinksStay m past e = is_some (maker past) ≡ true → links_after e.kind (links_at m past) ≡ links_at m past
 
--- at each place of a legal journal each device stands once in the order, before all that hang below it by the parents and the links, dormant ones too (device_reorder_to_tail)
+-- at each point of a legal journal each device is once in the order, before all that hang below it by the parents and the links, dormant
+-- ones too (device_reorder_to_tail)
 abbrev pub AllInOrder : Type 0
 AllInOrder =
     (m : Machine) → IsOrdered m → (past : List Entry) → JournalPart m past

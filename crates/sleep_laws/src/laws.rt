@@ -1,6 +1,6 @@
-//! The laws of the journal: what holds at each entry of every legal journal, of whatever machine. The
-//! journal's part of legality alone is asked for, so they hold of the journal of each legal log,
-//! whatever the wakeup sources did meanwhile.
+//! The laws of the journal: what holds at each entry of every legal journal, of whatever machine. Only the
+//! journal's part of legality is asked for, so they hold of the journal of each legal log, whatever the
+//! wakeup sources did meanwhile.
 
 ghost use Rattle.sleep_laws.specs.Laws.{HoldsAtEntries, HoldsOfAll, HoldsOfJournals};
 ghost use Rattle.sleep_model.specs.Guard.{count_effect};
@@ -22,22 +22,21 @@ pub fn suppliers_first()
     ensures { HoldsAtEntries (λ m past e. SuppliersFirst m past e.kind) }
 {}
 
-/// Where an attempt is over, entered or failed at whatever step, nothing is owed: no notifier, task,
-/// device, processor, interrupt, part of the core nor step of the platform is left as the attempt put
-/// it, and the machine is awake (`kernel/power/suspend.c`, `suspend_devices_and_enter`,
-/// `suspend_finish`).
+/// Once an attempt is over, entered or failed at whatever step, nothing is owed: no notifier, task, device,
+/// processor, interrupt, part of the core nor step of the platform is left as the attempt put it, and the
+/// machine is awake (`kernel/power/suspend.c`, `suspend_devices_and_enter`, `suspend_finish`).
 #[tactic(auto, using(crate::proofs::DeviceLaws::all_restored))]
 pub fn restored()
     ensures { HoldsAtEntries (λ m past e. Restored m past e.kind) }
 {}
 
-/// Only what is owed is undone, so that each is made once: on the way up a device is scheduled
-/// only if it is down, begins only if it is down or was scheduled, and ends only inside its callback; it
-/// is completed only if it is prepared and, in each of the three pairs of phases, neither down nor on its
-/// way; a notifier is posted to only if it was told; a processor, a part of the core, interrupts and a
-/// step of the platform are undone only if they were done; the machine wakes only if it sleeps
-/// (`drivers/base/power/main.c`, `dpm_resume`, `device_resume`, `device_complete`;
-/// `kernel/power/suspend.c`, `suspend_enter`, `suspend_finish`).
+/// Only what is owed is undone, so that each is made once: on the way up a device is scheduled only if it is
+/// down, begins only if it is down or was scheduled, and ends only inside its callback; it is completed only
+/// if it is prepared and, in each of the three pairs of phases, neither down nor on its way; a notifier is
+/// posted to only if it was notified; a processor, a part of the core, interrupts and a step of the platform
+/// are undone only if they were done; the machine wakes only if it sleeps (`drivers/base/power/main.c`,
+/// `dpm_resume`, `device_resume`, `device_complete`; `kernel/power/suspend.c`, `suspend_enter`,
+/// `suspend_finish`).
 #[tactic(auto, using(crate::proofs::DeviceLaws::all_owed))]
 pub fn undo_only_what_is_owed()
     ensures { HoldsAtEntries (λ m past e. Owed m past e.kind) }
@@ -51,20 +50,20 @@ pub fn devices_are_taken_once()
     ensures { HoldsAtEntries (λ m past e. TakenOnce m past e.kind) }
 {}
 
-/// No undo is owed already where a notifier hears of an attempt, a step of the platform is asked, a
-/// processor is stopped or found busy, interrupts are turned off, a part of the core is suspended, or
-/// the machine is to enter sleep (`kernel/power/suspend.c`, `platform_suspend_begin`, `suspend_enter`;
-/// `kernel/cpu.c`, `freeze_secondary_cpus`; `drivers/base/syscore.c`, `syscore_suspend`).
+/// No undo is owed already when a notifier hears of an attempt, a step of the platform is asked, a processor
+/// is stopped or found busy, interrupts are turned off, a part of the core is suspended, or the machine is to
+/// enter sleep (`kernel/power/suspend.c`, `platform_suspend_begin`, `suspend_enter`; `kernel/cpu.c`,
+/// `freeze_secondary_cpus`; `drivers/base/syscore.c`, `syscore_suspend`).
 #[tactic(auto, using(crate::proofs::Once::not_owed_already))]
 pub fn nothing_is_owed_twice()
     ensures { HoldsAtEntries (λ m past e. NotOwedAlready m past e.kind) }
 {}
 
-/// The machine enters sleep only if all is down that sleep wants down: each device down in suspend, in
-/// late and in noirq, or direct-complete; each user task and each kernel thread, but who makes the
-/// attempt, frozen or gone; the platform told of its three steps; the other processors and interrupts
-/// off, each part of the core suspended (`kernel/power/suspend.c`, `suspend_enter`;
-/// `kernel/power/process.c`, `freeze_processes`, `freeze_kernel_threads`).
+/// The machine enters sleep only if all is down that sleep wants down: each device down in suspend, in late
+/// and in noirq, or direct-complete; each user task and each kernel thread, but who makes the attempt, frozen
+/// or exited; the platform's three steps done; the other processors and interrupts off, each part of the core
+/// suspended (`kernel/power/suspend.c`, `suspend_enter`; `kernel/power/process.c`, `freeze_processes`,
+/// `freeze_kernel_threads`).
 #[tactic(auto, using(crate::proofs::DeviceLaws::all_down))]
 pub fn enters_only_with_all_down()
     ensures { HoldsAtEntries (λ m past e. EntersDown m past e.kind) }
@@ -84,7 +83,7 @@ pub fn attempts_answer_their_failure()
     ensures { HoldsAtEntries (λ m past e. AnswersFailure past e.kind) }
 {}
 
-/// A test that found a wakeup stands only if one is pending at the word that it saw
+/// A test that found a wakeup is made only if one is pending at the word that it saw
 /// (`drivers/base/power/wakeup.c`, `pm_wakeup_pending`).
 #[tactic(auto, using(crate::proofs::Owing::found_pending))]
 pub fn found_tests_are_true()

@@ -1,10 +1,11 @@
 //! The laws of sleep: what holds of every legal log, whoever wrote it. Each function here is a law, and does
 //! nothing. `law_trials` tries the definitions on worked logs.
 //!
-//! Promises: In every legal log no device suspends before its dependents or resumes before its suppliers, each
-//! abort restores devices and tasks, and an undisturbed attempt enters. An attempt under a saved count enters only
-//! if no event was registered since that count was read. By the clauses of `dependents_first`, `suppliers_first`,
-//! `restored`, `undisturbed_attempts_enter`, `guarded_sleep`, and of each other function here.
+//! Promises: In every legal log no device suspends before its dependents or resumes before its suppliers,
+//! each abort restores devices and tasks, and an undisturbed attempt enters. An attempt under a saved count
+//! enters only if no event was registered since that count was read. By the clauses of `dependents_first`,
+//! `suppliers_first`, `restored`, `undisturbed_attempts_enter`, `guarded_sleep`, and of each other function
+//! here.
 //!
 //! Begin reading in `src/laws.rt`, `proofs/Lawful.antt`.
 #![tactic(auto)]

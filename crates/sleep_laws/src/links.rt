@@ -10,8 +10,8 @@ pub fn links_stay_through_attempts()
     ensures { HoldsAtEntries LinksStay }
 {}
 
-/// At each place each device stands once in the order, before all that hang below it by the parents and
-/// the links, dormant ones too (`drivers/base/core.c`, `device_reorder_to_tail`).
+/// At each point each device is once in the order, before all that hang below it by the parents and the
+/// links, dormant ones too (`drivers/base/core.c`, `device_reorder_to_tail`).
 #[tactic(auto, using(crate::proofs::Staying::in_order))]
 pub fn order_keeps_dependents_after()
     ensures { AllInOrder }

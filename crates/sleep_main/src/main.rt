@@ -1,8 +1,9 @@
-//! Runs the machine of a machine file through system sleep and prints the log of every step. Its other commands
-//! write and run machines that are made of a seed, lock names, count what a log says, and run suspend-to-idle.
+//! Runs the machine of a machine file through system sleep and prints the log of every step. Its other
+//! commands write and run machines that are made of a seed, lock names, count the entries of a log, and run
+//! suspend-to-idle.
 //!
-//! All but `main` and the reading of the words stands in `sleep_commands`. The stored run tries `main`,
-//! `row_trials` the rest.
+//! Only `main` and the reading of the words are here; the rest is in `sleep_commands`. The stored run tries
+//! `main`, `row_trials` the rest.
 //!
 //! Begin reading in `src/main.rt`.
 #![tactic(auto)]
@@ -25,6 +26,7 @@ fn words_of(rt: &HostRuntime, alloc: Global) -> Result<Vec<String>, AllocError> 
     }
 }
 
+/// Reads the words, runs their command and exits by its status.
 fn main(rt: HostRuntime) -> ExitCode {
     let alloc = rt.alloc();
     let mut input = StdSource::input(&rt);

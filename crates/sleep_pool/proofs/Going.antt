@@ -24,7 +24,7 @@ on_append stop (Did ∷ xs) ys h k = on_append stop xs ys h k
 on_append stop (NotYet ∷ xs) ys h k = on_append stop xs ys h k
 on_append stop (Done ∷ xs) ys h k = on_append stop xs ys h k
 
--- turns without a Stop may stand where the last may be one
+-- turns without a Stop go on if the last may be one, too
 pub on_weaker : (stop : Bool) (xs : List Turn) → goes_on false xs ≡ true → goes_on stop xs ≡ true
 on_weaker stop [] h = refl
 on_weaker stop (Stop ∷ []) h = grind (arith, h)
@@ -33,7 +33,7 @@ on_weaker stop (Did ∷ xs) h = on_weaker stop xs h
 on_weaker stop (NotYet ∷ xs) h = on_weaker stop xs h
 on_weaker stop (Done ∷ xs) h = on_weaker stop xs h
 
--- and where the last may be one in any case
+-- and if the last may be one in any case
 pub on_wider : (stop : Bool) (xs : List Turn) → goes_on stop xs ≡ true → goes_on true xs ≡ true
 on_wider true xs h = h
 on_wider false xs h = on_weaker true xs h
@@ -122,7 +122,7 @@ module _ {J : Type 0} where
   idle made left (a ∷ olds) (b ∷ bs) n z (x ∷ [], i, r, hs, e) =
       (x ∷ [], i, (r, ([], x, refl, omega (arith, z, e))), idle made left olds bs i (omega (arith, z, e)) hs, e)
 
-  -- where the parts are one, what holds of all holds of it
+  -- if there is one part, what holds of all holds of it
   pub parts_one : (P : List J → List J → Type 0) (size : ℕ) (olds news : List J) → length olds ≤ size → length news ≡ length olds → P [] []
       → P olds news → OfParts P size olds news
   parts_one P size olds news short same nobody h zero =
@@ -133,7 +133,7 @@ module _ {J : Type 0} where
       (λ xs l. ap (take size) (drop_all (suc part * size) xs (omega (arith, suc-mul part size, l))) ∙ take_all size [] (omega arith)) in
       rw (none olds short, none news (omega arith)) nobody
 
-  -- the parts of two runs side by side, where the front one has whole parts
+  -- the parts of two runs, one after the other, if the first has whole parts
   pub parts_beside : (P : List J → List J → Type 0) (size most : ℕ) (olds bs cs ds : List J) → length olds ≡ most * size → length bs ≡ length olds
       → OfParts P size olds bs → OfParts P size cs ds → OfParts P size (olds ++ cs) (bs ++ ds)
   parts_beside P size most olds bs cs ds whole same h k part = ⊎_elim
@@ -151,14 +151,14 @@ module _ {J : Type 0} where
       rw (at olds cs whole, at bs ds (same ∙ whole)) (k n))
       (cases_lt part most)
 
-  -- where the parts are one, its first job is the first of all
+  -- if there is one part, its first job is the first of all
   pub firsts_one : (left : J → ℕ) (size : ℕ) (olds news : List J) → length olds ≤ size → FirstWent left olds news → FirstsWent left size olds news
   firsts_one left size olds news short h zero = rw (zero-mul size) h
   firsts_one left size olds news short h (suc part) =
       let none : drop (suc part * size) olds ≡ [] = drop_all (suc part * size) olds (omega (arith, suc-mul part size, short)) in
       subst (λ l. FirstWent left l (drop (suc part * size) news)) (sym none) tt
 
-  -- the firsts of two runs side by side, where the front one has whole parts
+  -- the first jobs of two runs, one after the other, if the first run has whole parts
   pub firsts_beside : (left : J → ℕ) (size most : ℕ) (olds bs cs ds : List J) → 0 < size → length olds ≡ most * size → length bs ≡ length olds
       → FirstsWent left size olds bs → FirstsWent left size cs ds → FirstsWent left size (olds ++ cs) (bs ++ ds)
   firsts_beside left size most olds bs cs ds some whole same h k part = ⊎_elim

@@ -3,7 +3,7 @@ use Rattle.std.specs.Prelude.{◌≡◌, ◌<◌, ◌≤◌, ◌+◌, ◌*◌, �
 use Rattle.sleep_pool.specs.declared.turns.Turn.{Turn}
 use Rattle.sleep_pool.specs.declared.turns.Turn.TheVariants.{Did, NotYet, Done, Stop}
 
--- one where the turn did something
+-- one if the turn did something
 abbrev pub did : Turn → ℕ
 did Did = 1
 did NotYet = 0
@@ -15,7 +15,7 @@ abbrev pub did_in : List Turn → ℕ
 did_in [] = 0
 did_in (turn ∷ turns) = did turn + did_in turns
 
--- no turn is a Stop, but the last, where it may be one
+-- no turn is a Stop, but the last if it may be one
 abbrev pub goes_on : Bool → List Turn → Bool
 goes_on stop [] = true
 goes_on stop (Stop ∷ []) = stop
@@ -36,7 +36,8 @@ StopsAtLast turns = (before : List Turn) × (turns ≡ before ++ Stop ∷ [])
 abbrev pub part_size : ℕ → ℕ → ℕ
 part_size jobs workers = jobs / workers + min 1 (jobs % workers)
 
--- a job's turns, at most n: the job is in their relation to what it was, has used up as many as they are, and none is a Stop but the last, where it may be one
+-- a job's turns, at most n: the job is in their relation to what it was, has used up as many as they are, and none is a Stop but the last
+-- if it may be one
 abbrev pub Went : {J : Type 0} → (J → List Turn → J → Type 0) → (J → ℕ) → Bool → ℕ → J → List Turn → J → Type 0
 Went made left stop most old turns new = made old turns new × (left old ≡ left new + length turns) × (goes_on stop turns ≡ true) × (length turns ≤ most)
 
@@ -94,7 +95,8 @@ abbrev pub OfParts : {J : Type 0} → (List J → List J → Type 0) → ℕ →
 OfParts P size olds news = (part : ℕ) → P (take size (drop (part * size) olds)) (take size (drop (part * size) news))
 
 module _ {J : Type 0} (made : J → List Turn → J → Type 0) (left : J → ℕ) where
-  -- a worker goes round its jobs, each of which has one turn a round, n rounds at most: a round in which nothing was done is the last, and so is one that a Stop cuts short
+  -- a worker goes round its jobs, each of which has one turn a round, n rounds at most: a round in which nothing was done is the last, and
+  -- so is one that a Stop cuts short
   pub data GoesRound : ℕ → List J → List J → Type 0 where
     NoneLeft : (most : ℕ) (olds : List J) → most ≡ 0 → GoesRound most olds olds
     CutOff : (most : ℕ) (olds news : List J) → 0 < most → CutShort made left 0 olds news → GoesRound most olds news

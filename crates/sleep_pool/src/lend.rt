@@ -1,3 +1,4 @@
+//! Jobs are lent to workers, a slice to each, on threads that are made by halving.
 ghost use Rattle.std.specs.Prelude.{◌≡◌, ◌+◌, ◌++◌, ◌*◌, ◌<◌, ◌≤◌, ◌^◌, ℕ, true, All, length};
 ghost use Rattle.std.specs.Thread.{IsSync, IsSend};
 ghost use Rattle.crossbeam_utils.specs.Padded.{padded_value};
@@ -39,7 +40,7 @@ fn parts<R: Threads + Sync, W: Sync, J: Job<W> + Send>(
     both(rt, shared, now, size, front, back)
 }
 
-/// Two runs of parts side by side, where a thread can be made, else one after the other.
+/// Two runs of parts at the same time if a thread can be made, else one after the other.
 #[cycle(parts)]
 fn both<R: Threads + Sync, W: Sync, J: Job<W> + Send>(
     rt: &R,
@@ -73,9 +74,10 @@ fn both<R: Threads + Sync, W: Sync, J: Job<W> + Send>(
     CachePadded::new(*one + *two)
 }
 
-/// Gives each of `workers` workers a slice of the jobs; all slices but the last have one length, and there may be fewer slices
-/// than workers. A worker goes round its slice at the moment `now` (ms) until a job answers `Stop`, a round does nothing, or
-/// 1,000 rounds are over. The answer counts the turns that did something. Without a thread the caller does a worker's rounds.
+/// Gives each of `workers` workers a slice of the jobs; all slices but the last have one length, and there
+/// may be fewer slices than workers. A worker goes round its slice at the moment `now` (ms) until a job
+/// answers `Stop`, a round does nothing, or 1,000 rounds are over. The answer counts the turns that did
+/// something. Without a thread the caller does a worker's rounds.
 pub fn burst<R: Threads + Sync, W: Sync, J: Job<W> + Send>(
     rt: &R,
     jobs: &mut [J],

@@ -1,3 +1,4 @@
+//! A worker's rounds over the jobs of its slice.
 ghost use Rattle.std.specs.Prelude.{◌≡◌, ◌+◌, ◌*◌, ◌<◌, ◌≤◌, ◌^◌, ℕ, true, false, [], ◌∷◌, All, length};
 ghost use Rattle.sleep_pool.specs.Turns.{AllWent, Went, FirstWent, WentOn, CutShort, Ended, GoesRound};
 
@@ -73,7 +74,8 @@ pub fn one_round<W, J: Job<W>>(jobs: &mut [J], shared: &W, now: u64) -> RoundRes
     }
 }
 
-/// Rounds over a part, at most `most`, up to a `Stop` or a round that did nothing. It answers how many turns did something.
+/// Rounds over a part, at most `most`, up to a `Stop` or a round that did nothing. It answers how many turns
+/// did something.
 pub fn part_rounds<W, J: Job<W>>(jobs: &mut [J], shared: &W, now: u64, most: u64) -> u64
     requires left { All (λ j. most ≤ J.left j) jobs.old }
     requires goes { All (λ j. J.goes j shared.now now) jobs.old }

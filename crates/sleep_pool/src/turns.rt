@@ -1,3 +1,4 @@
+//! A job, and what came of a turn of it.
 ghost use Rattle.std.specs.Prelude.{◌≡◌, ◌+◌, ◌++◌, ◌<◌, ℕ, List, [], ◌∷◌};
 
 /// What a job's turn came to.
@@ -17,7 +18,7 @@ pub enum Turn {
 pub trait Job<W> {
     ghost use Rattle.sleep_pool.specs.declared.turns.Turn.{Turn};
 
-    /// How many turns it can still make.
+    /// How many turns it has left.
     ghost left: { Self → ℕ };
 
     /// It goes with this shared value at this moment.

@@ -1,4 +1,4 @@
--- Links in other states can stand as they did.
+-- Links that differ in their states only have the same ends.
 use Rattle.std.proofs.Common.{◌≡◌, ◌≤◌, ◌++◌, ◌∙◌, ◌∷◌, [], List, map, reverse, Option, ℕ, refl, sym, ap, subst}
 use Rattle.std.proofs.lemmas.List.{length-map, reverse-append}
 use Rattle.sleep_model.specs.declared.entry.Entry.{Entry}

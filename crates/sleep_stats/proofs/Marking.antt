@@ -12,7 +12,7 @@ exchanged true false c = refl
 exchanged false true c = refl
 exchanged false false c = refl
 
--- a link more stands, and no other
+-- there is one link more, and no other
 pub linked_last : (links : List Link) (l : Link) (s c : ℕ) → is_linked (links ++ l ∷ []) s c ≡ (is_link s c l || is_linked links s c)
 linked_last [] l s c = refl
 linked_last (x ∷ links) l s c =

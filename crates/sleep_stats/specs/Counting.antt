@@ -43,7 +43,7 @@ abbrev pub callback_fails : Phase → Kind → Bool
 callback_fails p (kind.End q d (Some r)) = is_phase q p
 callback_fails p _ = false
 
--- the device, where its callback fails in that phase
+-- the device, if its callback fails in that phase
 abbrev pub failed_in : Phase → ℕ → Option Errno → Option LastDev
 failed_in p d None = None
 failed_in p d (Some r) = Some (record { device = d; phase = p; error = r })
@@ -83,7 +83,7 @@ counts_after what before = record {
   last_errnos = errnos_after (attempt_error what) before.last_errnos;
 }
 
--- nothing is counted, and no failure is kept
+-- nothing is counted, and there is no failure
 abbrev pub no_counts : Counts
 no_counts = record {
   success = 0;

@@ -1,3 +1,4 @@
+-- The definitions of this crate.
 pub mod Counting
 pub mod Linked
 pub mod States

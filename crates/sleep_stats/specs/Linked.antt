@@ -10,7 +10,7 @@ use Rattle.sleep_model.specs.Links.{is_linked}
 use Rattle.sleep_model.specs.Order.{parents_of}
 use Rattle.device_links.specs.Linked.{Linked}
 
--- links, the oldest first, with one more at their end that is active; one that stands is not taken again (device_link_add)
+-- links, the oldest first, with one more at their end that is active; one that there is already is not added again (device_link_add)
 abbrev pub with_one : List Link → ℕ → ℕ → List Link
 with_one links supplier consumer =
     if is_linked links supplier consumer then links
@@ -41,7 +41,7 @@ abbrev pub state_by : Option Bool → List Entry → ℕ → ℕ → Option Bool
 state_by before [] supplier consumer = before
 state_by before (e ∷ later) supplier consumer = state_by (state_after e.kind supplier consumer before) later supplier consumer
 
--- that state, or the one before where none was set
+-- that state, or the one before if none was set
 abbrev pub state_or : Option Bool → Bool → Bool
 state_or None before = before
 state_or (Some active) before = active

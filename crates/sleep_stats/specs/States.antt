@@ -1,4 +1,4 @@
--- The states of links by their ends, as they are kept.
+-- The states of links by their ends, as a map.
 use Rattle.std.specs.Prelude.{◌≡◌, ℕ, Bool, List, Option, None, is_some}
 use Rattle.sleep_model.specs.declared.entry.Entry.{Entry}
 use Rattle.sleep_model.specs.declared.entry.Kind.{Kind}

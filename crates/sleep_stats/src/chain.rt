@@ -25,8 +25,8 @@ pub fn longest(alloc: Global, machine: &Machine, log: &Log) -> Result<Chain, Mem
     chain
 }
 
-/// Whether the chain is one at the log's end, and the levels are those of all devices, up to its length, so that no chain is
-/// longer.
+/// Whether the chain is one at the log's end, and the levels are those of all devices, up to its length, so
+/// that no chain is longer.
 pub fn certified(alloc: Global, machine: &Machine, log: &Log, chain: &Chain) -> Result<bool, Mem>
     requires accepted { IsAccepted machine.now }
     requires stand { CanBeAdded (parents_of machine.now.devices) (added_links machine.now log.now) }

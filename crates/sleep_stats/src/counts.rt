@@ -106,7 +106,7 @@ fn callback_fails(phase: Phase, kind: Kind) -> bool
     }
 }
 
-/// The device, where its callback fails in that phase.
+/// The device, if its callback fails in that phase.
 fn failed_in(phase: Phase, device: u32, error: Option<Errno>) -> Option<LastDev>
     ensures { result ≡ failed_in phase device error }
 {

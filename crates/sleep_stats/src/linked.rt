@@ -22,7 +22,7 @@ struct Ends {
     consumer: u32,
 }
 
-/// Links, the oldest first, and whether they are active by their ends, so that one that stands is found at once.
+/// Links, the oldest first, and whether they are active by their ends, so that a link is found at once.
 #[derive(Drop)]
 struct LinkIndex {
     links: Vec<Link>,
@@ -45,7 +45,7 @@ fn put_link(link_index: &mut LinkIndex, link: Link) -> Result<(), Mem>
     Ok(())
 }
 
-/// Puts a link that is active after the others, unless it stands.
+/// Puts a link that is active after the others, unless there is one between these two.
 fn add_link(link_index: &mut LinkIndex, supplier: u32, consumer: u32) -> Result<(), Mem>
     requires { AreMarked link_index.old.links.items (get ⟦<Ends as PartialEq>⟧.eq link_index.old.ends) }
     ensures links { OnOk result (link_index.new.links.items ≡ with_one link_index.old.links.items supplier consumer) }

@@ -7,7 +7,7 @@ use sleep_base::Errno;
 use sleep_model::{Due, EventNow, Kind, Why, visible};
 
 /// A read of the count by a task that waits for it already or not, and is asked to freeze or not: it answers
-/// where no event is in progress (`pm_get_wakeup_count`).
+/// if no event is in progress (`pm_get_wakeup_count`).
 pub fn read_count(now: EventNow, waits: bool, asked: bool) -> Due
     ensures { result ≡ read_due now waits asked }
 {
@@ -33,8 +33,8 @@ fn save(now: EventNow, count: u32) -> Due
     }
 }
 
-/// Where another holds the autosleep lock: a write says once that it waits, and gives up where it is
-/// asked to freeze (`pm_autosleep_lock`).
+/// Another holds the autosleep lock: a write says once that it waits, and gives up if it is asked to freeze
+/// (`pm_autosleep_lock`).
 pub(crate) fn wait_for_lock(waits: bool, asked: bool, says: Due, gives_up: Due) -> Due
     ensures { result ≡ lock_due waits asked says gives_up }
 {
@@ -47,8 +47,8 @@ pub(crate) fn wait_for_lock(waits: bool, asked: bool, says: Due, gives_up: Due) 
     }
 }
 
-/// A write of that number to the count, with the lock held by another or not, autosleep on or not, by a task that
-/// waits already or not, and is asked to freeze or not (`wakeup_count_store`).
+/// A write of that number to the count, with the lock held by another or not, autosleep on or not, by a task
+/// that waits already or not, and is asked to freeze or not (`wakeup_count_store`).
 pub fn write_count(held: bool, on: bool, waits: bool, asked: bool, now: EventNow, count: u32) -> Due
     ensures { result ≡ count_due held on waits asked now count }
 {

@@ -1,9 +1,9 @@
 //! What reads of and writes to the files of sleep answer: `wakeup_count`, `state` and `autosleep`
 //! (`kernel/power/main.c`). Its tests are in `part_cases`.
 //!
-//! Promises: What a read of or a write to `wakeup_count`, `state` and `autosleep` answers or waits for, exactly;
-//! the state that a text names. By the clauses of `read_count`, `write_count`, `write_state`, `write_autosleep`,
-//! `saved_number`, `decode_state`.
+//! Promises: What a read of or a write to `wakeup_count`, `state` and `autosleep` answers or waits for,
+//! exactly; the state that a text names. By the clauses of `read_count`, `write_count`, `write_state`,
+//! `write_autosleep`, `saved_number`, `decode_state`.
 //!
 //! Begin reading in `src/count.rt`, `src/state.rt`.
 #![tactic(auto)]

@@ -7,8 +7,9 @@ use crate::count::wait_for_lock;
 use sleep_base::Errno;
 use sleep_model::{Due, Kind, State, Why};
 
-/// A write to the state, whose text is `mem` or not, and whose attempt would be that; with the lock held by another
-/// or not, autosleep on or not, by a task that waits already or not, and is asked to freeze or not (`state_store`).
+/// A write to the state, whose text is `mem` or not, and whose attempt would be that; with the lock held by
+/// another or not, autosleep on or not, by a task that waits already or not, and is asked to freeze or not
+/// (`state_store`).
 pub fn write_state(held: bool, on: bool, waits: bool, asked: bool, mem: bool, attempt: Kind) -> Due
     ensures { result ≡ state_due held on waits asked mem attempt }
 {
@@ -25,8 +26,8 @@ pub fn write_state(held: bool, on: bool, waits: bool, asked: bool, mem: bool, at
     }
 }
 
-/// A write to autosleep that has begun already or not, and whose text is `mem`, or is `off`. It waits for the lock,
-/// and is not interrupted (`autosleep_store`, `pm_autosleep_set_state`).
+/// A write to autosleep that has begun already or not, and whose text is `mem`, or is `off`. It waits for the
+/// lock, and is not interrupted (`autosleep_store`, `pm_autosleep_set_state`).
 pub fn write_autosleep(held: bool, begun: bool, mem: bool, off: bool) -> Due
     ensures { result ≡ autosleep_due held begun mem off }
 {

@@ -7,8 +7,8 @@ use script_plan::{is_mem, is_off};
 use sleep_base::Errno;
 use sleep_model::State;
 
-/// The state that a text written to autosleep names. EINVAL for any other text (`autosleep_store`). It is for a caller that
-/// takes such a text without a core, which asks `write_autosleep`.
+/// The state that a text written to autosleep names. EINVAL for any other text (`autosleep_store`). It is for
+/// a caller that takes such a text without a core, which asks `write_autosleep`.
 pub fn decode_state(text: &[u8]) -> Result<State, Errno>
     ensures { result ≡ decoded text.now }
 {

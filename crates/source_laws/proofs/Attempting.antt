@@ -20,7 +20,7 @@ use Rattle.source_laws.proofs.Summing.{total, count_is, one_where, total_flat, t
 use Rattle.source_laws.proofs.Trying.{is_attempt, steps_if, TriesAt, Trial, ByMaking, ByTrying, ByWorking, ByOther, trial, same_actor}
 use Rattle.source_laws.proofs.Weighing.{when, below_most, below_none, over_all, over_both, over_one, is_timer, AllBelow, above_all, all_below}
 
--- scripts and the work alone begin attempts
+-- only scripts and the work begin attempts
 abbrev TriesNever : Actor → Type 0
 TriesNever a = (m : Machine) (past : List Entry) → TriesAt m past a → ⊥
 

@@ -51,9 +51,9 @@ abbrev pub begun : What → List Entry → Bool
 begun x [] = true
 begun x (e ∷ past) = begun_after x e.kind (begun x past)
 
--- ---- which callbacks may begin still
+-- ---- which callbacks may begin yet
 
--- the phase on the way down in whose list a device's stand for that phase is
+-- the phase on the way down whose list has a device's state for that phase
 abbrev board : Phase → Phase
 board phase.Resume = phase.Suspend
 board phase.Early = phase.Late
@@ -78,13 +78,13 @@ board_down _ (Comes p InResume) = InSuspend
 board_down _ (Comes p InEarly) = InLate
 board_down _ (Comes p InResumeNoirq) = InNoirq
 
--- a device that stands so may begin its callback on the way down
+-- a device in that state may begin its callback on the way down
 abbrev may_go : PhaseState → Bool
 may_go state.Prepared = true
 may_go state.Scheduled = true
 may_go _ = false
 
--- a device that stands so has not begun its callback on the way up
+-- a device in that state has not begun its callback on the way up
 abbrev may_come : PhaseState → Bool
 may_come state.Unprepared = false
 may_come state.Resuming = false
@@ -100,7 +100,7 @@ may phase.Early s = may_come s
 may phase.ResumeNoirq s = may_come s
 may _ s = false
 
--- phase p may begin still for a device that stands so: the attempt has not come to it, or it is under way and has not begun for this one
+-- phase p may begin yet for a device in that state: the attempt has not come to it, or it is under way and has not begun for this one
 data Still (p : Phase) (r : ℕ) (s : PhaseState) : Type 0 where
   Before : r < phase_rank p → Still p r s
   During : r ≡ phase_rank p → may p s ≡ true → Still p r s
@@ -113,7 +113,7 @@ still_less {p} {r} {n} {s} l (During d h) = by_test (nat_lt r n) refl
     by_test true e = let less : r < n = grind (arith, nat_tests) in Before (omega arith)
     by_test false e = let least : n ≤ r = grind (arith, nat_tests) in During (omega arith) h
 
--- a callback that may begin still has not begun in the attempt
+-- a callback that may begin yet has not begun in the attempt
 abbrev Fresh : Machine → ℕ → List Entry → Type 0
 Fresh m r past = (p : Phase) (x : ℕ) → Six p → Still p r (at (three m past x) (board p)) → begun (what.Device x p) past ≡ false
 
@@ -135,7 +135,7 @@ module _ (m : Machine) (past : List Entry) (e : Entry) (d : ℕ) (is : device_of
 
 -- ---- an entry that begins a callback
 
--- where it stands in a phase after an entry of its own
+-- its state in a phase after an entry of its own
 own_state : (m : Machine) (past : List Entry) (e : Entry) (d : ℕ) → device_of e.kind ≡ Some d → (q : Phase) → is_prepared (state_in m past q d) ≡ true → state_in m (e ∷ past) q d ≡ phase_state_after q e.kind (state_in m past q d)
 own_state m past e d is q p =
     ap (λ o. state_at (phase_states_after q e.kind o (phase_states (length m.devices) q past)) d) is
@@ -188,7 +188,7 @@ module _ (m : Machine) (past : List Entry) (time : ℕ) (now : EventNow) (who : 
           let other : x ≢ d = grind (arith, nat_tests) in
           h q x i (subst (λ (z : Three). Still q (phase_rank p) (at z (board q))) (moved_other m past e d refl x other) y)
 
--- ---- stands that may begin
+-- ---- states that may begin
 
 may_prepared : (p : Phase) → Six p → may p state.Prepared ≡ true
 may_prepared _ (Goes p InSuspend) = refl
@@ -305,7 +305,7 @@ module _ (m : Machine) (past : List Entry) (time : ℕ) (now : EventNow) (who : 
 
 -- ---- a device's own entries
 
--- what may begin after a change of one stand might before
+-- what may begin after a change of one state might before
 may_before : (p q : Phase) (b s : PhaseState) (t u : Three) → at t q ≡ b → (may p s ≡ true → may p b ≡ true) → Change q s t u (board p) → may p (at u (board p)) ≡ true → may p (at t (board p)) ≡ true
 may_before p q b s t u was need (Here e f) g = ap (may p) (ap (at t) e ∙ was) ∙ need (ap (may p) (sym f) ∙ g)
 may_before p q b s t u was need (Elsewhere f) g = ap (may p) (sym f) ∙ g
@@ -346,7 +346,7 @@ entry_fresh m past time now who k j (Makes _ here there _ a e c x) h =
 entry_fresh m past time now who k j (Beside _ _ a x) h = outside_fresh m past time now who k (stage_of past) x h
 entry_fresh m past time now _ k j (Owns d _ x) h = device_fresh m past time now d h j k x
 
--- at each place of a legal journal a callback that may begin still has not begun
+-- at each point of a legal journal a callback that may begin yet has not begun
 fresh : (m : Machine) (past : List Entry) → JournalPart m past → Fresh m (rank_if (stage_of past)) past
 fresh m [] h = λ p x i y. absurd (let low = still_low p i 31 (at (three m [] x) (board p)) y in omega arith)
 fresh m (e ∷ past) h = entry_fresh m past e.time e.now e.actor e.kind h.1 (moved m past e h) (fresh m past h.1)

@@ -36,7 +36,7 @@ sum_one_more : (b : Bool) (x y : ℕ) → x + one_more b y ≡ one_more b (x + y
 sum_one_more true x y = omega arith
 sum_one_more false x y = refl
 
--- where one history gains a note of an actor, or none, and the others none
+-- one history gains a note of an actor, or none, and the others none
 more_made : (n s : ℕ) (b : Bool) (of other : ℕ → List Entry) (who : Actor) → s < n → notes_of who (of s) ≡ one_more b (notes_of who (other s))
     → ((t : ℕ) → (s == t) ≡ false → notes_of who (of t) ≡ notes_of who (other t)) → made n of who ≡ one_more b (made n other who)
 more_made zero s b of other who l own rest = absurd (omega arith)

@@ -1,3 +1,4 @@
+-- The lemmas of this crate.
 pub mod Weighing
 pub mod Owing
 pub mod Counting

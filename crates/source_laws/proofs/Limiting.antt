@@ -61,7 +61,7 @@ pub record ScriptTries (steps : List Op) (done tried : ℕ) (making : Bool) : Ty
 abbrev pub Tries : Machine → ℕ → List Entry → Type 0
 Tries m i past = ScriptTries (steps_in m i) (done_of m past i) (tried (actor.Script i) past) (is_actor (actor.Script i) (maker past))
 
--- the script is one of the machine's, where it has a step
+-- the script is one of the machine's, if it has a step
 in_range : (m : Machine) (i : ℕ) (k : ℕ) → passes is_state (slice_get (steps_in m i) k) ≡ true → i < length m.actors
 in_range m i k e = get_range m.actors i k e
   where
@@ -74,7 +74,7 @@ no_end : (k : Kind) → is_attempt k ≡ true → ends_step (position_effect k) 
 no_end (kind.Attempt n guarded) e = refl
 no_end _ e = absurd (true≢false (sym e))
 
--- an entry that ends no step leaves it where it is
+-- an entry that ends no step leaves its position as it is
 done_same : (m : Machine) (past : List Entry) (e : Entry) (i : ℕ) → is_same e.actor (actor.Script i) ≡ true → ends_step (position_effect e.kind) ≡ false → done_of m (e ∷ past) i ≡ done_of m past i
 done_same m past e i s n = by_range (nat_lt i (length m.actors)) refl
   where

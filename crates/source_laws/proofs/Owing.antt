@@ -1,4 +1,4 @@
--- A source's own entries: what is made, owed and set aside for its expiry keeps to the places of its calls.
+-- A source's own entries: what is made, owed and reserved for its expiry keeps to the room of its calls.
 use Rattle.std.proofs.Common.{◌≡◌, ◌≤◌, ◌+◌, ◌++◌, ℕ, suc, Bool, true, false, ◌==◌, List, [], ◌∷◌, length, Option, Some, None, is_some, cond, refl, sym, ap, subst, arith}
 use Rattle.std.proofs.lemmas.Bool.{true≢false}
 use Rattle.std.proofs.lemmas.Bool.Decides.{nat_tests}
@@ -20,19 +20,20 @@ ends [] = false
 ends (step.Finish ∷ rest) = true
 ends (s ∷ rest) = ends rest
 
--- an event is in progress after these steps, where it is or not before
+-- an event is in progress after these steps, if it is or not before
 abbrev goes : Bool → List WordKind → Bool
 goes active [] = active
 goes active (step.Start ∷ rest) = goes true rest
 goes active (step.Finish ∷ rest) = goes false rest
 goes active (step.Hard ∷ rest) = goes active rest
 
--- the places set aside for an expiry: none if a finish is owed, which cancels it
+-- the room reserved for an expiry: none if a finish is owed, which cancels it
 abbrev outside : Bool → Bool → ℕ
 outside true false = 2
 outside _ ends = 0
 
--- so many entries were made, and so much is owed; there is an expiry, an event is in progress, these steps are owed; the calls have so many places
+-- so many entries were made, and so much is owed; there is an expiry, an event is in progress, these steps are owed; the calls have so many
+-- places
 pub record Keeps (made : ℕ) (expires active : Bool) (steps : List WordKind) (places : ℕ) : Type 0 where
   within : made + length steps + outside expires (ends steps) ≤ places
   lives : expires ≡ true → ends steps ≡ false → goes active steps ≡ true
@@ -92,7 +93,7 @@ later_some : (time : ℕ) (o : Option ℕ) → is_some (later time o) ≡ true
 later_some time None = refl
 later_some time (Some y) = refl
 
--- whether an expiry stands after an event
+-- whether an expiry is pending after an event
 event_expires : (quick : Bool) (time : ℕ) (x : Option ℕ) → is_some (cond quick x (later time x)) ≡ expires_after quick (is_some x)
 event_expires true time x = refl
 event_expires false time x = later_some time x
@@ -101,7 +102,7 @@ event_starts : (o : Option ℕ) → cond (is_some o) [] (step.Start ∷ []) ≡ 
 event_starts None = refl
 event_starts (Some y) = refl
 
--- the note of a call, where nothing is owed; an expiry only if one stands
+-- the note of a call if nothing is owed; an expiry only if one is pending
 notes_keep : (made places s time : ℕ) (by : SourceCall) (o x : Option ℕ) → (by ≡ call.Expire → is_some x ≡ true) → Keeps made (is_some x) (is_some o) [] places
     → Keeps (suc made) (is_some (expiry_after (Notes s by) time x)) (is_some o) (makes by o) (call_places by + places)
 notes_keep made places s time call.Awake None x z h = record { within = omega (arith, h.within); lives = λ e. absurd (true≢false (sym e)) }
@@ -142,7 +143,7 @@ next_moves own s time places step (next ∷ rest) e n h =
     moves_keep (length own) places s time (since own) (expiry own) step rest
     (subst (λ (x : WordKind). Keeps (length own) (is_some (expiry own)) (is_some (since own)) (x ∷ rest) places) n (subst (λ (xs : List WordKind). Keeps (length own) (is_some (expiry own)) (is_some (since own)) xs places) e h))
 
--- where the source is that of the entry
+-- if the source is that of the entry
 own_keeps : (own : List Entry) (s time places : ℕ) (who : Actor) (part : EntryClass) → is_of s part ≡ true → SourceStep own time who part → KeepsTo own places
     → Keeps (suc (length own)) (is_some (expiry_after part time (expiry own))) (is_some (since_after part time (since own))) (owed_after part (since own) (owed own)) (part_places s part + places)
 own_keeps own s time places who (Notes t call) o h k =

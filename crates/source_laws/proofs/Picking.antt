@@ -1,4 +1,4 @@
--- Which answer each callback gives, and in how many attempts an answer stands.
+-- Which answer each callback gives, and in how many attempts an answer applies.
 use Rattle.std.proofs.Common.{◌≡◌, ◌≤◌, ◌<◌, ◌+◌, ◌*◌, ◌∙◌, ℕ, zero, suc, Bool, true, false, not, ◌==◌, ◌&&◌, ◌||◌, nat_le, List, [], ◌∷◌, map, sum, Option, Some, None, is_none, cond, refl, sym, ap, subst, arith}
 use Rattle.std.proofs.lemmas.Bool.{true≢false}
 use Rattle.std.proofs.lemmas.Bool.Decides.{nat_tests}
@@ -42,7 +42,7 @@ answer_weighs s (Some a) = notes_weigh s a.reports ∙ sym (sum_is (λ (r : Repo
 
 -- ---- the answer of a callback
 
--- an answer stands in attempt n for its thing: one of its own in that, a general one where none of its own does
+-- an answer applies in attempt n to its thing: one of its own in that, a general one if none of its own does
 abbrev pub stands_by : What → List Answer → Option ℕ → ℕ → Bool
 stands_by x answers None n = is_none (answer_for x (Some n) answers)
 stands_by x answers (Some k) n = k == n
@@ -64,7 +64,7 @@ found_within R test x n (a ∷ rest) t = by_test (is_thing a.what x && is_for a.
         omega (arith, one)
     by_test false e l = omega (arith, l)
 
--- the places of a callback's reports are those of an answer that stands
+-- the room of a callback's reports is that of an answer that applies
 abbrev pub picked : ℕ → List Answer → Kind → ℕ → Answer → ℕ
 picked s answers k n a = one_if (begins a.what k && stands_at answers a n) * report_places s a
 
@@ -112,7 +112,7 @@ passing_most q n (suc k) l = by_last (nat_le n k) refl (λ w. passing_most q n k
     by_last true e rest = let within : n ≤ k = grind (arith, nat_tests) in omega (arith, rest within)
     by_last false e rest = let same : n ≡ suc k = grind (arith, nat_tests) in omega (arith, ap (passing q) same)
 
--- one more may begin in the attempt that is open, where it has not begun
+-- one more may begin in the attempt that is open, if it has not begun
 abbrev may_begin : What → (ℕ → Bool) → List Entry → ℕ
 may_begin x q past = when (not (begun x past)) (one_if (q (attempts past)))
 
@@ -130,7 +130,7 @@ counted_within : (m : Machine) (x : What) (q : ℕ → Bool) (past : List Entry)
 counted_within m x q [] h = omega arith
 counted_within m x q (e ∷ past) h = counted_entry x q past e e.kind refl (λ b. once m past e h x b) (counted_within m x q past h.1)
 
--- ---- in how many attempts an answer stands
+-- ---- in how many attempts an answer applies
 
 general_is : (a : Answer) (answers : List Answer) (n : ℕ) → general_in a answers n ≡ passing (λ k. is_none (answer_for a.what (Some k) answers)) n
 general_is a answers zero = refl
@@ -188,7 +188,7 @@ reported_counted m s (e ∷ past) =
     one_more : (x y r : ℕ) → x * r + y * r ≤ (x + y) * r
     one_more x y r = omega arith
 
--- all reports keep to the places of the answers, in the attempts in which these stand
+-- all reports keep to the room of the answers, in the attempts in which these apply
 pub reported_within : (m : Machine) (s most : ℕ) (past : List Entry) → JournalPart m past → attempts past ≤ most → reported m s past ≤ sum (map (λ a. attempts_with a m.answers most a.attempt * report_places s a) m.answers)
 reported_within m s most past h l =
     omega (

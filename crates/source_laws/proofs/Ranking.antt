@@ -1,4 +1,4 @@
--- The stages in order: an attempt goes on from each to a later one alone.
+-- The stages in order: an attempt goes on from each only to a later one.
 use Rattle.std.proofs.Common.{◌≡◌, ◌≤◌, ◌∙◌, ℕ, ◌==◌, List, Option, Some, None, cond, refl, sym, ap, arith}
 use Rattle.sleep_model.specs.declared.entry.Entry.{Entry}
 use Rattle.sleep_model.specs.declared.entry.Group.TheVariants as group
@@ -88,7 +88,7 @@ six_rank _ (Comes p InResume) = (omega arith, omega arith)
 six_rank _ (Comes p InEarly) = (omega arith, omega arith)
 six_rank _ (Comes p InResumeNoirq) = (omega arith, omega arith)
 
--- no two stand in one place
+-- no two have one index
 phase_at : ℕ → Phase
 phase_at n =
     cond (n == 6) phase.Suspend (cond (n == 8) phase.Late (cond (n == 9) phase.Noirq (cond (n == 20) phase.ResumeNoirq (cond (n == 21) phase.Early phase.Resume))))

@@ -68,7 +68,7 @@ rescheduled_at (Some (stage.PlatformUp a)) q e i h = absurd (in_platform_up a q 
 rescheduled_at None q e i h = never h
 rescheduled_at (Some _) q e i h = never h
 
--- a device that was scheduled on the way up stands in its phase
+-- the phase under way is that of a device which was scheduled on the way up
 pub risen_stage : (m : Machine) (past : List Entry) → JournalPart m past → (p : Phase) (d : ℕ) → Up p → state_in m past (mirror p) d ≡ state.Rescheduled → stage_of past ≡ Some (stage.Ups p)
 risen_stage m past h p d i e =
     let s : DevicePhases m past (stage_of past) = device_phases m past h in

@@ -1,4 +1,4 @@
--- The autosleep work begins an attempt at most in each of its runs, and runs only where autosleep was written.
+-- The autosleep work begins at most one attempt in each of its runs, and runs only if autosleep was written.
 use Rattle.std.proofs.Common.{◌≡◌, ◌≤◌, ◌<◌, ◌+◌, ◌∙◌, ℕ, zero, suc, Bool, true, false, not, ◌&&◌, nat_lt, List, [], ◌∷◌, Option, slice_get, cond, refl, sym, ap, subst, arith}
 use Rattle.std.specs.List.{count_by}
 use Rattle.std.proofs.lemmas.Bool.{true≢false}
@@ -35,7 +35,7 @@ use Rattle.source_laws.proofs.Trying.{is_attempt, is_over as ends_attempt, done_
 
 -- ---- one attempt a run
 
--- the work stands there, has begun so many attempts in so many runs, and makes the open one or not
+-- the work has that state, has begun so many attempts in so many runs, and makes the open one or not
 pub record AutoTries (w : Work) (tried runs : ℕ) (making : Bool) : Type 0 where
   pub within : tried + one_if (not making && is_trying w) ≤ runs
   pub attempting : making ≡ true → is_attempting w ≡ true
@@ -70,7 +70,7 @@ work_other (actor.Dev i) k w e = refl
 work_other (actor.Timer i) k w e = refl
 work_other actor.Time k w e = refl
 
--- what the work is still to begin
+-- what the work has yet to begin
 abbrev due_still : Bool → Work → ℕ
 due_still making w = one_if (not making && is_trying w)
 
@@ -218,7 +218,7 @@ runs_within m (e ∷ past) h = by_run (is_run e.kind) refl (runs_within m past h
         omega (arith, runs_is e.kind (runs past), ap one_if r, less)
     by_run false r l = omega (arith, runs_is e.kind (runs past), ap one_if r, l)
 
--- ---- where autosleep is never written
+-- ---- if autosleep is never written
 
 -- the work never runs
 record Quiet (past : List Entry) : Type 0 where
@@ -289,6 +289,6 @@ quiet m z (e ∷ past) h =
       none = omega (arith, runs_is e.kind (runs past), ap one_if c.runs, q.none);
     }
 
--- the work runs only where autosleep is written
+-- the work runs only if autosleep is written
 pub runs_none : (m : Machine) → count_by is_autosleep (all_operations m.actors) ≡ 0 → (past : List Entry) → JournalPart m past → runs past ≡ 0
 runs_none m z past h = (quiet m z past h).none

@@ -42,7 +42,7 @@ maker_is (kind.Attempt n guarded) who before = refl
 maker_is (kind.Over n r) who before = refl
 maker_is _ who before = refl
 
--- ---- where scripts stand
+-- ---- the positions of scripts
 
 pub positions_length : (n : ℕ) (past : List Entry) → length (positions n past) ≡ n
 positions_length n [] = length-replicate n first_position
@@ -128,14 +128,14 @@ abbrev pub is_attempting : Work → Bool
 is_attempting (Attempting c) = true
 is_attempting _ = false
 
--- the work has run, and is to make an attempt still
+-- the work has run, and is yet to make an attempt
 abbrev pub is_trying : Work → Bool
 is_trying Reading = true
 is_trying (Saving c) = true
 is_trying (Attempting c) = true
 is_trying _ = false
 
--- an attempt is made by a script at a write to the state, or by the work where it is to
+-- an attempt is made by a script at a write to the state, or by the work if it is to make one
 abbrev pub TriesAt : Machine → List Entry → Actor → Type 0
 TriesAt m past (actor.Script i) = passes is_state (slice_get (steps_in m i) (done_of m past i)) ≡ true
 TriesAt m past actor.Auto = is_attempting (work past) ≡ true
@@ -197,7 +197,7 @@ entry_trial m past now _ k (ByWork w _ a s o e x) free = work_trial m past now w
 entry_trial m past now _ k (ByDevice d _ a x) free = device_trial m past now d k x a
 entry_trial m past now _ _ ByTime free = ByOther refl refl refl (λ x. absurd (true≢false (sym x)))
 
--- an attempt begins where none is open
+-- an attempt begins if none is open
 no_attempt : (m : Machine) (past : List Entry) (now : EventNow) (there : Stage) (k : Kind) → Made m past now there k → is_attempt k ≡ false
 no_attempt m past now _ _ Made.Ends = refl
 no_attempt m past now _ _ _ = refl

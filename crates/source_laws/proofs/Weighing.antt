@@ -72,7 +72,7 @@ pub below_both : (n : ℕ) (f g : ℕ → ℕ) → below n (λ i. f i + g i) ≡
 below_both zero f g = refl
 below_both (suc n) f g = omega (arith, below_both n f g)
 
--- w where it is so
+-- w if it is so, else 0
 abbrev pub when : Bool → ℕ → ℕ
 when true w = w
 when false w = 0

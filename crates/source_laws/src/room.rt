@@ -2,8 +2,8 @@
 
 ghost use Rattle.source_laws.specs.Room.{HistoriesKeep};
 
-/// The history of a source never has more entries than the calls of the machine have places on it, so
-/// that it never fills up where it has them.
+/// The history of a source never has more entries than the calls of the machine have room for, so that it
+/// never fills up if it has that room.
 #[tactic(auto, using(crate::proofs::Fitting::histories_keep))]
 pub fn histories_keep_to_their_places()
     ensures { HistoriesKeep }

@@ -1,8 +1,8 @@
-//! The parts of the core, which an attempt suspends backward and resumes forward (`drivers/base/syscore.c`). Its
-//! tests are in `part_cases`.
+//! The parts of the core, which an attempt suspends backward and resumes forward (`drivers/base/syscore.c`).
+//! Its tests are in `part_cases`.
 //!
-//! Promises: The next core step, down and up; after an entry, which of them are owed their undo. By the clauses of
-//! `Syscore::..`.
+//! Promises: The next core step, down and up; after an entry, which of them are owed their undo. By the
+//! clauses of `Syscore::..`.
 //!
 //! Begin reading in `src/syscore.rt`.
 #![tactic(auto)]

@@ -1,3 +1,4 @@
+//! The parts of the core with syscore operations, and which of them is suspended or resumed next.
 ghost use Rattle.std.specs.Prelude.{◌≡◌, not, find};
 ghost use Rattle.std.specs.List.{range_with_len};
 ghost use Rattle.sleep_model.specs.Walk.{is_so, last_where};
@@ -64,8 +65,8 @@ impl Syscore {
         first_set(&self.suspended, self.n)
     }
 
-    /// The entry of the part that is suspended next, which answers `r` (`syscore_suspend`). It is for a caller that keeps
-    /// these parts alone: the core decides by `next`, and tells them of the entry by `note`.
+    /// The entry of the part that is suspended next, which answers `r` (`syscore_suspend`). It is for a
+    /// caller that has only these parts: the core decides by `next`, and reports the entry by `note`.
     pub fn suspend_turn(&mut self, r: Option<Errno>) -> Kind
         requires { IsSome (next_suspended self.old) }
         ensures kind { suspend_entry r self.old ≡ Some result }

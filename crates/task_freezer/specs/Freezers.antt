@@ -1,4 +1,4 @@
--- The freezer as one value, what an entry does to it, whom a freeze waits for, and how a freeze stands.
+-- The freezer as one value, what an entry does to it, whom a freeze waits for, and how far a freeze is.
 use Rattle.std.specs.Prelude.{◌≡◌, ℕ, suc, ◌+◌, Bool, true, false, not, ◌&&◌, nat_le, List, [], ◌∷◌, length, if◌then◌else◌, Option, Some, None, replicate, slice_set, slice_index_or}
 use Rattle.sleep_model.specs.declared.entry.Actor.{Actor}
 use Rattle.sleep_model.specs.declared.entry.Actor.TheVariants as actor
@@ -20,7 +20,7 @@ pub record FreezerState : Type 0 where
   pub freezings : List Freezing
   pub exited_flags : List Bool
 
--- these scripts, asked for nothing and there still
+-- these scripts, asked for nothing and not exited
 abbrev pub first_freezer : List Script → FreezerState
 first_freezer scripts = record {
   scripts = scripts;
@@ -54,7 +54,7 @@ freezer_after who kind before = record {
 abbrev pub exited_at : List Bool → ℕ → Bool
 exited_at exited_flags i = slice_index_or exited_flags i false
 
--- a task keeps the freeze of its group waiting: it is asked, not frozen, and there still (try_to_freeze_tasks)
+-- a task keeps the freeze of its group waiting: it is asked, not frozen, and has not exited (try_to_freeze_tasks)
 abbrev pub waits_for : Group → TaskKind → Freezing → Bool → Bool
 waits_for g kind f exited_flags = is_in g kind && f.asked && not f.frozen && not exited_flags
 
@@ -88,9 +88,10 @@ abbrev pub first_from : Option ℕ → List ℕ → Option ℕ
 first_from None tasks = first_of tasks
 first_from (Some x) tasks = Some x
 
--- ---- how a freeze stands
+-- ---- how far a freeze is
 
--- a freeze that goes on since then, at that time, where these tasks are left: it ends where none is, gives up where its time is over, and else looks again (try_to_freeze_tasks, freeze_timeout_msecs)
+-- a freeze that goes on since then, at that time, with these tasks left: it ends if none is, gives up if its time is over, and else looks
+-- again (try_to_freeze_tasks, freeze_timeout_msecs)
 abbrev pub round_of : ℕ → ℕ → List ℕ → Round
 round_of since time [] = round.AllFrozen
 round_of since time (x ∷ rest) =

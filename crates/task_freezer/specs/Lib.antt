@@ -1,3 +1,4 @@
+-- The definitions of this crate.
 pub mod FreezerFields
 pub mod Freezers
 pub mod Fronts

@@ -13,7 +13,7 @@ use Rattle.task_freezer.specs.declared.left.LeftCounts.{LeftCounts}
 use Rattle.task_freezer.specs.declared.left.WaitGroups.{WaitGroups}
 use Rattle.task_freezer.specs.Freezers.{exited_at, waits_for, left_by}
 
--- one where it is so, else none
+-- one if it is so, else none
 abbrev pub as_count : Bool → ℕ
 as_count true = 1
 as_count false = 0

@@ -1,3 +1,4 @@
+//! The freezer as one value: what an entry does to it, and what becomes of a freeze.
 ghost use Rattle.std.specs.Prelude.{◌≡◌, ◌≤◌, ◌^◌};
 ghost use Rattle.sleep_model.specs.Attempt.{gives_up_at};
 
@@ -16,7 +17,7 @@ pub fn gives_up_at(since: u64) -> u64
     since + u64::from(FREEZE_TIMEOUT_MSECS)
 }
 
-/// How a freeze stands at a moment (`try_to_freeze_tasks`).
+/// What becomes of a freeze at a moment (`try_to_freeze_tasks`).
 #[derive(Clone, Copy)]
 pub enum Round {
     /// No task is left: the freeze ends.
@@ -125,7 +126,7 @@ impl<'m> Freezer<'m> {
         left_among(self.scripts, &self.freezings, &self.exited_flags, group)
     }
 
-    /// How a freeze of the group stands at that time that goes on since then. The tasks are gone through
+    /// What becomes of a freeze of the group at that time that goes on since then. The tasks are gone through
     /// only if it gives up (`try_to_freeze_tasks`).
     pub fn round(&self, group: Group, since: u64, time: u64) -> Round
         requires { since ≤ 2 ^ 63 }

@@ -1,3 +1,4 @@
+-- Proof that `merges_to_a_stuck_log` meets its contract.
 use Rattle.merge_laws.proofs.laws.merges_to_a_stuck_log.Goals as goal
 use Rattle.merge_laws.proofs.Whole.{merges_to_stuck}
 

@@ -1,3 +1,4 @@
+-- The invariant of the loop of `counts_of`, and the measure by which it ends.
 use Rattle.std.proofs.Common.{◌≡◌, ◌+◌, ◌≤◌, length}
 use Rattle.sleep_model.specs.Interleaved.{unread}
 use Rattle.run_commands.specs.Counting.{attempts_in, entered_in}

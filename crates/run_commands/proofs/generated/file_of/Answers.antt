@@ -1,3 +1,4 @@
+-- Proof that `file_of` meets its contract.
 use Rattle.std.proofs.Common.{◌∙◌, ap}
 use Rattle.std.proofs.lemmas.Result.{IfOk-weaker}
 use Rattle.machine_file.specs.Spelling.{spelling}

@@ -1,3 +1,4 @@
+-- Proof that `line_of` meets its contract.
 use Rattle.run_commands.proofs.Generating.{line_text}
 use Rattle.run_commands.proofs.generated.line_of.Goals as goal
 

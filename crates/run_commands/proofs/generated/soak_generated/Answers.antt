@@ -1,3 +1,4 @@
+-- Proof that `soak_generated` meets its contract.
 use Rattle.program_ending.specs.Streams.{stream}
 use Rattle.run_commands.proofs.Generating.{soak_ended}
 use Rattle.run_commands.proofs.generated.soak_generated.Goals as goal

@@ -1,3 +1,4 @@
+-- Proof that `write_generated` meets its contract.
 use Rattle.program_ending.specs.Streams.{stream}
 use Rattle.run_commands.proofs.Generating.{gen_ended}
 use Rattle.run_commands.proofs.generated.write_generated.Goals as goal

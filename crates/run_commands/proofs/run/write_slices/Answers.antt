@@ -1,3 +1,4 @@
+-- Proof that `write_slices` meets its contract.
 use Rattle.std.proofs.Common.{◌∙◌, sym}
 use Rattle.run_commands.proofs.run.write_slices.Goals as goal
 

@@ -1,3 +1,4 @@
+-- Proof that `write_whole` meets its contract.
 use Rattle.std.proofs.Common.{subst}
 use Rattle.sleep_model.specs.declared.log.Log.{Log}
 use Rattle.program_ending.specs.Streams.{Stream, stream}

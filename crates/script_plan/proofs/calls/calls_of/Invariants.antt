@@ -1,3 +1,4 @@
+-- The invariant of the loop of `calls_of`.
 use Rattle.std.proofs.Common.{◌≡◌, ◌++◌, drop}
 use Rattle.script_plan.specs.CallPlans.{calls_made}
 use Rattle.script_plan.specs.Plans.{ops_of}

@@ -1,3 +1,4 @@
+-- The invariant of the loop of `add_round`.
 use Rattle.std.proofs.Common.{◌≡◌, ◌++◌, drop}
 use Rattle.script_plan.specs.Plans.{round_from}
 use Rattle.script_plan.proofs.expand.add_round.Given as goal

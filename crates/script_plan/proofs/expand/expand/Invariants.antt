@@ -1,3 +1,4 @@
+-- The invariant of the loop of `expand`.
 use Rattle.std.proofs.Common.{◌≡◌}
 use Rattle.sleep_model.specs.Scripts.{times_over}
 use Rattle.script_plan.specs.Plans.{round_from}

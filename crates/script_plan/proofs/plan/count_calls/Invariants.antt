@@ -1,3 +1,4 @@
+-- The invariant of the loop of `count_calls`.
 use Rattle.std.proofs.Common.{◌≡◌, ◌≤◌, ◌*◌, ◌++◌, drop}
 use Rattle.script_plan.specs.Plans.{ops_of, turns_from, calls_after}
 use Rattle.script_plan.proofs.plan.count_calls.Given as goal

@@ -1,3 +1,4 @@
+-- The invariant of the loop of `entry_indices`.
 use Rattle.std.proofs.Common.{◌≡◌, ◌++◌, drop}
 use Rattle.script_plan.specs.Plans.{entry_indices}
 use Rattle.script_plan.proofs.plan.entry_indices.Given as goal

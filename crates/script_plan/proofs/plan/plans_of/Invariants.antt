@@ -1,3 +1,4 @@
+-- The invariant of the loop of `plans_of`.
 use Rattle.std.proofs.Common.{◌≡◌, ◌≤◌, length, map, take, drop}
 use Rattle.sleep_model.specs.Places.{all_operations}
 use Rattle.script_plan.specs.CallPlans.{with_source}

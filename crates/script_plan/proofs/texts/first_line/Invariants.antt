@@ -1,3 +1,4 @@
+-- The invariant of the loop of `first_line`.
 use Rattle.std.proofs.Common.{◌≡◌, ◌++◌, take, drop}
 use Rattle.sleep_model.specs.Tasks.{first_line}
 use Rattle.script_plan.proofs.texts.first_line.Given as goal

@@ -1,3 +1,4 @@
+-- Proof that `read_all` meets its contract.
 use Rattle.std.proofs.Common.{◌++◌, take, arith, length-append}
 use Rattle.std.proofs.lemmas.Result.{err_from_is_err_and}
 use Rattle.std.proofs.KnownBytes.{Consumes-trans}

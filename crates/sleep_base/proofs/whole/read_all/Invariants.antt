@@ -1,4 +1,4 @@
--- What was taken stands in `bytes`, and is within the limit.
+-- What was taken is in `bytes`, and is within the limit.
 use Rattle.std.proofs.Common.{◌≤◌, ◌-◌, length}
 use Rattle.std.specs.Io.KnownBytes.{Consumes}
 use Rattle.sleep_base.proofs.whole.read_all.Given as goal

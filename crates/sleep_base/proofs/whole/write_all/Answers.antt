@@ -1,3 +1,4 @@
+-- Proof that the loop of `write_all` keeps its invariant.
 use Rattle.std.proofs.Common.{◌≡◌, ℕ, List, ◌++◌, take, drop, rules, arith, length-drop, take_all, sym, ap, ◌∙◌, append_assoc, take-append-drop}
 use Rattle.std.proofs.KnownBytes.{Appends-trans}
 use Rattle.sleep_base.proofs.whole.write_all.Goals as goal

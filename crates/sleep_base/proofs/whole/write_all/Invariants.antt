@@ -1,4 +1,4 @@
--- A front of the bytes was written, and the rest stands in `rest`.
+-- A prefix of the bytes was written, and the rest is in `rest`.
 use Rattle.std.proofs.Common.{◌≡◌, ◌≤◌, List, ℕ, ◌++◌, length}
 use Rattle.std.specs.Io.KnownBytes.{Appends}
 use Rattle.sleep_base.proofs.whole.write_all.Given as goal

@@ -1,3 +1,4 @@
+-- Proof that `do_words` meets its contract.
 use Rattle.sleep_commands.proofs.Asking.{undone}
 use Rattle.sleep_commands.proofs.words.do_words.Goals as goal
 

@@ -1,3 +1,4 @@
+-- Proof that `run_words` meets its contract.
 use Rattle.sleep_commands.proofs.Completing.{completes}
 use Rattle.sleep_commands.proofs.words.run_words.Goals as goal
 

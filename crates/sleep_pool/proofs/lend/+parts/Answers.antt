@@ -1,3 +1,4 @@
+-- Proof that `+parts` meets its contract.
 use Rattle.std.proofs.Common.{rules, true, ◌≡◌, ◌++◌, ◌+◌, [], inl, refl, sym, subst, arith}
 use Rattle.std.proofs.lemmas.List.Elements.{All-append}
 use Rattle.crossbeam_utils.specs.Padded.{padded_value}

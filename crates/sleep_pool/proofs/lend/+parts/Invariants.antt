@@ -1,3 +1,4 @@
+-- The measure by which `+parts` ends.
 use Rattle.std.proofs.Common.{◌+◌, ◌-◌, ◌*◌, length}
 use Rattle.sleep_pool.proofs.lend.+parts.Given as goal
 

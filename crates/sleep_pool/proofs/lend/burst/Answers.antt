@@ -1,3 +1,4 @@
+-- Proof that `burst` meets its contract.
 use Rattle.std.proofs.Common.{rules, ◌≡◌, [], refl, sym, subst, length, arith}
 use Rattle.sleep_pool.specs.Turns.{DidNothing, GoesRound, OfParts, PartsEnded, part_size}
 use Rattle.sleep_pool.proofs.Going.{nobody, parts_one}

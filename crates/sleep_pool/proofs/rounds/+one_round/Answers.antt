@@ -1,3 +1,4 @@
+-- Proof that `+one_round` meets its contract.
 use Rattle.std.proofs.Common.{◌<◌, ◌≤◌, ◌/◌, All, length, sym, subst, ◌++◌, ◌+◌, arith}
 use Rattle.std.proofs.lemmas.List.Elements.{All-append, All-take, All-drop, All-weaker}
 use Rattle.sleep_pool.specs.Turns.{AllWent, Went, WentOn, CutShort}

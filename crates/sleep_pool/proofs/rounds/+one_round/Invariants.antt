@@ -1,3 +1,4 @@
+-- The measure by which `+one_round` ends.
 use Rattle.std.proofs.Common.{length}
 use Rattle.sleep_pool.proofs.rounds.+one_round.Given as goal
 

@@ -1,3 +1,4 @@
+-- Proof that `+part_rounds` meets its contract.
 use Rattle.std.proofs.Common.{true, ◌<◌, ℕ, sym, subst, ◌-◌, arith}
 use Rattle.sleep_pool.specs.Turns.{AllWent, CutOff, DidNothing, Ended, GoesOn, NoneLeft, Went, WentOn}
 use Rattle.sleep_pool.proofs.Going.{all_still, all_wider, all_later, ended_none, ended_stop, ended_idle, ended_later}

@@ -1,3 +1,4 @@
+-- The invariant of the loop of `count`, and the measure by which it ends.
 use Rattle.std.proofs.Common.{◌≡◌, ◌≤◌, ◌-◌, length}
 use Rattle.sleep_model.specs.Interleaved.{unread}
 use Rattle.sleep_stats.specs.Counting.{AreAtMost, counted, counts_of}

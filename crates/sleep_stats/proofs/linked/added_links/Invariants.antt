@@ -1,3 +1,4 @@
+-- The invariant of the loop of `added_links`, and the measure by which it ends.
 use Rattle.std.proofs.Common.{◌≡◌, length}
 use Rattle.indexmap.specs.IndexMap.{get}
 use Rattle.sleep_model.specs.Interleaved.{unread}

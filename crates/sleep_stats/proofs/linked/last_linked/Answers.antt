@@ -1,3 +1,4 @@
+-- Proof that in `last_linked` the last case does not occur.
 use Rattle.std.proofs.Common.{◌≡◌, ◌∙◌, ℕ, List, Option, sym, ap, subst}
 use Rattle.sleep_model.specs.Order.{parents_of}
 use Rattle.device_links.specs.Passes.{CanBeAdded, Makes}

@@ -1,3 +1,4 @@
+-- Proof that the loop of `last_links` keeps its invariant.
 use Rattle.std.proofs.Common.{◌++◌, ◌∷◌, ◌∙◌, [], List, false, map, take, get_or, sym, ap}
 use Rattle.std.proofs.lemmas.List.{map-append, take_more}
 use Rattle.sleep_model.specs.declared.machine.Link.{Link}

@@ -1,3 +1,4 @@
+-- The invariant of the loop of `last_links`.
 use Rattle.std.proofs.Common.{◌≡◌, map, take}
 use Rattle.sleep_stats.specs.Linked.{with_last}
 use Rattle.sleep_stats.proofs.linked.last_links.Given as goal

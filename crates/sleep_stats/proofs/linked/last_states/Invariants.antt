@@ -1,3 +1,4 @@
+-- The invariant of the loop of `last_states`, and the measure by which it ends.
 use Rattle.std.proofs.Common.{◌≡◌, ℕ, None, length}
 use Rattle.indexmap.specs.IndexMap.{get}
 use Rattle.sleep_model.specs.Interleaved.{unread}

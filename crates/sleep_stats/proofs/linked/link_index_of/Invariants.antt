@@ -1,3 +1,4 @@
+-- The invariant of the loop of `link_index_of`.
 use Rattle.std.proofs.Common.{◌≡◌, take}
 use Rattle.indexmap.specs.IndexMap.{get}
 use Rattle.sleep_stats.specs.contracts.linked.EndsPartialEq.TheImpl.{eq-value}

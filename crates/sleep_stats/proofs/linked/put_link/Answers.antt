@@ -1,3 +1,4 @@
+-- Proof that `put_link` meets its contract.
 use Rattle.std.proofs.Common.{List, sym, subst}
 use Rattle.indexmap.specs.IndexMap.{get}
 use Rattle.sleep_model.specs.declared.machine.Link.{Link}

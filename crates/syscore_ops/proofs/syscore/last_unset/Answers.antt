@@ -1,3 +1,4 @@
+-- Proof that `last_unset` meets its contract, and that its loop keeps its invariant.
 use Rattle.std.proofs.Common.{◌∙◌, ap, sym, not, arith}
 use Rattle.sleep_model.specs.Walk.{is_so}
 use Rattle.sleep_model.proofs.Searches.{below_passes, below_fails}

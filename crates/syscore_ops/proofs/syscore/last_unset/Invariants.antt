@@ -1,3 +1,4 @@
+-- The invariant of the loop of `last_unset`.
 use Rattle.std.proofs.Common.{◌≡◌, not}
 use Rattle.std.specs.List.{range_with_len}
 use Rattle.sleep_model.specs.Walk.{is_so, last_where}

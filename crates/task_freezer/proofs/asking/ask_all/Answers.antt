@@ -1,3 +1,4 @@
+-- Proof that `ask_all` meets its contract, and that its loop keeps its invariant.
 use Rattle.std.proofs.Common.{◌∙◌, ◌+◌, arith, ap, slice_index_or}
 use Rattle.sleep_model.specs.Freezer.{asked_by}
 use Rattle.task_freezer.proofs.Fronts.{asked_more, asked_all}

@@ -1,3 +1,4 @@
+-- The invariant of the loop of `ask_all`.
 use Rattle.std.proofs.Common.{◌≡◌}
 use Rattle.task_freezer.specs.Fronts.{asked_front}
 use Rattle.task_freezer.proofs.asking.ask_all.Given as goal

@@ -1,3 +1,4 @@
+-- Proof that `let_all_go` meets its contract, and that its loop keeps its invariant.
 use Rattle.std.proofs.Common.{◌∙◌, ◌+◌, arith, ap, slice_index_or}
 use Rattle.sleep_model.specs.Freezer.{let_go}
 use Rattle.task_freezer.proofs.Fronts.{let_go_more, let_go_all}

@@ -1,3 +1,4 @@
+-- The invariant of the loop of `let_all_go`.
 use Rattle.std.proofs.Common.{◌≡◌}
 use Rattle.task_freezer.specs.Fronts.{front_let_go}
 use Rattle.task_freezer.proofs.asking.let_all_go.Given as goal

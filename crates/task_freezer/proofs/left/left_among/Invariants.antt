@@ -1,3 +1,4 @@
+-- The invariant of the loop of `left_among`.
 use Rattle.std.proofs.Common.{◌≡◌, ◌≤◌, ◌+◌, length, drop}
 use Rattle.task_freezer.specs.Freezers.{first_from, first_of, left_by}
 use Rattle.task_freezer.proofs.left.left_among.Given as goal

@@ -1,3 +1,4 @@
+-- Proof that `Plan::ahead` meets its contract.
 use Rattle.sleep_model.specs.Scripts.{pieces}
 use Rattle.script_plan.proofs.CallsPlanned.{ahead_is}
 use Rattle.script_plan.proofs.Planned.{counted_calls}

@@ -1,3 +1,4 @@
+-- Proof that `Plan::calls_at` meets its contract, and that it meets what `calls_between` requires.
 use Rattle.std.proofs.Common.{◌≡◌, ◌∙◌, sym, subst}
 use Rattle.sleep_model.specs.Scripts.{pieces}
 use Rattle.script_plan.specs.CallPlans.{ScriptCalls, calls_ahead}

@@ -1,3 +1,4 @@
+-- Proof that `Plan::calls_before` meets its contract.
 use Rattle.script_plan.proofs.Planned.{counted_calls}
 use Rattle.script_plan.proofs.plan.Plan.calls_before.Goals as goal
 

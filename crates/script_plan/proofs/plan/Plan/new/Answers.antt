@@ -1,3 +1,4 @@
+-- Proof that `Plan::new` keeps the invariant of its type, and that it meets what `entry_indices`, `calls_of` and `count_calls` require.
 use Rattle.std.proofs.Common.{◌≡◌, ◌∙◌, ◌<◌, ℕ, List, length, ap, arith}
 use Rattle.script_plan.specs.CallPlans.{calls_made}
 use Rattle.script_plan.specs.Plans.{expanded, entry_indices, op_at, ops_of, turns_from, calls_after}

@@ -1,3 +1,4 @@
+-- Proof that `Plan::operation` meets its contract.
 use Rattle.std.proofs.Common.{◌∙◌, sym}
 use Rattle.script_plan.proofs.Planned.{operation_at, no_operation}
 use Rattle.script_plan.proofs.plan.Plan.operation.Goals as goal

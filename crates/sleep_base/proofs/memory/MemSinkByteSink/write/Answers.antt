@@ -1,3 +1,4 @@
+-- Proof that `MemSinkByteSink::write` meets its contract.
 use Rattle.std.proofs.Common.{arith, rules, refl, inl, inr}
 use Rattle.sleep_base.proofs.memory.MemSinkByteSink.write.Goals as goal
 use Rattle.sleep_base.proofs.memory.MemSinkByteSink.write.Goals.{then-room-eq0-via-then-room-eq0, then-room-eq0-via-else-room-eq0+then-contains}

@@ -1,3 +1,4 @@
+-- Proof that `MemSourceByteSource::read` meets its contract.
 use Rattle.std.proofs.Common.{◌≡◌, ℕ, ◌+◌, List, ◌++◌, length, take, drop, rules, arith, sym, ap, ◌∙◌, take_at, take-append-drop, drop-drop, drop_of_length-le}
 use Rattle.sleep_base.proofs.memory.MemSourceByteSource.read.Goals as goal
 

@@ -1,3 +1,4 @@
+-- Proof that `Freezer::move_tasks` keeps the invariant of its type, and that it meets what `counts_after` requires.
 use Rattle.std.proofs.Common.{◌≡◌, ◌∙◌, ◌≤◌, length, ap, ap₂, sym, subst}
 use Rattle.sleep_model.specs.declared.entry.Group.TheVariants as group
 use Rattle.task_freezer.specs.declared.left.LeftCounts.{LeftCounts}

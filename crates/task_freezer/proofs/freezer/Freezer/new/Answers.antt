@@ -1,3 +1,4 @@
+-- Proof that `Freezer::new` keeps the invariant of its type.
 use Rattle.std.proofs.Common.{rules, ◌≡◌, ◌∙◌, ap, ap₂, sym, length, replicate, false}
 use Rattle.std.proofs.lemmas.List.{length-replicate}
 use Rattle.sleep_model.specs.Freezer.{unasked}
