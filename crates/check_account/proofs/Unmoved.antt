@@ -43,7 +43,7 @@ unmoved p (kind.End q d r) before h = neither (is_phase q p) (is_phase q (mirror
 unmoved p (kind.Skip q d cause) before h = neither (is_phase q p) (is_phase q (mirror p)) (skipped_for cause) before before h
 unmoved p _ before h = refl
 
--- a device that an entry may not move stands as it was
+-- a device that an entry may not move keeps its state
 pub states_stay : (p : Phase) (k : Kind) (d : ℕ) (xs : List PhaseState) → may_move p k ≡ false → xs ≡ phase_states_after p k (Some d) xs
 states_stay p k d xs h = sym (ap (λ (s : PhaseState). slice_set xs d s) (unmoved p k (state_at xs d) h) ∙ put_same xs d state.Unprepared)
 
@@ -61,7 +61,7 @@ by_part : (who : Actor) (part : PositionEffect) (xs : List ScriptPosition) → p
 by_part (actor.Script i) part xs h = sym (ap (λ (p : PositionEffect). slice_set xs i (position_after p (position_at xs i))) h ∙ put_same xs i first_position)
 by_part _ part xs h = refl
 
--- an entry of a device leaves each script where it stands
+-- an entry of a device leaves each script's position as it is
 positions_stay : (who : Actor) (k : Kind) (xs : List ScriptPosition) → is_of_device k ≡ true → xs ≡ positions_after who (position_effect k) xs
 positions_stay who k xs h = by_part who (position_effect k) xs (stays_for_device k h)
 
@@ -106,7 +106,7 @@ stays_at time now who (kind.Begin p d) a h = refl
 stays_at time now who (kind.End p d r) a h = refl
 stays_at time now who _ a h = absurd (cc)
 
--- an entry of a device moves four fields alone
+-- an entry of a device moves only four fields
 pub attempt_stays : (e : Entry) (a : AttemptState) → is_of_device e.kind ≡ true →
     record a {
       callback = callback_after e.kind (is_device e.actor) a.callback;

@@ -35,7 +35,8 @@ use Rattle.check_account.specs.PairStates.{PairStatesSeen, pairs_after, pairs_of
 
 -- ---- the open attempt
 
--- the time, the saved count with the hard events that are forgotten, the open attempt, and its phase (saved_count, enter_state, dpm_suspend)
+-- the time, the saved count with the hard events that are forgotten, the open attempt, and its phase (saved_count, enter_state,
+-- dpm_suspend)
 pub record AttemptState : Type 0 where
   pub time : ℕ
   pub force : Option ℕ
@@ -122,7 +123,7 @@ owes_by a down.PrepareLate = a.prepared_late
 
 -- ---- the tasks
 
--- what the freezer has come to with each script, where it stands, the marks, and autosleep with its work (freeze_task, autosleep_lock, try_to_suspend)
+-- each task's freezing, each script's position, the marks, and autosleep with its work (freeze_task, autosleep_lock, try_to_suspend)
 pub record TaskState : Type 0 where
   pub freezings : List Freezing
   pub positions : List ScriptPosition
@@ -161,7 +162,7 @@ tasks_of m past = record {
 
 -- ---- the devices
 
--- where each device stands, which of them asked to be left alone or are runtime suspended, which notifiers were told, which processors and core parts are off (struct dev_pm_info, frozen_cpus, syscore_ops_list)
+-- what the entries leave of devices, notifiers, processors and syscore operations (struct dev_pm_info, frozen_cpus, syscore_ops_list)
 pub record DeviceState : Type 0 where
   pub pairs : PairStatesSeen
   pub asks_direct : List Bool

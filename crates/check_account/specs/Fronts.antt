@@ -1,4 +1,4 @@
--- A freeze or a thaw under way: the first tasks are through with it, the others stand as before.
+-- A freeze or a thaw under way: it has reached the first tasks, and the others are as before.
 use Rattle.std.specs.Prelude.{ℕ, suc, List, ◌∷◌}
 use Rattle.sleep_model.specs.declared.entry.Actor.{Actor}
 use Rattle.sleep_model.specs.declared.entry.Group.{Group}

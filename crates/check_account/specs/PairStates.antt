@@ -1,4 +1,4 @@
--- Where each device stands, for each phase and its mirror.
+-- The state of each device, for each phase and its mirror.
 use Rattle.std.specs.Prelude.{ℕ, Bool, true, false, ◌||◌, List, Option}
 use Rattle.phase_table.specs.declared.phase.Phase.{Phase}
 use Rattle.phase_table.specs.declared.phase.Phase.TheVariants as phase
@@ -9,7 +9,7 @@ use Rattle.sleep_model.specs.declared.entry.Kind.TheVariants as kind
 use Rattle.sleep_model.specs.declared.progress.PhaseState.{PhaseState}
 use Rattle.sleep_model.specs.PhaseStates.{phase_states, phase_states_after}
 
--- a list of stands for each phase (struct dev_pm_info)
+-- a list of states for each phase (struct dev_pm_info)
 pub record PairStatesSeen : Type 0 where
   pub prepare : List PhaseState
   pub suspend : List PhaseState
@@ -22,7 +22,7 @@ pub record PairStatesSeen : Type 0 where
   pub resume : List PhaseState
   pub complete : List PhaseState
 
--- the stands after an entry, which is of that device, if of one (dpm_run_callback)
+-- the states after an entry, which is of that device, if of one (dpm_run_callback)
 abbrev pub pairs_after : Kind → Option ℕ → PairStatesSeen → PairStatesSeen
 pairs_after k d before = record {
   prepare = phase_states_after phase.Prepare k d before.prepare;
@@ -37,7 +37,7 @@ pairs_after k d before = record {
   complete = phase_states_after phase.Complete k d before.complete;
 }
 
--- the stands of n devices after these entries of the journal, the newest first (struct dev_pm_info)
+-- the states of n devices after these entries of the journal, the newest first (struct dev_pm_info)
 abbrev pub pairs_of : ℕ → List Entry → PairStatesSeen
 pairs_of n past = record {
   prepare = phase_states n phase.Prepare past;

@@ -10,8 +10,8 @@ use crate::counts::one_more;
 use sleep_base::{Errno, Mem};
 use sleep_model::{Actor, FrozeEnd, Kind, Sleep};
 
-/// How many attempts were begun after an entry (`kernel/power/suspend.c`, `pm_suspend`). `Mem` if the counter has
-/// no room.
+/// How many attempts were begun after an entry (`kernel/power/suspend.c`, `pm_suspend`). `Mem` if the counter
+/// has no room.
 pub(crate) fn attempts_after(kind: Kind, before: u32) -> Result<u32, Mem>
     ensures { IfOk result (λ n. n ≡ attempts_after kind before) }
 {

@@ -1,3 +1,5 @@
+//! What the entries of the journal leave of attempts: the open one, its stage and its errors.
+
 ghost use Rattle.std.specs.Prelude.{◌≡◌};
 
 use crate::attempt::{
@@ -14,8 +16,8 @@ use sleep_base::{Errno, Mem};
 use sleep_model::{Actor, Callback, Entry, EventNow, PlatDo, Sleep, Stage, pos};
 use std::marker::Model;
 
-/// What the entries of the journal leave of the saved count, of the open attempt and of its phase: each field is what
-/// a definition reads from them.
+/// What the entries of the journal leave of the saved count, of the open attempt and of its phase: each field
+/// is what a definition reads from them.
 #[derive(Drop)]
 pub struct AttemptAccount {
     time: u64,
@@ -99,7 +101,8 @@ impl AttemptAccount {
         }
     }
 
-    /// Passes an entry of a device that is prepared, scheduled, called back or completed, which moves the open phase alone.
+    /// Passes an entry of a device that is prepared, scheduled, called back or completed: it moves only the
+    /// open phase.
     #[tactic(auto, using(crate::proofs::Unmoved::attempt_stays))]
     fn pass_device(&mut self, e: Entry)
         requires { is_of_device e.kind ≡ true }
@@ -221,7 +224,7 @@ impl AttemptAccount {
         self.callback
     }
 
-    /// The error that stands in the open phase (`async_error`).
+    /// The error of the open phase (`async_error`).
     pub fn phase_failed(&self) -> Option<Errno>
         ensures { result ≡ self.now.phase_failed }
     {
@@ -235,7 +238,7 @@ impl AttemptAccount {
         self.own_error
     }
 
-    /// Whether suspend has left a device alone, and resume is not done since.
+    /// Whether suspend has skipped a device as direct-complete, and resume is not done since.
     pub fn disabled_by_direct(&self) -> bool
         ensures { result ≡ self.now.disabled_by_direct }
     {
@@ -267,8 +270,8 @@ impl AttemptAccount {
         }
     }
 
-    /// Whether a wakeup is pending at that word: the count in force has changed, or a hard event came that no freeze
-    /// forgot (`pm_wakeup_pending`).
+    /// Whether a wakeup is pending at that word: the count in force has changed, or a hard event came that no
+    /// freeze forgot (`pm_wakeup_pending`).
     pub fn is_pending(&self, now: EventNow) -> bool
         ensures { result ≡ (count_pending self.now.force now || nat_lt self.now.forgotten now.hard) }
     {

@@ -72,7 +72,7 @@ fn looks_at(before: Work) -> Work
     }
 }
 
-/// Where the work stands once it has looked: it naps where nothing was registered meanwhile.
+/// The state of the work after its look at the count: it naps if nothing was registered meanwhile.
 fn after_look(seen: Option<u32>, before: Work) -> Work
     ensures { result ≡ after_look seen before }
 {
@@ -89,7 +89,7 @@ fn after_look(seen: Option<u32>, before: Work) -> Work
     }
 }
 
-/// Where the work stands after an entry of its own.
+/// The state of the work after an entry of its own.
 fn work_step(kind: Kind, before: Work) -> Work
     ensures { result ≡ work_step kind before }
 {
@@ -106,7 +106,7 @@ fn work_step(kind: Kind, before: Work) -> Work
     }
 }
 
-/// Where the work stands after an entry of that actor: only its own move it (`try_to_suspend`).
+/// The state of the work after an entry of that actor: only its own entries move it (`try_to_suspend`).
 pub(crate) fn work_after(who: Actor, kind: Kind, before: Work) -> Work
     ensures { result ≡ work_after who kind before }
 {
@@ -116,7 +116,8 @@ pub(crate) fn work_after(who: Actor, kind: Kind, before: Work) -> Work
     }
 }
 
-/// Whether the work is queued after an entry, where autosleep was on or not before it (`queue_up_suspend_work`).
+/// Whether the work is queued after an entry; `on` says whether autosleep was on before it
+/// (`queue_up_suspend_work`).
 pub(crate) fn queued_after(kind: Kind, on: bool, before: bool) -> bool
     ensures { result ≡ queued_after kind on before }
 {

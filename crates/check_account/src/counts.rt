@@ -51,7 +51,8 @@ pub fn time_after(kind: Kind, at: u64, before: u64) -> u64
     }
 }
 
-/// Whether the count of events differs from the one in force, or an event is in progress (`pm_wakeup_pending`).
+/// Whether the count of events differs from the one in force, or an event is in progress
+/// (`pm_wakeup_pending`).
 fn has_changed(now: EventNow, count: u32) -> bool
     ensures { result ≡ has_changed now count }
 {
@@ -79,8 +80,8 @@ fn unless_changed(force: Option<u32>, now: EventNow) -> Option<u32>
     }
 }
 
-/// The count in force after an entry that saw this word: a save that succeeds stores, one that fails and the end of
-/// an attempt drop, a test that found a wakeup drops what it found changed (`pm_save_wakeup_count`,
+/// The count in force after an entry that saw this word: a save that succeeds stores, one that fails and the
+/// end of an attempt drop, a test that found a wakeup drops what it found changed (`pm_save_wakeup_count`,
 /// `pm_wakeup_pending`).
 pub(crate) fn force_after(kind: Kind, now: EventNow, before: Option<u32>) -> Option<u32>
     ensures { result ≡ force_after (count_effect kind) now before }

@@ -1,3 +1,5 @@
+//! What the entries of the journal leave of devices, notifiers, processors and syscore operations.
+
 use crate::flags::{
     first_statuses, move_asks, move_cpus, move_notified, move_statuses, move_stopped,
 };
@@ -85,14 +87,14 @@ impl DeviceAccount {
         move_stopped(&mut self.stopped, kind);
     }
 
-    /// Where each device stands in a phase and its mirror (`struct dev_pm_info`).
+    /// The state of each device in a phase and its mirror (`struct dev_pm_info`).
     pub fn phase_states(&self, phase: Phase) -> &[PhaseState]
         ensures { result.now ≡ states_on self.now.pairs phase }
     {
         self.pairs.phase_states(phase)
     }
 
-    /// Where a device stands in a phase and its mirror.
+    /// The state of a device in a phase and its mirror.
     pub fn state(&self, phase: Phase, device: u32) -> PhaseState
         ensures { result ≡ state_at (states_on self.now.pairs phase) device }
     {

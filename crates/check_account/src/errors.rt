@@ -1,5 +1,5 @@
-//! The callback that the attempt's maker runs, the errors of the open phase, and what an attempt stops beside tasks
-//! and devices.
+//! The callback that the attempt's maker runs, the errors of the open phase, and what an attempt stops beside
+//! tasks and devices.
 
 ghost use Rattle.std.specs.Prelude.{◌≡◌};
 ghost use Rattle.sleep_model.specs.Answers.{error_of_number};
@@ -74,8 +74,8 @@ pub(crate) fn phase_failed_after(kind: Kind, before: Option<Errno>) -> Option<Er
     }
 }
 
-/// The error of a synchronous device's callback in the open phase, after an entry, which is a device's own or not
-/// (`dpm_suspend`).
+/// The error of a synchronous device's callback in the open phase, after an entry, which is a device's own or
+/// not (`dpm_suspend`).
 pub(crate) fn own_error_after(kind: Kind, own: bool, before: Option<Errno>) -> Option<Errno>
     ensures { result ≡ own_error_after kind own before }
 {
@@ -86,7 +86,7 @@ pub(crate) fn own_error_after(kind: Kind, own: bool, before: Option<Errno>) -> O
     }
 }
 
-/// Whether suspend has left a device alone after an entry, and resume is not done since
+/// Whether suspend has skipped a device as direct-complete after an entry, and resume is not done since
 /// (`drivers/base/power/main.c`, `__device_suspend`).
 pub(crate) fn disabled_by_direct_after(kind: Kind, before: bool) -> bool
     ensures { result ≡ disabled_by_direct_after kind before }

@@ -21,7 +21,7 @@ pub(crate) fn first_statuses(alloc: Global, devices: &[Device]) -> Result<Flags,
     Ok(Flags::of_vec(statuses))
 }
 
-/// A prepare tells whether its device may be direct-complete (`device_prepare`).
+/// The answer of `prepare` says whether its device may be direct-complete (`device_prepare`).
 pub(crate) fn move_asks(asks: &mut Flags, kind: Kind)
     ensures { asks.new ≡ asks_direct_after kind asks.old }
 {

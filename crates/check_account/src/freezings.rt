@@ -1,4 +1,5 @@
-//! What a freeze, a thaw and a task that freezes do to the tasks (`kernel/power/process.c`, `kernel/freezer.c`).
+//! What a freeze, a thaw and a task that freezes do to the tasks (`kernel/power/process.c`,
+//! `kernel/freezer.c`).
 
 ghost use Rattle.std.specs.Prelude.{◌≡◌, ◌<◌, ◌^◌, length, map, IfOk};
 ghost use Rattle.sleep_model.specs.declared.machine.Script.{Script};

@@ -2,7 +2,8 @@
 
 ghost use Rattle.check_account.specs.Accounts.{AllFollow, EachIsKnown};
 
-/// For every machine and every journal, an entry moves what the entries before it left to what they all leave.
+/// For every machine and every journal, an entry moves what the entries before it left to what they all
+/// leave.
 #[tactic(auto, using(crate::proofs::Following::follow))]
 pub fn accounts_follow()
     ensures { AllFollow }

@@ -1,10 +1,10 @@
-//! The account that the checker of logs keeps of the entries of the journal that it has passed: each field is what
-//! a definition reads from them. Its tests are in `row_trials`, by the command `check`.
+//! The account that the checker of logs keeps of the entries of the journal that it has passed: each field is
+//! what a definition reads from them. Its tests are in `row_trials`, by the command `check`.
 //!
-//! Promises: After each entry of a journal each field of the account is what the definitions read from all entries
-//! so far: of the saved count and the open attempt, of the tasks with the freezer, the marks and autosleep, of
-//! devices, notifiers, processors and the core's parts. By the clauses of `AttemptAccount`, `TaskAccount`,
-//! `DeviceAccount`: `new`, `pass`, and one call a field; `accounts_follow`, `each_is_known`.
+//! Promises: After each entry of a journal each field of the account is what the definitions read from all
+//! entries so far: of the saved count and the open attempt, of the tasks with the freezer, the marks and
+//! autosleep, of devices, notifiers, processors and the core's parts. By the clauses of `AttemptAccount`,
+//! `TaskAccount`, `DeviceAccount`: `new`, `pass`, and one call a field; `accounts_follow`, `each_is_known`.
 //!
 //! Begin reading in `src/attempts.rt`, `src/tasks.rt`, `src/devices.rt`; `specs/Accounts.antt`,
 //! `specs/PairStates.antt`.

@@ -1,4 +1,4 @@
-//! Where each device stands, for each phase and its mirror.
+//! The state of each device, for each phase and its mirror.
 
 ghost use Rattle.std.specs.Prelude.{◌≡◌};
 
@@ -9,7 +9,7 @@ use sleep_model::{Kind, PhaseState};
 use std::alloc::Global;
 use std::marker::Model;
 
-/// A list of stands for each phase, whose mirror shares them.
+/// A list of states for each phase, whose mirror shares them.
 #[derive(Drop)]
 pub struct PairStates {
     prepare: Vec<PhaseState>,
@@ -88,7 +88,7 @@ impl PairStates {
         move_state(&mut self.complete, Phase::Complete, &kind, device);
     }
 
-    /// Where each device stands in a phase and its mirror.
+    /// The state of each device in a phase and its mirror.
     pub fn phase_states(&self, phase: Phase) -> &[PhaseState]
         ensures { result.now ≡ states_on self.now phase }
     {
@@ -106,7 +106,7 @@ impl PairStates {
         }
     }
 
-    /// Where a device stands in a phase and its mirror; unprepared if there is no such device.
+    /// The state of a device in a phase and its mirror; unprepared if there is no such device.
     pub fn state(&self, phase: Phase, device: u32) -> PhaseState
         ensures { result ≡ state_at (states_on self.now phase) device }
     {

@@ -1,4 +1,4 @@
-//! Where devices stand in each phase and its mirror (`drivers/base/power/main.c`, `struct dev_pm_info`).
+//! The states of devices in each phase and its mirror (`drivers/base/power/main.c`, `struct dev_pm_info`).
 
 ghost use Rattle.std.specs.Prelude.{◌≡◌, ◌||◌, Some, IfOk, replicate};
 ghost use Rattle.phase_table.specs.Phases.{is_phase, mirror};
@@ -19,7 +19,7 @@ fn prepared_by(r: i32, before: PhaseState) -> PhaseState
     if r >= 0 { PhaseState::Prepared } else { before }
 }
 
-/// Where a callback on the way down leaves the device.
+/// The state that a callback on the way down leaves.
 fn ended_by(r: Option<Errno>) -> PhaseState
     ensures { result ≡ ended_by r }
 {
@@ -29,7 +29,7 @@ fn ended_by(r: Option<Errno>) -> PhaseState
     }
 }
 
-/// Where a device stands that is passed over.
+/// The state of a device that is skipped.
 fn skipped_for(cause: SkipCause) -> PhaseState
     ensures { result ≡ skipped_for cause }
 {
@@ -58,7 +58,7 @@ fn by_phase(
     }
 }
 
-/// Where the device of an entry stands after it, in that phase and its mirror.
+/// The state of an entry's device after it, in that phase and its mirror.
 fn phase_state_after(pair: Phase, kind: Kind, before: PhaseState) -> PhaseState
     ensures { result ≡ phase_state_after pair kind before }
 {
@@ -155,7 +155,7 @@ fn put_state(phase_states: &mut Vec<PhaseState>, pair: Phase, kind: &Kind, devic
     }
 }
 
-/// An entry moves its own device alone, in its own phase or all.
+/// An entry moves only its own device, in its own phase or in all.
 #[inline(always)]
 #[tactic(auto, using(crate::proofs::Unmoved::states_stay))]
 pub(crate) fn move_state(

@@ -1,4 +1,4 @@
-//! Where each script stands, and the marks by which scripts wait for one another.
+//! The position of each script, and the marks by which scripts wait for one another.
 
 ghost use Rattle.std.specs.Prelude.{◌≡◌, ◌+◌, IfOk, OnOk};
 ghost use Rattle.sleep_model.specs.Marks.{marks_after};

@@ -6,7 +6,7 @@ ghost use Rattle.sleep_model.specs.Table.{after_done, next_stage, stage_after_do
 use sleep_base::Errno;
 use sleep_model::{FrozeEnd, Group, Kind, Phase, PlatDo, PlatUndo, Stage, Thaw};
 
-/// The first where there is no error, else the second.
+/// The first if there is no error, else the second.
 fn by_error(r: Option<Errno>, good: Stage, failed: Stage) -> Stage
     ensures { result ≡ by_error r good failed }
 {
@@ -16,14 +16,14 @@ fn by_error(r: Option<Errno>, good: Stage, failed: Stage) -> Stage
     }
 }
 
-/// The first where it is so, else the second.
+/// The first if it is so, else the second.
 fn by_case(so: bool, here: Stage, there: Stage) -> Stage
     ensures { result ≡ by_case so here there }
 {
     if so { here } else { there }
 }
 
-/// The first where a freeze left none, else the second.
+/// The first if a freeze left no task, else the second.
 fn by_froze(end: FrozeEnd, good: Stage, failed: Stage) -> Stage
     ensures { result ≡ by_froze end good failed }
 {
@@ -177,7 +177,7 @@ pub(crate) fn stage_after(kind: Kind, before: Option<Stage>) -> Option<Stage>
     })
 }
 
-/// The stage after a stage, where nothing fails (`enter_state`, `suspend_devices_and_enter`, `suspend_enter`).
+/// The stage after a stage, if nothing fails (`enter_state`, `suspend_devices_and_enter`, `suspend_enter`).
 pub fn next_stage(stage: Stage) -> Stage
     ensures { result ≡ next_stage stage }
 {

@@ -1,3 +1,5 @@
+//! What the entries of the journal leave of the tasks, of their marks, and of autosleep with its work.
+
 use crate::autosleep::{holder_after, on_after, queued_after, runs_after, work_after};
 use crate::freezings::{move_freezings, none_asked, unasked};
 use crate::phase_states::is_of_device;
@@ -7,8 +9,8 @@ use sleep_model::{Actor, Entry, Freezing, Machine, Script, ScriptPosition, Work}
 use std::alloc::Global;
 use std::marker::Model;
 
-/// What the entries of the journal leave of the tasks: where each script stands, what the freezer has come to with it,
-/// the marks, and autosleep with its work.
+/// What the entries of the journal leave of the tasks: each script's position, its freezing, the marks, and
+/// autosleep with its work.
 #[derive(Drop)]
 pub struct TaskAccount {
     freezings: Vec<Freezing>,
@@ -61,7 +63,8 @@ impl TaskAccount {
         })
     }
 
-    /// Passes one more entry of the journal, among the tasks of these scripts. `Mem` if a counter has no room.
+    /// Passes one more entry of the journal, among the tasks of these scripts. `Mem` if a counter has no
+    /// room.
     #[tactic(auto, using(crate::proofs::Unmoved::tasks_stay))]
     pub fn pass(&mut self, scripts: &[Script], e: Entry) -> Result<(), Mem>
         requires all { length self.old.freezings ≡ length scripts.now }
@@ -101,7 +104,7 @@ impl TaskAccount {
         &self.freezings
     }
 
-    /// Where a script stands.
+    /// The position of a script.
     pub fn position(&self, script: u32) -> ScriptPosition
         ensures { result ≡ position_at self.now.positions script }
     {
@@ -112,7 +115,7 @@ impl TaskAccount {
         }
     }
 
-    /// Where each script stands.
+    /// The position of each script.
     pub fn positions(&self) -> &[ScriptPosition]
         ensures { result.now ≡ self.now.positions }
     {
@@ -151,7 +154,7 @@ impl TaskAccount {
         self.on
     }
 
-    /// Where the autosleep work stands (`try_to_suspend`).
+    /// The state of the autosleep work (`try_to_suspend`).
     pub fn work(&self) -> Work
         ensures { result ≡ self.now.work }
     {

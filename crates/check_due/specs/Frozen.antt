@@ -12,7 +12,7 @@ use Rattle.sleep_model.specs.Attempt.{gives_up_at}
 use Rattle.sleep_model.specs.Guard.{pending}
 use Rattle.sleep_model.specs.Numbers.{time_of}
 
--- a freeze ends where no task is left, else where its time is over, else where a wakeup is pending (try_to_freeze_tasks)
+-- a freeze ends if no task is left, else if its time is over, else if a wakeup is pending (try_to_freeze_tasks)
 abbrev pub froze_by : List Entry → EventNow → Group → ℕ → ℕ → Option ℕ → Due
 froze_by past now g since count None = Makes (kind.Froze g froze.AllFrozen)
 froze_by past now g since count (Some first) =

@@ -150,8 +150,8 @@ fn stage_or_next(past: &Passed<'_>, now: EventNow, stage: Stage) -> Result<Due, 
     }
 }
 
-/// What the open attempt's maker makes next, if an attempt is open (`enter_state`). `Mem` if a moment is beyond all
-/// time.
+/// What the open attempt's maker makes next, if an attempt is open (`enter_state`). `Mem` if a moment is
+/// beyond all time.
 pub(crate) fn attempt_due(past: &Passed<'_>, now: EventNow) -> Result<Due, Mem>
     ensures { IfOk result (λ d. d ≡ attempt_due past.now.machine (journal_of past.now) now) }
 {

@@ -1,9 +1,10 @@
-//! What is due of an actor after the entries that were passed, as the checker of logs tells it. Its tests are in
-//! `row_trials`, by the command `check`.
+//! What is due of an actor after the entries that were passed, as the checker of logs finds it. Its tests are
+//! in `row_trials`, by the command `check`.
 //!
-//! Promises: What is due of an actor after the passed entries is what the definitions say, for whatever actor and
-//! word; and so is each of their parts that a rule asks for. By the clauses of `due`; `row_now`, `turn_of`,
-//! `froze_due`, `wakes_due`, `read_due`, `count_due`, `state_due`, `runtime_due`, `link_add_due`, and the others.
+//! Promises: What is due of an actor after the passed entries is what the definitions say, for whatever actor
+//! and word; and so is each of their parts that a rule asks for. By the clauses of `due`; `row_now`,
+//! `turn_of`, `froze_due`, `wakes_due`, `read_due`, `count_due`, `state_due`, `runtime_due`, `link_add_due`,
+//! and the others.
 //!
 //! Begin reading in `src/next.rt`, `src/attempt.rt`, `src/walks.rt`, `src/steps.rt`.
 #![tactic(auto)]

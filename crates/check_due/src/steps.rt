@@ -17,7 +17,8 @@ pub fn later_by(time: u64, ms: u32) -> Result<u64, Mem>
     }
 }
 
-/// A read of the count by a task that waits for it or not, and is asked to freeze or not (`pm_get_wakeup_count`).
+/// A read of the count by a task that waits for it or not, and is asked to freeze or not
+/// (`pm_get_wakeup_count`).
 pub fn read_due(now: EventNow, waits: bool, asked: bool) -> Due
     ensures { result ≡ read_due now waits asked }
 {
@@ -32,7 +33,7 @@ pub fn read_due(now: EventNow, waits: bool, asked: bool) -> Due
     }
 }
 
-/// A save of that number, where the lock is free and autosleep is off.
+/// A save of that number, if the lock is free and autosleep is off.
 fn save_due(now: EventNow, count: u32) -> Due
     ensures { result ≡ save_due now count }
 {
@@ -43,7 +44,7 @@ fn save_due(now: EventNow, count: u32) -> Due
     }
 }
 
-/// Where another holds the lock: a write says once that it waits, and gives up where it is asked to freeze.
+/// A write if another holds the lock: it says once that it waits, and gives up if it is asked to freeze.
 fn lock_due(waits: bool, asked: bool, says: Due, gives_up: Due) -> Due
     ensures { result ≡ lock_due waits asked says gives_up }
 {
@@ -56,7 +57,7 @@ fn lock_due(waits: bool, asked: bool, says: Due, gives_up: Due) -> Due
     }
 }
 
-/// A write of that number to the count, where the lock is held or not and autosleep is on or not
+/// A write of that number to the count, by whether the lock is held and autosleep is on
 /// (`wakeup_count_store`).
 pub fn count_due(held: bool, on: bool, waits: bool, asked: bool, now: EventNow, count: u32) -> Due
     ensures { result ≡ count_due held on waits asked now count }
@@ -95,8 +96,8 @@ pub fn state_due(held: bool, on: bool, waits: bool, asked: bool, mem: bool, atte
     }
 }
 
-/// A write to autosleep, whose text is `mem` or `off` or neither, where the lock is held or not and the state is set
-/// already or not (`autosleep_store`).
+/// A write to autosleep, whose text is `mem` or `off` or neither, by whether the lock is held and the state
+/// is set already (`autosleep_store`).
 pub fn autosleep_due(held: bool, begun: bool, mem: bool, off: bool) -> Due
     ensures { result ≡ autosleep_due held begun mem off }
 {
@@ -129,8 +130,8 @@ fn slept_due(until: Option<u64>, time: u64) -> Due
     }
 }
 
-/// A sleep that can be frozen, of so long, that has begun or not (`schedule_timeout`). `Mem` if its end is beyond all
-/// time.
+/// A sleep that can be frozen, of so long, that has begun or not (`schedule_timeout`). `Mem` if its end is
+/// beyond all time.
 pub fn sleep_due(ms: u32, position: ScriptPosition, time: u64) -> Result<Due, Mem>
     ensures { IfOk result (λ d. d ≡ sleep_due kind.Sleep ms position time) }
 {
@@ -173,7 +174,7 @@ pub fn saved_number(count: Option<u32>, last_read: Option<u32>) -> u32
     }
 }
 
-/// A write to the state is cut short where it asks for a good save and the last one was not.
+/// A write to the state is cut short if it asks for a good save and the last one was not.
 pub fn unless_unsaved(if_saved: bool, saved: bool, due: Due) -> Due
     ensures { result ≡ unless_unsaved if_saved saved due }
 {

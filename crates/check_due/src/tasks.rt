@@ -1,4 +1,4 @@
-//! Where a task may freeze, and what it does next.
+//! At which operations a task may freeze, and what it does next.
 
 ghost use Rattle.std.specs.Prelude.{◌≡◌, ◌<◌, ◌+◌, Bool, Some, length, option_copied, IfOk};
 ghost use Rattle.sleep_model.specs.declared.entry.Kind.TheVariants as kind;
@@ -44,7 +44,8 @@ fn is_taken(state: PhaseState) -> bool
     )
 }
 
-/// Whether a task that is asked freezes at its operation, which has begun or not (`try_to_freeze`, `get_signal`).
+/// Whether a task that is asked freezes at its operation, which has begun or not (`try_to_freeze`,
+/// `get_signal`).
 pub fn freezes_at(user: bool, begun: bool, op: Option<&Op>) -> bool
     ensures { result ≡ freezes_at user begun (option_copied op.entry) }
 {

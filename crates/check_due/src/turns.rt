@@ -20,7 +20,7 @@ fn is_direct_now(past: &Passed<'_>, device: u32) -> bool
         && past.all_direct_below(device)
 }
 
-/// Whether a phase leaves a device alone.
+/// Whether a phase skips a device as direct-complete.
 fn is_direct(past: &Passed<'_>, phase: Phase, device: u32) -> bool
     ensures { result ≡ is_direct past.now.machine (journal_of past.now) phase device }
 {
@@ -30,8 +30,8 @@ fn is_direct(past: &Passed<'_>, phase: Phase, device: u32) -> bool
     }
 }
 
-/// A device at its turn: a wakeup that is pending passes it over, direct-complete does, or its callback begins
-/// (`__device_suspend`).
+/// A device at its turn: a wakeup that is pending passes it over, direct-complete does, or its callback
+/// begins (`__device_suspend`).
 pub fn taken(past: &Passed<'_>, now: EventNow, phase: Phase, device: u32) -> Kind
     ensures { result ≡ taken past.now.machine (journal_of past.now) now phase device }
 {
@@ -61,7 +61,7 @@ pub fn device_error(past: &Passed<'_>, phase: Phase, device: u32) -> Option<Errn
     past.answered_error(What::Device(device, phase))
 }
 
-/// The work of a device that stands so in a phase or its mirror, else the other.
+/// The work of a device in that state in a phase or its mirror, else the other.
 fn work_in(phase: Phase, state: PhaseState, other: AsyncWork) -> AsyncWork
     ensures { result ≡ work_in phase state other }
 {

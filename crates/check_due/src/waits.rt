@@ -47,7 +47,8 @@ fn froze_by(
     })
 }
 
-/// A freeze of a group that goes on since that moment (`try_to_freeze_tasks`). `Mem` if its end is beyond all time.
+/// A freeze of a group that goes on since that moment (`try_to_freeze_tasks`). `Mem` if its end is beyond all
+/// time.
 pub fn froze_due(past: &Passed<'_>, now: EventNow, group: Group, since: u64) -> Result<Due, Mem>
     ensures { IfOk result (λ d. d ≡ froze_due (journal_of past.now) now group since
         (left past.now.machine group (journal_of past.now))) }
@@ -55,8 +56,8 @@ pub fn froze_due(past: &Passed<'_>, now: EventNow, group: Group, since: u64) -> 
     froze_by(past, now, group, since, past.left(group))
 }
 
-/// A machine that sleeps wakes by a step of the word, else by its alarm (`suspend_enter`). `Mem` if the alarm is
-/// beyond all time.
+/// A machine that sleeps wakes by a step of the word, else by its alarm (`suspend_enter`). `Mem` if the alarm
+/// is beyond all time.
 pub fn wakes_due(past: &Passed<'_>, now: EventNow, sleep: Sleep) -> Result<Due, Mem>
     ensures { IfOk result (λ d. d ≡ wakes_due past.now.machine (journal_of past.now) now sleep) }
 {
@@ -85,7 +86,7 @@ pub fn auto_save(now: EventNow, count: u32) -> Kind
     }
 }
 
-/// The count that is seen where no event is in progress (`pm_get_wakeup_count`).
+/// The count that is seen if no event is in progress (`pm_get_wakeup_count`).
 pub fn seen_count(now: EventNow) -> Option<u32>
     ensures { result ≡ seen_count now }
 {

@@ -55,7 +55,7 @@ fn phase_error(past: &Passed<'_>) -> Option<Errno>
     }
 }
 
-/// The end of a phase on the way down, once all that were scheduled are through.
+/// The end of a phase on the way down, once it is done with all that were scheduled.
 fn close_down(past: &Passed<'_>, phase: Phase) -> Due
     ensures { result ≡ close_down past.now.machine (journal_of past.now) phase }
 {
@@ -145,7 +145,7 @@ fn scheduled_due(past: &Passed<'_>, now: EventNow, phase: Phase, device: u32) ->
     }
 }
 
-/// An asynchronous device, by where its work stands (`async_suspend`, `async_resume`).
+/// An asynchronous device, by the state of its work (`async_suspend`, `async_resume`).
 pub(crate) fn device_due(past: &Passed<'_>, now: EventNow, device: u32) -> Due
     ensures { result ≡ device_due past.now.machine (journal_of past.now) now device
         (async_work past.now.machine (journal_of past.now) device) }

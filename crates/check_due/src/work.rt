@@ -35,7 +35,7 @@ fn nap_due(past: &Passed<'_>, until: Option<u64>) -> Result<Due, Mem>
     }
 }
 
-/// The first where autosleep is on, else that the work ends.
+/// The first if autosleep is on, else that the work ends.
 fn if_on(past: &Passed<'_>, kind: Kind) -> Due
     ensures { result ≡ (if is_on (journal_of past.now) then Makes kind else Makes AutoOff) }
 {
@@ -73,8 +73,8 @@ fn work_due(past: &Passed<'_>, now: EventNow, work: Work) -> Result<Due, Mem>
     }
 }
 
-/// The work outside its own attempts: nothing while the machine sleeps, and nothing once all tasks have exited and no
-/// attempt is open. `Mem` if a nap ends beyond all time, or the next attempt has no number.
+/// The work outside its own attempts: nothing while the machine sleeps, and nothing once all tasks have
+/// exited and no attempt is open. `Mem` if a nap ends beyond all time, or the next attempt has no number.
 pub(crate) fn auto_due(past: &Passed<'_>, now: EventNow) -> Result<Due, Mem>
     ensures { IfOk result (λ d. d ≡ auto_due past.now.machine (journal_of past.now) now
         (sleeps_now (journal_of past.now)) (is_over past.now.machine (journal_of past.now))) }

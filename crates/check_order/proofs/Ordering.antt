@@ -62,7 +62,7 @@ module _ (ps : List (Option ℕ)) (after : EachAfterParent 0 ps) where
       ∙ (put_places (moved (length ps) (dependents ps ls) l.consumer) (order_by ps ls)
       ∙ ap (λ (ds : List ℕ). moved_last ds (order_by ps ls)) (sym (moved_before ps after l ls linked.3)))
 
-  -- the order has registered devices alone
+  -- the order has only registered devices
   pub stand_within : (ls : List Link) → AreLinks ps ls → (t : Table) → IsTableOf (length ps) (dependents ps ls) t.rows → (now : List ℕ) → now ≡ order_by ps ls → (x : ℕ) → is_among now x ≡ true → x < length t.rows
   stand_within ls linked t h now is x m = subst (λ (n : ℕ). x < n) (sym h.count) (order_within ps after ls linked x (ap (λ o. is_among o x) (sym is) ∙ m))
 

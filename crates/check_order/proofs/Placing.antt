@@ -1,4 +1,4 @@
--- The places of links, and the links that stand there.
+-- The indices of links, and the links at them.
 use Rattle.std.proofs.Common.{◌≡◌, ◌<◌, ◌≤◌, ◌+◌, ◌-◌, ◌∙◌, ℕ, zero, suc, Bool, true, false, ◌==◌, ◌||◌, List, [], ◌∷◌, ◌++◌, ◌⊎◌, inl, inr, length, map, filter, take, reverse, get_or, set, replicate, Option, Some, None, MatchOption, is_some, refl, sym, ap, ap₂, subst, cond, arith, length-append}
 use Rattle.std.specs.Bool.{beq}
 use Rattle.std.proofs.lemmas.Bool.{and_parts, and_right, eqb-true, or_from, true≢false}
@@ -77,7 +77,7 @@ supplied_count d (l ∷ ls) =
     one true = refl
     one false = refl
 
--- the children stand first in the row of what hangs below a device
+-- the children come first in the row of the dependents of a device
 pub children_first : (ps : List (Option ℕ)) (ls : List Link) (d : ℕ) (row supplied : List ℕ) → row ≡ dependents ps ls d → supplied ≡ places_of (λ l. l.supplier == d) ls → (length supplied ≤ length row) × (take (length row - length supplied) row ≡ children_from d 0 ps)
 children_first ps ls d row supplied e f = (
   omega (arith, whole, parts, links, many),
@@ -235,7 +235,7 @@ module _ (s c : ℕ) (links : List Link) (places : List ℕ) (e : places ≡ pla
   pub not_linked : length places ≤ i → is_linked (reverse links) s c ≡ false
   not_linked l = sym (linked_here s c (reverse links)) ∙ (ap (λ ls. is_linked ls s c) (sym (taken_all (λ x. x.consumer == c) links places e i l)) ∙ before)
 
--- what is found tells whether a link stands
+-- what is found says whether there is a link
 pub found_is : (s c : ℕ) (links : List Link) (r : Option ℕ) → MatchOption r (is_linked (reverse links) s c ≡ false) (StandsAt s c links) → is_some r ≡ is_linked (reverse links) s c
 found_is s c links None h = sym h
 found_is s c links (Some k) h = sym (linked_at links k no_link s c h.within h.is)
@@ -245,7 +245,7 @@ found_is s c links (Some k) h = sym (linked_at links k no_link s c h.within h.is
 link_ends : (s c : ℕ) (l : Link) → is_link s c l ≡ true → (l.supplier ≡ s) × (l.consumer ≡ c)
 link_ends s c l e = let p = and_parts (l.supplier == s) (l.consumer == c) e in (eqb-true l.supplier s p.0, eqb-true l.consumer c p.1)
 
--- the devices of a link that stands are registered
+-- the devices of a link are registered
 pub linked_within : (ps : List (Option ℕ)) (s c : ℕ) (ls : List Link) → AreLinks ps ls → is_linked ls s c ≡ true → (s < length ps) × (c < length ps)
 linked_within ps s c [] h e = absurd (true≢false (sym e))
 linked_within ps s c (l ∷ ls) h e = by_test (linked_within ps s c ls h.4) (is_link s c l) refl e
@@ -262,7 +262,7 @@ module _ (s c : ℕ) (to : Bool) where
   unchanged : (l : Link) → is_link s c l ≡ false → changed l ≡ l
   unchanged l e = ap (λ b. cond b (record l { active = to }) l) e
 
-  -- where none stands, nothing changes
+  -- if there is no such link, nothing changes
   pub none_changed : (ls : List Link) → is_linked ls s c ≡ false → map changed ls ≡ ls
   none_changed [] e = refl
   none_changed (l ∷ ls) e = by_test (none_changed ls) (is_link s c l) refl e
@@ -286,7 +286,7 @@ module _ (s c : ℕ) (to : Bool) where
       step (inl h) = inl (omega arith)
       step (inr h) = inr (ap suc h)
 
-  -- where one stands, it alone changes, since no other is between the same two
+  -- if there is such a link, only it changes, since no other is between the same two
   one_of : (ps : List (Option ℕ)) (ls : List Link) → AreLinks ps ls → (k : ℕ) → k < length (reverse ls) → is_link s c (get_or (reverse ls) k no_link) ≡ true → map changed (reverse ls) ≡ set (reverse ls) k (changed (get_or (reverse ls) k no_link))
   one_of ps [] h k l e = absurd (omega arith)
   one_of ps (x ∷ xs) h k l e =
@@ -387,7 +387,7 @@ suppliers_next d l ls e = by_state l.active
     by_state false = sym (append-nil (suppliers_of d (active_of ls)))
 
 module _ (f : Link → Link) (s : (l : Link) → (f l).supplier ≡ l.supplier) (c : (l : Link) → (f l).consumer ≡ l.consumer) (d : ℕ) where
-  -- the links that a device supplies tell all its consumers, and those that it consumes all its suppliers
+  -- the links that a device supplies name all its consumers, and those that it consumes all its suppliers
   pub consumers_here : (ls : List Link) → consumers_of d (active_of (map f (filter (λ l. l.supplier == d) ls))) ≡ consumers_of d (active_of (map f ls))
   consumers_here [] = refl
   consumers_here (l ∷ ls) = by_test (consumers_here ls) (l.supplier == d) refl

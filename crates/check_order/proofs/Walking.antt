@@ -56,7 +56,7 @@ module _ (dependents_of : ℕ → List ℕ) (W : ℕ → List ℕ) (fix : Descen
       ∙ (f c (among_first c cs) (onto (flat_map W cs) out) (flats_closed out h cs)
       ∙ sym (onto_app (W c) (flat_map W cs) out))
 
-  -- as many levels as devices stand from one on in an order reach all below it
+  -- as many levels as an order has devices from one on reach all below it
   visit_is : (ds : List ℕ) → IsOrder dependents_of ds → (levels : ℕ) → length ds ≤ levels → (d : ℕ) → is_among ds d ≡ true → (out : List ℕ) → IsClosed dependents_of out → visited levels dependents_of d out ≡ onto (W d) out
   visit_is [] h levels l d m out i = absurd (false≢true m)
   visit_is (x ∷ xs) h zero l d m out i = absurd (omega arith)

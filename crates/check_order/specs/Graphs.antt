@@ -1,4 +1,4 @@
--- What is kept of devices' parents and links.
+-- Devices' parents and links, and the rows that the account has of them.
 use Rattle.std.specs.Prelude.{◌≡◌, ◌<◌, ◌^◌, ◌++◌, ◌==◌, ℕ, Bool, true, false, not, List, [], ◌∷◌, length, map, filter, slice_index_or, if◌then◌else◌, Option}
 use Rattle.sleep_model.specs.declared.machine.Link.{Link}
 use Rattle.sleep_model.specs.Order.{EachAfterParent, is_among, is_link, with_state, active_of, dependents, superiors, order_by}
@@ -6,7 +6,7 @@ use Rattle.sleep_model.specs.Links.{AreLinks}
 use Rattle.device_rows.specs.Table.{Table}
 use Rattle.check_order.specs.Visited.{visited}
 
--- n rows, each as f tells (own)
+-- n rows, each as f says (own)
 pub record IsTableOf (n : ℕ) (f : ℕ → List ℕ) (rows : List (List ℕ)) : Type 0 where
   pub count : length rows ≡ n
   pub each : (d : ℕ) → slice_index_or rows d [] ≡ f d
@@ -19,7 +19,7 @@ put_last devices order = filter (λ d. not (is_among devices d)) order ++ device
 abbrev pub moved_to_end : ℕ → (ℕ → List ℕ) → ℕ → List ℕ → List ℕ
 moved_to_end n dependents_of d order = put_last (visited n dependents_of d []) order
 
--- the parent of each device, and the links that stand, the newest first (struct device, struct device_link)
+-- the parent of each device, and the links, the newest first (struct device, struct device_link)
 pub record GraphState : Type 0 where
   pub parents : List (Option ℕ)
   pub links : List Link
@@ -50,7 +50,7 @@ links_with changed links = map (with_state changed.supplier changed.consumer cha
 
 -- ---- the places of links
 
--- the places, the oldest first, of the links that a test takes, where the newest link stands first and the oldest has place 0 (own)
+-- the indices, the oldest first, of the links that a test takes; the newest link comes first, and the oldest has index 0 (own)
 abbrev pub places_of : (Link → Bool) → List Link → List ℕ
 places_of test [] = []
 places_of test (l ∷ earlier) = places_of test earlier ++ (if test l then length earlier ∷ [] else [])
@@ -60,11 +60,11 @@ pub record ArePlaced (n : ℕ) (links : List Link) (supplied consumed : List (Li
   pub by_supplier : IsTableOf n (λ d. places_of (λ l. l.supplier == d) links) supplied
   pub by_consumer : IsTableOf n (λ d. places_of (λ l. l.consumer == d) links) consumed
 
--- what is read at a place where no link stands (own)
+-- what is read at an index that no link has (own)
 abbrev pub no_link : Link
 no_link = record { supplier = 0; consumer = 0; active = false }
 
--- the link between these two stands at that place, where the oldest stands first
+-- the link between these two has that index, where the oldest comes first
 pub record StandsAt (supplier consumer : ℕ) (links : List Link) (place : ℕ) : Type 0 where
   pub within : place < length links
   pub is : is_link supplier consumer (slice_index_or links place no_link) ≡ true
@@ -77,7 +77,8 @@ pub record HaveRoom (l : Link) (rows_hanging rows_supplied rows_consumed : Table
 
 -- ---- all that is made of them
 
--- what hangs below each device by all links, the places of the links, what hangs below and above it by the active ones, and the order (dpm_list)
+-- what hangs below each device by all links, the places of the links, what hangs below and above it by the active ones, and the order
+-- (dpm_list)
 pub record IsMade (t : GraphState) (rows_hanging supplied consumed rows_below rows_above : List (List ℕ)) (devices : List ℕ) : Type 0 where
   pub graph : IsGraph t
   pub hanging : IsTableOf (length t.parents) (dependents t.parents t.links) rows_hanging

@@ -16,8 +16,8 @@ use std::alloc::Global;
 use std::marker::Model;
 
 /// The devices of a machine with the links between them, and what these make: the order of devices
-/// (`drivers/base/power/main.c`, `dpm_list`), and what must sleep before and wake before each. Contracts see the
-/// parents and the links, the newest first.
+/// (`drivers/base/power/main.c`, `dpm_list`), and what must sleep before and wake before each. Contracts see
+/// the parents and the links, the newest first.
 #[derive(Drop)]
 pub struct DeviceGraph {
     parents: Vec<Option<u32>>,
@@ -58,8 +58,8 @@ impl DeviceGraph {
     ghost use Rattle.sleep_model.specs.Links.{AreLinks, is_dependent, is_linked};
     ghost use Rattle.check_order.specs.Graphs.{AreShown, IsGraph, links_with, with_links};
 
-    /// Devices with these parents, in the order of their registration, and these links, in the order in which they
-    /// were added. `Mem` if there is no memory for them.
+    /// Devices with these parents, in the order of their registration, and these links, in the order in which
+    /// they were added. `Mem` if there is no memory for them.
     pub fn new(alloc: Global, parents: &[Option<u32>], links: &[Link]) -> Result<DeviceGraph, Mem>
         requires { IsGraph (record { parents = parents.now; links = reverse links.now }) }
         ensures { IfOk result (λ t. t ≡ record { parents = parents.now; links = reverse links.now }) }
@@ -102,7 +102,7 @@ impl DeviceGraph {
         self.above.row(device)
     }
 
-    /// Whether a link between these two stands, active or dormant.
+    /// Whether there is a link between these two, active or dormant.
     pub fn is_linked(&self, supplier: u32, consumer: u32) -> bool
         ensures { result ≡ is_linked self.now.links supplier consumer }
     {
@@ -142,8 +142,8 @@ impl DeviceGraph {
         Ok(ChangedRows { below, above })
     }
 
-    /// Adds a link, the newest, which may be added to those that stand (`device_link_add`): it moves its consumer, with
-    /// all that hangs below that, to the end of the order. `Mem` if there is no memory for it.
+    /// Adds a link, the newest, which may be added to those that there are (`device_link_add`). It moves its
+    /// consumer, with all that depends on that, to the end of the order. `Mem` if there is no memory for it.
     pub fn add_link(&mut self, link: Link) -> Result<(), Mem>
         requires { AreLinks self.old.parents (link ∷ self.old.links) }
         ensures { OnOk result (self.new ≡ with_links self.old (link ∷ self.old.links)) }
@@ -196,9 +196,9 @@ impl DeviceGraph {
         Ok(row)
     }
 
-    /// Gives the link between these two that state, if there is one (`device_links_driver_bound`). Where it has that state
-    /// already nothing is made anew, and the order stays in any case. `Mem` if there is no memory for what hangs below and
-    /// above each device then.
+    /// Gives the link between these two that state, if there is one (`device_links_driver_bound`). If it has
+    /// that state already, no row is made anew. The order stays in any case. `Mem` if there is no memory for
+    /// the rows.
     pub fn set_state(&mut self, supplier: u32, consumer: u32, active: bool) -> Result<(), Mem>
         ensures { OnOk result (self.new ≡ with_links self.old (map (with_state supplier consumer active) self.old.links)) }
     {
@@ -223,7 +223,7 @@ impl DeviceGraph {
     }
 }
 
-/// The place of a link that so many stand before. `Mem` if there is no number for it.
+/// The index of a link after so many others. `Mem` if there is no number for it.
 fn place_number(count: usize) -> Result<u32, Mem>
     ensures { IfOk result (λ n. n ≡ count) }
 {
@@ -233,8 +233,8 @@ fn place_number(count: usize) -> Result<u32, Mem>
     Ok(count as u32)
 }
 
-/// Makes room for one more link among the links and in the rows of its two devices. `Mem` if there is no memory for it; what
-/// they say is then as before.
+/// Makes room for one more link among the links and in the rows of its two devices. `Mem` if there is no
+/// memory for it; what they say is then as before.
 fn make_room(
     links: &mut Vec<Link>,
     hanging: &mut Rows,

@@ -16,7 +16,7 @@ fn is_link(link: Link, supplier: u32, consumer: u32) -> bool
     link.supplier == supplier && link.consumer == consumer
 }
 
-/// The link, with the state of the changed one where it is between the same two.
+/// The link, with the state of the changed one if it is between the same two.
 fn with_state(link: Link, changed: Link) -> Link
     ensures { result ≡ with_state changed.supplier changed.consumer changed.active link }
 {
@@ -31,8 +31,8 @@ fn with_state(link: Link, changed: Link) -> Link
     }
 }
 
-/// The place of the link between these two, looked for among those of the consumer's links. None exactly if there is
-/// no such link.
+/// The place of the link between these two, looked for among those of the consumer's links. None exactly if
+/// there is no such link.
 pub(crate) fn place_of(
     links: &[Link],
     places: &[u32],

@@ -1,3 +1,5 @@
+//! The rows of devices that readers see: what is active below and above each.
+
 use device_rows::Rows;
 use sleep_base::Mem;
 use std::alloc::Global;

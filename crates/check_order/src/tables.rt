@@ -9,7 +9,7 @@ use device_rows::Rows;
 use sleep_base::Mem;
 use std::alloc::Global;
 
-/// Puts a number at the end of a row, where there is one to put it.
+/// Puts a number at the end of a row, if there is such a row.
 fn hang(table: &mut Rows, row: Option<u32>, number: u32) -> Result<(), Mem>
     requires { IfSome row (λ r. r < length table.old.rows) }
     ensures { OnOk result (table.new.rows ≡ with_number table.old.rows row number) }
@@ -45,7 +45,7 @@ pub(crate) fn parent_rows(alloc: Global, parents: &[Option<u32>]) -> Result<Rows
     Ok(table)
 }
 
-/// Puts a number at the end of a row where that shows it.
+/// Puts a number at the end of a row that shows it.
 pub(crate) fn push_if(row: &mut Vec<u32>, is_shown: bool, number: u32) -> Result<(), Mem>
     ensures { OnOk result (row.new.items ≡ row.old.items ++ (if is_shown then number ∷ [] else [])) }
 {
@@ -55,7 +55,7 @@ pub(crate) fn push_if(row: &mut Vec<u32>, is_shown: bool, number: u32) -> Result
     Ok(())
 }
 
-/// A row, with one more number at its end where it shows that.
+/// A row, with one more number at its end if the row shows it.
 pub(crate) fn longer_if(
     alloc: Global,
     is_shown: bool,
