@@ -92,7 +92,7 @@ no_history m (e ∷ past) s far h =
     let fits : fits_kind m e.kind ≡ true = (both (is_word64 e.time && fits_word e.now && fits_actor m e.actor) (fits_kind m e.kind) p.0).1 in
     left_out (is_of s (class_of e.kind)) e (history s past) (not_of m e.kind s far fits) (no_history m past s far p.1)
 
--- what is kept of any source, there or not
+-- the state of any source, registered or not
 pub any_source : (m : Machine) (past : List Entry) (s : ℕ) (past_state : List Source) → past_state ≡ sources (length m.sources + 1) past → list_all (fits_entry m) past ≡ true
     → slice_index_or past_state s (source_of []) ≡ source_of (history s past)
 any_source m past s past_state is all = ⊎_elim

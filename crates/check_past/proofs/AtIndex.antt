@@ -1,4 +1,4 @@
--- The lists that are kept, read at one place.
+-- The lists of the account, read at one index.
 use Rattle.std.proofs.Common.{◌≡◌, ◌&&◌, ◌||◌, ℕ, suc, zero, Bool, true, false, if◌then◌else◌, List, [], ◌∷◌, Option, Some, None, find, map, refl, ap, slice_get}
 use Rattle.std.specs.List.{list_any}
 use Rattle.phase_table.specs.declared.phase.Phase.{Phase}

@@ -1,4 +1,4 @@
--- What is kept of a journal: the open attempt, the tasks, the devices, and the links between them.
+-- The account of a journal: the open attempt, the tasks, the devices, and the links between them.
 use Rattle.std.specs.Prelude.{Bool, List, ◌∷◌, if◌then◌else◌, None, true}
 use Rattle.sleep_model.specs.declared.entry.Entry.{Entry}
 use Rattle.sleep_model.specs.declared.entry.Kind.{Kind}
@@ -14,7 +14,7 @@ use Rattle.check_past.specs.declared.journal.JournalState.{JournalState}
 abbrev pub graph_after : Kind → GraphState → GraphState
 graph_after k before = record { parents = before.parents; links = links_after k before.links }
 
--- what is kept after one more entry of the journal (own)
+-- the account after one more entry of the journal (own)
 abbrev pub journal_after : Machine → Entry → JournalState → JournalState
 journal_after m e before = record {
   attempt = attempt_after e before.attempt;
@@ -23,11 +23,11 @@ journal_after m e before = record {
   graph = graph_after e.kind before.graph;
 }
 
--- so where it is an entry of the journal (own)
+-- the same, if it is an entry of the journal (own)
 abbrev pub journal_if : Bool → Machine → Entry → JournalState → JournalState
 journal_if past_state m e before = if past_state then journal_after m e before else before
 
--- what is kept after the entries of a machine's journal, the newest first (own)
+-- the account after the entries of a machine's journal, the newest first (own)
 abbrev pub state_of : Machine → List Entry → JournalState
 state_of m past = record {
   attempt = attempt_of past;
@@ -36,7 +36,7 @@ state_of m past = record {
   graph = record { parents = parents_of m.devices; links = links_at m past };
 }
 
--- a link that an entry adds may stand after those that are there (device_link_add)
+-- a link that an entry adds may be added to those that there are (device_link_add)
 abbrev pub MayAdd : GraphState → Kind → Type 0
 MayAdd t (kind.LinkAdd supplier consumer None) = AreLinks t.parents (record { supplier = supplier; consumer = consumer; active = true } ∷ t.links)
 MayAdd t _ = Unit {0}

@@ -1,4 +1,4 @@
--- The entries of a log that were passed, and what is kept of them.
+-- The entries of a log that were passed, and the account of them.
 use Rattle.std.specs.Prelude.{◌≡◌, ◌≤◌, ℕ, ◌+◌, true, List, length, reverse, take}
 use Rattle.std.specs.List.{list_all}
 use Rattle.sleep_model.specs.declared.entry.Entry.{Entry}
@@ -26,7 +26,7 @@ past_of p = reverse (take p.passed p.entries)
 abbrev pub journal_of : Passage → List Entry
 journal_of p = journal (past_of p)
 
--- what is kept is what these entries leave (own)
+-- the account is what these entries leave (own)
 pub record Holds (m : Machine) (past : List Entry) (k : PastState) : Type 0 where
   pub word : k.word ≡ numbers past
   pub time : k.time ≡ time_of past
@@ -34,7 +34,7 @@ pub record Holds (m : Machine) (past : List Entry) (k : PastState) : Type 0 wher
   pub sources : k.sources ≡ sources (length m.sources + 1) past
   pub calls : k.calls ≡ record { machine = m; state = callers_of m past }
 
--- what is kept after one more entry (own)
+-- the account after one more entry (own)
 abbrev pub past_state_after : Machine → Entry → PastState → PastState
 past_state_after m e k = record {
   word = after_step (word_step e.kind) k.word;

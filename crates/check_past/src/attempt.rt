@@ -72,7 +72,7 @@ impl<'m> Passed<'m> {
         self.passed
     }
 
-    /// The word that stands after them (`combined_event_count`).
+    /// The event word after them (`combined_event_count`).
     pub fn word(&self) -> EventNow
         ensures { result ≡ numbers (past_of self.now) }
     {
@@ -177,7 +177,7 @@ impl<'m> Passed<'m> {
         self.past_state.journal.attempt.callback()
     }
 
-    /// The error that stands in the open phase (`async_error`).
+    /// The error of the open phase (`async_error`).
     pub fn phase_failed(&self) -> Option<Errno>
         ensures { result ≡ phase_failed (journal_of self.now) }
     {
@@ -191,7 +191,7 @@ impl<'m> Passed<'m> {
         self.past_state.journal.attempt.own_error()
     }
 
-    /// Whether suspend has left a device alone, and resume is not done since.
+    /// Whether suspend has skipped a device as direct-complete, and resume is not done since.
     pub fn disabled_by_direct(&self) -> bool
         ensures { result ≡ disabled_by_direct (journal_of self.now) }
     {

@@ -16,7 +16,7 @@ impl<'m> Passed<'m> {
     ghost use Rattle.sleep_model.specs.PhaseStates.{phase_states};
     ghost use Rattle.check_past.specs.Passing.{journal_of};
 
-    /// Where a device stands in a phase and its mirror (`struct dev_pm_info`).
+    /// The state of a device in a phase and its mirror (`struct dev_pm_info`).
     #[tactic(auto, using(crate::proofs::AtIndex::states_are))]
     pub fn state(&self, phase: Phase, device: u32) -> PhaseState
         ensures { result ≡ state_in self.now.machine (journal_of self.now) phase device }
@@ -24,7 +24,7 @@ impl<'m> Passed<'m> {
         self.past_state.journal.devices.state(phase, device)
     }
 
-    /// Where each device stands in a phase and its mirror.
+    /// The state of each device in a phase and its mirror.
     #[tactic(auto, using(crate::proofs::AtIndex::states_are))]
     pub fn phase_states(&self, phase: Phase) -> &[PhaseState]
         ensures { result.now ≡ phase_states (length self.now.machine.devices) phase (journal_of self.now) }
@@ -88,15 +88,15 @@ impl<'m> Passed<'m> {
         self.past_state.journal.graph.above(device)
     }
 
-    /// Whether a link between these two stands, active or dormant.
+    /// Whether there is a link between these two, active or dormant.
     pub fn is_linked(&self, supplier: u32, consumer: u32) -> bool
         ensures { result ≡ is_linked (links_at self.now.machine (journal_of self.now)) supplier consumer }
     {
         self.past_state.journal.graph.is_linked(supplier, consumer)
     }
 
-    /// Whether a walk down from the consumer, over children and all links, meets the supplier (`device_is_dependent`).
-    /// `Mem` if there is no memory for the walk.
+    /// Whether a walk down from the consumer, over children and all links, meets the supplier
+    /// (`device_is_dependent`). `Mem` if there is no memory for the walk.
     pub fn is_dependent(&self, consumer: u32, supplier: u32) -> Result<bool, Mem>
         requires consumer { consumer < length self.now.machine.devices }
         requires supplier { supplier < length self.now.machine.devices }

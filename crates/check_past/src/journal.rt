@@ -1,4 +1,4 @@
-//! What is kept of a journal: the open attempt, the tasks, the devices, and the links between them.
+//! The account of a journal: the open attempt, the tasks, the devices, and the links between them.
 
 ghost use Rattle.std.specs.Prelude.{◌≡◌, ◌∷◌, [], IfOk, OnOk, map};
 ghost use Rattle.check_order.specs.Graphs.{with_links};
@@ -23,7 +23,7 @@ pub(crate) struct JournalState {
     pub(crate) graph: DeviceGraph,
 }
 
-/// Adds a link that may stand, which few entries do. `Mem` if there is no memory for it.
+/// Adds a link that may be added, which few entries do. `Mem` if there is no memory for it.
 #[cold]
 #[inline(never)]
 fn add_link(graph: &mut DeviceGraph, link: Link) -> Result<(), Mem>
@@ -44,8 +44,8 @@ fn set_link(graph: &mut DeviceGraph, supplier: u32, consumer: u32, active: bool)
     Ok(())
 }
 
-/// Moves the devices' parents and links by an entry, which adds no link that may not stand. `Mem` if there is no memory
-/// for them.
+/// Moves the devices' parents and links by an entry, which adds no link that may not be added. `Mem` if there
+/// is no memory for them.
 fn move_graph(graph: &mut DeviceGraph, kind: Kind) -> Result<(), Mem>
     requires { MayAdd graph.old kind }
     ensures { OnOk result (graph.new ≡ graph_after kind graph.old) }
@@ -86,7 +86,7 @@ fn parents_of(alloc: Global, machine: &Machine) -> Result<Vec<Option<u32>>, Mem>
     Ok(parents)
 }
 
-/// The devices' parents and the links that stand at first. `Mem` if there is no memory for them.
+/// The devices' parents and the links that there are at first. `Mem` if there is no memory for them.
 fn graph_of(alloc: Global, machine: &Machine) -> Result<DeviceGraph, Mem>
     requires { IsAccepted machine.now }
     ensures { IfOk result (λ t. t ≡ record { parents = parents_of machine.now.devices; links = links_at machine.now [] }) }
@@ -137,7 +137,8 @@ impl JournalState {
         })
     }
 
-    /// Passes one more entry of the journal. `Mem` if a counter has no room, or if there is no memory for a link.
+    /// Passes one more entry of the journal. `Mem` if a counter has no room, or if there is no memory for a
+    /// link.
     fn pass(&mut self, machine: &Machine, e: Entry) -> Result<(), Mem>
         requires all { length self.old.tasks.freezings ≡ length machine.now.actors }
         requires few { length machine.now.actors < 2 ^ 32 }
@@ -151,8 +152,8 @@ impl JournalState {
         Ok(())
     }
 
-    /// Passes one more entry, where it is the journal's. `Mem` if a counter has no room, or if there is no memory for a
-    /// link.
+    /// Passes one more entry, if it is the journal's. `Mem` if a counter has no room, or if there is no
+    /// memory for a link.
     pub(crate) fn pass_if(&mut self, machine: &Machine, e: Entry) -> Result<(), Mem>
         requires all { length self.old.tasks.freezings ≡ length machine.now.actors }
         requires few { length machine.now.actors < 2 ^ 32 }

@@ -1,3 +1,5 @@
+//! The entries of a log that were passed, with the account that answers what rules ask of them.
+
 ghost use Rattle.std.specs.Prelude.{◌≡◌, ◌+◌, IfOk};
 
 use crate::journal::JournalState;
@@ -10,8 +12,8 @@ use sleep_model::{Entry, EntryList, EventNow, Machine};
 use std::alloc::Global;
 use std::marker::Model;
 
-/// The entries of a log that were passed, the first ones, and what they leave: each call answers at once what a definition
-/// reads from them. Contracts see the machine, the entries, and how many were passed.
+/// The entries of a log that were passed, the first ones, and what they leave: each call answers at once what
+/// a definition reads from them. Contracts see the machine, the entries, and how many were passed.
 #[derive(Drop)]
 pub struct Passed<'m> {
     pub(crate) machine: &'m Machine,
@@ -21,7 +23,7 @@ pub struct Passed<'m> {
     pub(crate) call_order: Vec<u32>,
     // Whether a device is asynchronous.
     pub(crate) has_async: bool,
-    // In a place of its own on the heap, since the rest is moved at each entry.
+    // In a box of its own, since the other fields are moved at each entry.
     pub(crate) past_state: Box<PastState<'m>>,
 }
 
@@ -74,8 +76,8 @@ impl<'m> Passed<'m> {
         })
     }
 
-    /// Passes the next entry, which adds no link that may not stand. `Mem` if a counter has no room, or if there is no
-    /// memory for what it leaves.
+    /// Passes the next entry, which adds no link that may not be added. `Mem` if a counter has no room, or if
+    /// there is no memory for what it leaves.
     pub fn pass(self, e: Entry) -> Result<Self, Mem>
         requires next { slice_get self.entries self.passed ≡ Some e }
         requires link { MayAdd (state_of self.machine (journal_of self)).graph e.kind }
@@ -115,7 +117,7 @@ impl<'m> Passed<'m> {
         let _entries = &self.entries;
     }
 
-    /// The links that stand are links as the reader of machines takes them.
+    /// The links are links as the reader of machines accepts them.
     pub fn is_graph(&self)
         ensures { IsGraph (state_of self.now.machine (journal_of self.now)).graph }
     {

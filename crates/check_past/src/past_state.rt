@@ -11,7 +11,7 @@ use sleep_base::Mem;
 use sleep_model::{Entry, EventNow, Kind, Machine};
 use std::alloc::Global;
 
-/// What is kept of the word, of time, of the journal, of the sources and of the calls on them.
+/// The account of the word, of time, of the journal, of the sources and of the calls on them.
 #[derive(Drop)]
 pub(crate) struct PastState<'m> {
     pub(crate) word: EventNow,
@@ -64,8 +64,8 @@ impl<'m> PastState<'m> {
         })
     }
 
-    /// Passes one more entry, which adds no link that may not stand. `Mem` if a counter has no room, or if there is no
-    /// memory for what it leaves.
+    /// Passes one more entry, which adds no link that may not be added. `Mem` if a counter has no room, or if
+    /// there is no memory for what it leaves.
     #[tactic(auto, using(crate::proofs::Passing::together))]
     pub(crate) fn pass(&mut self, machine: &Machine, e: Entry) -> Result<(), Mem>
         requires all { length self.old.journal.tasks.freezings ≡ length machine.now.actors }

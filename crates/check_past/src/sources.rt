@@ -13,7 +13,7 @@ impl<'m> Passed<'m> {
     ghost use Rattle.check_past.specs.Passing.{journal_of, past_of};
     ghost use Rattle.check_sources.specs.SourceStates.{source_of};
 
-    /// What is kept of a source; nothing of one that is not there.
+    /// The state of a source; that of a new one if it is not registered.
     pub fn source(&self, number: u32) -> Source
         ensures { result ≡ source_of (history number (past_of self.now)) }
     {
@@ -28,8 +28,8 @@ impl<'m> Passed<'m> {
         self.past_state.calls.made(who)
     }
 
-    /// How many calls an actor of the machine owes in all before it may append to the journal. `Mem` if the sum has no
-    /// room.
+    /// How many calls an actor of the machine owes in all before it may append to the journal. `Mem` if the
+    /// sum has no room.
     pub fn calls_due(&self, who: Actor) -> Result<usize, Mem>
         requires { fits_actor self.now.machine who ≡ true }
         ensures { IfOk result (λ n. n ≡ calls_due self.now.machine who (journal_of self.now)) }

@@ -1,5 +1,5 @@
-//! What the passed entries leave of the tasks: where they stand, what the freezer has come to with them, the marks, and
-//! autosleep with its work.
+//! What the passed entries leave of the tasks: their positions and freezings, the marks, and autosleep with
+//! its work.
 
 ghost use Rattle.std.specs.Prelude.{◌≡◌, ◌<◌, ◌^◌, length};
 ghost use Rattle.sleep_model.specs.Freezer.{keeps_waiting, left_from};
@@ -76,7 +76,7 @@ impl<'m> Passed<'m> {
         self.past_state.journal.tasks.freezings()
     }
 
-    /// Where a script stands.
+    /// The position of a script.
     pub fn position(&self, script: u32) -> ScriptPosition
         ensures { result ≡ position_of self.now.machine (journal_of self.now) script }
     {
@@ -149,7 +149,7 @@ impl<'m> Passed<'m> {
         self.past_state.journal.tasks.is_on()
     }
 
-    /// Where the autosleep work stands (`try_to_suspend`).
+    /// The state of the autosleep work (`try_to_suspend`).
     pub fn work(&self) -> Work
         ensures { result ≡ work (journal_of self.now) }
     {

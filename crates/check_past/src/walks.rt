@@ -32,7 +32,7 @@ pub fn is_ready(state: PhaseState) -> bool
     matches!(state, PhaseState::Prepared)
 }
 
-/// Not through with the phase on the way down (`power.completion`).
+/// Not done with the phase on the way down (`power.completion`).
 pub fn is_not_down(state: PhaseState) -> bool
     ensures { result ≡ is_not_down state }
 {
@@ -45,7 +45,7 @@ pub fn is_not_down(state: PhaseState) -> bool
     )
 }
 
-/// Scheduled on the way down, and not through (`async_schedule_dev`).
+/// Scheduled on the way down, and not done (`async_schedule_dev`).
 pub fn is_going_down(state: PhaseState) -> bool
     ensures { result ≡ is_going_down state }
 {
@@ -76,7 +76,7 @@ pub fn is_not_up(state: PhaseState) -> bool
     )
 }
 
-/// Where a device stands among others; unprepared if there is no such device.
+/// The state of a device among others; unprepared if there is no such device.
 fn state_at(phase_states: &[PhaseState], device: u32) -> PhaseState
     ensures { result ≡ state_at phase_states.now device }
 {
@@ -139,7 +139,7 @@ fn last_ready(order: &[u32], phase_states: &[PhaseState]) -> Option<u32>
         .find(|d| is_ready(state_at(phase_states, *d)))
 }
 
-/// The first that is scheduled on the way down, and not through.
+/// The first that is scheduled on the way down, and not done.
 fn first_going_down(order: &[u32], phase_states: &[PhaseState]) -> Option<u32>
     ensures { result ≡ find (λ d. is_going_down (state_at phase_states.now d)) order.now }
 {
@@ -149,7 +149,7 @@ fn first_going_down(order: &[u32], phase_states: &[PhaseState]) -> Option<u32>
         .find(|d| is_going_down(state_at(phase_states, *d)))
 }
 
-/// The first that is not through with the way down.
+/// The first that is not done on the way down.
 fn first_not_down(order: &[u32], phase_states: &[PhaseState]) -> Option<u32>
     ensures { result ≡ find (λ d. is_not_down (state_at phase_states.now d)) order.now }
 {
@@ -176,7 +176,7 @@ fn first_down_async(order: &[u32], phase_states: &[PhaseState], devices: &[Devic
     order.iter().copied().find(|d| is_down_in(state_at(phase_states, *d)) && is_async(devices, *d))
 }
 
-/// The first that is down and asynchronous, where the caller tells whether a device is asynchronous at all.
+/// The first that is down and asynchronous; the caller says whether a device is asynchronous at all.
 fn first_async(
     has_async: bool,
     order: &[u32],
@@ -296,7 +296,7 @@ impl<'m> Passed<'m> {
         last_ready(self.order(), self.phase_states(phase))
     }
 
-    /// The first device that is scheduled and not through (`async_synchronize_full`).
+    /// The first device that is scheduled and not done (`async_synchronize_full`).
     #[tactic(auto, using(sleep_model::proofs::Searches::find_is_first))]
     pub fn waits_down(&self, phase: Phase) -> Option<u32>
         ensures { result ≡ waits_down self.now.machine (journal_of self.now) phase }
@@ -304,7 +304,7 @@ impl<'m> Passed<'m> {
         first_going_down(self.order(), self.phase_states(phase))
     }
 
-    /// The first device below one that is not through with a phase (`dpm_wait_for_subordinate`).
+    /// The first device below one that is not done with a phase (`dpm_wait_for_subordinate`).
     #[tactic(auto, using(sleep_model::proofs::Searches::find_is_first))]
     pub fn waits_below(&self, phase: Phase, device: u32) -> Option<u32>
         ensures { result ≡ waits_below self.now.machine (journal_of self.now) phase device }
@@ -360,7 +360,7 @@ impl<'m> Passed<'m> {
         are_direct(self.below(device), self.phase_states(Phase::Suspend))
     }
 
-    /// The notifier that is to be told of the attempt (`PM_SUSPEND_PREPARE`).
+    /// The notifier that is to be called for the attempt (`PM_SUSPEND_PREPARE`).
     #[tactic(auto, using(sleep_model::proofs::Searches::find_is_first))]
     pub fn next_called(&self) -> Option<u32>
         ensures { result ≡ next_called self.now.machine (journal_of self.now) }
@@ -368,7 +368,7 @@ impl<'m> Passed<'m> {
         first_unset(self.notified_flags(), self.call_order())
     }
 
-    /// The notifier that is to be told of its end (`PM_POST_SUSPEND`).
+    /// The notifier that is to be called for its end (`PM_POST_SUSPEND`).
     #[tactic(auto, using(sleep_model::proofs::Searches::find_is_first))]
     pub fn next_posted(&self) -> Option<u32>
         ensures { result ≡ next_posted self.now.machine (journal_of self.now) }

@@ -17,7 +17,7 @@ use Rattle.rule_definitions.specs.Runtime.{KeepsRuntime}
 use Rattle.rule_definitions.specs.Skip.{KeepsSkip}
 use Rattle.check_rules.specs.Judging.{KeepsBelow, KeepsTogether, is_of_journal, rule_index, rule_at}
 
--- ---- a rule of the journal alone
+-- ---- a rule of the journal only
 
 pub on_journal : {X : Type 0} (p : EntryClass) (b : Bool) → (IsTrue b ↔ X) → IsTrue (not (is_of_journal p) || b) ↔ OnJournal p X
 on_journal OfJournal b h = h
@@ -79,7 +79,7 @@ rising (suc k) n =
 no_lesser : (n k : ℕ) → n ≤ k → number_of (rule_at n) ≤ number_of (rule_at k)
 no_lesser n k h = let e : (k - n) + n ≡ k = omega (arith, h) in subst (λ j. number_of (rule_at n) ≤ number_of (rule_at j)) e (rising (k - n) n)
 
--- a rule of a lesser number stands before
+-- a rule of a lesser number has a lesser index
 before : (rule : Rule) (n : ℕ) → number_of rule < number_of (rule_at n) → rule_index rule < n
 before rule n h = ⊎_elim
     (λ below. below)
@@ -127,7 +127,7 @@ all_preserved m past e h = record {
 
 -- ---- all rules at one go
 
--- the rules of the journal alone ask nothing of other entries
+-- the rules of the journal ask nothing of other entries
 pub none_asked : (X : Type 0) (p : EntryClass) → is_of_journal p ≡ false → OnJournal p X
 none_asked X OfJournal h = absurd (cc)
 none_asked X (Notes s call) h = tt

@@ -1,4 +1,4 @@
--- While all is quiet, nothing of the journal is due of a script that sleeps on or is gone.
+-- While all is quiet, nothing of the journal is due of a script that sleeps on or has exited.
 use Rattle.std.proofs.Common.{◌≡◌, ◌+◌, ◌&&◌, ◌||◌, ℕ, zero, suc, Bool, true, false, not, if◌then◌else◌, List, length, Option, Some, None, is_none, slice_get, refl, arith, add-one, nat_lt, nat_le}
 use Rattle.std.proofs.lemmas.Bool.{and_parts}
 use Rattle.std.proofs.lemmas.Bool.Decides.{nat_tests}

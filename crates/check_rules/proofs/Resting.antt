@@ -1,4 +1,4 @@
--- Lists at rest, and how long they are.
+-- Idle lists, and how long they are.
 use Rattle.std.proofs.Common.{◌≡◌, ◌&&◌, ◌∙◌, IsTrue, ◌↔◌, ℕ, suc, zero, Bool, true, false, not, List, [], ◌∷◌, length, replicate, refl, ap}
 use Rattle.std.specs.List.{list_all}
 use Rattle.std.proofs.lemmas.List.{length-set, length-replicate}
@@ -21,7 +21,7 @@ use Rattle.sleep_model.specs.PhaseStates.{device_of, is_unprepared, phase_states
 never : {A : Type 0} → false ≡ true → A
 never h = absurd (cc)
 
--- ---- flags, stands and tasks at rest
+-- ---- flags, states and tasks that are idle
 
 pub all_unset : (xs : List Bool) → list_all (λ (b : Bool). not b) xs ≡ true → xs ≡ replicate (length xs) false
 all_unset [] h = refl

@@ -1,4 +1,4 @@
--- What is kept of sources is what the rules ask of their histories.
+-- The account of sources is what the rules ask of their histories.
 use Rattle.std.proofs.Common.{◌≡◌, ◌<◌, ◌+◌, ◌==◌, ◌&&◌, ◌||◌, ◌∙◌, ℕ, zero, suc, Bool, true, false, not, cond, IsTrue, ◌↔◌, List, [], ◌∷◌, length, Option, Some, refl, ap, sym, subst, arith, add-one, nat_le, ⊎_elim}
 use Rattle.std.specs.List.{list_all, range_with_len}
 use Rattle.std.proofs.lemmas.Bool.{and_parts, cases_lt}

@@ -8,7 +8,7 @@ abbrev pub are_short : List Entry → ℕ → Bool
 are_short past zero = true
 are_short past (suc n) = is_short past n && are_short past n
 
--- the number of entries of source s, one more where that entry is its own (own)
+-- the number of entries of source s, one more if that entry is its own (own)
 abbrev pub with_own : Option ℕ → ℕ → ℕ → ℕ
 with_own None s n = n
 with_own (Some t) s n = if t == s then suc n else n

@@ -27,10 +27,10 @@ sleeps_on (Some (op.Sleep ms)) waits (Some until) time = waits && nat_lt time un
 sleeps_on (Some (op.SleepD ms)) waits (Some until) time = waits && nat_lt time until
 sleeps_on _ waits until time = false
 
--- a script that stands so at its operation sleeps on, or is gone (do_exit)
+-- a script in that position at its operation sleeps on, or has exited (do_exit)
 abbrev pub stays : ScriptPosition → Option Op → ℕ → Bool
 stays position op time = position.exited || sleeps_on op position.waits position.until time
 
--- script i is not asked to freeze, and sleeps on or is gone (own)
+-- script i is not asked to freeze, and sleeps on or has exited (own)
 abbrev pub is_idle_script : Machine → List Entry → ℕ → Bool
 is_idle_script m past i = not (freezing m i past).asked && stays (position_of m past i) (op_of m past i) (time_of past)

@@ -14,7 +14,8 @@ use phase_table::Phase;
 use sleep_base::{Errno, Mem};
 use sleep_model::Kind;
 
-/// What a phase answers: prepare its error, one on the way down a synchronous callback's, or else the last that was set.
+/// What a phase answers: prepare its error, one on the way down a synchronous callback's, or else the last
+/// that was set.
 fn phase_answer(past: &Passed<'_>, phase: Phase) -> Option<Errno>
     ensures { result ≡ phase_answer (journal_of past.now) phase }
 {
@@ -28,7 +29,8 @@ fn phase_answer(past: &Passed<'_>, phase: Phase) -> Option<Errno>
     }
 }
 
-/// Whether a phase answers its error, and an attempt that of its step that failed (`dpm_suspend`, `enter_state`).
+/// Whether a phase answers its error, and an attempt that of its step that failed (`dpm_suspend`,
+/// `enter_state`).
 pub fn keeps_answers(past: &Passed<'_>, kind: Kind) -> bool
     ensures { IsTrue result ↔ KeepsAnswers (journal_of past.now) kind }
 {
@@ -53,8 +55,8 @@ pub fn keeps_runtime(past: &Passed<'_>, kind: Kind) -> bool
     }
 }
 
-/// Whether a change of links is answered rightly (`device_link_add`, `device_links_driver_bound`). `Mem` if there is no
-/// memory for a walk.
+/// Whether a change of links is answered rightly (`device_link_add`, `device_links_driver_bound`). `Mem` if
+/// there is no memory for a walk.
 pub fn keeps_links(past: &Passed<'_>, kind: Kind) -> Result<bool, Mem>
     requires { fits_kind past.now.machine kind ≡ true }
     ensures { IfOk result (λ b. IsTrue b ↔ KeepsLinks past.now.machine (journal_of past.now) kind) }

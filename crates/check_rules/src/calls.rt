@@ -1,4 +1,5 @@
-//! The calls of an actor: whether its turn has come, whether a note is its next call, whether it is inside one.
+//! The calls of an actor: whether its turn has come, whether a note is its next call, whether it is inside
+//! one.
 
 ghost use Rattle.std.specs.Prelude.{◌≡◌, ◌↔◌, ◌+◌, ◌&&◌, true, IsTrue, IfOk, Some, length, slice_get};
 ghost use Rattle.check_sources.specs.Owing.{steps_of};
@@ -21,8 +22,8 @@ use check_sources::Source;
 use sleep_base::Mem;
 use sleep_model::{Actor, AsyncWork, Kind, WordKind};
 
-/// Whether an actor of the machine has made the calls that come before its next entry, and no more. `Mem` where their
-/// number has no room.
+/// Whether an actor of the machine has made the calls that come before its next entry, and no more. `Mem` if
+/// their number has no room.
 #[inline]
 pub(crate) fn is_own_turn(past: &Passed<'_>, who: Actor) -> Result<bool, Mem>
     requires { fits_actor past.now.machine who ≡ true }
@@ -80,7 +81,8 @@ pub(crate) fn is_calling(past: &Passed<'_>, who: Actor) -> bool
     calling
 }
 
-/// Whether a step of the word is one that its actor owes: of a call on that source that it is inside, and the next.
+/// Whether a step of the word is one that its actor owes: of a call on that source that it is inside, and the
+/// next.
 pub(crate) fn is_of_call(past: &Passed<'_>, who: Actor, s: u32, step: WordKind) -> bool
     ensures { IsTrue result ↔ IsOfCall (past_of past.now) who s step }
 {

@@ -13,8 +13,8 @@ use check_past::Passed;
 use sleep_base::Mem;
 use sleep_model::{Actor, EventNow, Kind};
 
-/// Whether script i may make an entry outside an attempt of its own: not while the machine sleeps, unless it is an
-/// interrupt line.
+/// Whether script i may make an entry outside an attempt of its own: not while the machine sleeps, unless it
+/// is an interrupt line.
 fn is_awake_script(past: &Passed<'_>, i: u32) -> bool
     ensures { IsTrue result ↔ AwakeActor past.now.machine (journal_of past.now) (Script i) false }
 {
@@ -36,7 +36,8 @@ fn is_awake(past: &Passed<'_>, who: Actor) -> bool
     }
 }
 
-/// Whether the machine wakes rightly, by a step of the word or else by its alarm. `Mem` if that is beyond all time.
+/// Whether the machine wakes rightly, by a step of the word or else by its alarm. `Mem` if that is beyond all
+/// time.
 fn wakes_by(past: &Passed<'_>, now: EventNow, kind: Kind) -> Result<bool, Mem>
     ensures { IfOk result (λ b. IsTrue b
         ↔ WakesBy past.now.machine (journal_of past.now) now (sleep_of (journal_of past.now)) kind) }
@@ -48,8 +49,8 @@ fn wakes_by(past: &Passed<'_>, now: EventNow, kind: Kind) -> Result<bool, Mem>
     }
 }
 
-/// Whether who makes an entry of the journal may go on, and the machine wakes rightly (`suspend_enter`). `Mem` if its
-/// alarm is beyond all time.
+/// Whether who makes an entry of the journal may go on, and the machine wakes rightly (`suspend_enter`).
+/// `Mem` if its alarm is beyond all time.
 pub fn keeps_enabled(past: &Passed<'_>, now: EventNow, who: Actor, kind: Kind) -> Result<bool, Mem>
     ensures { IfOk result (λ b. IsTrue b ↔ KeepsEnabled past.now.machine (journal_of past.now) now who kind) }
 {

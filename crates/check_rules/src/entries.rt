@@ -1,4 +1,5 @@
-//! The rules that several kinds of entries have a part in: of the journal, of calls on sources and of their steps.
+//! The rules that several kinds of entries have a part in: of the journal, of calls on sources and of their
+//! steps.
 
 ghost use Rattle.std.specs.Prelude.{◌≡◌, ◌↔◌, true, IsTrue, IfOk};
 ghost use Rattle.sleep_model.specs.Fits.{fits_entry};
@@ -22,7 +23,7 @@ use check_past::Passed;
 use sleep_base::Mem;
 use sleep_model::{Actor, Entry, Kind, WordKind};
 
-/// Whether a callback ends once its reports are made. `Mem` where their number has no room.
+/// Whether a callback ends once its reports are made. `Mem` if their number has no room.
 fn are_reports_made(past: &Passed<'_>, e: Entry) -> Result<bool, Mem>
     requires { fits_entry past.now.machine e ≡ true }
     ensures { IfOk result (λ b. IsTrue b ↔ ReportsMade past.now.machine (past_of past.now) e.actor e.kind) }
@@ -40,8 +41,9 @@ fn ends_callback(past: &Passed<'_>, e: Entry) -> bool
     !is_in_callback(past, e.actor) || ends_own(past, e.actor, e.kind)
 }
 
-/// Whether devices are taken in order and answer what the machine answers, and a callback makes its reports in order, then
-/// its end, and nothing else (`drivers/base/power/main.c`). `Mem` if the number of reports has no room.
+/// Whether devices are taken in order and answer what the machine answers, and a callback makes its reports
+/// in order, then its end, and nothing else (`drivers/base/power/main.c`). `Mem` if the number of reports has
+/// no room.
 #[inline(always)]
 pub fn walk_entry(past: &Passed<'_>, e: Entry) -> Result<bool, Mem>
     requires { fits_entry past.now.machine e ≡ true }
@@ -64,8 +66,9 @@ pub fn walk_entry(past: &Passed<'_>, e: Entry) -> Result<bool, Mem>
     }
 }
 
-/// Whether tasks freeze where they are asked to and come to it, frozen ones make nothing, and a freeze ends rightly
-/// (`try_to_freeze`, `try_to_freeze_tasks`). `Mem` if its end is beyond all time, or a number has no room.
+/// Whether tasks freeze if they are asked to and come to it, frozen ones make nothing, and a freeze ends
+/// rightly (`try_to_freeze`, `try_to_freeze_tasks`). `Mem` if its end is beyond all time, or a number has no
+/// room.
 #[inline(always)]
 pub fn freezer_entry(past: &Passed<'_>, e: Entry) -> Result<bool, Mem>
     requires { fits_entry past.now.machine e ≡ true }
@@ -91,8 +94,8 @@ pub fn freezer_entry(past: &Passed<'_>, e: Entry) -> Result<bool, Mem>
     }
 }
 
-/// Whether the open attempt's maker keeps to the table, and calls on sources only from callbacks (`enter_state`,
-/// `dpm_run_callback`).
+/// Whether the open attempt's maker keeps to the table, and calls on sources only from callbacks
+/// (`enter_state`, `dpm_run_callback`).
 #[inline(always)]
 pub fn path_entry(past: &Passed<'_>, e: Entry) -> bool
     ensures { IsTrue result ↔ PathEntry past.now.machine (past_of past.now) e (class_of e.kind) }
@@ -106,9 +109,9 @@ pub fn path_entry(past: &Passed<'_>, e: Entry) -> bool
     }
 }
 
-/// Whether an entry is its actor's next, once the calls before it are made whole; a note its actor's next call; a step of
-/// the word owed by its actor; and time makes the jumps. `Mem` if a moment is beyond all time, or a number has no
-/// room.
+/// Whether an entry is its actor's next, once the calls before it are made whole; a note its actor's next
+/// call; a step of the word owed by its actor; and time makes the jumps. `Mem` if a moment is beyond all
+/// time, or a number has no room.
 #[inline(always)]
 pub fn steps_entry(past: &Passed<'_>, e: Entry) -> Result<bool, Mem>
     requires { fits_entry past.now.machine e ≡ true }
@@ -130,8 +133,8 @@ pub fn steps_entry(past: &Passed<'_>, e: Entry) -> Result<bool, Mem>
     }
 }
 
-/// Whether who makes an entry may go on, and time jumps where it may (`suspend_enter`). `Mem` if a moment is beyond all
-/// time, a number has no room, or if there is no memory for a walk.
+/// Whether who makes an entry may go on, and time jumps if it may (`suspend_enter`). `Mem` if a moment is
+/// beyond all time, if a number has no room, or if there is no memory for a walk.
 #[inline(always)]
 pub fn enabled_entry(past: &Passed<'_>, e: Entry) -> Result<bool, Mem>
     ensures { IfOk result (λ b. IsTrue b ↔ EnabledEntry past.now.machine (past_of past.now) e (class_of e.kind)) }

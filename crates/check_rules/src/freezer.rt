@@ -17,7 +17,7 @@ use check_past::Passed;
 use sleep_base::Mem;
 use sleep_model::{Actor, EventNow, Freezing, Kind};
 
-/// Whether a task, at a freeze point or not, freezes where it is asked to, and makes nothing if it is frozen.
+/// Whether a task, at a freeze point or not, freezes if it is asked to, and makes nothing if it is frozen.
 fn freezes_by(freezing: Freezing, point: bool, kind: Kind) -> bool
     ensures { IsTrue result ↔ FreezesBy freezing point kind }
 {
@@ -50,8 +50,8 @@ fn point_of(past: &Passed<'_>, i: u32) -> Option<bool>
     ))
 }
 
-/// Whether the next entry of an actor of the machine is one of the journal: it has made the calls that come before it, and
-/// is inside none. `Mem` if a number has no room.
+/// Whether the next entry of an actor of the machine is one of the journal: it has made the calls that come
+/// before it, and is inside none. `Mem` if a number has no room.
 fn is_at_turn(past: &Passed<'_>, who: Actor) -> Result<bool, Mem>
     requires { fits_actor past.now.machine who ≡ true }
     ensures { IfOk result (λ b. b ≡ is_at_turn past.now.machine (past_of past.now) who) }
@@ -79,8 +79,8 @@ fn asked_now(past: &Passed<'_>, i: u32) -> Result<Freezing, Mem>
     Ok(asked_at(turn, past.freezing(i)))
 }
 
-/// Whether script i freezes where it is asked to and comes to it, and makes nothing if it is frozen. `Mem` if a number
-/// has no room.
+/// Whether script i freezes if it is asked to and comes to it, and makes nothing if it is frozen. `Mem` if a
+/// number has no room.
 fn freezes_script(past: &Passed<'_>, i: u32, kind: Kind) -> Result<bool, Mem>
     requires { fits_actor past.now.machine (actor.Script i) ≡ true }
     ensures { IfOk result (λ b. IsTrue b ↔ FreezesEntry past.now.machine (past_of past.now) (actor.Script i) false kind) }
@@ -92,8 +92,8 @@ fn freezes_script(past: &Passed<'_>, i: u32, kind: Kind) -> Result<bool, Mem>
     }
 }
 
-/// Whether an actor freezes, outside attempts of its own, where it is asked to and comes to it, and makes nothing if it
-/// is frozen (`try_to_freeze`). `Mem` if a number has no room.
+/// Whether an actor freezes, outside attempts of its own, if it is asked to and comes to it, and makes
+/// nothing if it is frozen (`try_to_freeze`). `Mem` if a number has no room.
 pub(crate) fn freezes_entry(past: &Passed<'_>, who: Actor, kind: Kind) -> Result<bool, Mem>
     requires { fits_actor past.now.machine who ≡ true }
     ensures { IfOk result (λ b. IsTrue b ↔ FreezesEntry past.now.machine (past_of past.now) who (is_maker (journal_of past.now) who) kind) }
@@ -126,8 +126,8 @@ fn goes_on_script(past: &Passed<'_>, i: u32) -> Result<bool, Mem>
     }
 }
 
-/// Whether an actor that makes a call, a step of one or a jump is no frozen task, and none that is asked at a freeze point
-/// (`__refrigerator`, `try_to_freeze`). `Mem` if a number has no room.
+/// Whether an actor that makes a call, a step of one or a jump is no frozen task, and none that is asked at a
+/// freeze point (`__refrigerator`, `try_to_freeze`). `Mem` if a number has no room.
 pub(crate) fn goes_on_entry(past: &Passed<'_>, who: Actor) -> Result<bool, Mem>
     requires { fits_actor past.now.machine who ≡ true }
     ensures { IfOk result (λ b. IsTrue b ↔ GoesOnEntry past.now.machine (past_of past.now) who (is_maker (journal_of past.now) who)) }

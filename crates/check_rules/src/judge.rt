@@ -106,15 +106,15 @@ pub(crate) fn is_of_journal(kind: Kind) -> bool
     )
 }
 
-/// What a rule of the journal alone says of an entry: all others keep it.
+/// What a rule of the journal says of an entry: entries of other lists keep it.
 fn in_journal(kind: Kind, keeps: bool) -> bool
     ensures { result ≡ (not (is_of_journal (class_of kind)) || keeps) }
 {
     !is_of_journal(kind) || keeps
 }
 
-/// Whether an entry keeps a rule after the entries that were passed. `Mem` if a moment is beyond all time, a number has
-/// no room, or if there is no memory for a walk.
+/// Whether an entry keeps a rule after the entries that were passed. `Mem` if a moment is beyond all time, a
+/// number has no room, or if there is no memory for a walk.
 #[inline(never)]
 fn keeps(past: &Passed<'_>, e: Entry, rule: Rule) -> Result<bool, Mem>
     requires { fits_entry past.now.machine e ≡ true }
@@ -140,8 +140,8 @@ fn keeps(past: &Passed<'_>, e: Entry, rule: Rule) -> Result<bool, Mem>
     }
 }
 
-/// Whether an entry keeps the rules that entries of sources and jumps have a part in. `Mem` if a moment is beyond all time,
-/// a number has no room, or if there is no memory for a walk.
+/// Whether an entry keeps the rules that entries of sources and jumps have a part in. `Mem` if a moment is
+/// beyond all time, a number has no room, or if there is no memory for a walk.
 fn keeps_together(past: &Passed<'_>, e: Entry) -> Result<bool, Mem>
     requires { fits_entry past.now.machine e ≡ true }
     ensures { IfOk result (λ b. IsTrue b → KeepsTogether past.now.machine (past_of past.now) e (class_of e.kind)) }
@@ -189,14 +189,14 @@ fn least_broken(past: &Passed<'_>, e: Entry) -> Result<Option<u8>, Mem>
     Ok(None)
 }
 
-/// The number of the least rule that an entry breaks after the entries that were passed, if it breaks one. `Mem` if a
-/// moment is beyond all time, a number has no room, or if there is no memory for a walk.
+/// The number of the least rule that an entry breaks after the entries that were passed, if it breaks one.
+/// `Mem` if a moment is beyond all time, a number has no room, or if there is no memory for a walk.
 pub fn first_broken(past: &Passed<'_>, e: Entry) -> Result<Option<u8>, Mem>
     requires { fits_entry past.now.machine e ≡ true }
     ensures { IfOk result (λ n. IsBroken past.now.machine (past_of past.now) e n) }
 {
-    // Most entries of sources break none, and only one that does wants the rules in order. Of the journal's a caller asks
-    // first whether it is the next (`is_next_entry`).
+    // Most entries of sources break none, and only one that does wants the rules in order. Of the journal's a
+    // caller asks first whether it is the next (`is_next_entry`).
     match keeps_aside(past, e) {
         Ok(true) => Ok(None),
         _ => least_broken(past, e),

@@ -1,4 +1,4 @@
-//! Who is enabled, and which times are pending: where time jumps, and where a log is finished.
+//! Who is enabled and which times are pending, for the rules of time's jumps and of a log's end.
 
 ghost use Rattle.std.specs.Prelude.{◌≡◌, ◌↔◌, ◌<◌, ◌+◌, ◌&&◌, not, true, is_none, IsTrue, IfOk, length, nat_lt, option_copied, slice_get};
 ghost use Rattle.sleep_model.specs.declared.entry.Actor.TheVariants.{Dev, Script};
@@ -37,8 +37,9 @@ fn owes_call(past: &Passed<'_>, who: Actor) -> Result<bool, Mem>
     Ok(past.made(who) < past.calls_due(who)?)
 }
 
-/// Whether an actor of the machine is enabled: it is inside a call, has a call to make, or an entry of the journal is due of
-/// it. `Mem` if a moment is beyond all time, a number has no room, or if there is no memory for a walk.
+/// Whether an actor of the machine is enabled: it is inside a call, has a call to make, or an entry of the
+/// journal is due of it. `Mem` if a moment is beyond all time, a number has no room, or if there is no memory
+/// for a walk.
 fn is_enabled(past: &Passed<'_>, now: EventNow, who: Actor) -> Result<bool, Mem>
     requires { fits_actor past.now.machine who ≡ true }
     ensures { IfOk result (λ b. b ≡ is_enabled past.now.machine (journal_of past.now) (λ s. history s (past_of past.now)) now who) }
@@ -73,7 +74,7 @@ fn is_quiet(past: &Passed<'_>) -> bool
     past.maker().is_none() && none_owes(past)
 }
 
-/// Whether a script that stands so at its operation sleeps on, or is gone.
+/// Whether a script in that position at its operation sleeps on, or has exited.
 fn stays(position: ScriptPosition, op: Option<&Op>, time: u64) -> bool
     ensures { result ≡ stays position (option_copied op.entry) time }
 {
@@ -87,7 +88,7 @@ fn stays(position: ScriptPosition, op: Option<&Op>, time: u64) -> bool
     }
 }
 
-/// Whether all is quiet, and script i is not asked to freeze, and sleeps on or is gone.
+/// Whether all is quiet, and script i is not asked to freeze, and sleeps on or has exited.
 fn is_idle_script(past: &Passed<'_>, quiet: bool, i: u32) -> bool
     ensures { result ≡ (quiet && is_idle_script past.now.machine (journal_of past.now) i) }
 {
@@ -96,8 +97,8 @@ fn is_idle_script(past: &Passed<'_>, quiet: bool, i: u32) -> bool
         && stays(past.position(i), past.operation(i), past.journal_time())
 }
 
-/// Whether script i of the machine is enabled, where the caller has found out whether all is quiet: then one that rests can
-/// make a call alone. `Mem` as for `is_enabled`.
+/// Whether script i of the machine is enabled. The caller has found out whether all is quiet: an idle script
+/// can then make only a call. `Mem` as for `is_enabled`.
 fn is_script_enabled(past: &Passed<'_>, now: EventNow, quiet: bool, i: u32) -> Result<bool, Mem>
     requires there { fits_actor past.now.machine (Script i) ≡ true }
     requires quiet { quiet ≡ is_quiet past.now.machine (journal_of past.now) (λ s. history s (past_of past.now)) }
@@ -167,8 +168,9 @@ fn is_idle_outside_if(past: &Passed<'_>, now: EventNow, idle: bool) -> bool
     past.maker().is_none() && idle
 }
 
-/// Whether no attempt is open, and nobody can make anything: all that a finished log is but that every script has exited
-/// (`Passed::have_all_exited`). `Mem` if a moment is beyond all time, a number has no room, or if there is no memory for a walk.
+/// Whether no attempt is open, and nobody can make anything: all that a finished log is but that every script
+/// has exited (`Passed::have_all_exited`). `Mem` if a moment is beyond all time, a number has no room, or if
+/// there is no memory for a walk.
 pub fn is_idle_outside(past: &Passed<'_>, now: EventNow) -> Result<bool, Mem>
     ensures { IfOk result (λ b. b ≡ (is_none (maker (journal_of past.now))
         && is_idle past.now.machine (journal_of past.now) (λ s. history s (past_of past.now)) now)) }
@@ -177,7 +179,8 @@ pub fn is_idle_outside(past: &Passed<'_>, now: EventNow) -> Result<bool, Mem>
     Ok(is_idle_outside_if(past, now, idle))
 }
 
-/// Whether every script has exited, no attempt is open, and nobody can make anything, as the caller has found out.
+/// Whether every script has exited, no attempt is open, and nobody can make anything, as the caller has found
+/// out.
 fn is_finished_if(past: &Passed<'_>, now: EventNow, idle: bool) -> bool
     requires { idle ≡ is_idle past.now.machine (journal_of past.now) (λ s. history s (past_of past.now)) now }
     ensures { result ≡ is_finished past.now.machine (journal_of past.now) (λ s. history s (past_of past.now)) now }
@@ -185,7 +188,7 @@ fn is_finished_if(past: &Passed<'_>, now: EventNow, idle: bool) -> bool
     past.have_all_exited() && is_idle_outside_if(past, now, idle)
 }
 
-/// The lesser of two moments, where there are any.
+/// The lesser of two moments, if there are any.
 fn sooner(one: Option<u64>, other: Option<u64>) -> Option<u64>
     ensures { result ≡ sooner one other }
 {
@@ -230,7 +233,7 @@ fn deadline_at(past: &Passed<'_>) -> Result<Option<u64>, Mem>
     }
 }
 
-/// The end of the work's nap, where it is pending.
+/// The end of the work's nap, if it is pending.
 fn pending_nap(past: &Passed<'_>) -> Option<u64>
     ensures { result ≡ pending_nap (journal_of past.now) }
 {
@@ -240,7 +243,7 @@ fn pending_nap(past: &Passed<'_>) -> Option<u64>
     }
 }
 
-/// The end of script i's sleep, where it is pending.
+/// The end of script i's sleep, if it is pending.
 fn pending_sleep(past: &Passed<'_>, i: u32) -> Option<u64>
     ensures { result ≡ pending_sleep (sleeps_now (journal_of past.now)) (freezing past.now.machine i (journal_of past.now))
         (slice_get past.now.machine.actors i) (position_of past.now.machine (journal_of past.now) i) }
@@ -278,15 +281,16 @@ fn next_time(past: &Passed<'_>) -> Result<Option<u64>, Mem>
     Ok(sooner(sooner(alarm, sooner(deadline, tasks)), next_expiry(past)))
 }
 
-/// Whether time may jump: nobody is enabled, something is left to do, and it goes forward to the least pending time.
+/// Whether time may jump: nobody is enabled, something is left to do, and it goes forward to the least
+/// pending time.
 fn may_jump(idle: bool, finished: bool, least: bool, forward: bool) -> bool
     ensures { result ≡ (idle && (not finished && (least && forward))) }
 {
     idle && !finished && least && forward
 }
 
-/// Whether time jumps forward to the least pending time, where nobody can make anything and something is left to do.
-/// `Mem` if a moment is beyond all time, a number has no room, or if there is no memory for a walk.
+/// Whether time jumps forward to the least pending time, if nobody can make anything and something is left to
+/// do. `Mem` if a moment is beyond all time, if a number has no room, or if there is no memory for a walk.
 pub fn keeps_jump(past: &Passed<'_>, time: u64) -> Result<bool, Mem>
     ensures { IfOk result (λ b. IsTrue b ↔ ((JumpStep past.now.machine (journal_of past.now) (λ s. history s (past_of past.now))
         (numbers (past_of past.now)) time) × (time_of (past_of past.now) < time))) }

@@ -1,10 +1,11 @@
-//! The rules of a log as code: whether an entry keeps each of them after the entries that were passed, and the
-//! number of the least that it breaks. Its tests are in `row_trials`, by the command `check`.
+//! The rules of a log as code: whether an entry keeps each of them after the entries that were passed, and
+//! the number of the least that it breaks. Its tests are in `row_trials`, by the command `check`.
 //!
-//! Promises: `check_rules` finds that an entry keeps a rule exactly if the definition says so, each rule by itself.
-//! The least rule that an entry breaks is named by its number, and none exactly if the entry keeps all. Whether an
-//! entry is the next, the journal's and due at its place, is answered exactly. That no attempt is open and nobody
-//! can make anything is found exactly if it is so. By the clauses of `first_broken`, `is_next_entry`, `is_idle_outside`.
+//! Promises: `check_rules` finds that an entry keeps a rule exactly if the definition says so, each rule by
+//! itself. The least rule that an entry breaks is named by its number, and none exactly if the entry keeps
+//! all. Whether an entry is the next, the journal's and due at its place, is answered exactly. That no
+//! attempt is open and nobody can make anything is found exactly if it is so. By the clauses of
+//! `first_broken`, `is_next_entry`, `is_idle_outside`.
 //!
 //! Begin reading in `src/next.rt`, `src/judge.rt`, `src/entries.rt`, `src/jump.rt`, `src/source.rt`;
 //! `specs/Next.antt`, `specs/Judging.antt`.

@@ -34,8 +34,8 @@ fn is_next(n: u32, before: u32) -> bool
     n > 0 && n - 1 == before
 }
 
-/// Whether an attempt has the next number and the count that guards it, and none is open; and its end its number
-/// (`pm_suspend`, `events_check_enabled`).
+/// Whether an attempt has the next number and the count that guards it, and none is open; and its end its
+/// number (`pm_suspend`, `events_check_enabled`).
 pub fn keeps_attempts(past: &Passed<'_>, kind: Kind) -> bool
     ensures { IsTrue result ↔ KeepsAttempts (journal_of past.now) kind }
 {

@@ -1,4 +1,4 @@
-//! Only what is owed is undone, and nothing is owed where an attempt is over.
+//! Only what is owed is undone, and nothing is owed once an attempt is over.
 
 ghost use Rattle.std.specs.Prelude.{◌≡◌, ◌↔◌, IsTrue};
 ghost use Rattle.sleep_model.specs.Laws.{is_back, is_back_in_all, is_owed_by, is_resuming, may_come_up};

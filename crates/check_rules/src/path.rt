@@ -1,4 +1,5 @@
-//! The table of an attempt: its maker's entries are those of the row that is under way (`kernel/power/suspend.c`).
+//! The table of an attempt: its maker's entries are those of the row that is under way
+//! (`kernel/power/suspend.c`).
 
 ghost use Rattle.std.specs.Prelude.{◌≡◌, ◌↔◌, not, IsTrue};
 ghost use Rattle.sleep_model.specs.declared.progress.Stage.TheVariants.{Enters, Freezes, Notifies, PlatformDown, StopsCpus, StopsSyscore};
@@ -226,7 +227,8 @@ fn is_of_row_if(past: &Passed<'_>, now: EventNow, row: Option<Stage>, kind: Kind
     }
 }
 
-/// Whether the open attempt's maker keeps to the table (`enter_state`, `suspend_devices_and_enter`, `suspend_enter`).
+/// Whether the open attempt's maker keeps to the table (`enter_state`, `suspend_devices_and_enter`,
+/// `suspend_enter`).
 pub fn keeps_path(past: &Passed<'_>, now: EventNow, who: Actor, kind: Kind) -> bool
     ensures { IsTrue result ↔ KeepsPath past.now.machine (journal_of past.now) now who kind }
 {
@@ -237,7 +239,7 @@ pub fn keeps_path(past: &Passed<'_>, now: EventNow, who: Actor, kind: Kind) -> b
     }
 }
 
-/// Whether an actor calls on sources where it may: who makes the open attempt inside a callback alone
+/// Whether an actor calls on sources if it may: who makes the open attempt does so only inside a callback
 /// (`dpm_run_callback`).
 pub fn keeps_reports(past: &Passed<'_>, who: Actor) -> bool
     ensures { IsTrue result ↔ ReportsOf (journal_of past.now) (is_maker (journal_of past.now) who) }

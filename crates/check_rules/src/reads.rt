@@ -34,8 +34,8 @@ fn is_save_else(past: &Passed<'_>, now: EventNow, who: Actor, c: u32, kind: Kind
     !is_actor(who, past.holder()) && makes(due, kind)
 }
 
-/// Whether an entry is right as a write to the state by somebody whose own step is another. `Mem` if the next attempt has
-/// no number.
+/// Whether an entry is right as a write to the state by somebody whose own step is another. `Mem` if the next
+/// attempt has no number.
 fn is_write_else(past: &Passed<'_>, who: Actor, kind: Kind) -> Result<bool, Mem>
     ensures { IfOk result (λ b. IsTrue b ↔ IsWriteElse (journal_of past.now) who kind) }
 {
@@ -52,7 +52,8 @@ fn is_auto_save(past: &Passed<'_>, now: EventNow, c: u32, kind: Kind) -> bool
     past.holder().is_none() && is_kind(auto_save(now, c), kind)
 }
 
-/// Reads, saves and writes to the state of somebody whose own step is another. `Mem` if the next attempt has no number.
+/// Reads, saves and writes to the state of somebody whose own step is another. `Mem` if the next attempt has
+/// no number.
 fn reads_else(past: &Passed<'_>, now: EventNow, who: Actor, kind: Kind) -> Result<bool, Mem>
     ensures { IfOk result (λ b. IsTrue b ↔ ReadsElse (journal_of past.now) now who kind) }
 {
@@ -254,8 +255,9 @@ fn reads_work(past: &Passed<'_>, now: EventNow, work: Work, kind: Kind) -> Resul
     }
 }
 
-/// Whether reads, saves and writes are answered by the word, the lock, autosleep, their number and their text, whoever
-/// makes them (`kernel/power/main.c`, `drivers/base/power/wakeup.c`). `Mem` if the next attempt has no number.
+/// Whether reads, saves and writes are answered by the word, the lock, autosleep, their number and their
+/// text, whoever makes them (`kernel/power/main.c`, `drivers/base/power/wakeup.c`). `Mem` if the next attempt
+/// has no number.
 pub fn keeps_reads(past: &Passed<'_>, now: EventNow, who: Actor, kind: Kind) -> Result<bool, Mem>
     ensures { IfOk result (λ b. IsTrue b ↔ KeepsReads past.now.machine (journal_of past.now) now who kind) }
 {

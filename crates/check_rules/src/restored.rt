@@ -1,4 +1,4 @@
-//! Nothing is owed where an attempt is over.
+//! Nothing is owed once an attempt is over.
 
 ghost use Rattle.std.specs.Prelude.{◌≡◌, ◌↔◌, ◌&&◌, not, false, IsTrue, length, map, replicate};
 ghost use Rattle.std.specs.List.{list_all};
@@ -107,7 +107,7 @@ fn is_no_task_asked(past: &Passed<'_>) -> bool
     is_none_asked(past.freezings())
 }
 
-/// Whether no device stands in a phase.
+/// Whether no device is in a phase.
 #[tactic(auto, using(crate::proofs::Resting::states_len))]
 fn is_no_device_prepared(past: &Passed<'_>, phase: Phase) -> bool
     ensures { IsTrue result ↔ NoneIsInPhase past.now.machine phase (journal_of past.now) }

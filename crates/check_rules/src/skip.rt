@@ -12,7 +12,7 @@ use check_past::Passed;
 use phase_table::Phase;
 use sleep_model::{EventNow, Kind, PhaseState, Stage};
 
-/// Whether the walk down stands at a device (`dpm_suspend`, `dpm_wait_for_subordinate`).
+/// Whether a device is next in the walk down (`dpm_suspend`, `dpm_wait_for_subordinate`).
 pub(crate) fn is_next_down(past: &Passed<'_>, phase: Phase, device: u32) -> bool
     ensures { IsTrue result ↔ IsNextDown past.now.machine (journal_of past.now) phase device }
 {
@@ -22,7 +22,7 @@ pub(crate) fn is_next_down(past: &Passed<'_>, phase: Phase, device: u32) -> bool
         && past.waits_below(phase, device).is_none()
 }
 
-/// Whether a device was scheduled on the way down, and all below it are through (`async_suspend`).
+/// Whether a device was scheduled on the way down, and all below it are done (`async_suspend`).
 pub(crate) fn is_scheduled_down(past: &Passed<'_>, phase: Phase, device: u32) -> bool
     ensures { IsTrue result ↔ IsScheduledDown past.now.machine (journal_of past.now) phase device }
 {
@@ -45,8 +45,8 @@ fn is_turn(past: &Passed<'_>, phase: Phase, device: u32, row: Option<Stage>) -> 
     }
 }
 
-/// Whether a device is passed over at its turn, for the cause that comes first, and begins to go down only if there
-/// is none (`__device_suspend`).
+/// Whether a device is passed over at its turn, for the cause that comes first, and begins to go down only if
+/// there is none (`__device_suspend`).
 pub fn keeps_skip(past: &Passed<'_>, now: EventNow, kind: Kind) -> bool
     ensures { IsTrue result ↔ KeepsSkip past.now.machine (journal_of past.now) now kind }
 {

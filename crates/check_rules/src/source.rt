@@ -35,8 +35,8 @@ fn has_expired(past: &Passed<'_>, s: u32) -> bool
     past.source(s).has_expired(past.time())
 }
 
-/// Whether a note begins a call where the source's last one owes nothing, an expiry only if it is due, and a step is
-/// the one that is owed next (`wakeup_source_report_event`, `pm_wakeup_timer_fn`).
+/// Whether a note is in order: it begins a call if the source's last one owes nothing, an expiry only if it
+/// is due. A step is the one that is owed next (`wakeup_source_report_event`, `pm_wakeup_timer_fn`).
 #[inline(always)]
 pub fn keeps_call(past: &Passed<'_>, e: Entry) -> bool
     ensures { IsTrue result ↔ CallEntry (past_of past.now) e (class_of e.kind) }
@@ -73,8 +73,8 @@ fn have_room(past: &Passed<'_>, e: Entry) -> bool
     short
 }
 
-/// Whether a source's entry is right: of its call, of a source that is there, and within the places of its history
-/// (`drivers/base/power/wakeup.c`).
+/// Whether a source's entry is right: of its call, of a source that is there, and within the places of its
+/// history (`drivers/base/power/wakeup.c`).
 #[inline(always)]
 pub fn source_entry(past: &Passed<'_>, e: Entry) -> bool
     requires { fits_entry past.now.machine e ≡ true }

@@ -190,7 +190,7 @@ fn is_script_step(past: &Passed<'_>, i: u32, kind: Kind) -> Result<bool, Mem>
     }
 }
 
-/// An entry of autosleep's work, where it stands so. `Mem` if a nap ends beyond all time.
+/// An entry of autosleep's work in that state. `Mem` if a nap ends beyond all time.
 fn is_work_step(past: &Passed<'_>, now: EventNow, work: Work, kind: Kind) -> Result<bool, Mem>
     ensures { IfOk result (λ b. IsTrue b ↔ IsWorkStep past.now.machine (journal_of past.now) now work kind) }
 {
@@ -212,7 +212,7 @@ fn is_work_step(past: &Passed<'_>, now: EventNow, work: Work, kind: Kind) -> Res
     }
 }
 
-/// An entry of an asynchronous device whose work stands so.
+/// An entry of an asynchronous device whose work is in that state.
 fn is_device_step(device: u32, work: AsyncWork, kind: Kind) -> bool
     ensures { IsTrue result ↔ IsDeviceStep device work kind }
 {
@@ -224,7 +224,7 @@ fn is_device_step(device: u32, work: AsyncWork, kind: Kind) -> bool
     }
 }
 
-/// An entry of an attempt, whose walk itself begins, ends and passes over synchronous devices alone.
+/// An entry of an attempt, whose walk itself begins, ends and skips only synchronous devices.
 fn is_maker_step(past: &Passed<'_>, kind: Kind) -> bool
     ensures { IsTrue result ↔ IsMakerStep past.now.machine kind }
 {

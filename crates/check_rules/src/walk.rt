@@ -1,4 +1,5 @@
-//! The phases of devices: who is next, what has to wait, and what callbacks answer (`drivers/base/power/main.c`).
+//! The phases of devices: who is next, what has to wait, and what callbacks answer
+//! (`drivers/base/power/main.c`).
 
 ghost use Rattle.std.specs.Prelude.{◌≡◌, ◌↔◌, true, IsTrue};
 ghost use Rattle.sleep_model.specs.Devices.{is_async_device};
@@ -75,7 +76,7 @@ fn begins_async(past: &Passed<'_>, now: EventNow, phase: Phase, device: u32) -> 
     }
 }
 
-/// Whether the walk up stands at a device.
+/// Whether a device is next in the walk up.
 fn is_next_up(past: &Passed<'_>, phase: Phase, device: u32) -> bool
     ensures { IsTrue result ↔ IsNextUp past.now.machine (journal_of past.now) phase device }
 {
@@ -226,8 +227,8 @@ fn done_at(past: &Passed<'_>, phase: Phase, row: Option<Stage>) -> bool
     }
 }
 
-/// Whether devices are taken in order, each after those that it waits for, while their phase is under way, and answer
-/// what the machine answers (`drivers/base/power/main.c`).
+/// Whether devices are taken in order, each after those that it waits for, while their phase is under way,
+/// and answer what the machine answers (`drivers/base/power/main.c`).
 pub fn keeps_walk(past: &Passed<'_>, now: EventNow, kind: Kind) -> bool
     ensures { IsTrue result ↔ KeepsWalk past.now.machine (journal_of past.now) now kind }
 {

@@ -1,4 +1,4 @@
--- What is kept of sources is what the definitions read.
+-- The account of sources is what the definitions read.
 use Rattle.std.proofs.Common.{◌≡◌, ◌<◌, ◌++◌, is_some, ℕ, zero, suc, Bool, true, false, List, [], ◌∷◌, length, replicate, Option, Some, None, refl, ap, sym, ◌∙◌, arith, cond, ◌==◌, slice_set, slice_index_or, subst}
 use Rattle.std.proofs.lemmas.List.{length-set, length-replicate}
 use Rattle.sleep_model.specs.declared.entry.Entry.{Entry}

@@ -38,7 +38,7 @@ same_attempt (Some n) (Some k) same = ap (λ c. same && c) (turned n k)
 same_attempt None (Some k) same = refl
 same_attempt (Some n) None same = refl
 
--- a key is that of an answer where thing and attempt are
+-- a key is that of an answer if their things and attempts are equal
 key_eq : (w v : What) (a b : Option ℕ) → eq-value.it (key_for w a) (key_for v b) ≡ (is_thing v w && is_for b a)
 key_eq (what.Device d p) (what.Device e q) a b =
     same_attempt a b (d == e && (phase_rank p == phase_rank q))

@@ -1,4 +1,4 @@
--- The numbers and the calls that are kept are those that the definitions read.
+-- The numbers and the calls in the account are those that the definitions read.
 use Rattle.std.proofs.Common.{◌≡◌, ◌<◌, ◌≤◌, ◌+◌, ◌++◌, ◌==◌, ◌&&◌, ℕ, zero, suc, Bool, true, false, List, [], ◌∷◌, length, replicate, cond, refl, ap, sym, ◌∙◌, subst, arith, slice_set, slice_index_or, append_assoc}
 use Rattle.std.specs.List.{list_all}
 use Rattle.std.proofs.lemmas.List.{length-set, length-replicate, append-nil}
@@ -219,7 +219,7 @@ and_right : (a b : Bool) → (a && b) ≡ true → b ≡ true
 and_right true b e = e
 and_right false b e = absurd (cc)
 
--- what the entries before told
+-- what the account had of the entries before
 record Before (m : Machine) (past : List Entry) (who : Actor) (c : CallState) : Type 0 where
   row : IsRow m c
   agrees : AgreesOf m past who c

@@ -37,7 +37,7 @@ key_for what attempt = record { thing = thing_of what; attempt = attempt }
 abbrev pub answer_key : Answer → AnswerKey
 answer_key a = key_for a.what a.attempt
 
--- where each key is found is the first of its answers (own)
+-- each key is found at the first of its answers (own)
 abbrev pub IsIndexed : List Answer → (AnswerKey → Option ℕ) → Type 0
 IsIndexed answers at = (what : What) (attempt : Option ℕ) →
     option_and_then (slice_get answers) (at (key_for what attempt)) ≡ answer_for what attempt answers

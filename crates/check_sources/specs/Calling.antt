@@ -1,4 +1,4 @@
--- What is kept of the calls on sources: how many each actor has made, and which it owes.
+-- The account of calls on sources: how many each actor has made, and which it owes.
 use Rattle.std.specs.Prelude.{◌≡◌, ℕ, ◌+◌, true, List, [], ◌∷◌, ◌++◌, length, replicate, slice_set, slice_index_or}
 use Rattle.std.specs.List.{list_all}
 use Rattle.sleep_model.specs.declared.entry.Actor.{Actor}
@@ -12,7 +12,8 @@ use Rattle.sleep_model.specs.Path.{attempts}
 use Rattle.sleep_model.specs.Sources.{history}
 use Rattle.check_sources.specs.ActorRows.{actor_index, actor_count}
 
--- for each place of the row: how many calls were made, how many turns were ended, which calls are owed after those before the first turn (own)
+-- for each place of the row: how many calls were made, how many turns were ended, which calls are owed after those before the first turn
+-- (own)
 pub record CallState : Type 0 where
   pub made : List ℕ
   pub turns : List ℕ
@@ -43,7 +44,8 @@ calls_by m c who = calls_of_turn m who 0 ++ later_at m c who
 abbrev pub noted_by : Machine → Actor → CallState → CallState
 noted_by m who c = record c { made = slice_set c.made (actor_index m who) (made_at m c who + 1) }
 
--- an entry of the journal, after n attempts: the reports of the callback that it begins, and the calls up to the next turn (pm_wakeup_event in a callback)
+-- an entry of the journal, after n attempts: the reports of the callback that it begins, and the calls up to the next turn (pm_wakeup_event
+-- in a callback)
 abbrev pub entered_by : Machine → Entry → ℕ → CallState → CallState
 entered_by m e n c = record c {
   turns = slice_set c.turns (actor_index m e.actor) (one_more (ends_turn e.kind) (turns_at m c e.actor));
@@ -58,7 +60,7 @@ callers_after m e n (Moves s step) c = c
 callers_after m e n OfJournal c = entered_by m e n c
 callers_after m e n OfTime c = entered_by m e n c
 
--- what is kept after these entries, the newest first (own)
+-- the account after these entries, the newest first (own)
 abbrev pub callers_of : Machine → List Entry → CallState
 callers_of m [] = record {
   made = replicate (actor_count m) 0;

@@ -9,7 +9,7 @@ use Rattle.sleep_model.specs.EntryClasses.{EntryClass, Notes, Moves, class_of}
 use Rattle.sleep_model.specs.Sources.{owed, since}
 use Rattle.check_sources.specs.declared.owed.Owed.{Owed}
 
--- one step, where it is owed (own)
+-- one step, if it is owed (own)
 abbrev pub step_if : Bool → WordKind → List WordKind
 step_if true s = s ∷ []
 step_if false s = []
@@ -34,7 +34,7 @@ abbrev pub after_first : Owed → Owed
 after_first o =
     if o.start then record o { start = false } else (if o.hard then record o { hard = false } else record o { finish = false })
 
--- those that are owed after an entry, where an event is in progress or not (own)
+-- those that are owed after an entry, by whether an event is in progress (own)
 abbrev pub owes_after : EntryClass → Bool → Owed → Owed
 owes_after (Notes s made) active before = owed_by made active
 owes_after (Moves s moved) active before = after_first before

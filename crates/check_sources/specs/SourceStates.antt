@@ -1,4 +1,4 @@
--- What is kept of a wakeup source.
+-- The account of a wakeup source.
 use Rattle.std.specs.Prelude.{◌≡◌, ◌<◌, ℕ, suc, ◌+◌, Bool, List, [], ◌∷◌, length, replicate, is_some, if◌then◌else◌, Option, Some, None, slice_set, slice_index_or}
 use Rattle.sleep_model.specs.declared.entry.Entry.{Entry}
 use Rattle.sleep_model.specs.EntryClasses.{EntryClass, Notes, Moves, class_of}
@@ -6,7 +6,7 @@ use Rattle.sleep_model.specs.Sources.{history, expiry, expiry_after, since, sinc
 use Rattle.check_sources.specs.declared.source.Source.{Source}
 use Rattle.check_sources.specs.Owing.{owes, owes_after}
 
--- what is kept after the entries of a source, the newest first (struct wakeup_source)
+-- the account after the entries of a source, the newest first (struct wakeup_source)
 abbrev pub source_of : List Entry → Source
 source_of own = record {
   entries = length own;
@@ -22,11 +22,11 @@ source_of own = record {
   last = last own;
 }
 
--- one more where that is so (own)
+-- one more if that is so (own)
 abbrev pub counted : Bool → ℕ → ℕ
 counted so before = if so then before + 1 else before
 
--- what is kept after one more entry (wakeup_source_activate, wakeup_source_deactivate)
+-- the account after one more entry (wakeup_source_activate, wakeup_source_deactivate)
 abbrev pub source_after : Entry → Source → Source
 source_after e before = record {
   entries = suc before.entries;
@@ -48,7 +48,7 @@ source_in (Notes s made) = Some s
 source_in (Moves s step) = Some s
 source_in _ = None
 
--- an entry moves its own source alone (own)
+-- an entry moves only its own source (own)
 abbrev pub moved_by : Entry → Option ℕ → List Source → List Source
 moved_by e None before = before
 moved_by e (Some s) before = slice_set before s (source_after e (slice_index_or before s (source_of [])))

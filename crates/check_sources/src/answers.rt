@@ -128,7 +128,8 @@ impl<'m> AnswerIndex<'m> {
         self.machine.answers.as_slice().get(place)
     }
 
-    /// The answer of a thing in that attempt, where the machine gives one: one for this attempt goes before one for any.
+    /// The answer of a thing in that attempt, if the machine gives one: one for this attempt goes before one
+    /// for any.
     fn answer(&self, what: What, attempt: u32) -> Option<&'m Answer>
         ensures { option_copied result ≡ answer self.now what attempt }
     {

@@ -1,3 +1,5 @@
+//! Which calls on sources each actor has made and owes, after the entries that were passed.
+
 ghost use Rattle.std.specs.Prelude.{◌≡◌, ◌++◌, [], map, slice_index_or, slice_set, ◌+◌, IfOk, OnOk};
 ghost use Rattle.sleep_model.specs.Calls.{calls_after_turn, calls_of_turn, ends_turn, report_calls};
 ghost use Rattle.script_plan.specs.CallPlans.{noted};
@@ -12,8 +14,8 @@ use sleep_model::{Actor, Entry, Kind, Machine, Op, Report, What};
 use std::alloc::Global;
 use std::marker::Model;
 
-/// For each actor how many calls on sources it has made, how many turns of its own steps it has ended, and which calls
-/// it owes after those before its first turn.
+/// For each actor how many calls on sources it has made, how many turns of its own steps it has ended, and
+/// which calls it owes after those before its first turn.
 #[derive(Drop)]
 pub struct Callers<'m> {
     plans: Plans<'m>,
@@ -48,7 +50,7 @@ fn number_at(numbers: &[usize], place: usize) -> usize
     }
 }
 
-/// Another number at a place, where there is one.
+/// Sets the number at an index, if it is in range.
 fn set_at(numbers: &mut Vec<usize>, place: usize, number: usize)
     ensures { numbers.new.items ≡ slice_set numbers.old.items place number }
 {
@@ -57,7 +59,7 @@ fn set_at(numbers: &mut Vec<usize>, place: usize, number: usize)
     }
 }
 
-/// Puts calls after those at a place, where there is one.
+/// Puts calls after those at an index, if it is in range.
 fn extend_at(
     later: &mut Vec<Calls>,
     place: usize,
@@ -75,7 +77,7 @@ fn extend_at(
     Ok(())
 }
 
-/// The same, where few entries owe a call.
+/// The same, since few entries owe a call.
 fn owe_at(
     later: &mut Vec<Calls>,
     place: usize,
@@ -91,7 +93,7 @@ fn owe_at(
     extend_at(later, place, reports, behind)
 }
 
-/// What the callback that an entry begins reports, where `attempts` attempts were begun.
+/// What the callback that an entry begins reports, in the attempt after `attempts` of them.
 fn reports_of<'m>(answers: &AnswerIndex<'m>, kind: Kind, attempts: u32) -> &'m [Report]
     ensures { map noted result.now ≡ report_calls answers.now attempts kind }
 {
@@ -101,7 +103,7 @@ fn reports_of<'m>(answers: &AnswerIndex<'m>, kind: Kind, attempts: u32) -> &'m [
     }
 }
 
-/// The calls before an actor's turn with that number: a script's alone has some.
+/// The calls before an actor's turn with that number: only a script's has some.
 fn calls_of_turn<'a>(plans: &'a Plans<'_>, who: Actor, turn: usize) -> &'a [Report]
     ensures { map noted result.now ≡ calls_of_turn plans.now who turn }
 {
@@ -180,8 +182,8 @@ impl<'m> Callers<'m> {
         Ok(())
     }
 
-    /// Passes an entry of the journal, after the attempts that were begun. `Mem` if a counter has no room, or if there is no memory
-    /// for the calls.
+    /// Passes an entry of the journal, after the attempts that were begun. `Mem` if a counter has no room, or
+    /// if there is no memory for the calls.
     pub fn pass(&mut self, e: Entry, attempts: u32) -> Result<(), Mem>
         ensures { OnOk result (self.new ≡ record self.old { state = entered_by self.old.machine e attempts self.old.state }) }
     {

@@ -64,7 +64,7 @@ impl<'m> Plans<'m> {
         &self.answers
     }
 
-    /// The operation that makes a script's entries with that number, from 0. None if it has none left, or where
+    /// The operation that makes a script's entries with that number, from 0. None if it has none left, or if
     /// there is no such script.
     pub fn operation(&self, script: u32, number: usize) -> Option<&'m Op>
         ensures { option_copied result ≡ slice_get (steps_of (slice_get self.now.actors script)) number }
@@ -73,8 +73,8 @@ impl<'m> Plans<'m> {
         plan.operation(number)
     }
 
-    /// The calls right before a script's turn with that number, from 0, or before its exit; none if there is no such
-    /// script.
+    /// The calls right before a script's turn with that number, from 0, or before its exit; none if there is
+    /// no such script.
     pub fn calls_at(&self, script: u32, turn: usize) -> &[Report]
         ensures { map noted result.now ≡ calls_at (pieces_in self.now script) turn }
     {

@@ -1,4 +1,5 @@
-//! A wakeup source, and what an entry of its own leaves (`drivers/base/power/wakeup.c`, `struct wakeup_source`).
+//! A wakeup source, and what an entry of its own leaves (`drivers/base/power/wakeup.c`, `struct
+//! wakeup_source`).
 
 ghost use Rattle.std.specs.Prelude.{◌≡◌, ◌+◌, [], Bool, IfOk, is_some};
 ghost use Rattle.sleep_model.specs.EntryClasses.{class_of};
@@ -86,7 +87,7 @@ fn added(a: u64, b: u64) -> Result<u64, Mem>
     }
 }
 
-/// The later of a moment and one that may stand.
+/// The later of a moment and one that may be there.
 fn later(time: u64, stands: Option<u64>) -> Option<u64>
     ensures { result ≡ later time stands }
 {
@@ -96,8 +97,8 @@ fn later(time: u64, stands: Option<u64>) -> Option<u64>
     }
 }
 
-/// When the event in progress ends by itself, after an entry (`pm_wakeup_ws_event`). `Mem` if that is beyond all
-/// time.
+/// When the event in progress ends by itself, after an entry (`pm_wakeup_ws_event`). `Mem` if that is beyond
+/// all time.
 fn expiry_after(kind: Kind, time: u64, before: Option<u64>) -> Result<Option<u64>, Mem>
     ensures { IfOk result (λ x. x ≡ expiry_after (class_of kind) time before) }
 {
@@ -149,7 +150,7 @@ fn caller_after(kind: Kind, who: Actor, before: Option<Actor>) -> Option<Actor>
     }
 }
 
-/// One more where it is so. `Mem` if the counter has no room.
+/// One more if it is so. `Mem` if the counter has no room.
 fn counted(so: bool, before: u32) -> Result<u32, Mem>
     ensures { IfOk result (λ n. n ≡ counted so before) }
 {
@@ -233,7 +234,7 @@ fn one_further(count: usize) -> Result<usize, Mem>
     }
 }
 
-/// What is kept after one more entry of the source. `Mem` if a counter has no room.
+/// The account after one more entry of the source. `Mem` if a counter has no room.
 pub(crate) fn source_after(e: Entry, before: Source) -> Result<Source, Mem>
     ensures { IfOk result (λ s. s ≡ source_after e before) }
 {
@@ -266,8 +267,8 @@ impl Source {
         }
     }
 
-    /// Its statistics at that time, the event in progress included (`print_wakeup_source_stats`). `Mem` if a sum has
-    /// no room.
+    /// Its statistics at that time, the event in progress included (`print_wakeup_source_stats`). `Mem` if a
+    /// sum has no room.
     pub fn stats(&self, at: u64) -> Result<Stats, Mem>
         ensures { IfOk result (λ s. s ≡ record {
           active_count = self.now.starts;

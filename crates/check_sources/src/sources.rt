@@ -1,10 +1,12 @@
+//! The account of all sources of a machine.
+
 use crate::source::{Source, fresh, source_after, source_in};
 use sleep_base::Mem;
 use sleep_model::Entry;
 use std::alloc::Global;
 use std::marker::Model;
 
-/// All sources of a machine, `autosleep` last: contracts see what is kept of each.
+/// All sources of a machine, `autosleep` last: contracts see the account of each.
 #[derive(Drop)]
 pub struct SourceAccounts {
     sources: Vec<Source>,
@@ -52,7 +54,7 @@ impl SourceAccounts {
         self.sources.len()
     }
 
-    /// What is kept of a source; nothing of one that is not there.
+    /// The state of a source; that of a new one if it is not registered.
     pub fn source(&self, number: u32) -> Source
         ensures { result ≡ slice_index_or self.now number (source_of []) }
     {
