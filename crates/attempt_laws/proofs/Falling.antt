@@ -84,12 +84,12 @@ abbrev pub is_of_device : Payer → Bool
 is_of_device Device = true
 is_of_device _ = false
 
--- what is needed falls where it pays, and else does not rise
+-- what is needed falls if the entry pays, and else does not rise
 abbrev pub Falls : Bool → ℕ → ℕ → Type 0
 Falls true after before = after + 1 ≤ before
 Falls false after before = after ≤ before
 
--- ---- what is ahead, where an attempt is open
+-- ---- what is ahead, if an attempt is open
 
 abbrev pub ahead_if : (Stage → Bool) → Option Stage → Bool
 ahead_if ahead None = false
@@ -177,7 +177,7 @@ module _ (m : Machine) (past : List Entry) (time : ℕ) (now : EventNow) (who : 
 
   -- ---- devices
 
-  -- a device of the machine that stands so in a phase
+  -- a device of the machine in that state of a phase
   within : (p : Phase) (d : ℕ) (s : PhaseState) → state_in m past p d ≡ s → is_prepared s ≡ true → d < length m.devices
   within p d s e was = busy_within m past p d (ap is_prepared e ∙ was)
 

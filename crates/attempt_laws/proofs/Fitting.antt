@@ -1,4 +1,4 @@
--- What acceptance tells: the devices of the order are the machine's, and a prepare that fails answers an error of ours.
+-- What acceptance gives: the devices of the order are the machine's, and a prepare that fails answers an error of ours.
 use Rattle.std.proofs.Common.{◌≡◌, ◌<◌, ◌∙◌, ℕ, ℤ, pos, negsuc, Bool, true, false, ◌&&◌, List, [], ◌∷◌, length, Option, Some, None, cond, refl, sym, ap, subst, arith}
 use Rattle.std.proofs.lemmas.List.{length-map}
 use Rattle.sleep_model.specs.declared.entry.Actor.{Actor}
@@ -67,7 +67,7 @@ answers_fit m a thing n = number_fits (answer_for thing (Some n) m.answers) (ans
 at_prepares : (m : Machine) (past : List Entry) (here : Stage) → Comes m past here stage.Prepares → here ≡ stage.Prepares
 at_prepares m past _ (AtOnce _) = refl
 
--- the number that is answered where a prepare is due
+-- the number that is answered if a prepare is due
 number_of_due : Due → ℤ
 number_of_due (Makes (kind.Prepare d r)) = r
 number_of_due _ = pos 0

@@ -1,4 +1,4 @@
--- What the open attempt needs, at each entry of a legal journal: by what is due, and by the entry that stands there.
+-- What the open attempt needs, at each entry of a legal journal: by what is due, and by the entry itself.
 use Rattle.std.proofs.Common.{◌≡◌, ◌≤◌, ◌+◌, ◌*◌, ◌∙◌, ℕ, Bool, true, false, List, ◌∷◌, length, Option, Some, None, refl, sym, ap, subst, arith, ◌||◌, ◌⊎◌, inl, inr}
 use Rattle.std.proofs.lemmas.Bool.{true≢false, or_cases}
 use Rattle.sleep_model.specs.declared.entry.Actor.{Actor}
@@ -70,7 +70,7 @@ module _ (m : Machine) (past : List Entry) (h : JournalPart m past) where
   maker_is : (who : Actor) → is_actor who (maker past) ≡ true → makes_attempts who ≡ true
   maker_is who a = maker_task who (maker past) (stage_of past) a (lock_agrees m past h).2
 
-  -- ---- where none is open
+  -- ---- if none is open
 
   pub none_needed : maker past ≡ None → needed m past ≡ 0
   unfolding needed
@@ -173,7 +173,7 @@ module _ (m : Machine) (past : List Entry) (h : JournalPart m past) where
     own_none d _ (DeviceMade.OwnFails p r i g f) n = true≢false (sym n)
     own_none d _ _ n = true≢false (sym n)
 
-    -- no stage is under way where one begins
+    -- no stage is under way if an attempt begins
     opens_outside : (who : Actor) (k : Kind) → Moved m past now who k → is_attempt k ≡ true → stage_of past ≡ None
     opens_outside who _ (Opens _ n guarded f e) a = e
     opens_outside who k (Makes _ here there _ b e c x) a = absurd (made_none there k x a)

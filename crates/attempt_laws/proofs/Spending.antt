@@ -90,14 +90,14 @@ module _ (m : Machine) (past : List Entry) (time : ℕ) (now : EventNow) where
   own_devices d _ (DeviceMade.OwnEnds p r i y w s) a b l = ends_down m past time now (actor.Dev d) p d r a b i l s
   own_devices d _ (DeviceMade.OwnRose p r i y w s) a b l = ends_up m past time now (actor.Dev d) p d r a b i l s
 
-  -- an error stands on
+  -- an error stays
   own_errs : (d : ℕ) (k : Kind) → DeviceMade m past now d k → errs past ≡ true → errs (entry_of time now (actor.Dev d) k ∷ past) ≡ true
   own_errs d _ (DeviceMade.OwnEnds p r i y w s) h = error_stays p r (phase_failed past) h
   own_errs d _ (DeviceMade.OwnRose p r i y w s) h = error_stays p r (phase_failed past) h
   own_errs d _ (DeviceMade.OwnFinds p i g f e x) h = refl
   own_errs d _ _ h = h
 
-  -- fewer may be prepared where an error comes
+  -- fewer may be prepared once an error comes
   ahead_less : (here : Stage) (x y : Bool) → (x ≡ true → y ≡ true) → leads (prepares_ahead here y) (prepares_ahead here x) ≡ true
   ahead_less stage.Prepares x true h = refl
   ahead_less stage.Prepares true false h = absurd (true≢false (sym (h refl)))
@@ -111,7 +111,7 @@ module _ (m : Machine) (past : List Entry) (time : ℕ) (now : EventNow) where
   own_rest d _ here (DeviceMade.OwnFails p r i g f) = refl
   own_rest d _ here _ = refl
 
-  -- a device that stands in a phase does so in an attempt
+  -- a device that is in a phase is so in an attempt
   closed : (p : Phase) (s : PhaseState) (d : ℕ) → Down p → when_empty s ≡ false → state_in m past p d ≡ s → DevicePhases m past None → ⊥
   closed p s d i e x h = true≢false (sym ((h.0 d).allowed p i) ∙ (ap when_empty (at_is m past p d i ∙ x) ∙ e))
 

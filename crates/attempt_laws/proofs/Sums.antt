@@ -3,12 +3,12 @@ use Rattle.std.proofs.Common.{◌≡◌, ◌≢◌, ◌≤◌, ◌<◌, ◌+◌,
 use Rattle.std.proofs.lemmas.Bool.{eqb-true, eqb-false}
 use Rattle.attempt_laws.specs.Room.{sum_below}
 
--- where none weighs more the sum is no more
+-- if none weighs more the sum is no more
 pub sum_less : (n : ℕ) (f g : ℕ → ℕ) → ((x : ℕ) → g x ≤ f x) → sum_below n g ≤ sum_below n f
 sum_less zero f g h = omega arith
 sum_less (suc n) f g h = omega (arith, h n, sum_less n f g h)
 
--- where one weighs less, and none more, the sum is less
+-- if one weighs less, and none more, the sum is less
 pub sum_falls : (n d : ℕ) (f g : ℕ → ℕ) → ((x : ℕ) → x ≢ d → g x ≤ f x) → g d + 1 ≤ f d → d < n → sum_below n g + 1 ≤ sum_below n f
 sum_falls zero d f g h here l = absurd (omega arith)
 sum_falls (suc n) d f g h here l = by_test (sum_falls n d f g h here) (n == d) refl

@@ -20,7 +20,7 @@ use Rattle.attempt_laws.proofs.Things.{leads}
 
 -- ---- one device
 
--- what a device needs that stands so
+-- what a device in those states needs
 abbrev pub needs : Bool → Three → ℕ
 needs ahead t = device_needs ahead t.suspend t.late t.noirq
 
@@ -62,7 +62,7 @@ up_falls _ InResumeNoirq a b h t other s r l = omega (arith, l, prepared_less t.
 
 -- ---- all devices
 
--- devices need no more where fewer may be prepared
+-- devices need no more if fewer may be prepared
 pub devices_less : (m : Machine) (past : List Entry) (a b : Bool) → leads b a ≡ true → devices_need m b past ≤ devices_need m a past
 devices_less m past a b h = sum_less (length m.devices) (λ d. needs a (three m past d)) (λ d. needs b (three m past d)) (λ d. needs_less (three m past d) a b h)
 
@@ -78,7 +78,7 @@ moved_here m past e d is l =
     same_three : {a b c x y z : PhaseState} → a ≡ x → b ≡ y → c ≡ z → ◌≡◌ {A = Three} (record { suspend = a; late = b; noirq = c }) (record { suspend = x; late = y; noirq = z })
     same_three f g h = cc
 
--- where an entry makes its device need less, the devices need less
+-- if an entry makes its device need less, the devices need less
 pub device_spends : (m : Machine) (past : List Entry) (e : Entry) (d : ℕ) → device_of e.kind ≡ Some d → d < length m.devices → (a b : Bool) → leads b a ≡ true → needs b (three_after e.kind (three m past d)) + 1 ≤ needs a (three m past d) → devices_need m b (e ∷ past) + 1 ≤ devices_need m a past
 device_spends m past e d is l a b h falls =
     sum_falls (length m.devices) d (λ x. needs a (three m past x)) (λ x. needs b (three m (e ∷ past) x))

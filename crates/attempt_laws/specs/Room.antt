@@ -1,4 +1,5 @@
--- The places of the journal that an open attempt may still need: its maker's entries, and those of its devices (kernel/power/suspend.c, enter_state).
+-- The room in the journal that an open attempt may still need: its maker's entries, and those of its devices (kernel/power/suspend.c,
+-- enter_state).
 use Rattle.std.specs.Prelude.{◌≡◌, ◌≤◌, ℕ, zero, suc, ◌+◌, ◌*◌, Bool, true, false, not, List, ◌∷◌, length, Option, Some, None, is_some}
 use Rattle.sleep_model.specs.declared.entry.Entry.{Entry}
 use Rattle.sleep_model.specs.declared.entry.Group.TheVariants as group
@@ -34,7 +35,8 @@ abbrev pub one_unless : Bool → ℕ
 one_unless true = 0
 one_unless false = 1
 
--- the entries of the table's fixed rows from a stage on, by the longest way, where its freeze or sleep has begun or not (suspend_devices_and_enter, suspend_enter)
+-- the entries of the table's fixed rows from a stage on, by the longest way; the flags say whether its freeze or sleep has begun
+-- (suspend_enter)
 abbrev pub rows_from : Stage → Bool → Bool → ℕ
 rows_from stage.Notifies freezes sleeps = 26
 rows_from (stage.Freezes group.User) freezes sleeps = 25 + one_unless freezes
@@ -71,7 +73,8 @@ rows_from _ freezes sleeps = 0
 
 -- ---- notifiers, processors, and parts of the core
 
--- a thing that is done, and is to be undone, needs one entry; one that may still be done needs two (pm_notifier_call_chain, freeze_secondary_cpus, syscore_suspend)
+-- a thing that is done, and is to be undone, needs one entry; one that may still be done needs two (pm_notifier_call_chain,
+-- syscore_suspend)
 abbrev pub thing_needs : Bool → Bool → ℕ
 thing_needs true ahead = 1
 thing_needs false true = 2
@@ -81,7 +84,7 @@ thing_needs false false = 0
 abbrev pub things_need : ℕ → Bool → List Bool → ℕ
 things_need n ahead flags = sum_below n (λ x. thing_needs (is_so flags x) ahead)
 
--- notifiers may still be told (PM_SUSPEND_PREPARE)
+-- notifiers may still be called (PM_SUSPEND_PREPARE)
 abbrev pub notifies_ahead : Stage → Bool
 notifies_ahead stage.Notifies = true
 notifies_ahead _ = false
@@ -115,13 +118,13 @@ state_needs state.Rescheduled = 2
 state_needs state.Resuming = 1
 state_needs _ = 0
 
--- a prepared device is to be completed; where more may be prepared another needs all that a device does (device_prepare, device_complete)
+-- a prepared device is to be completed; if more may be prepared another needs all that a device does (device_prepare, device_complete)
 abbrev pub prepared_needs : PhaseState → Bool → ℕ
 prepared_needs state.Unprepared true = 20
 prepared_needs state.Unprepared false = 0
 prepared_needs _ ahead = 1
 
--- what a device needs that stands so in suspend, late and noirq, and their mirrors
+-- what a device in those states of suspend, late and noirq, and their mirrors, needs
 abbrev pub device_needs : Bool → PhaseState → PhaseState → PhaseState → ℕ
 device_needs ahead suspend late noirq =
     prepared_needs suspend ahead + (state_needs suspend + (state_needs late + state_needs noirq))
@@ -135,7 +138,7 @@ device_need m ahead past d =
 abbrev pub devices_need : Machine → Bool → List Entry → ℕ
 devices_need m ahead past = sum_below (length m.devices) (λ d. device_need m ahead past d)
 
--- devices may still be prepared, where an error stands in the phase or not (dpm_prepare)
+-- devices may still be prepared, by whether the phase has an error (dpm_prepare)
 abbrev pub prepares_ahead : Stage → Bool → Bool
 prepares_ahead stage.Notifies error = true
 prepares_ahead (stage.Freezes g) error = true
@@ -155,7 +158,7 @@ needed_at m past (Some here) =
     + (things_need (length m.syscore) (syscore_ahead here) (stopped (length m.syscore) past)
     + devices_need m (prepares_ahead here (is_some (phase_failed past))) past)))
 
--- the places of the journal that the open attempt may still need: 0 if none is open (enter_state)
+-- the room in the journal that the open attempt may still need: 0 if none is open (enter_state)
 unfoldable pub needed : Machine → List Entry → ℕ
 needed m past = needed_at m past (stage_of past)
 
@@ -170,7 +173,7 @@ abbrev pub is_attempt : Kind → Bool
 is_attempt (kind.Attempt n guarded) = true
 is_attempt _ = false
 
--- where no attempt is open none is needed (own)
+-- if no attempt is open none is needed (own)
 abbrev pub NoneNeededOutside : Type 0
 NoneNeededOutside = (m : Machine) (past : List Entry) → JournalPart m past → maker past ≡ None → needed m past ≡ 0
 

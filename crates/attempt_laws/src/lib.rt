@@ -1,8 +1,8 @@
-//! How many places of its journal an attempt may still need. They are reserved where it begins, so that no entry of
-//! its maker, nor of the devices that it puts to sleep, ever wants memory. Each function here is a law of `needed`
-//! over all legal journals, and does nothing. `law_trials` tries the definitions on worked logs.
+//! How much room in its journal an attempt may still need. It is reserved at its begin, so that no entry of
+//! its maker, nor of the devices that it puts to sleep, is ever out of memory. Each function here is a law of
+//! `needed` over all legal journals, and does nothing. `law_trials` tries the definitions on worked logs.
 //!
-//! Promises: An attempt's own entries fit the places that the attempt reserved. By the clauses of
+//! Promises: An attempt's own entries fit the room that the attempt reserved. By the clauses of
 //! `attempt_needs_few`, `own_entry_spends`, `device_entry_spends`, `others_need_nothing`.
 //!
 //! Begin reading in `specs/Room.antt`.
@@ -24,9 +24,9 @@ pub fn attempt_needs_few()
     ensures { AttemptNeedsFew }
 {}
 
-/// Each entry of the open attempt's maker makes what is needed fall by one at least, where the machine
-/// is one that a file may spell: so what is needed is room enough for all of them
-/// (`kernel/power/suspend.c`, `suspend_devices_and_enter`).
+/// Each entry of the open attempt's maker makes what is needed fall by one at least, if the machine is one
+/// that a file may spell. So what is needed is room enough for all of them (`kernel/power/suspend.c`,
+/// `suspend_devices_and_enter`).
 #[tactic(auto, using(crate::proofs::Needing::own_entry_spends))]
 pub fn own_entry_spends()
     ensures { OwnEntrySpends }

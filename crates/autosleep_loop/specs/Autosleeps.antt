@@ -47,7 +47,7 @@ abbrev pub nap_due : Option ℕ → ℕ → Due
 nap_due None time = Makes (kind.SleepD (time + 500))
 nap_due (Some until) time = if nat_le until time then Makes kind.Slept else Waits (why.Until until)
 
--- the work's next entry, where it stands so; it may run so often, and its attempt begins with that entry (try_to_suspend)
+-- the work's next entry in that state; it may run so often, and its attempt begins with that entry (try_to_suspend)
 abbrev pub turn_at : Work → ℕ → EventNow → ℕ → Kind → AutosleepState → Due
 turn_at Resting cycles now time attempt a = if a.queued && nat_lt a.runs cycles then Makes kind.AutoRun else Waits why.NoWork
 turn_at Reading cycles now time attempt a = if now.inpr == 0 then Makes (kind.Read (visible now)) else Waits why.InProgress

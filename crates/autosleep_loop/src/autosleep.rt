@@ -1,3 +1,5 @@
+//! The autosleep lock, the setting and the state of the work, as entries move them.
+
 ghost use Rattle.std.specs.Prelude.{◌≡◌, ◌<◌, ◌^◌};
 ghost use Rattle.sleep_model.specs.Autosleep.{looks_at, naps_at, after_look, work_step, work_after, queued_after, runs_after};
 ghost use Rattle.sleep_model.specs.Lock.{let_go_by, holder_after, is_sleeping_state, on_after};
@@ -87,7 +89,7 @@ fn looks_at(before: Work) -> Work
     }
 }
 
-/// Where the work stands after it has looked at the count: where nothing was registered meanwhile it naps.
+/// The state of the work after its look at the count: it naps if nothing was registered meanwhile.
 fn after_look(seen: Option<u32>, before: Work) -> Work
     ensures { result ≡ after_look seen before }
 {
@@ -104,7 +106,7 @@ fn after_look(seen: Option<u32>, before: Work) -> Work
     }
 }
 
-/// Where the work stands after an entry of its own (`try_to_suspend`).
+/// The state of the work after an entry of its own (`try_to_suspend`).
 fn work_step(kind: Kind, before: Work) -> Work
     ensures { result ≡ work_step kind before }
 {
@@ -121,7 +123,7 @@ fn work_step(kind: Kind, before: Work) -> Work
     }
 }
 
-/// Where the work stands after an entry of that actor: only its own entries move it.
+/// The state of the work after an entry of that actor: only its own entries move it.
 fn work_after(who: Actor, kind: Kind, before: Work) -> Work
     ensures { result ≡ work_after who kind before }
 {
@@ -131,7 +133,7 @@ fn work_after(who: Actor, kind: Kind, before: Work) -> Work
     }
 }
 
-/// Whether the work is queued after an entry, where autosleep was on or not before it
+/// Whether the work is queued after an entry; `on` says whether autosleep was on before it
 /// (`queue_up_suspend_work`).
 fn queued_after(kind: Kind, on: bool, before: bool) -> bool
     ensures { result ≡ queued_after kind on before }
@@ -199,7 +201,7 @@ impl Autosleep {
         self.on
     }
 
-    /// Where the autosleep work stands.
+    /// The state of the autosleep work.
     pub fn work(&self) -> Work
         ensures { result ≡ self.now.work }
     {

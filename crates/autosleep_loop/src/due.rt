@@ -19,7 +19,7 @@ fn save(now: EventNow, count: u32) -> Kind
     }
 }
 
-/// The count, where no event is in progress (`pm_get_wakeup_count`).
+/// The count, if no event is in progress (`pm_get_wakeup_count`).
 fn seen_count(now: EventNow) -> Option<u32>
     ensures { result ≡ seen_count now }
 {
@@ -63,16 +63,16 @@ impl Autosleep {
         }
     }
 
-    /// The one where autosleep is on, else the other.
+    /// The one if autosleep is on, else the other.
     fn if_on(&self, one: Kind, other: Kind) -> Due
         ensures { result ≡ Makes (if self.now.on then one else other) }
     {
         Due::Makes(if self.on { one } else { other })
     }
 
-    /// The work's next entry outside its own attempts, while the machine is awake and some script has not exited: at
-    /// a word that it sees, at that time in ms. It may run `cycles` times in all, and its attempt begins with that
-    /// entry (`try_to_suspend`).
+    /// The work's next entry outside its own attempts, while the machine is awake and some script has not
+    /// exited: at a word that it sees, at that time in ms. It may run `cycles` times in all, and its attempt
+    /// begins with that entry (`try_to_suspend`).
     pub fn due(&self, cycles: u32, now: EventNow, time: u64, attempt: Kind) -> Due
         requires { time ≤ 2 ^ 63 }
         ensures { result ≡ turn_due cycles now time attempt self.now }
@@ -90,7 +90,7 @@ impl Autosleep {
         }
     }
 
-    /// The end of the work's nap in ms, where it naps (`schedule_timeout_uninterruptible`).
+    /// The end of the work's nap in ms, if it naps (`schedule_timeout_uninterruptible`).
     pub fn naps_until(&self) -> Option<u64>
         ensures { result ≡ naps_until self.now.work }
     {

@@ -1,4 +1,4 @@
--- A legal log fits its machine, where the fields of its entries and of its statistics do.
+-- A legal log fits its machine, if the fields of its entries and of its statistics do.
 use Rattle.std.proofs.Common.{◌≡◌, ◌≤◌, ◌<◌, ◌+◌, ◌∙◌, ◌⊎◌, inl, inr, ℕ, zero, suc, Bool, true, false, ◌&&◌, List, [], ◌∷◌, length, reverse, cond, refl, ap, subst, arith}
 use Rattle.std.specs.List.{list_all, range_with_len}
 use Rattle.std.proofs.lemmas.Bool.Decides.{nat_tests}

@@ -39,7 +39,7 @@ use Rattle.fit_laws.proofs.Sitting.{IsAttempting, IsLock, IsSetting, LockAt, Set
 
 -- ---- a task
 
--- a script's seat is its own after another's entry
+-- a script's position is as it was after another's entry
 setting_preserved : (m : Machine) (ss : List ScriptPosition) (i j : ℕ) (part : PositionEffect) → (j == i) ≡ false → SetsAt m ss i → SetsAt m (positions_after (actor.Script j) part ss) i
 setting_preserved m ss i j part e h = (h.0, subst (λ (y : ScriptPosition). IsSetting (op_at (slice_get m.actors i) y.done) y) (sym (position_other ss i j part e)) h.1)
 
@@ -73,7 +73,7 @@ module _ (m : Machine) (past : List Entry) (now : EventNow) (j : JournalPart m p
   own_lock asked _ _ e d h (StepMade.AutoSets text state w f) places = absurd (true≢false (sym h.0 ∙ w))
   own_lock asked _ _ e d h _ places = absurd h
 
-  -- where nobody holds the lock, a script that takes it begins to set autosleep
+  -- if nobody holds the lock, a script that takes it begins to set autosleep
   free_lock : (asked : Bool) (o : Option Op) (k : Kind) → slice_get (entry_steps s) (position_of m past i).done ≡ o → due m past (actor.Script i) now ≡ Makes k → maker_after k (actor.Script i) (maker past) ≡ None → StepMade m past now (position_of m past i) asked o k
       → LockAt m (positions_after (actor.Script i) (position_effect k) (positions (length m.actors) past)) (work past) (holder_after k (actor.Script i) None)
   free_lock asked _ _ e d c (StepMade.AutoSets text state w f) =

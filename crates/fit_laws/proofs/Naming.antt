@@ -1,4 +1,4 @@
--- What is due of an actor names things of the machine alone.
+-- What is due of an actor names only things of the machine.
 use Rattle.std.proofs.Common.{◌≡◌, ◌≤◌, ◌<◌, ◌+◌, ◌∙◌, ℕ, zero, suc, ℤ, pos, negsuc, Bool, true, false, not, ◌==◌, ◌&&◌, ◌||◌, nat_le, nat_lt, List, [], ◌∷◌, length, map, Option, Some, None, is_some, is_none, slice_get, cond, refl, sym, ap, subst, arith}
 use Rattle.std.specs.Prelude.{int_lt}
 use Rattle.std.specs.List.{range_with_len}
@@ -185,7 +185,7 @@ ret_answers thing (pos n) h = by_number n h
         by_tests false e false f h = absurd (true≢false (sym h))
 ret_answers thing (negsuc n) h = h
 
--- an answer, where there is one, is such a number
+-- an answer, if there is one, is such a number
 abbrev AnswersIf : Option Answer → Type 0
 AnswersIf None = Unit {0}
 AnswersIf (Some a) = is_answer a.ret ≡ true
@@ -209,7 +209,7 @@ machine_answers m acc thing n =
 
 -- ---- what is due
 
--- an entry of that kind fits the machine, where its numbers are in range
+-- an entry of that kind fits the machine, if its numbers are in range
 abbrev pub FitsIf : Machine → Kind → Type 0
 FitsIf m k = is_ranged k ≡ true → fits_kind m k ≡ true
 
@@ -432,6 +432,6 @@ callback_within m acc (e ∷ past) j = begun_within m e.kind (is_device e.actor)
         let l : nat_lt d (length m.devices) ≡ true = fits refl in
         grind (arith, nat_tests)
 
--- what is due of an actor fits the machine, where its numbers are in range
+-- what is due of an actor fits the machine, if its numbers are in range
 pub due_fits : (m : Machine) → IsAccepted m → (past : List Entry) → JournalPart m past → (now : EventNow) (who : Actor) (k : Kind) → due m past who now ≡ Makes k → is_ranged k ≡ true → fits_kind m k ≡ true
 due_fits m acc past j now who k is = subst (OnlyMade (FitsIf m)) is (due_fits_if m acc past j (callback_within m acc past j) now who)

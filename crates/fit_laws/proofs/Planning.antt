@@ -12,7 +12,7 @@ use Rattle.sleep_model.specs.Scripts.{Piece, Calls, Turns}
 
 -- ---- tests
 
--- where both hold each holds
+-- if both hold each holds
 pub and_both : (a b : Bool) → (a && b) ≡ true → (a ≡ true) × (b ≡ true)
 and_both true true h = (refl, refl)
 and_both true false h = absurd (true≢false (sym h))
@@ -64,7 +64,7 @@ reports_made m who (e ∷ past) =
 
 -- ---- the calls of an actor
 
--- how many calls stand before an actor's turn with that number: a script's alone has some
+-- how many calls come before an actor's turn with that number: only a script's has some
 abbrev pub calls_by_turn : Machine → Actor → ℕ → ℕ
 calls_by_turn m (actor.Script i) k = length (calls_until (pieces_in m i) k)
 calls_by_turn m who k = 0

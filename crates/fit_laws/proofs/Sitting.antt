@@ -1,4 +1,4 @@
--- Where scripts stand: a sleep that has begun has its end, and who sets autosleep while no attempt is open is at its write.
+-- The positions of scripts: a sleep that has begun has its end, and who sets autosleep while no attempt is open is at its write.
 use Rattle.std.proofs.Common.{◌≡◌, ◌≢◌, ◌<◌, ◌∙◌, ℕ, Bool, true, false, not, ◌==◌, ◌&&◌, ◌||◌, List, [], ◌∷◌, length, map, zero, suc, Option, Some, None, is_some, slice_get, cond, refl, sym, ap, subst, arith}
 use Rattle.std.proofs.lemmas.Bool.{true≢false}
 use Rattle.std.proofs.lemmas.Bool.Decides.{nat_tests}
@@ -38,7 +38,7 @@ use Rattle.sleep_laws.proofs.Made.{ByMaker, ByTask, EntryMade, Made, StepMade, T
 use Rattle.sleep_laws.proofs.MakingOwn.{entry_made}
 use Rattle.sleep_laws.proofs.Restoring.{IsUndone, undone_invariant}
 
--- ---- seats
+-- ---- positions
 
 positions_step_len : (a : Actor) (part : PositionEffect) (ss : List ScriptPosition) → length (positions_after a part ss) ≡ length ss
 positions_step_len (actor.Script i) part ss = length-set ss i _
@@ -51,7 +51,7 @@ pub positions_len : (n : ℕ) (past : List Entry) → length (positions n past) 
 positions_len n [] = length-replicate n first_position
 positions_len n (e ∷ past) = positions_step_len e.actor (position_effect e.kind) (positions n past) ∙ positions_len n past
 
--- a script's own entry moves its seat
+-- a script's own entry moves its position
 pub position_own : (ss : List ScriptPosition) (i : ℕ) (part : PositionEffect) → i < length ss → position_at (positions_after (actor.Script i) part ss) i ≡ position_after part (position_at ss i)
 position_own ss i part l = get_or-set_same ss i (position_after part (position_at ss i)) first_position l
 
@@ -59,7 +59,7 @@ position_own ss i part l = get_or-set_same ss i (position_after part (position_a
 pub position_other : (ss : List ScriptPosition) (i j : ℕ) (part : PositionEffect) → (j == i) ≡ false → position_at (positions_after (actor.Script j) part ss) i ≡ position_at ss i
 position_other ss i j part e = let apart : i ≢ j = grind (arith, nat_tests) in get_or-set_other ss j i (position_after part (position_at ss j)) first_position apart
 
--- the operation at which a script stands
+-- the operation at which a script is
 abbrev pub op_at : Option Script → ℕ → Option Op
 op_at None n = None
 op_at (Some s) n = slice_get (entry_steps s) n
@@ -128,7 +128,7 @@ entry_waits m past now _ _ (ByTask i _ a (TaskMade.Freezes s go f)) = tt
 entry_waits m past now _ _ (ByTask i _ a (TaskMade.Steps s k o go e d)) =
     subst (MayWait (position_effect k)) (sym (ap (λ (x : Option Script). op_at x (position_of m past i).done) go.script ∙ e)) (step_waits m past now _ _ o k d)
 
--- where script i stands, a sleep that has begun has its end
+-- a sleep of script i that has begun has its end
 abbrev pub IsSleeper : Machine → List Entry → ℕ → Type 0
 IsSleeper m past i = SleepAt (op_at (slice_get m.actors i) (position_of m past i).done) (position_of m past i)
 
@@ -193,7 +193,7 @@ abbrev pub IsAttempting : Work → Type 0
 IsAttempting (Attempting c) = Unit {0}
 IsAttempting _ = ⊥
 
--- where script i stands among those seats, it sets autosleep
+-- script i, by its position among those, sets autosleep
 abbrev pub SetsAt : Machine → List ScriptPosition → ℕ → Type 0
 SetsAt m ss i = (i < length m.actors) × IsSetting (op_at (slice_get m.actors i) (position_at ss i).done) (position_at ss i)
 

@@ -49,7 +49,7 @@ use Rattle.fit_laws.proofs.Sitting.{IsAttempting, IsSetting, LockAt, SetsAt, Sle
 
 -- ---- small facts
 
--- what is kept of a list passes the test
+-- what is left of a list passes the test
 pub each_preserved : (p : Op → Bool) (xs : List Op) → Each (λ x. p x ≡ true) (filter p xs)
 each_preserved p [] = tt
 each_preserved p (x ∷ xs) = by (p x) refl (each_preserved p xs)
@@ -58,7 +58,7 @@ each_preserved p (x ∷ xs) = by (p x) refl (each_preserved p xs)
     by true e rest = (e, rest)
     by false e rest = rest
 
--- a script stands at no call
+-- a script is at no call
 pub at_entry : (s : Script) (n : ℕ) (x : Op) → slice_get (entry_steps s) n ≡ Some x → makes_entry x ≡ true
 at_entry s n x e = each_get (λ x. makes_entry x ≡ true) (entry_steps s) n x (each_preserved makes_entry (operations s)) e
 
@@ -120,7 +120,7 @@ module _ (m : Machine) (past : List Entry) (now : EventNow) (unheld : holder pas
 
 -- ---- those that wait
 
--- a script that has not exited waits so, where it makes nothing
+-- a script that has not exited waits so, if it makes nothing
 abbrev WellAt : Machine → List Entry → EventNow → ℕ → ScriptPosition → Type 0
 WellAt m past now i position = position.exited ≡ false → WaitsWell m (due m past (actor.Script i) now) × (is_made (due m past (actor.Script i) now) ≡ false)
 
@@ -228,7 +228,7 @@ module _ (m : Machine) (acc : IsAccepted m) (past : List Entry) (of : ℕ → Li
   work_rests : is_made (due m past actor.Auto now) ≡ false
   work_rests = not_made m past of now actor.Auto (not_true (is_enabled m past of now actor.Auto) work_idle)
 
-  -- the script's next step, where it is there
+  -- the script's next step, if it has not exited
   script_step : (i : ℕ) (s : Script) → slice_get m.actors i ≡ Some s → (position_of m past i).exited ≡ false → due m past (actor.Script i) now ≡ step_due m past now (position_of m past i) false (slice_get (entry_steps s) (position_of m past i).done)
   script_step i s e there = step_is m past now i s closed e there (free m past j closed i) (ap (λ b. b && not (is_line s.kind)) wakes)
 

@@ -1,4 +1,4 @@
--- What an entry's fields tell of its numbers: they are in range, and its actor is the machine's.
+-- What an entry's fields say of its numbers: they are in range, and its actor is the machine's.
 use Rattle.std.specs.Prelude.{Bool, true, ◌&&◌}
 use Rattle.sleep_model.specs.declared.entry.Entry.{Entry}
 use Rattle.sleep_model.specs.declared.entry.FrozeEnd.TheVariants as froze

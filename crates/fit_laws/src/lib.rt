@@ -1,9 +1,10 @@
-//! What is due of a machine's actors names things of that machine alone; so a legal log fits its machine where its
-//! run is over. Each function here is a law, and does nothing. `law_trials` tries the definitions on worked logs.
+//! What is due of a machine's actors names only things of that machine; so a legal log fits its machine if
+//! its run is over. Each function here is a law, and does nothing. `law_trials` tries the definitions on
+//! worked logs.
 //!
-//! Promises: What is due names only things of the machine. If nobody goes on, each script that has not exited waits
-//! for events to end or for a mark, so a stuck log names somebody; and a legal log that is over fits its machine.
-//! By the clauses of `kinds_are_ranged` and the laws beside it; the rest are lemmas.
+//! Promises: What is due names only things of the machine. If nobody goes on, each script that has not exited
+//! waits for events to end or for a mark, so a stuck log names somebody; and a legal log that is over fits
+//! its machine. By the clauses of `kinds_are_ranged` and the laws beside it; the rest are lemmas.
 //!
 //! Begin reading in `proofs/Naming.antt`, `proofs/Fitted.antt`.
 #![tactic(auto)]

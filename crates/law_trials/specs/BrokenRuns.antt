@@ -1,4 +1,4 @@
--- Entries that may not be made, tables that lay no steps, and looks that are not the last.
+-- Entries that may not be made, tables that schedule no steps, and looks that are not the last.
 use Rattle.std.specs.Prelude.{ℕ, false, List, [], ◌∷◌, drop, reverse}
 use Rattle.sleep_model.specs.declared.entry.Actor.TheVariants as actor
 use Rattle.sleep_model.specs.declared.entry.Entry.{Entry}

@@ -6,7 +6,7 @@ use Rattle.sleep_model.specs.declared.entry.Entry.{Entry}
 use Rattle.sleep_model.specs.declared.entry.Kind.{Kind}
 use Rattle.sleep_model.specs.declared.entry.Kind.TheVariants as kind
 
--- an entry at that time, of that actor, where so many hard events were counted
+-- an entry at that time, of that actor, after so many hard events were counted
 abbrev pub hard_entry : ℕ → ℕ → Actor → Kind → Entry
 hard_entry time hard who k = record {
   time = time;
@@ -45,7 +45,7 @@ sleeps_on =
     hard_entry 0 0 (actor.Script 1) (kind.Hard 0) ∷ hard_entry 0 1 (actor.Script 0) (kind.Enter false)
     ∷ hard_entry 1000 1 actor.Time kind.Jump ∷ []
 
--- a jump to where time is
+-- a jump to the present moment
 abbrev pub stays : List Entry
 stays = hard_entry 5 0 actor.Time kind.Jump ∷ hard_entry 5 0 actor.Time kind.Jump ∷ []
 

@@ -55,12 +55,12 @@ abbrev pub put_next : Machine → List Entry → Actor → Option Kind → List 
 put_next m past who (Some k) = put_call past who k
 put_next m past who None = put_due past who (due m (journal past) who (numbers past))
 
--- the expiry of a source, where it is due
+-- the expiry of a source, if it is due
 abbrev pub put_expiry : List Entry → ℕ → Bool → List Entry
 put_expiry past s true = put_call past (actor.Timer s) (kind.Expire s)
 put_expiry past s false = past
 
--- the call that an actor makes next, where it has not made all that come before its next turn
+-- the call that an actor makes next, if it has not made all that come before its next turn
 abbrev pub next_call : Machine → List Entry → Actor → Option Kind
 next_call m past who = slice_get (calls_of m who (journal past)) (made (length m.sources + 1) (λ s. history s past) who)
 
@@ -94,12 +94,12 @@ pub data Run : Type 0 where
   Goes : (past : List Entry) → Run
   Ended : (past : List Entry) → Run
 
--- time jumps to the least pending moment, where there is one
+-- time jumps to the least pending moment, if there is one
 abbrev pub jump : List Entry → Option ℕ → Run
 jump past None = Ended past
 jump past (Some at) = Goes (record { time = at; now = numbers past; actor = actor.Time; kind = kind.Jump } ∷ past)
 
--- where a round did nothing the run is over, or time jumps
+-- if a round did nothing the run is over, or time jumps
 abbrev pub after_idle_round : Machine → List Entry → Bool → Run
 after_idle_round m past true = Ended past
 after_idle_round m past false = jump past (next_time m (journal past) (λ s. history s past))

@@ -23,7 +23,7 @@ abbrev pub InJournal : Machine → Made → JournalEntry → Bool → Type 0
 InJournal m made e true = JournalPart m (unstamped (e ∷ made.journal))
 InJournal m made e false = Unit {0}
 
--- a jump stands where it may
+-- a jump is in the journal only if it may be
 abbrev pub MayJump : Machine → Made → JournalEntry → Bool → Type 0
 MayJump m made e true = JumpStep m (unstamped made.journal) (λ s. unstamped (made.of s)) e.entry.now e.entry.time
 MayJump m made e false = Unit {0}

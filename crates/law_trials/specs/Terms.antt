@@ -94,7 +94,7 @@ unused = stats 0 0 0 0 0 0 0
 abbrev pub log_of : List Entry → List Stats → Log
 log_of entries stats = record { entries = entries; stats = stats; end = Finished }
 
--- a log of these entries and statistics that is stuck where these scripts wait
+-- a log of these entries and statistics that is stuck because these scripts wait
 abbrev pub stuck_log : List Entry → List Stats → List Waiting → Log
 stuck_log entries stats waiting = record { entries = entries; stats = stats; end = Stuck waiting }
 

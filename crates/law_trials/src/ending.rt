@@ -1,4 +1,5 @@
-//! How logs end, tried by short lists of entries: each is right, or broken in one thing that a law of `end_laws` refuses.
+//! How logs end, tried by short lists of entries: each is right, or broken in one thing that a law of
+//! `end_laws` refuses.
 
 ghost use Rattle.std.specs.Prelude.{◌≡◌, false, true, reverse};
 ghost use Rattle.end_laws.specs.Attempts.{attempts_end, own_entries};
@@ -10,7 +11,7 @@ ghost use Rattle.law_trials.specs.Ending.{another_ends, ends, never_ends, sleeps
 pub fn events_wake()
     ensures woken { events_wake_first (reverse woken) ≡ true }
     ensures by_alarm { events_wake_first (reverse slept_by_time) ≡ true }
-    // The machine sleeps through the event, up to the alarm.
+    // The machine sleeps during the event, up to the alarm.
     ensures through { events_wake_first (reverse slept_through) ≡ false }
     // It wakes by the event, but time has passed before.
     ensures late { events_wake_first (reverse woken_late) ≡ false }

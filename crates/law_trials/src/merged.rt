@@ -31,6 +31,6 @@ pub fn broken_stamps_do_not_merge()
     ensures back { Merges calls_of_a_line_machine (with_stamp 6 2 4 two_workers) calls_of_a_line_entries → ⊥ }
     // An entry counts a step that it did not see.
     ensures position { Merges calls_of_a_line_machine (with_stamp 1 2 2 two_workers) calls_of_a_line_entries → ⊥ }
-    // A step stands at a position that another has taken.
+    // A step is at a position that another has taken.
     ensures behind { Merges calls_of_a_line_machine (with_stamp 5 0 4 two_workers) calls_of_a_line_entries → ⊥ }
 {}

@@ -27,7 +27,8 @@ pub fn log_of_two_workers_is_in_lists()
     ensures { IsApart calls_of_a_line_machine two_workers }
 {}
 
-/// A line that has noted an event, which owes a start, makes neither its exit nor its next note before that start.
+/// A line that has noted an event, which owes a start, makes neither its exit nor its next note before that
+/// start.
 pub fn nothing_stands_inside_a_call()
     ensures begun { IsLegal one_event_machine one_event_begun }
     ensures exit { IsLegal one_event_machine (exit_in_the_call ∷ one_event_begun) → ⊥ }

@@ -1,5 +1,5 @@
-//! The rules of a log are apart: an entry of a broken copy breaks one of them and no other, which no verdict of the checker
-//! tells. After a legal journal no entry breaks those of what is owed and of what is restored alone (`owed_follows` of
+//! The rules of a log are independent: an entry of a broken copy breaks one of them and no other. After a
+//! legal journal no entry breaks only those of what is owed and of what is restored (`owed_follows` of
 //! `log_rules`).
 
 ghost use Rattle.std.specs.Prelude.{[], ◌∷◌, None, Some, pos, true};
@@ -17,7 +17,7 @@ ghost use Rattle.law_trials.specs.Links.{link_added_machine, link_added_entries}
 ghost use Rattle.law_trials.specs.Rules.{BreaksJust, HoldsAt, Judged};
 ghost use Rattle.law_trials.specs.Timers.{event_expires_machine, event_expires_entries};
 
-/// Each of thirteen rules is broken alone.
+/// Of each of thirteen rules some entry breaks only that one.
 pub fn rules_are_broken_alone()
     // A link that would close a cycle is added.
     ensures links { HoldsAt (BreaksJust (2 ∷ [])) link_added_machine 1 (says 1 (kind.LinkAdd 0 1 None) link_added_entries) }
@@ -44,7 +44,7 @@ pub fn rules_are_broken_alone()
     ensures over { HoldsAt (BreaksJust (15 ∷ [])) event_stops_a_device_machine 41 (says 41 (kind.Over 1 None) event_stops_a_device_entries) }
     // The work naps for less than half a second.
     ensures steps { HoldsAt (BreaksJust (17 ∷ [])) autosleep_machine 41 (says 41 (kind.SleepD 1400) autosleep_entries) }
-    // An alarm's wake is told as an event's, or time jumps too far.
+    // An alarm's wake is logged as an event's, or time jumps too far.
     ensures wake { HoldsAt (BreaksJust (18 ∷ [])) autosleep_machine 28 (says 28 (kind.Wake true) autosleep_entries) }
     ensures far { HoldsAt (BreaksJust (18 ∷ [])) autosleep_machine 42 (at_time 42 1300 autosleep_entries) }
     // A source expires before its time.
@@ -59,6 +59,7 @@ pub fn rules_are_broken_together()
     ensures resumes { HoldsAt (BreaksJust (9 ∷ 12 ∷ [])) event_stops_a_device_machine 32 (says 32 (kind.Begin phase.Resume 0) event_stops_a_device_entries) }
     // An attempt is over before all tasks are let go.
     ensures over { HoldsAt (BreaksJust (14 ∷ 16 ∷ [])) autosleep_machine 38 (says 38 (kind.Over 1 None) autosleep_entries) }
-    // An expiry starts an event. A step on the word asks for every source, so its other rules are not computed here.
+    // An expiry starts an event. A step on the word asks for every source, so its other rules are not
+    // computed here.
     ensures starts { HoldsAt (Judged true Source) event_expires_machine 10 (says 10 (kind.Start 0) event_expires_entries) }
 {}

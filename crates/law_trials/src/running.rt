@@ -68,7 +68,8 @@ pub fn calls_and_turns_are_ready_or_not()
 {}
 
 /// A seat that made the start of its source's history, and looked at the word of its note, is that source's.
-/// One that made a step that the history lacks is not, nor one that looked at no word, nor one that lacks a step.
+/// One that made a step that the history lacks is not, nor one that looked at no word, nor one that lacks a
+/// step.
 pub fn a_seat_is_of_its_source()
     ensures seated { IsSeated start_made (word 0 0 0 ∷ []) begun_back }
     ensures more { IsSeated finish_too (word 0 0 0 ∷ []) begun_back → ⊥ }

@@ -152,7 +152,7 @@ abbrev IsTime : Actor → Type 0
 IsTime actor.Time = Unit {0}
 IsTime _ = ⊥
 
--- the rules that say nothing of what a device makes are kept
+-- the rules that say nothing of what a device makes hold of it
 fill : (m : Machine) (past : List Entry) (now : EventNow) (d : ℕ) (k : Kind) → is_maker past (actor.Dev d) ≡ false → KeepsLinks m past k → KeepsAttempts past k → KeepsRuntime m past k → KeepsAnswers past k → KeepsRestored m past k → FreezesNot k → NoFroze k → NoWake k → ReadsElse past now (actor.Dev d) k → Own m past now d k → KeepsOwed m past k → KeepsAll m past now (actor.Dev d) k
 fill m past now d k e l a u n s z f w r o x = record {
   most = record {

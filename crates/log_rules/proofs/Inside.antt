@@ -190,7 +190,7 @@ time_calls_none m (e ∷ past) g s = by_source (is_of s (class_of e.kind)) refl 
     by_source true q i = by_part (class_of e.kind) q g.joint.0 i
     by_source false q i = i
 
--- ---- where an actor is inside a call
+-- ---- if an actor is inside a call
 
 within : (m : Machine) (p : EntryClass) (s : ℕ) → is_of s p ≡ true → is_there m p ≡ true → s < length m.sources + 1
 within m (Notes x c) s e f = grind (arith, nat_tests)

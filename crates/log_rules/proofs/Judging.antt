@@ -49,7 +49,7 @@ none_of_good = good_has_none
 
 -- ---- one first bad line
 
--- of two entries of a list, either they are one, or one stands after the other
+-- of two entries of a list, either they are one, or one comes after the other
 data Apart (past other : List Entry) (e f : Entry) : Type 0 where
   Same : past ≡ other → e ≡ f → Apart past other e f
   Later : (mid : List Entry) → past ≡ mid ++ f ∷ other → Apart past other e f

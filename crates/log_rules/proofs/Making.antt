@@ -70,7 +70,7 @@ pub record RowKeepsRules (m : Machine) (past : List Entry) (now : EventNow) (s :
   pub links : KeepsLinks m past k
 
 module _ (m : Machine) (past : List Entry) (now : EventNow) where
-  -- a row of which the table alone speaks
+  -- a row of which only the table speaks
   row : (s : Stage) (k : Kind) → IsOfRow m past now s k → KeepsAttempts past k → KeepsWalk m past now k → KeepsSkip m past now k → NoFroze k → NoWake k → PhaseAnswers past k → IsMakerStep m k → KeepsRuntime m past k → KeepsLinks m past k → RowKeepsRules m past now s k
   row s k o a w q f z n b u l = record {
     of_row = o;

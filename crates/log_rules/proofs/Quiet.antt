@@ -116,7 +116,7 @@ one_maker : (a b : Actor) (o : Option Actor) → is_actor a o ≡ true → is_ac
 one_maker a b None e f = never e
 one_maker a b (Some x) e f = sym (actor_same x a e) ∙ actor_same x b f
 
--- an entry leaves the maker and its callback alone, or begins an attempt
+-- an entry does not move the maker and its callback, or begins an attempt
 abbrev IsAttempt : Kind → Type 0
 IsAttempt (kind.Attempt n guarded) = Unit {0}
 IsAttempt _ = ⊥
@@ -368,9 +368,9 @@ frozen_rests m (e ∷ past) g i x f = by_part (class_of e.kind) refl (frozen_res
     by_part (Notes u v) q r j t x f = noted (is_same e.actor (actor.Script i)) refl (r x f) t.0
     by_part (Moves u v) q r j t x f = stepped (is_same e.actor (actor.Script i)) refl (r x f) u t
 
--- ---- what a call tells of its actor
+-- ---- what a call says of its actor
 
--- a note of who makes the attempt stands inside a callback
+-- who makes the attempt makes a note only inside a callback
 pub note_reports : (m : Machine) (past : List Entry) → Grown m past → (who : Actor) (k : Kind) → IsOwnCall m (journal past) (λ t. history t past) who k → (b : Bool) → is_maker (journal past) who ≡ b → ReportsOf (journal past) b
 note_reports m past g who k c false e = tt
 note_reports m past g who k c true e = by_callback (callback (journal past)) refl

@@ -139,7 +139,7 @@ maker_due m past now = by_stage (stage_of past)
     by_stage None = refl
     by_stage (Some here) = row_due m past now here
 
--- the row is where the maker comes to
+-- the row is the one that the maker comes to
 pub comes : (m : Machine) (past : List Entry) (here : Stage) → Comes m past here (by_case (has_more m past here) here (next_stage here))
 comes m past here = by_more (has_more m past here) refl
   where

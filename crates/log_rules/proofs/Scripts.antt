@@ -304,7 +304,7 @@ position_made m past now who f (Some s) position free =
     (λ k g. (g.0, w, (x, g.1), g.2, g.3, g.4, g.5, g.6)) _
     (freezes_made m past now who f (is_user s.kind) position (slice_get (entry_steps s) position.done) free z))))
 
--- nobody makes an attempt where nobody holds the lock
+-- nobody makes an attempt if nobody holds the lock
 free_maker : (o h : Option Actor) → HolderOf o h → is_some h ≡ false → o ≡ None
 free_maker None h e f = refl
 free_maker (Some x) h e f = never (sym (ap is_some (sym e) ∙ f))

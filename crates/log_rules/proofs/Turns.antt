@@ -1,4 +1,4 @@
--- A freeze point is a task's next step only before an entry of the journal: not where it has a call to make, or is inside one.
+-- A freeze point is a task's next step only before an entry of the journal: not if it has a call to make, or is inside one.
 use Rattle.std.proofs.Common.{◌≡◌, ◌==◌, ◌+◌, ◌∙◌, ℕ, Bool, true, false, not, ◌&&◌, List, length, Option, Some, None, slice_get, refl, sym, subst, arith}
 use Rattle.std.proofs.lemmas.Bool.Decides.{nat_tests}
 use Rattle.sleep_model.specs.declared.entry.Actor.{Actor}

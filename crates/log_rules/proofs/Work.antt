@@ -63,7 +63,7 @@ auto_back m past now k e h =
 abbrev Works : Machine → List Entry → EventNow → Work → Kind → Type 0
 Works m past now w k = IsWorkStep m past now w k × ReadsWork past now w k × KeepsAttempts past k × KeepsRuntime m past k × KeepsLinks m past k × Plain k
 
--- where the work is to make an attempt nobody makes one
+-- if the work is to make an attempt nobody makes one
 idle_maker : (o h : Option Actor) → HolderOf o h → h ≡ Some actor.Auto → is_actor actor.Auto o ≡ false → o ≡ None
 idle_maker None h e f a = refl
 idle_maker (Some x) h e f a = never (sym (ap (is_actor actor.Auto) (sym f ∙ e) ∙ a))

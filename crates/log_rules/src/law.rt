@@ -59,8 +59,8 @@ pub fn legal_entries_keep_rules()
     ensures { OneForEntries }
 {}
 
-/// Every list of entries, of whatever machine, is legal exactly if each of its entries keeps each rule
-/// where it stands.
+/// Every list of entries, of whatever machine, is legal exactly if each of its entries keeps each rule after
+/// those before it.
 #[tactic(auto, using(crate::proofs::Legal::lists))]
 pub fn legal_lists_keep_rules()
     ensures { OneForLists }
