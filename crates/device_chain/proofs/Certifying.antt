@@ -35,7 +35,7 @@ pub record IsWholeOrder (l : Linked) : Type 0 where
   pub covers : (d : ℕ) → d < length l.parents → is_among (order_of l) d ≡ true
   pub within : (d : ℕ) → is_among (order_of l) d ≡ true → d < length l.parents
 
--- who depends on a device of the order stands in the order
+-- who depends on a device of the order is in the order
 order_depends : (dependents_of : ℕ → List ℕ) (xs : List ℕ) → IsOrder dependents_of xs → (d x : ℕ) → is_among xs d ≡ true → is_among (dependents_of d) x ≡ true → is_among xs x ≡ true
 order_depends dependents_of [] h d x m n = absurd (false≢true m)
 order_depends dependents_of (y ∷ ys) h d x m n = by_place (order_depends dependents_of ys h.2 d x) (or_cases (y == d) (is_among ys d) m)
@@ -120,7 +120,7 @@ longest_of l levels devices a o led c long = record {
     sure : are_levels l levels (length devices) ≡ true
     sure = ap (are_levels l levels) long ∙ certified_levels l levels a o
 
--- where no device has the greatest level there is none
+-- if no device has the greatest level there is none
 pub no_device : (l : Linked) (levels : List ℕ) → first_at levels (greatest levels 0 (order_of l)) None (order_of l) ≡ None → 0 ≡ greatest levels 0 (order_of l)
 no_device l levels n = by_test (cases_eq 0 top)
   where

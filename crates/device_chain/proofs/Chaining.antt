@@ -22,7 +22,7 @@ some_none d h = absurd (true≢false (ap is_there h))
     is_there None = false
     is_there (Some x) = true
 
--- what is found was found before, or stands there and has that level
+-- what is found was found before, or is in the list and has that level
 pub found_or : (levels : List ℕ) (k : ℕ) (found : Option ℕ) (ds : List ℕ) (d : ℕ) → first_at levels k found ds ≡ Some d → (found ≡ Some d) ⊎ ((is_among ds d ≡ true) × (level_at levels d ≡ k))
 found_or levels k found [] d h = inl h
 found_or levels k found (e ∷ ds) d h = by_rest (found_or levels k (found_after levels k found e) ds d h)
@@ -53,7 +53,7 @@ found_there levels k ds d h = by_place (found_or levels k None ds d h)
     by_place (inl n) = absurd (some_none d (sym n))
     by_place (inr p) = p
 
--- where none is found, none has that level
+-- if none is found, none has that level
 pub none_found : (levels : List ℕ) (k : ℕ) (found : Option ℕ) (ds : List ℕ) → first_at levels k found ds ≡ None → (found ≡ None) × ((e : ℕ) → is_among ds e ≡ true → level_at levels e ≡ k → ⊥)
 none_found levels k found [] h = (h, λ e m. absurd (false≢true m))
 none_found levels k found (x ∷ ds) h =

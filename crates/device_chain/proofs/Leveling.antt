@@ -13,7 +13,7 @@ use Rattle.device_chain.specs.Chains.{AreLevels, IsLevel, above_of, below_of, gr
 
 -- ---- above and below
 
--- who is above e is who e is below of, where e is a device
+-- who is above e is who e is below of, if e is a device
 across : (ps : List (Option ℕ)) (ls : List Link) (d e : ℕ) → e < length ps → is_among (superiors ps ls e) d ≡ is_among (dependents ps ls d) e
 across ps ls d e l =
     among_app (parent_of (slice_get ps e)) (suppliers_of e ls) d

@@ -1,4 +1,5 @@
--- Chains of devices, each right below the one before, and levels that show that no chain is longer (drivers/base/power/main.c, dpm_wait_for_superior).
+-- Chains of devices, each right below the one before, and levels that show that no chain is longer (drivers/base/power/main.c,
+-- dpm_wait_for_superior).
 use Rattle.std.specs.Prelude.{◌≡◌, ◌≤◌, ◌<◌, ◌-◌, max, ℕ, suc, Bool, true, ◌==◌, ◌&&◌, nat_lt, nat_le, List, [], ◌∷◌, length, slice_index_or, Option, Some, None, if◌then◌else◌}
 use Rattle.std.specs.List.{list_all}
 use Rattle.sleep_model.specs.Order.{is_among, order_by}
@@ -6,7 +7,7 @@ use Rattle.device_links.specs.Invariant.{active_above, active_below}
 use Rattle.device_links.specs.Linked.{Linked}
 use Rattle.device_chain.specs.declared.chain.Chain.{Chain}
 
--- ---- who stands right above and right below a device
+-- ---- who is right above and right below a device
 
 -- the devices that must sleep before d does, by the links that are active, each once (dpm_wait_for_subordinate)
 abbrev pub below_of : Linked → ℕ → List ℕ
@@ -22,7 +23,7 @@ order_of l = order_by l.parents l.links
 
 -- ---- chains
 
--- a device may follow in a chain: the first is any device, each later one stands right below the one before (dpm_wait_for_superior)
+-- a device may follow in a chain: the first is any device, each later one is right below the one before (dpm_wait_for_superior)
 abbrev pub may_follow : Linked → Option ℕ → ℕ → Bool
 may_follow l None d = nat_lt d (length l.parents)
 may_follow l (Some before) d = is_among (below_of l before) d
@@ -32,7 +33,7 @@ abbrev pub follow : Linked → Option ℕ → List ℕ → Bool
 follow l before [] = true
 follow l before (d ∷ ds) = may_follow l before d && follow l (Some d) ds
 
--- the devices are a chain: each later one stands right below the one before
+-- the devices are a chain: each later one is right below the one before
 abbrev pub is_chain : Linked → List ℕ → Bool
 is_chain l devices = follow l None devices
 
@@ -72,7 +73,7 @@ abbrev pub first_of : Option ℕ → ℕ → ℕ
 first_of None d = d
 first_of (Some e) d = if nat_lt d e then d else e
 
--- the device, where it has that level, or the one that was found, which was registered first
+-- the device, if it has that level, or the one that was found, which was registered first
 abbrev pub found_after : List ℕ → ℕ → Option ℕ → ℕ → Option ℕ
 found_after levels level found d = if level_at levels d == level then Some (first_of found d) else found
 
@@ -88,7 +89,7 @@ IsLed l levels end (d ∷ []) = d ≡ end
 IsLed l levels end (d ∷ e ∷ ds) =
     (first_at levels (level_at levels e - 1) None (above_of l e) ≡ Some d) × IsLed l levels end (e ∷ ds)
 
--- such a chain, where there is a device that it ends with
+-- such a chain, if there is a device that it ends with
 abbrev pub IsLedTo : Linked → List ℕ → Option ℕ → List ℕ → Type 0
 IsLedTo l levels None devices = devices ≡ []
 IsLedTo l levels (Some end) devices = IsLed l levels end devices

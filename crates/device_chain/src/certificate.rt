@@ -68,8 +68,8 @@ fn are_levels(links: &Links, levels: &[u32], most: usize) -> bool
     levels.len() == order.len() && have_levels(links, levels, most, order)
 }
 
-/// Whether the devices of a chain are one, and its levels are those of all devices, up to its length, so that no chain is
-/// longer.
+/// Whether the devices of a chain are one, and its levels are those of all devices, up to its length, so that
+/// no chain is longer.
 pub fn is_certified(links: &Links, chain: &Chain) -> bool
     ensures { result ≡ is_certified links.now chain.now }
 {

@@ -9,16 +9,16 @@ use device_rows::Stack;
 use sleep_base::Mem;
 use std::alloc::Global;
 
-/// A chain of devices, each right below the one before, and the level of each device of the machine, in the order of
-/// registration.
+/// A chain of devices, each right below the one before, and the level of each device of the machine, in the
+/// order of registration.
 #[derive(Debug, Drop)]
 pub struct Chain {
     pub devices: DevList,
     pub levels: DevList,
 }
 
-/// The chain that leads to a device, before which each time stands the first registered of those right above, of a level one
-/// less.
+/// The chain that leads to a device. Each time the one before is the first registered of those right above,
+/// of a level one less.
 fn chain_to(alloc: Global, links: &Links, levels: &[u32], end: u32) -> Result<Vec<u32>, Mem>
     requires levels { AreLevels links.now levels.now }
     requires device { end < length links.now.parents }
@@ -39,7 +39,8 @@ fn chain_to(alloc: Global, links: &Links, levels: &[u32], end: u32) -> Result<Ve
     Ok(chain.into_vec())
 }
 
-/// The longest chain, by the levels of all devices: it leads to the first registered of those with the greatest level.
+/// The longest chain, by the levels of all devices: it leads to the first registered of those with the
+/// greatest level.
 fn longest_by(alloc: Global, links: &Links, levels: &[u32]) -> Result<Vec<u32>, Mem>
     requires { AreLevels links.now levels.now }
     ensures { IfOk result (λ v. IsLongest links.now (record { devices = v.items; levels = levels.now })) }

@@ -28,7 +28,7 @@ pub(crate) fn greatest(levels: &[u32], devices: &[u32]) -> u32
     most
 }
 
-/// The one that was registered first of a device, if there is one, and another, where that has this level.
+/// Of the device that was found and another, if it has this level: the one that was registered first.
 fn found_after(levels: &[u32], level: u32, found: Option<u32>, device: u32) -> Option<u32>
     ensures { result ≡ found_after levels.now level found device }
 {

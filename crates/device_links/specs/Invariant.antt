@@ -1,4 +1,4 @@
--- What is kept of links.
+-- The invariant of links.
 use Rattle.std.specs.Prelude.{◌≡◌, ◌≤◌, ◌<◌, ◌^◌, ℕ, Bool, not, ◌==◌, ◌&&◌, List, [], ◌∷◌, ◌++◌, length, slice_index_or, if◌then◌else◌, Option, None}
 use Rattle.sleep_model.specs.declared.machine.Link.{Link}
 use Rattle.sleep_model.specs.Order.{EachAfterParent, is_parent, active_of, dependents, superiors, suppliers_of, order_by}
@@ -6,7 +6,7 @@ use Rattle.sleep_model.specs.Links.{AreLinks, first_occurrences}
 use Rattle.device_rows.specs.Table.{Table, room_at}
 use Rattle.link_rows.specs.Rows.{IsTableOf}
 
--- the numbers, the oldest first, of the links that a test takes, where the newest link stands first and the oldest has number 0 (own)
+-- the numbers, the oldest first, of the links that a test takes; the newest link comes first, and the oldest has number 0 (own)
 abbrev pub numbers_of : (Link → Bool) → List Link → List ℕ
 numbers_of test [] = []
 numbers_of test (l ∷ earlier) = numbers_of test earlier ++ (if test l then length earlier ∷ [] else [])
@@ -19,15 +19,15 @@ active_below parents links d = first_occurrences (dependents parents (active_of 
 abbrev pub active_above : List (Option ℕ) → List Link → ℕ → List ℕ
 active_above parents links d = first_occurrences (superiors parents (active_of links) d)
 
--- a link shows its consumer below that device: it is active, and the consumer is no child, which stands there already
+-- a link shows its consumer below that device: it is active, and the consumer is no child, which is there already
 abbrev pub is_shown_below : List (Option ℕ) → Link → ℕ → Bool
 is_shown_below parents l d = l.active && l.supplier == d && not (is_parent d (slice_index_or parents l.consumer None))
 
--- a link shows its supplier above that device: it is active, and the supplier is not the parent, which stands there already
+-- a link shows its supplier above that device: it is active, and the supplier is not the parent, which is there already
 abbrev pub is_shown_above : List (Option ℕ) → Link → ℕ → Bool
 is_shown_above parents l d = l.active && l.consumer == d && not (is_parent l.supplier (slice_index_or parents d None))
 
--- the rows have places for all that may come to stand there, were every link active
+-- the rows have room for all that may come into them, were every link active
 pub record HaveRoomForAll (parents : List (Option ℕ)) (links : List Link) (seen_below seen_above : Table) : Type 0 where
   pub below : (d : ℕ) → length (dependents parents links d) ≤ room_at seen_below d
   pub above : (d : ℕ) → length (superiors parents links d) ≤ room_at seen_above d
@@ -54,7 +54,7 @@ pub record LinksInvariant (parents : List (Option ℕ)) (links : List Link) (han
   pub once_above : IsTableOf (length parents) (active_above parents links) above
   pub ordered : order ≡ order_by parents links
 
--- all that is kept
+-- the whole invariant
 pub record IsWhole (parents : List (Option ℕ)) (links : List Link) (hangs : List (List ℕ)) (below : Table) (suppliers : List (List ℕ)) (above : Table) (supplied consumed : List (List ℕ)) (order : List ℕ) : Type 0 where
   pub kept : LinksInvariant parents links hangs below.rows suppliers above.rows order
   pub places : HaveRoomForAll parents links below above

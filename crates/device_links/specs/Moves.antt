@@ -1,4 +1,4 @@
--- Which of two devices stands first in the order, and what a link leaves of it.
+-- Which of two devices comes first in the order, and what a link leaves of it.
 use Rattle.std.specs.Prelude.{◌≡◌, ℕ, true, false, List, ◌∷◌, take, Vec, Option, Some, None, Result, Ok, Err}
 use Rattle.std.specs.declared.alloc.Global.{Global}
 use Rattle.sleep_model.specs.declared.machine.Link.{Link}
@@ -9,7 +9,7 @@ use Rattle.device_links.specs.declared.fault.LinkFault.TheVariants as fault
 use Rattle.device_links.specs.Adds.{Closes}
 use Rattle.device_links.specs.Linked.{Linked}
 
--- up to some place of the order one of the two stands, and not the other
+-- up to some index of the order there is one of the two, and not the other
 pub record Precedes (order : List ℕ) (one other : ℕ) : Type 0 where
   pub place : ℕ
   pub here : is_among (take place order) one ≡ true
@@ -21,7 +21,7 @@ pub record Leaves (l : Linked) (link : Link) (order : List ℕ) : Type 0 where
   pub missing : is_dependent l.parents l.links link.consumer link.supplier ≡ false
   pub ordered : order ≡ order_by l.parents (link ∷ l.links)
 
--- the order after a move, where there was one
+-- the order after a move, if there was one
 abbrev pub after_move : Option (Vec ℕ Global) → List ℕ → List ℕ
 after_move None order = order
 after_move (Some moved) order = moved.items

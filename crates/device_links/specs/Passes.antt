@@ -16,7 +16,7 @@ pub record CanBeAdded (parents : List (Option ℕ)) (links : List Link) : Type 0
   pub few : length links ≤ 4000
   pub linked : AreLinks parents (reverse links)
 
--- all of the links stand, or one of them would have been refused
+-- all of the links are added, or one of them would have been refused
 abbrev pub Makes : List (Option ℕ) → List Link → Option Linked → Type 0
 Makes parents links None = CanBeAdded parents links → ⊥
 Makes parents links (Some l) = CanBeAdded parents links × (l ≡ record { parents = parents; links = reverse links })
@@ -63,7 +63,7 @@ pub record IsHung (parents : List (Option ℕ)) (l : Link) (old new : Tables) : 
   pub below : IsPushed (is_left_out parents l) l.supplier l.consumer (length (row_at new.dependents l.supplier) + 2) old.below new.below
   pub above : IsPushed (is_left_out parents l) l.consumer l.supplier (length (row_at new.suppliers l.consumer) + 2) old.above new.above
 
--- the tables of all these links, or one of them stands twice or between others than the devices
+-- the tables of all these links, or one of them is there twice or between others than the devices
 abbrev pub Tabulates : List (Option ℕ) → List Link → Option Tables → Type 0
 Tabulates parents links None = AreApart parents links → ⊥
 Tabulates parents links (Some t) = AreApart parents links × AreTables parents links t
@@ -74,7 +74,7 @@ Tabulates parents links (Some t) = AreApart parents links × AreTables parents l
 abbrev pub IsAcyclic : ℕ → (ℕ → List ℕ) → Type 0
 IsAcyclic n dependents_of = (d : ℕ) → moved n dependents_of d ≡ d ∷ flat_map (moved n dependents_of) (dependents_of d)
 
--- between two walks: each device that was visited stands before all that depend on it, and has both its marks
+-- between two walks: each device that was visited comes before all that depend on it, and has both its marks
 pub record AreVisits (n : ℕ) (dependents_of : ℕ → List ℕ) (v : Visits) : Type 0 where
   pub ordered : IsOrder dependents_of v.out
   pub within : (d : ℕ) → is_among v.out d ≡ true → d < n

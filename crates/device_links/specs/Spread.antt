@@ -6,7 +6,7 @@ abbrev pub marked : List ℕ → List Bool → List Bool
 marked [] marks = marks
 marked (x ∷ xs) marks = marked xs (slice_set marks x true)
 
--- the marks after one device: where it is marked, all that depends directly on it is
+-- the marks after one device: if it is marked, all that depends directly on it is
 abbrev pub spread_by : (ℕ → List ℕ) → ℕ → List Bool → List Bool
 spread_by dependents_of d marks = if slice_index_or marks d false then marked (dependents_of d) marks else marks
 

@@ -6,12 +6,12 @@ use Rattle.device_links.specs.declared.walk.Frame.{Frame}
 use Rattle.device_links.specs.declared.walk.Found.{Found}
 use Rattle.device_links.specs.declared.walk.Found.TheVariants.{Reached, Passed}
 
--- no device depends on itself, and all that depend are below n, where `dependents_of` gives what depends directly on a device
+-- no device depends on itself, and all that depend are below n; `dependents_of` gives what depends directly on a device
 pub record IsWalkable (n : ℕ) (dependents_of : ℕ → List ℕ) : Type 0 where
   pub descends : (d : ℕ) → moved n dependents_of d ≡ d ∷ flat_map (moved n dependents_of) (dependents_of d)
   pub within : (d x : ℕ) → is_among (dependents_of d) x ≡ true → x < n
 
--- each of the first n devices is marked where it is among these
+-- each of the first n devices is marked if it is among these
 pub record AreMarks (marks : List Bool) (n : ℕ) (devices : List ℕ) : Type 0 where
   pub count : length marks ≡ n
   pub marked : (d : ℕ) → d < n → slice_index_or marks d false ≡ is_among devices d

@@ -12,7 +12,7 @@ use sleep_base::Mem;
 use sleep_model::Link;
 use std::alloc::Global;
 
-/// Whether the link is between two of the first `count` devices, and none that stands.
+/// Whether the link is between two of the first `count` devices, and not there already.
 fn is_new(count: usize, suppliers: &Rows, link: Link) -> bool
     ensures { Decides result (IsNew count suppliers.now link) }
 {
@@ -44,8 +44,7 @@ fn hang_link(parents: &[Option<u32>], tables: &mut Tables, link: Link) -> Result
     Ok(())
 }
 
-/// The tables of these links. None exactly if one of them stands twice, or an end of it is no
-/// device.
+/// The tables of these links. None exactly if one of them is there twice, or an end of it is no device.
 pub(crate) fn tables_of(
     alloc: Global,
     parents: &[Option<u32>],

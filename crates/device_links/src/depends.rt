@@ -39,7 +39,7 @@ fn set_row(marks: &mut [bool], row: &[u32])
     }
 }
 
-/// Marks what depends directly on a device, where that is marked.
+/// Marks what depends directly on a device, if that is marked.
 fn set_below(marks: &mut [bool], table: &Rows, device: u32)
     ensures { marks.new ≡ spread_by (row_at table.now) device marks.old }
 {

@@ -1,3 +1,5 @@
+//! Why a link is not added, or its state not set.
+
 ghost use Rattle.std.specs.Prelude.{◌≡◌};
 ghost use Rattle.device_links.specs.declared.fault.LinkFault.TheVariants as fault;
 
@@ -17,10 +19,10 @@ pub enum LinkFault {
     /// There is no such link.
     #[error("there is no such link")]
     NoLink,
-    /// As many links stand as a machine may have.
+    /// There are as many links as a machine may have.
     #[error("as many links stand as a machine may have")]
     TooMany,
-    /// This link stands.
+    /// There is this link already.
     #[error("this link stands")]
     Twice,
     /// The supplier is the consumer or depends on it: the devices from the consumer to the

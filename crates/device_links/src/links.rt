@@ -1,3 +1,5 @@
+//! Links between devices, with the order and the rows that they give.
+
 ghost use Rattle.std.specs.Prelude.{◌≡◌};
 ghost use Rattle.device_links.specs.Moves.{after_move};
 
@@ -28,7 +30,7 @@ pub struct Links {
     parents: Vec<Option<u32>>,
     links: Vec<Link>,
     tables: Tables,
-    // Where the links of each device stand, so that a link's state is set without a look at those of others.
+    // The numbers of each device's links, so that a link's state is set without a look at those of others.
     numbers: LinkNumbers,
     order: Vec<u32>,
 }
@@ -138,7 +140,7 @@ impl Links {
         Ok(())
     }
 
-    /// Adds a link as `add_as` does, and tells whether the order stays as it is, as far as that is seen
+    /// Adds a link as `add_as` does, and says whether the order stays as it is, as far as that is seen
     /// without a walk.
     pub fn add_noting_order(
         &mut self,
@@ -231,7 +233,7 @@ impl Links {
         self.tables.above.row(device)
     }
 
-    /// Whether a link of these two stands, active or dormant.
+    /// Whether there is a link of these two, active or dormant.
     pub fn is_linked(&self, supplier: u32, consumer: u32) -> bool
         ensures { result ≡ is_linked self.now.links supplier consumer }
     {
@@ -298,7 +300,7 @@ impl Links {
     }
 
     /// Whether a link leaves the order as it is: the newest one has moved this consumer to its end, and the
-    /// supplier stands before it. A device's driver mostly adds the links to all its suppliers in a row.
+    /// supplier comes before it. A device's driver mostly adds the links to all its suppliers in a row.
     fn stays_by(&self, link: Link) -> bool
         ensures { OnTrue result (Leaves self.now link (order_by self.now.parents self.now.links)) }
     {
@@ -310,8 +312,8 @@ impl Links {
         }
     }
 
-    /// The order in which a link has moved its consumer, and all that depends on it, to the end; `None` if the
-    /// order stays as it is.
+    /// The order in which a link has moved its consumer, and all that depends on it, to the end; `None` if
+    /// the order stays as it is.
     fn moved_by(&self, link: Link) -> Result<Option<Vec<u32>>, LinkFault>
         requires { link.consumer < length self.now.parents }
         ensures { Moves self.now link result }
@@ -336,7 +338,7 @@ impl Links {
         moved_last(*self.order.allocator(), &self.order, marks, below)
     }
 
-    /// Puts the link after the others, and takes the order that it leaves where that is another.
+    /// Puts the link after the others, and takes the order that it leaves if that is another.
     fn put(&mut self, link: Link, moved: Option<Vec<u32>>) -> Result<(), Mem>
         requires open { IsOpen self.old link.supplier link.consumer }
         requires leaves { Leaves self.old link (after_move moved (order_by self.old.parents self.old.links)) }

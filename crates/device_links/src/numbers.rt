@@ -61,7 +61,8 @@ impl LinkNumbers {
         Ok(())
     }
 
-    /// Puts the number of a link, for which there is room, after those of the other links of both its devices.
+    /// Puts the number of a link, for which there is room, after those of the other links of both its
+    /// devices.
     pub(crate) fn push(&mut self, link: Link, number: u32)
         requires { HasRoom link self.old.by_supplier self.old.by_consumer }
         ensures by_supplier { self.new.by_supplier.rows ≡ with_number self.old.by_supplier.rows (Some link.supplier) number }

@@ -1,4 +1,4 @@
-//! Room for one more link in all that is kept of links.
+//! Room for one more link in all tables of links.
 
 ghost use Rattle.std.specs.Prelude.{◌≡◌, ◌<◌, OnOk, length, vec_len, vec_capacity};
 ghost use Rattle.device_links.specs.Invariant.{HasRoom};
@@ -9,8 +9,8 @@ use crate::seen::Tables;
 use sleep_base::Mem;
 use sleep_model::Link;
 
-/// Makes room for one more link among the links, in their tables and among their numbers. `Mem` if there is no memory for it;
-/// what they say is then as before.
+/// Makes room for one more link among the links, in their tables and among their numbers. `Mem` if there is
+/// no memory for it; what they say is then as before.
 pub(crate) fn make_room(
     links: &mut Vec<Link>,
     tables: &mut Tables,

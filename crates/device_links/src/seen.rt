@@ -50,8 +50,8 @@ impl Tables {
         reserve_one(&mut self.above, link.consumer, most_above)
     }
 
-    /// Puts a link, for which there is room, after the others of both its ends; one that is left out is put neither below
-    /// nor above.
+    /// Puts a link, for which there is room, after the others of both its ends; one that is left out is put
+    /// neither below nor above.
     pub(crate) fn push(&mut self, link: Link, left_out: bool)
         requires { HaveRoom link self.old }
         ensures { ArePut link left_out self.old self.new }

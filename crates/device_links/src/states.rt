@@ -11,8 +11,8 @@ use device_rows::Rows;
 use link_rows::is_parent;
 use sleep_model::Link;
 
-/// Sets the state of the link between these two, by the numbers of all that the consumer has, and tells whether it
-/// was another.
+/// Sets the state of the link between these two, by the numbers of all that the consumer has, and says
+/// whether it was another.
 pub(crate) fn set_state(
     links: &mut Vec<Link>,
     consumed: &[u32],
@@ -34,7 +34,7 @@ pub(crate) fn set_state(
     changed
 }
 
-/// Sets the state of a link where it is between these two and in another state, and tells whether it was so.
+/// Sets the state of a link if it is between these two and in another state, and says whether it was so.
 fn set_one(link: &mut Link, supplier: u32, consumer: u32, to: bool) -> bool
     ensures set { link.new ≡ with_state supplier consumer to link.old }
     ensures kept { OnFalse result (link.new ≡ link.old) }
@@ -62,8 +62,8 @@ fn is_shown_above(parents: &[Option<u32>], link: Link, device: u32) -> bool
     link.consumer == device && link.active && !is_parent(parents[device as usize], link.supplier)
 }
 
-/// The children among what depends directly on a device, which stand before its consumers: it supplies as many as it
-/// has links.
+/// The children among what depends directly on a device, which come before its consumers: it supplies as many
+/// as it has links.
 pub(crate) fn children_within<'a>(dependents: &'a [u32], supplied: &[u32]) -> &'a [u32]
     requires { length supplied.now ≤ length dependents.now }
     ensures { result.now ≡ take (length dependents.now - length supplied.now) dependents.now }
@@ -71,8 +71,8 @@ pub(crate) fn children_within<'a>(dependents: &'a [u32], supplied: &[u32]) -> &'
     &dependents[..dependents.len() - supplied.len()]
 }
 
-/// Makes the row of what is seen below a device anew, in its places, from its children and the numbers of the links
-/// that it supplies.
+/// Makes the row of what is seen below a device anew, in its places, from its children and the numbers of the
+/// links that it supplies.
 pub(crate) fn refill_below(
     table: &mut Rows,
     parents: &[Option<u32>],
@@ -133,8 +133,8 @@ fn push_consumers(
     }
 }
 
-/// Makes the row of what is seen above a device anew, in its places, from its parent and the numbers of the links that
-/// it consumes.
+/// Makes the row of what is seen above a device anew, in its places, from its parent and the numbers of the
+/// links that it consumes.
 pub(crate) fn refill_above(
     table: &mut Rows,
     parents: &[Option<u32>],

@@ -13,8 +13,7 @@ use sleep_base::Mem;
 use sleep_model::Link;
 use std::alloc::Global;
 
-/// How far walks have come. A device that one has entered and not left is on the way to where it
-/// stands.
+/// How far walks have come. A device that one has entered and not left is on its way.
 #[derive(Drop)]
 pub(crate) struct Visits {
     pub(crate) entered: Vec<bool>,
@@ -23,8 +22,8 @@ pub(crate) struct Visits {
     pub(crate) out: Stack<u32>,
 }
 
-/// Walks from a device to all below it that was not visited yet. It takes the devices right below one
-/// in backward order. False where it meets a device on its own way, and so a cycle.
+/// Walks from a device to all below it that was not visited yet. It takes the devices right below one in
+/// backward order. False if it meets a device on its own way, and so a cycle.
 fn visit(alloc: Global, table: &Rows, from: u32, visits: &mut Visits) -> Result<bool, Mem>
     requires registered { from < length table.now.rows }
     requires within { (d x : ℕ) → is_among (row_at table.now d) x ≡ true → x < length table.now.rows }

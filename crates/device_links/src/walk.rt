@@ -8,7 +8,7 @@ use device_rows::Rows;
 use sleep_base::Mem;
 use std::alloc::Global;
 
-/// Where a walk stands at a device: how many of those right below it are not visited yet.
+/// The frame of a walk at a device: how many of those right below it are not visited yet.
 #[derive(Clone, Copy)]
 pub(crate) struct Frame {
     pub(crate) device: u32,
@@ -25,7 +25,7 @@ pub(crate) enum Found {
     Passed(Vec<u32>, usize, Vec<bool>),
 }
 
-/// Where a walk stands at a device that it has just entered.
+/// The frame of a walk at a device that it has just entered.
 fn frame_at(table: &Rows, device: u32) -> Frame
     requires { device < length table.now.rows }
     ensures { result ≡ record { device = device; left = length (row_at table.now device) } }
@@ -56,14 +56,13 @@ fn reached(alloc: Global, frames: &[Frame], last: u32) -> Result<Found, Mem>
     Ok(Found::Reached(path))
 }
 
-/// Walks from a device to all that depends on it by this table, or until it meets the target.
-/// It visits those right below a device from the last to the first, and none twice, so that the
-/// devices come to lie in the order of their last places. They take the last places of a copy of the
-/// order, which has a place for each.
+/// Walks from a device to all that depends on it by this table, or until it meets the target. It visits those
+/// right below a device from the last to the first, and none twice, so that the devices come to lie in the
+/// order of their last indices. They take the end of a copy of the order, which has room for each.
 ///
-/// A device is marked where the walk enters it. None depends on itself, so one that is met with a
-/// mark is not on the way to where the walk stands: the walk has left it.
-/// It stands apart, so that its loop has the registers to itself.
+/// A device is marked once the walk enters it. None depends on itself, so one that is met with a mark is not
+/// on the walk's own way: the walk has left it. The function is not inlined, so that its loop has the
+/// registers to itself.
 #[inline(never)]
 pub(crate) fn walk(
     alloc: Global,

@@ -10,7 +10,7 @@ module _ {A B : Type 0} (f : A → B) (xs : List A) (i : ℕ) (x y : A) (within 
   pub seen_preserved : f y ≡ f x → map f (set xs i y) ≡ map f xs
   seen_preserved same = map-set f xs i y ∙ ap (set (map f xs) i) (same ∙ sym (seen_at (f x))) ∙ set-get_or (map f xs) i (f x)
 
-  -- what looks otherwise changes that place alone
+  -- what looks otherwise changes only that index
   pub seen_set : (d b : B) → f y ≡ b → map f (set xs i y) ≡ set (map f xs) i b
   seen_set d b is = map-set f xs i y ∙ ap (set (map f xs) i) is
 
@@ -22,7 +22,7 @@ module _ {A B : Type 0} (f : A → B) (xs : List A) (i : ℕ) (x y : A) (within 
 
 -- ---- places
 
--- a list and a number that each element tells
+-- a list and a number of each element
 module _ {A : Type 0} (f : A → List ℕ) (r : A → ℕ) where
   -- one element that has no fewer places
   pub room_more : (xs : List A) (i : ℕ) (x y : A) → i < length xs → x ≡ get_or xs i x → length (f x) + r x ≤ length (f y) + r y → (d : ℕ)
@@ -48,7 +48,7 @@ above_zero (x ∷ xs) (suc i) h = omega (arith, above_zero xs i h)
 pub within_seen : {A B : Type 0} (f : A → B) (xs : List A) (ys : List B) (i : ℕ) → map f xs ≡ ys → i < length ys → i < length xs
 within_seen f xs ys i e h = let n : length xs ≡ length ys = sym (length-map xs f) ∙ ap length e in omega arith
 
--- what holds in any case holds where there is an error
+-- what holds in any case holds of an error
 pub on_err : {A B P : Type 0} (r : Result A B) → P → OnErr r P
 on_err (Ok a) p = tt
 on_err (Err b) p = p

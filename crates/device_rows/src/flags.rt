@@ -1,3 +1,5 @@
+//! A flag for each number, which is unset beyond the last.
+
 use sleep_base::Mem;
 use std::alloc::Global;
 use std::marker::Model;
@@ -58,7 +60,7 @@ impl Flags {
         }
     }
 
-    /// Sets the flag at that number or takes it away; where there is none, nothing changes.
+    /// Sets the flag at that number or takes it away; if there is none, nothing changes.
     pub fn set(&mut self, number: u32, to: bool)
         ensures { self.new ≡ slice_set self.old number to }
     {

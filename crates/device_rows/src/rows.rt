@@ -1,3 +1,5 @@
+//! Rows of device numbers, one for each device.
+
 ghost use Rattle.std.specs.Prelude.{◌≡◌, IfOk, option_to_list};
 
 use sleep_base::Mem;
@@ -154,6 +156,7 @@ impl Rows {
         Ok(())
     }
 }
+/// A row of at most one number.
 
 fn row_of(alloc: Global, number: Option<u32>) -> Result<Vec<u32>, Mem>
     ensures { IfOk result (λ v. v.items ≡ option_to_list number) }

@@ -1,3 +1,5 @@
+//! A stack on the heap.
+
 use sleep_base::Mem;
 use std::alloc::Global;
 use std::marker::Model;

@@ -82,6 +82,6 @@ empty_rows zero d = refl
 empty_rows (suc n) zero = refl
 empty_rows (suc n) (suc d) = empty_rows n d
 
--- what the row of a consumer tells
+-- what the row of a consumer says
 pub linked_is : (ls : List Link) (rows : List (List ℕ)) (n : ℕ) → IsTableOf n (λ d. suppliers_of d ls) rows → (s c : ℕ) (row : List ℕ) → row ≡ get_or rows c [] → list_any (λ y. y == s) row ≡ is_linked ls s c
 linked_is ls rows n h s c row e = ap (list_any (λ y. y == s)) (e ∙ h.each c) ∙ (list_any_among (suppliers_of c ls) s ∙ suppliers_linked ls s c)

@@ -4,7 +4,7 @@ use Rattle.sleep_model.specs.declared.machine.Link.{Link}
 use Rattle.sleep_model.specs.Order.{is_parent}
 use Rattle.device_rows.specs.Table.{Table, room_at, with_number}
 
--- n rows, each as f tells
+-- n rows, each as f says
 pub record IsTableOf (n : ℕ) (f : ℕ → List ℕ) (rows : List (List ℕ)) : Type 0 where
   pub count : length rows ≡ n
   pub each : (d : ℕ) → slice_index_or rows d [] ≡ f d

@@ -10,7 +10,7 @@ use sleep_base::Mem;
 use sleep_model::Link;
 use std::alloc::Global;
 
-/// Puts a number at the end of a row, where there is one to put it.
+/// Puts a number at the end of a row, if there is such a row.
 pub fn dependents_of(table: &mut Rows, row: Option<u32>, number: u32) -> Result<(), Mem>
     requires { IfSome row (λ r. r < length table.old.rows) }
     ensures { OnOk result (table.new.rows ≡ with_number table.old.rows row number) }
