@@ -1,4 +1,4 @@
--- What was written where idle ends (own).
+-- What was written, by how `idle` ends (own).
 use Rattle.std.specs.Prelude.{◌≡◌, ℕ, false, List}
 use Rattle.idle_loop.specs.declared.entry.IdleSizes.{IdleSizes}
 use Rattle.program_ending.specs.declared.ending.Ending.{Ending}

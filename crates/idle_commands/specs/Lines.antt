@@ -7,7 +7,7 @@ use Rattle.idle_loop.specs.declared.entry.IdleLog.{IdleLog}
 use Rattle.idle_loop.specs.declared.entry.IdleSizes.{IdleSizes}
 use Rattle.idle_loop.specs.IdleLogs.{IsIdleRun}
 
--- what an entry tells, as its line ends (own)
+-- what an entry's maker did, as its line ends (own)
 abbrev pub what_text : IdleKind → List ℕ
 what_text Hard = codes " hard\n"
 what_text Begin = codes " begin\n"
@@ -20,7 +20,7 @@ what_text Leave = codes " leave\n"
 abbrev pub who_text : ℕ → ℕ → List ℕ
 who_text wakers who = if who == wakers then codes " idle" else codes " waker:" ++ decimal who
 
--- the line of an entry: how many hard events stand before it, who, and what (own)
+-- the line of an entry: how many hard events came before it, who, and what (own)
 abbrev pub idle_line : ℕ → IdleEntry → List ℕ
 idle_line wakers e = decimal e.hard ++ (who_text wakers e.who ++ what_text e.what)
 

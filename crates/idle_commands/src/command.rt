@@ -1,3 +1,5 @@
+//! The command `idle`: its run, and the writing of its text.
+
 ghost use Rattle.std.specs.Prelude.{◌≡◌, ◌≤◌, IfErr, IfOk};
 ghost use Rattle.program_ending.specs.declared.ending.Ending.TheVariants as ending;
 ghost use Rattle.idle_loop.specs.Sizes.{AreSizes};
@@ -13,8 +15,8 @@ use std::alloc::Global;
 use std::sync::Wait;
 use std::thread::Threads;
 
-/// What the command `idle` writes: the text of the log of a run by 1 to 64 workers. There are 1 to 16 wakers, and 1
-/// to 1,000 events and sessions. `NoMemory` comes if it is out of memory.
+/// What the command `idle` writes: the text of the log of a run by 1 to 64 workers. There are 1 to 16 wakers,
+/// and 1 to 1,000 events and sessions. `NoMemory` comes if it is out of memory.
 pub fn idle_of<R: Threads + Wait + Sync>(
     rt: &R,
     alloc: Global,

@@ -1,3 +1,5 @@
+//! The text of a log of suspend-to-idle, a line for each entry.
+
 ghost use Rattle.std.specs.Prelude.{◌≡◌, ◌++◌, IfOk, OnOk, decimal, flat_map};
 ghost use Rattle.idle_commands.specs.Lines.{end_line, idle_line, log_text, what_text, who_text};
 
@@ -5,7 +7,7 @@ use idle_loop::{IdleEntry, IdleKind, IdleLog};
 use itoa::Buffer;
 use std::alloc::{AllocError, Global};
 
-/// What an entry tells, as its line ends.
+/// What an entry's maker did, as its line ends.
 fn what_text(what: IdleKind) -> &'static str
     ensures { result.now ≡ what_text what }
 {

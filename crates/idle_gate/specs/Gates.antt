@@ -15,7 +15,8 @@ is_entered state.Idle = false
 is_entered state.Enter = true
 is_entered state.Wake = false
 
--- the state, whether a session is open, how many were begun, and the hard number that the last of them forgot (s2idle_state, pm_wakeup_clear)
+-- the state, whether a session is open, how many were begun, and the hard number that the last of them forgot (s2idle_state,
+-- pm_wakeup_clear)
 pub record Gate : Type 0 where
   pub state : IdleState
   pub in_session : Bool

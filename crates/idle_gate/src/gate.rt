@@ -1,9 +1,12 @@
+//! The gate of the idler: its state, with the guard of the event word.
+
 use crate::state::IdleState;
 use sleep_model::EventNow;
 use std::marker::Model;
 use wakeup_guard::Guard;
 
-/// The state of the idler, with its guard, of whose count user space sees `BITS` bits (`s2idle_state`, `s2idle_lock`).
+/// The state of the idler, with its guard, of whose count user space sees `BITS` bits (`s2idle_state`,
+/// `s2idle_lock`).
 #[derive(Drop)]
 pub struct IdleGate<const BITS: u32> {
     guard: Guard<BITS>,
@@ -76,7 +79,7 @@ impl<const BITS: u32> IdleGate<BITS> {
         }
     }
 
-    /// Comes back from idle, where a waker has called. Whether one has (`s2idle_enter`, after its wait).
+    /// Comes back from idle, if a waker has called. Whether one has (`s2idle_enter`, after its wait).
     pub fn leave(&mut self) -> bool
         ensures answer { result ≡ is_waked self.old.state }
         ensures after { self.new ≡ record self.old { state = left self.old.state } }
@@ -88,7 +91,7 @@ impl<const BITS: u32> IdleGate<BITS> {
         false
     }
 
-    /// Where the idler stands (`s2idle_state`).
+    /// The state of the idler (`s2idle_state`).
     pub fn state(&self) -> IdleState
         ensures { result ≡ self.now.state }
     {

@@ -1,4 +1,6 @@
-/// Where the idler stands (`enum s2idle_states`, `s2idle_state`).
+//! The state of the idler of suspend-to-idle.
+
+/// The state of the idler (`enum s2idle_states`, `s2idle_state`).
 #[derive(Clone, Copy, Debug, PartialEq, Eq)]
 pub enum IdleState {
     /// It is awake (`S2IDLE_STATE_NONE`).

@@ -1,4 +1,6 @@
-/// What a waker has made: how many wakes, and whether a hard event whose wake is still to be made.
+//! What one waker has made.
+
+/// What a waker has made: how many wakes, and whether it has made a hard event whose wake is to come.
 #[derive(Clone, Copy, Debug, PartialEq, Eq)]
 pub struct WakerNow {
     pub wakes: u32,

@@ -37,7 +37,7 @@ taken_sizes z locks who first p q y is taken =
     let at : some first ≡ some taken.0 = ap (λ (l : List GateLogState). get_elem? l 0) (sym is.pass.first_is) ∙ taken.2 in
     taken.3 ∙ (ap sizes_of (sym (some-injective first taken.0 at)) ∙ is.first_sizes)
 
--- and is the object still, once it has gained entries
+-- and is still the object, once it has gained entries
 pub root_preserved : (v : PassView GateLogState IdleEntry) (y y' : GateLogState) → IsTaken sizes_of entries_of v 0 y → y'.sizes ≡ y.sizes → (u : GateLogState) → get_elem? v.first 0 ≡ some u → y'.sizes ≡ u.sizes
 root_preserved v y y' taken same u at = same ∙ (taken.3 ∙ ap sizes_of (some-injective taken.0 u (sym taken.2 ∙ at)))
 

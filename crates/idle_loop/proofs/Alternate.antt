@@ -1,4 +1,4 @@
--- Two rising lists of numbers that take turns, and what a cut through them counts. They stand newest first.
+-- Two rising lists of numbers that take turns, and what a cut through them counts. The newest come first.
 use Rattle.std.proofs.Common.{◌≡◌, ◌∙◌, ℕ, suc, ◌+◌, ◌<◌, ◌≤◌, ◌≢◌, ◌==◌, if◌then◌else◌, Bool, true, false, List, [], ◌∷◌, ◌++◌, length, refl, sym, ap, subst, eq-eqb, ne_eqb, arith}
 use mathlib.Core.Logic.{dite}
 use native.Mathlib.Decide.{ℕ_discrete}
@@ -16,7 +16,7 @@ abbrev pub AllMost : ℕ → List ℕ → Type 0
 AllMost high [] = Unit {0}
 AllMost high (x ∷ xs) = (x ≤ high) × AllMost high xs
 
--- as many of each, where none is still to come
+-- as many of each, if none is still to come
 pub as_many : (f : ℕ) (ps qs : List ℕ) → Alternate false f ps qs → length ps ≡ length qs
 as_many f [] [] a = refl
 as_many f [] (q ∷ qs) a = absurd a
@@ -37,7 +37,7 @@ rest_same c po [] qo a more = as_many c po qo a
 rest_same c [] (q ∷ qn) qo a more = absurd a
 rest_same c (p ∷ po) (q ∷ qn) qo a more = absurd (let high : q ≤ c = a.0 in let low : c < q = more.0 in omega arith)
 
--- after a p stand as many q as p
+-- after a p there are as many q as p
 pub cut_at_step : (b : Bool) (f c : ℕ) (x po qn qo : List ℕ) → Alternate b f (x ++ c ∷ po) (qn ++ qo) → AllMore c x → AllMore c qn → AllMost c qo → length po ≡ length qo
 cut_at_step true f c [] po qn qo a later more most = rest_same c po qn qo a more
 cut_at_step false f c [] po [] [] a later more most = absurd a
@@ -58,14 +58,14 @@ alternate_more false f c [] (q ∷ qn) qo a less = absurd a
 alternate_more false f c (p ∷ po) [] qo a less = let same : length po ≡ length qo = as_many p po qo a.2 in omega (arith, same)
 alternate_more false f c (p ∷ po) (q ∷ qn) qo a less = absurd (let high : c ≤ p = at_most p c po qn qo a.2 in let low : p < c = less.0 in omega arith)
 
--- after a q stands one p more than q
+-- after a q there is one p more than q
 pub cut_at_look : (b : Bool) (f c : ℕ) (x po qn qo : List ℕ) → Alternate b f (x ++ po) (qn ++ c ∷ qo) → AllLeast c x → AllLess c po → length po ≡ length qo + 1
 cut_at_look b f c [] po qn qo a later less = alternate_more b f c po qn qo a less
 cut_at_look true f c (p ∷ x) po qn qo a later less = cut_at_look false p c x po qn qo a later.1 less
 cut_at_look false f c (p ∷ x) po [] qo a later less = absurd (let low : p < c = a.1 in let high : c ≤ p = later.0 in omega arith)
 cut_at_look false f c (p ∷ x) po (q ∷ qn) qo a later less = cut_at_look false p c x po qn qo a.2 later.1 less
 
--- ---- where the events of one maker stand
+-- ---- the positions of one maker's events
 
 module _ {X : Type 0} where
   pub taken_if : (m who : ℕ) (a b : X) → m ≡ who → (if m == who then a else b) ≡ a

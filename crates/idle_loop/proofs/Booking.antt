@@ -102,7 +102,7 @@ wake_room state.Idle f n w b room = omega (arith, room)
 wake_room state.Enter f n w b room = omega (arith, room)
 wake_room state.Wake f n w b room = omega (arith, room)
 
--- where no session is open the gate is awake
+-- if no session is open the gate is awake
 still_awake : (s : IdleState) → IsAwake s → IsAwake (woken s)
 still_awake state.Idle awake = tt
 still_awake state.Enter awake = absurd awake

@@ -81,7 +81,7 @@ pub none_left : {A : Type 0} (xs : List A) → length xs ≡ 0 → xs ≡ []
 none_left [] none = refl
 none_left (x ∷ xs) none = absurd (omega (arith, none))
 
--- all are made, where either list is at its end
+-- all are made, once either list is at its end
 pub manning_all : (roles ahead : List Role) (passes behind : List (Pass GateLogState IdleEntry)) (ws : List IdleWorker) → IsManning roles ahead passes behind ws → length passes ≡ length roles → (ahead ≡ []) ⊎ (behind ≡ []) → AreWorkersOf 0 roles passes ws
 manning_all roles ahead passes behind ws so same ended =
     let long = workers_long 0 so.qs so.ps ws so.are in
@@ -193,7 +193,7 @@ went_long R count [] (w ∷ news) went = absurd went
 went_long R count (v ∷ olds) [] went = absurd went
 went_long R count (v ∷ olds) (w ∷ news) went = ap suc (went_long R went.1 olds news went.3)
 
--- a crew at its burst's end
+-- a pool at its burst's end
 pub has_ended : (z : IdleSizes) (table : TableId) (c : WorkerPool) (locks : LockTable GateLogState IdleEntry) (ws olds : List IdleWorker) → IsWorkerPool z table c → first_of locks.own ≡ c.gate_log ∷ [] → locks.own.me.0.known ≡ [] → locks.own.me.0.next ≡ z.wakers + 1
     → length olds ≡ z.wakers + 1 → length ws ≡ length olds → AreAt z locks.own.table_id table c.gate_log 0 ws → HasEnded z table c.gate_log locks ws
 has_ended z table c locks ws olds pool firsts unused count long same at = record {

@@ -56,7 +56,7 @@ pub see_more : (low seen most : ℕ) (entries : List IdleEntry) → seen ≤ mos
 see_more low seen most [] high sees = omega (arith, high, sees)
 see_more low seen most (e ∷ entries) high sees = (sees.0, see_more e.hard seen most entries high sees.1)
 
--- ---- seats and places that are left
+-- ---- seats and positions that are left
 
 left_long : (z : IdleSizes) (table : TableId) (journal : List IdleEntry) (from : ℕ) (ss : List EventSeat) (vs : List (Vec ℕ Global)) → AreLeft z table journal from ss vs → length vs ≡ length ss
 left_long z table journal from [] [] are = refl

@@ -71,7 +71,7 @@ out_back : (i : ℕ) (xs : List ℕ) → IsNotIn i xs → IsNotIn i (reverse xs)
 out_back i [] out = tt
 out_back i (x ∷ xs) out = subst (IsNotIn i) (sym (reverse-append (x ∷ []) xs)) (out_both i (reverse xs) (x ∷ []) (out_back i xs out.1) (out.0, tt))
 
--- who made the event at a place: of the events the newest stands first, and the places count from the oldest
+-- who made the event at a position: the newest event comes first, and positions count from the oldest
 abbrev pub at : List ℕ → ℕ → ℕ
 at ms i = get_or (reverse ms) i 0
 

@@ -110,7 +110,7 @@ all_own n place (e ∷ es) below each =
     let own : AreBy e.0 (entries_in (m ∷ rest)) = subst (λ (l : List (Made IdleEntry)). AreBy e.0 (entries_in l)) (taken_if e.0 e.0 (m ∷ rest) rest refl) (each e.0 below.0) in
     (by_last e.0 (entries_in rest) e.1 own, all_own n (place + 1) es below.1 (λ k low. rest_if (e.0 == k) k (made 0 place e.1) (made_by k 0 (place + 1) es) (each k low)))
 
--- what one worker's wakes saw stands in what its pass made
+-- what one worker's wakes saw is in what its pass made
 seen_own : (k place : ℕ) (es : List (ℕ × IdleEntry)) → AllOwn es → seen_by k (reverse (empty es)) ≡ seen_by k (entries_in (made_by k 0 place es))
 unfolding AllOwn
 seen_own k place [] own = refl
@@ -196,7 +196,7 @@ roles_on z locks table first y gains from (x ∷ ws) (s ∷ qs) (r ∷ ps) is sa
       roles_on z locks table first y gains (from + 1) ws qs ps is (λ k t there. let next : from + suc k ≡ from + 1 + k = omega arith in subst (λ (n : ℕ). seen_by n gains ≡ seen_by n (own_of (made_of t))) next (same (suc k) t there)) are.1 have.2,
     )
 
--- the crew after a burst
+-- the pool after a burst
 pub back_pool : (z : IdleSizes) (table : TableId) (first y : GateLogState) (locks : LockTable GateLogState IdleEntry) (ws : List IdleWorker) (qs : List Role) (ps : List (Pass GateLogState IdleEntry)) (values : List GateLogState) (c : WorkerPool) → HasEnded z table first locks ws → AreSplit ws qs ps
     → AreClosed sizes_of entries_of (first_of locks.own) (made_lists ps) values → get_elem? values 0 ≡ some y → c.gate_log ≡ y → c.roles.items ≡ qs → IsWorkerPool z table c
 back_pool z table first y locks ws qs ps values c ended have closed at gate_log roles =

@@ -1,4 +1,4 @@
--- The history of the event word, where all steps are hard events.
+-- The history of the event word, if all steps are hard events.
 use Rattle.std.proofs.Common.{◌≡◌, ◌∙◌, ℕ, suc, ◌+◌, ◌*◌, ◌<◌, ◌≤◌, ◌==◌, Bool, true, false, if◌then◌else◌, ◌⊎◌, inl, inr, Some, List, [], ◌∷◌, length, map, refl, ap, sym, subst, arith}
 use Rattle.std.proofs.lemmas.List.{length-map}
 use Rattle.sleep_model.specs.declared.word.EventNow.{EventNow}
@@ -73,7 +73,7 @@ befores_if : (b : Bool) (s : MadeStep) (made : List MadeStep) (n : ℕ) (ps : Li
 befores_if true s made n ps one rest = ap (λ (k : ℕ). k ∷ befores made) one ∙ ap (λ (l : List ℕ). n ∷ l) rest
 befores_if false s made n ps one rest = rest
 
--- a waker's steps stand at its places
+-- a waker's steps are at its positions
 pub befores_places : (who : ℕ) (history : List SourceStep) → AllHard history → befores (steps_of who history) ≡ ranks who (makers_in history)
 befores_places who [] all = refl
 befores_places who (s ∷ past) all =
@@ -109,7 +109,7 @@ seen_low (s ∷ past) word all seen = or_else (word ≡ word_after (s ∷ past))
     (λ last. let same : word.hard ≡ suc (length past) = ap (λ (w : EventNow). w.hard) (last ∙ word_hard (s ∷ past) all) in omega (arith, same))
     (λ older. let low : word.hard ≤ length past = seen_low past word all.1 older in omega (arith, low))
 
--- the steps of a waker in its turns: as many as its wakes, and one where it owes a wake
+-- the steps of a waker in its turns: as many as its wakes, and one if it owes a wake
 pub turns_count : (owed : ℕ) (owes : Bool) (floor : ℕ) (made : List MadeStep) (seen : List ℕ) → owed ≡ (if owes then 1 else 0) → InTurn owes floor made seen → length made ≡ length seen + owed
 turns_count owed false floor [] [] is turns = omega (arith, is)
 turns_count owed false floor [] (hard ∷ seen) is turns = absurd turns

@@ -1,4 +1,4 @@
--- What the crew of a run that is over leaves.
+-- What the pool of a run that is over leaves.
 use Rattle.std.proofs.Common.{◌≡◌, ◌∙◌, ℕ, suc, ◌+◌, ◌<◌, ◌≤◌, ◌++◌, Some, List, [], ◌∷◌, length, reverse, Vec, refl, ap, sym, subst, length-append, arith}
 use Rattle.std.specs.declared.alloc.Global.{Global}
 use Rattle.atomic_table.specs.Seated.{TableId}

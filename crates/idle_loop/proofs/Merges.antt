@@ -134,7 +134,7 @@ saw_more : (count : ℕ) (newer : List IdleEntry) (e : IdleEntry) → SawLeast c
 saw_more count [] e saw low = (low, tt)
 saw_more count (f ∷ newer) e saw low = (saw.0, saw_more count newer e saw.1 low)
 
--- the session that the log tells, where the journal tells what it forgot
+-- the log's session agrees with what the journal forgot
 pub open_none : (count : ℕ) (f n : Option ℕ) → Agrees count f n → f ≡ None → n ≡ None
 open_none count None None is same = refl
 open_none count None (Some n) is same = absurd is

@@ -32,7 +32,7 @@ awake_step TryOk b s o wakes hards due before none = absurd (no_session (Some 0)
 awake_step TryBusy b s o wakes hards due before none = due
 awake_step Leave b s o wakes hards due before none = refl
 
--- where no session is open the idler is awake
+-- if no session is open the idler is awake
 none_awake : (z : IdleSizes) (past : List IdleEntry) → IsIdleLog z past → session_of past ≡ None → state_after past ≡ state.Idle
 none_awake z [] legal none = refl
 none_awake z (e ∷ past) legal none = awake_step e.what (e.who == 0) (state_after past) (session_of past) (wakes_of 0 past) (hards_of 0 past)
@@ -58,7 +58,7 @@ nothing_entered z past legal is TryOk may = not_awake (state_after past) is may.
 nothing_entered z past legal is TryBusy may = not_awake (state_after past) is may.1
 nothing_entered z past legal is Leave may = subst IsWaked is (not_waked (state_after past) may.1)
 
--- nor may one that is awake, where no session is open and none is left
+-- nor may one that is awake, if no session is open and none is left
 pub nothing_awake : (z : IdleSizes) (past : List IdleEntry) → state_after past ≡ state.Idle → session_of past ≡ None → z.sessions ≤ begun past → (what : IdleKind) → MayMake z past z.wakers what → ⊥
 nothing_awake z past is none last Hard may = let low = may.0 in omega arith
 nothing_awake z past is none last Wake may = let low = may.0 in omega arith

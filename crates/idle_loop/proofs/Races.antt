@@ -13,7 +13,7 @@ use Rattle.idle_loop.specs.IdleLogs.{state_by, state_after, session_by, session_
 use Rattle.idle_gate.specs.Gates.{woken}
 use Rattle.idle_loop.specs.Laws.{LosesNone, SleepsOverNone}
 
--- what an option tells is at least that
+-- the number of an option, if it has one, is at least that
 abbrev AtLeast : ℕ → Option ℕ → Type 0
 AtLeast n None = Unit {0}
 AtLeast n (Some m) = n ≤ m

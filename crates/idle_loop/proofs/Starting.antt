@@ -1,4 +1,4 @@
--- The crew of a run before all steps, and when it is over.
+-- The pool of a run before all steps, and when it is over.
 use Rattle.std.proofs.Common.{◌≡◌, ◌∙◌, ℕ, suc, ◌+◌, ◌<◌, ◌≤◌, ◌++◌, false, Some, List, [], ◌∷◌, length, reverse, get_or, take, vec_capacity, refl, ap, sym, subst, length-append, arith}
 use Rattle.std.proofs.lemmas.List.{length-map, take_more, take_all}
 use Rattle.event_word.specs.declared.seats.TableLook.{TableLook}

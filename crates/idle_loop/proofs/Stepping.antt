@@ -41,7 +41,7 @@ raised low floor (s ∷ made) (hard ∷ seen) high is = (let most : hard ≤ low
 not_owed : (b : Bool) (floor : ℕ) (made : List MadeStep) (seen : List ℕ) → b ≡ false → InTurn b floor made seen → InTurn false floor made seen
 not_owed b floor made seen none is = subst (λ (t : Bool). InTurn t floor made seen) none is
 
--- as many steps as wakes, and one where a wake is owed
+-- as many steps as wakes, and one if a wake is owed
 pub step_count : (b : Bool) (floor : ℕ) (made : List MadeStep) (seen : List ℕ) → InTurn b floor made seen → length made ≡ length seen + owed b
 step_count false floor [] [] is = omega arith
 step_count false floor [] (hard ∷ seen) is = absurd is
@@ -200,7 +200,7 @@ waker_on z who journal gains w w' keeps is = subst (λ (l : List ℕ). IsWaker z
 
 -- ---- what a step asks
 
--- a waker that is not through has room for a hard event
+-- a waker that is not done has room for a hard event
 pub room_hard : (z : IdleSizes) (who : ℕ) (seen : List ℕ) (w : Waker) → AreSizes z → IsWaker z who seen w → w.now.owes ≡ false → w.now.wakes < z.events → length (made_of w.seat.token) < z.events
 room_hard z who seen w sizes is free few =
     let count : length (made_of w.seat.token) ≡ length seen + owed w.now.owes = step_count w.now.owes (floor_of w.seat.token) (made_of w.seat.token) seen is.turns in

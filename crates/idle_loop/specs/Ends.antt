@@ -34,7 +34,7 @@ abbrev pub IsDone : IdleSizes → Role → Type 0
 IsDone z (role.Wakes w) = z.events ≤ w.now.wakes
 IsDone z (role.Idles look) = Unit {0}
 
--- every waker is through
+-- every waker is done
 abbrev pub AreDone : IdleSizes → List Role → Type 0
 AreDone z [] = Unit {0}
 AreDone z (q ∷ qs) = IsDone z q × AreDone z qs
@@ -46,7 +46,7 @@ IsIdle z state.Enter in_session begun = Unit {0}
 IsIdle z state.Wake in_session begun = ⊥
 
 module _ {Z : Type 0} where
-  -- a waker's seat, and the places of its hard events, off the table (own)
+  -- a waker's seat, and the positions of its hard events, off the table (own)
   abbrev pub IsOff : Role → EventSeat → Vec ℕ Z → Type 0
   IsOff (role.Wakes w) seat v = (seat.token ≡ w.seat.token) × (v.items ≡ w.ranks.items)
   IsOff (role.Idles look) seat v = ⊥
@@ -60,7 +60,7 @@ module _ {Z : Type 0} where
   AreOff (q ∷ qs) (s ∷ ss) [] = ⊥
   AreOff (q ∷ qs) (s ∷ ss) (v ∷ vs) = IsOff q s v × AreOff qs ss vs
 
-  -- what a waker that is through leaves, whose wakes saw these hard numbers (own)
+  -- what a waker that is done leaves, whose wakes saw these hard numbers (own)
   pub record IsLeftAt (z : IdleSizes) (table : TableId) (who : ℕ) (seen : List ℕ) (seat : EventSeat) (v : Vec ℕ Z) : Type 0 where
     pub owes : Bool
     pub floor : ℕ

@@ -23,7 +23,7 @@ first_gate_log z = record { sizes = z; gate = record { state = state.Idle; in_se
 abbrev pub most_of : IdleSizes → ℕ
 most_of z = 3 * (z.wakers * z.events) + 2 * z.sessions + 1
 
--- the gate forgot that number, where a session is open (pm_wakeup_clear)
+-- the gate forgot that number, if a session is open (pm_wakeup_clear)
 abbrev pub Forgot : Bool → ℕ → Option ℕ → Type 0
 Forgot false hard None = Unit {0}
 Forgot false hard (Some f) = ⊥

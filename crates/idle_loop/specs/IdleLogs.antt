@@ -1,4 +1,4 @@
--- A log of suspend-to-idle (kernel/power/suspend.c, s2idle_loop). The entries before one stand newest first.
+-- A log of suspend-to-idle (kernel/power/suspend.c, s2idle_loop). The entries before one are listed newest first.
 use Rattle.std.specs.Prelude.{◌≡◌, ◌<◌, ◌+◌, ◌==◌, ◌++◌, if◌then◌else◌, ℕ, Bool, true, false, List, [], ◌∷◌, Option, Some, None, reverse}
 use Rattle.idle_gate.specs.declared.state.IdleState.{IdleState}
 use Rattle.idle_gate.specs.declared.state.IdleState.TheVariants as state
@@ -37,12 +37,12 @@ session_by TryOk s = s
 session_by TryBusy s = None
 session_by Leave s = s
 
--- how many hard events stand since the open session's begin; None if no session is open (s2idle_loop)
+-- how many hard events came since the open session's begin; None if no session is open (s2idle_loop)
 abbrev pub session_of : List IdleEntry → Option ℕ
 session_of [] = None
 session_of (e ∷ past) = session_by e.what (session_of past)
 
--- one where the entry is a hard event (pm_system_wakeup)
+-- one if the entry is a hard event (pm_system_wakeup)
 abbrev pub is_hard : IdleKind → ℕ
 is_hard Hard = 1
 is_hard Begin = 0
@@ -51,7 +51,7 @@ is_hard TryOk = 0
 is_hard TryBusy = 0
 is_hard Leave = 0
 
--- one where the entry is a wake (s2idle_wake)
+-- one if the entry is a wake (s2idle_wake)
 abbrev pub is_wake : IdleKind → ℕ
 is_wake Hard = 0
 is_wake Begin = 0
@@ -60,7 +60,7 @@ is_wake TryOk = 0
 is_wake TryBusy = 0
 is_wake Leave = 0
 
--- one where the entry begins a session (s2idle_loop)
+-- one if the entry begins a session (s2idle_loop)
 abbrev pub is_begin : IdleKind → ℕ
 is_begin Hard = 0
 is_begin Begin = 1
@@ -103,9 +103,9 @@ abbrev pub since_begin : ℕ → List IdleEntry → ℕ
 since_begin who [] = 0
 since_begin who (e ∷ past) = since_by e.what (e.who == who) (since_begin who past)
 
--- after these entries that one may make this entry: a waker makes a hard event and a wake in turn; the idler begins where
--- no session is open, enters where no hard event stands since then, else ends the session, and leaves where it was waked
--- (s2idle_loop, s2idle_enter, s2idle_wake; the numbers are own)
+-- after these entries that one may make this entry: a waker makes a hard event and a wake in turn; the idler begins if no session is open,
+-- enters if no hard event came since then, else ends the session, and leaves if it was waked (s2idle_loop, s2idle_enter, s2idle_wake; the
+-- numbers are own)
 abbrev pub MayMake : IdleSizes → List IdleEntry → ℕ → IdleKind → Type 0
 MayMake z past who Hard = (who < z.wakers) × (hards_of who past ≡ wakes_of who past) × (wakes_of who past < z.events)
 MayMake z past who Wake = (who < z.wakers) × (hards_of who past ≡ wakes_of who past + 1)
@@ -119,18 +119,18 @@ abbrev pub IsIdleLog : IdleSizes → List IdleEntry → Type 0
 IsIdleLog z [] = Unit {0}
 IsIdleLog z (e ∷ past) = (e.hard ≡ hards past) × MayMake z past e.who e.what × IsIdleLog z past
 
--- all wakers are through, and nothing is left for the idler: it is in idle, or all sessions are over (s2idle_loop)
+-- all wakers are done, and nothing is left for the idler: it is in idle, or all sessions are over (s2idle_loop)
 pub record IsOver (z : IdleSizes) (past : List IdleEntry) : Type 0 where
   pub done : (who : ℕ) → who < z.wakers → wakes_of who past ≡ z.events
   pub nothing : (what : IdleKind) → MayMake z past z.wakers what → ⊥
 
--- where the idler has entered, a waker that made a hard event in this session still owes its wake: no wakeup is
--- lost (s2idle_enter, s2idle_wake)
+-- if the idler has entered, a waker that made a hard event in this session still owes its wake: no wakeup is lost (s2idle_enter,
+-- s2idle_wake)
 abbrev pub NoneIsLost : List IdleEntry → Type 0
 NoneIsLost past = (who : ℕ) → state_after past ≡ state.Enter → 0 < since_begin who past → wakes_of who past < hards_of who past
 
--- a whole run: a legal log of these sizes that is over, in which no wakeup was ever lost; where it ends in idle, no hard
--- event stands since the last begin (s2idle_loop)
+-- a whole run: a legal log of these sizes that is over, in which no wakeup was ever lost; if it ends in idle, no hard event came since the
+-- last begin (s2idle_loop)
 pub record IsIdleRun (z : IdleSizes) (log : IdleLog) : Type 0 where
   pub legal : IsIdleLog z (reverse log.entries.items)
   pub over : IsOver z (reverse log.entries.items)

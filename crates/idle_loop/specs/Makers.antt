@@ -1,12 +1,12 @@
--- Who made which hard event (drivers/base/power/wakeup.c, pm_system_wakeup). Lists stand newest first.
+-- Who made which hard event (drivers/base/power/wakeup.c, pm_system_wakeup). Lists have the newest first.
 use Rattle.std.specs.Prelude.{◌≡◌, ◌<◌, ◌≤◌, ◌+◌, ◌==◌, if◌then◌else◌, ℕ, Bool, true, false, List, [], ◌∷◌, length, reverse, slice_set, Vec}
 use Rattle.idle_loop.specs.declared.entry.IdleEntry.{IdleEntry}
 use Rattle.idle_loop.specs.declared.entry.IdleSizes.{IdleSizes}
 use Rattle.idle_loop.specs.IdleLogs.{wakes_of}
 use Rattle.idle_loop.specs.Turns.{seen_by}
 
--- events at places p and wakes that saw q events in turn: each wake saw its event, and none saw the next; where no wake is
--- still to come, none saw more than the floor (pm_system_wakeup, s2idle_wake)
+-- events at positions p and wakes that saw q events in turn: each wake saw its event, and none saw the next; if no wake is to come, none
+-- saw more than the floor (pm_system_wakeup, s2idle_wake)
 abbrev pub Alternate : Bool → ℕ → List ℕ → List ℕ → Type 0
 Alternate false floor [] [] = Unit {0}
 Alternate false floor [] (q ∷ qs) = ⊥
@@ -15,7 +15,7 @@ Alternate false floor (p ∷ ps) (q ∷ qs) = (q ≤ floor) × (p < q) × Altern
 Alternate true floor [] qs = ⊥
 Alternate true floor (p ∷ ps) qs = Alternate false p ps qs
 
--- how many events stood before each of one maker's, of all events by their makers (pm_system_wakeup)
+-- how many events came before each of one maker's, of all events by their makers (pm_system_wakeup)
 abbrev pub ranks : ℕ → List ℕ → List ℕ
 ranks who [] = []
 ranks who (m ∷ ms) = if m == who then length ms ∷ ranks who ms else ranks who ms
@@ -48,7 +48,7 @@ module _ {Z : Type 0} where
     pub below : AllBelow (length lists) ms
     pub each : HaveRanks ms 0 lists
 
--- one waker's events and the hard numbers that its wakes saw stand in turn, and it is through (pm_system_wakeup, s2idle_wake)
+-- one waker's events and the hard numbers that its wakes saw alternate, and it is done (pm_system_wakeup, s2idle_wake)
 pub record IsMaker (z : IdleSizes) (ms : List ℕ) (journal : List IdleEntry) (who : ℕ) : Type 0 where
   pub owes : Bool
   pub floor : ℕ

@@ -1,4 +1,4 @@
--- The journal of the idler's gate and the hard events, and the one log of both; all stand newest first.
+-- The journal of the idler's gate and the hard events, and the one log of both; all lists have the newest first.
 use Rattle.std.specs.Prelude.{◌≡◌, ◌<◌, ◌≤◌, ◌+◌, ◌==◌, ◌++◌, if◌then◌else◌, ℕ, List, [], ◌∷◌, length, Option, Some, None}
 use Rattle.idle_gate.specs.declared.state.IdleState.TheVariants as state
 use Rattle.idle_loop.specs.declared.entry.IdleKind.{IdleKind}
@@ -7,11 +7,11 @@ use Rattle.idle_loop.specs.declared.entry.IdleEntry.{IdleEntry}
 use Rattle.idle_loop.specs.declared.entry.IdleSizes.{IdleSizes}
 use Rattle.idle_loop.specs.IdleLogs.{IsIdleLog, state_after, begun, wakes_of}
 
--- a waker's hard event that stands after n of them (pm_system_wakeup)
+-- a waker's hard event that comes after n of them (pm_system_wakeup)
 abbrev pub hard_entry : ℕ → ℕ → IdleEntry
 hard_entry before who = record { hard = before; who = who; what = Hard }
 
--- the log is the merge of hard events, by their makers, and a journal: each entry stands after as many hard events as it saw (own)
+-- the log is the merge of hard events, by their makers, and a journal: each entry comes after as many hard events as it saw (own)
 pub data Merges : List ℕ → List IdleEntry → List IdleEntry → Type 0 where
   Nothing : Merges [] [] []
   NextHard : (who : ℕ) (makers : List ℕ) (journal log : List IdleEntry) → Merges makers journal log → Merges (who ∷ makers) journal (hard_entry (length makers) who ∷ log)

@@ -36,12 +36,13 @@ abbrev pub IsRole : IdleSizes → ℕ → List IdleEntry → Role → Type 0
 IsRole z who journal (role.Wakes w) = IsWaker z who (seen_by who journal) w
 IsRole z who journal (role.Idles look) = IsIdler z who look
 
--- the table of a part's seat (own)
+-- the table of a role's seat (own)
 abbrev pub table_of : Role → TableId
 table_of (role.Wakes w) = w.seat.token.table_id
 table_of (role.Idles look) = look.token.table_id
 
--- a pass and a part of the worker of that number, in a burst that began with that gate: what the pass made is the worker's, and the part goes with it (own)
+-- a pass and a part of the worker of that number, in a burst that began with that gate: what the pass made is the worker's, and the part
+-- goes with it (own)
 pub record IsIn (z : IdleSizes) (locks : TableId) (who : ℕ) (first : GateLogState) (p : Token GateLogState IdleEntry) (q : Role) : Type 0 where
   pub sizes : AreSizes z
   pub first_sizes : first.sizes ≡ z
@@ -57,7 +58,7 @@ pub record IsWorker (z : IdleSizes) (locks : TableId) (w : IdleWorker) : Type 0 
   pub has : w.pass ≡ Some pass
   pub is : IsIn z locks w.who first pass.token w.role
 
--- the gates that a pass began with, where there is one (own)
+-- the gates that a pass began with, if there is one (own)
 abbrev pub firsts_of : Option (Pass GateLogState IdleEntry) → List GateLogState
 firsts_of None = []
 firsts_of (Some p) = first_of p.token

@@ -8,7 +8,7 @@ pub record AreSizes (z : IdleSizes) : Type 0 where
   pub events : (1 ≤ z.events) × (z.events ≤ 1000)
   pub sessions : (1 ≤ z.sessions) × (z.sessions ≤ 1000)
 
--- one where a wake is still to be made
+-- one if a wake is still to be made
 abbrev pub owed : Bool → ℕ
 owed true = 1
 owed false = 0

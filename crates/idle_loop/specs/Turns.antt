@@ -1,4 +1,4 @@
--- The hard events and the wakes of one waker (pm_system_wakeup, s2idle_wake). Lists stand newest first.
+-- The hard events and the wakes of one waker (pm_system_wakeup, s2idle_wake). Lists have the newest first.
 use Rattle.std.specs.Prelude.{◌≡◌, ◌<◌, ◌≤◌, ◌==◌, ◌++◌, if◌then◌else◌, ℕ, Bool, true, false, List, [], ◌∷◌, map}
 use Rattle.sleep_model.specs.Word.{position}
 use Rattle.sleep_model.specs.declared.word.WordKind.TheVariants as word
@@ -28,7 +28,7 @@ abbrev pub AreBy : ℕ → List IdleEntry → Type 0
 AreBy who [] = Unit {0}
 AreBy who (e ∷ journal) = (e.who ≡ who) × AreBy who journal
 
--- the entries that a pass made, of those that stand oldest first (own)
+-- the entries that a pass made, of steps listed oldest first (own)
 abbrev pub entries_in : List (Made IdleEntry) → List IdleEntry
 entries_in [] = []
 entries_in (m ∷ ms) = entries_in ms ++ m.entry ∷ []
@@ -37,12 +37,12 @@ entries_in (m ∷ ms) = entries_in ms ++ m.entry ∷ []
 abbrev pub own_of : List (Made IdleEntry) → List IdleEntry
 own_of ms = entries_in (of_object 0 ms)
 
--- how many hard events stood before each step (pm_system_wakeup)
+-- how many hard events came before each step (pm_system_wakeup)
 abbrev pub befores : List MadeStep → List ℕ
 befores made = map (λ (s : MadeStep). s.before.hard) made
 
--- a waker's steps are hard events, and each has a wake after it that saw it and nothing of the next; where it owes none, no
--- wake saw more than that many steps (pm_system_wakeup, s2idle_wake)
+-- a waker's steps are hard events, and each has a wake after it that saw it and nothing of the next; if it owes none, no wake saw more than
+-- that many steps (pm_system_wakeup, s2idle_wake)
 abbrev pub InTurn : Bool → ℕ → List MadeStep → List ℕ → Type 0
 InTurn false floor [] [] = Unit {0}
 InTurn false floor [] (hard ∷ seen) = ⊥
@@ -51,7 +51,7 @@ InTurn false floor (s ∷ made) (hard ∷ seen) = (hard ≤ floor) × (s.before.
 InTurn true floor [] seen = ⊥
 InTurn true floor (s ∷ made) seen = (s.step ≡ word.Hard) × InTurn false (position s.before) made seen
 
--- the newest step stood after fewer hard events than that (pm_system_wakeup)
+-- the newest step came after fewer hard events than that (pm_system_wakeup)
 abbrev pub SawFewer : ℕ → List MadeStep → Type 0
 SawFewer least [] = Unit {0}
 SawFewer least (s ∷ made) = s.before.hard < least

@@ -13,7 +13,7 @@ use Rattle.idle_loop.specs.declared.burst.WorkerPool.{WorkerPool}
 use Rattle.idle_loop.specs.declared.worker.IdleWorker.{IdleWorker}
 use Rattle.idle_loop.specs.Roles.{IsIn, IsRole, table_of}
 
--- the parts of the workers from that number on, with their seats at that table, beside that journal (own)
+-- the roles of the workers from that number on, with their seats at that table, beside that journal (own)
 abbrev pub AreRoles : IdleSizes → TableId → List IdleEntry → ℕ → List Role → Type 0
 AreRoles z table journal from [] = Unit {0}
 AreRoles z table journal from (q ∷ qs) = IsRole z from journal q × (table_of q ≡ table) × AreRoles z table journal (from + 1) qs

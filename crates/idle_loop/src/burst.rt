@@ -22,7 +22,8 @@ use turn_lock::{LockTable, close_locks};
 /// How many turns a worker may make in a burst.
 const TURNS: u64 = 1000;
 
-/// The gate, and what is each worker's own: the wakers in the order of their numbers, and after them the idler.
+/// The gate, and what is each worker's own: the wakers in the order of their numbers, and after them the
+/// idler.
 #[derive(Drop)]
 pub struct WorkerPool<'t> {
     pub(crate) gate_log: GateLog<24>,

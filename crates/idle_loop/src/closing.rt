@@ -24,7 +24,7 @@ use sleep_base::Mem;
 use std::alloc::Global;
 use std::sync::Wait;
 
-/// What a run leaves: the gate, the seats off their table, and the places of each waker's hard events.
+/// What a run leaves: the gate, the seats off their table, and the positions of each waker's hard events.
 #[derive(Drop)]
 pub(crate) struct RunLeft {
     gate_log: GateLog<24>,
@@ -44,7 +44,7 @@ fn waker_of<'t>(role: Role<'t>) -> Waker<'t>
     }
 }
 
-/// The idler's seat that the part is.
+/// The idler's seat that the role is.
 fn idler_of<'t>(role: Role<'t>) -> TableLook<'t>
     requires { IsIdles role }
     ensures { role.entry ≡ variant.Idles result }
@@ -66,7 +66,7 @@ fn apart<'t>(mut roles: Vec<Role<'t>>) -> (Vec<Role<'t>>, Role<'t>)
     }
 }
 
-/// The seats and the places of the wakers that the parts are.
+/// The seats and the positions of the wakers that the roles are.
 fn wakers_of(alloc: Global, roles: Vec<Role<'_>>) -> Result<(Vec<EventSeat>, Vec<Vec<u32>>), Mem>
     requires { AreWakes roles.items }
     ensures { IfOk result (λ off. AreOff roles.entry.items off.0.items off.1.items) }

@@ -1,6 +1,6 @@
 //! What a log of suspend-to-idle says.
 
-/// What an entry tells.
+/// What an entry's maker did.
 #[derive(Clone, Copy, Debug, PartialEq, Eq)]
 pub enum IdleKind {
     /// A waker's hard event (`pm_system_wakeup`).
@@ -17,8 +17,8 @@ pub enum IdleKind {
     Leave,
 }
 
-/// An entry: how many hard events stand before it, who made it (a waker's number; the idler's is the
-/// number of wakers), and what.
+/// An entry: how many hard events came before it, who made it (a waker's number; the idler's is the number of
+/// wakers), and what.
 #[derive(Clone, Copy, Debug, PartialEq, Eq)]
 pub struct IdleEntry {
     pub hard: u32,

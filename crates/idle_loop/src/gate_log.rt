@@ -1,3 +1,5 @@
+//! The idler's gate with its journal.
+
 use crate::entry::{IdleEntry, IdleKind, IdleSizes};
 use idle_gate::{IdleGate, IdleState};
 use sleep_base::Mem;
@@ -6,8 +8,8 @@ use std::alloc::Global;
 use std::marker::Model;
 use turn_lock::Booked;
 
-/// The idler's gate with its journal, as it stands under its lock (`s2idle_state`, `s2idle_lock`). Contracts see the sizes, the
-/// gate, and the journal, the newest entry first.
+/// The idler's gate with its journal, under its lock (`s2idle_state`, `s2idle_lock`). Contracts see the
+/// sizes, the gate, and the journal, the newest entry first.
 #[derive(Drop)]
 pub struct GateLog<const BITS: u32> {
     sizes: IdleSizes,
@@ -41,8 +43,8 @@ impl<const BITS: u32> GateLog<BITS> {
     ghost use Rattle.idle_loop.specs.GateLogs.{IsGateLog, first_gate_log};
     ghost use Rattle.idle_loop.specs.Merging.{IsJournal, SeeMore};
 
-    /// A gate in the state Idle, with no session and an empty journal. No later call takes memory. `Mem` if there is
-    /// none for the journal.
+    /// A gate in the state Idle, with no session and an empty journal. No later call takes memory. `Mem` if
+    /// there is none for the journal.
     pub fn new(alloc: Global, sizes: IdleSizes) -> Result<Self, Mem>
         requires bits { (1 ≤ BITS) × (BITS ≤ 24) }
         requires sizes { AreSizes sizes }
@@ -119,7 +121,8 @@ impl<const BITS: u32> GateLog<BITS> {
         });
     }
 
-    /// Comes back from idle, where a waker has called. Whether one has; else nothing changes (`s2idle_enter`, after its wait).
+    /// Comes back from idle, if a waker has called. Whether one has; else nothing changes (`s2idle_enter`,
+    /// after its wait).
     pub fn leave(&mut self, now: EventNow) -> bool
         requires order { self.old.seen ≤ now.hard }
         ensures answer { result ≡ is_waked self.old.gate.state }
@@ -139,7 +142,8 @@ impl<const BITS: u32> GateLog<BITS> {
         waked
     }
 
-    /// The journal, the oldest entry first: one of the gate by itself, in which no entry sees fewer hard events than an earlier one.
+    /// The journal, the oldest entry first: one of the gate by itself, in which no entry sees fewer hard
+    /// events than an earlier one.
     #[tactic(auto, using(crate::proofs::Booking::items_in_order))]
     pub fn into_journal(self) -> Vec<IdleEntry>
         ensures items { reverse result.items ≡ self.entry.journal }
@@ -186,7 +190,7 @@ impl<const BITS: u32> GateLog<BITS> {
         self.gate.begun()
     }
 
-    /// Where the idler stands (`s2idle_state`).
+    /// The state of the idler (`s2idle_state`).
     pub fn state(&self) -> IdleState
         ensures { result ≡ self.now.gate.state }
     {

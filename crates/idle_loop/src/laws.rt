@@ -3,8 +3,8 @@
 ghost use Rattle.idle_loop.specs.Laws.{LosesNone, SleepsOverNone};
 ghost use Rattle.idle_loop.specs.Merging.{MergesToLegal};
 
-/// In every legal log, where the idler has entered, each waker that made a hard event in this session
-/// still owes its wake (`kernel/power/suspend.c`, `s2idle_enter`, `s2idle_wake`).
+/// In every legal log, if the idler has entered, each waker that made a hard event in this session still owes
+/// its wake (`kernel/power/suspend.c`, `s2idle_enter`, `s2idle_wake`).
 #[tactic(auto, using(crate::proofs::Races::loses_none))]
 pub fn no_wakeup_is_lost()
     ensures { LosesNone }
@@ -17,9 +17,9 @@ pub fn no_hard_event_sleeps()
     ensures { SleepsOverNone }
 {}
 
-/// Where the journal is one of the gate by itself, each waker makes its hard events and wakes in turn by
-/// the numbers that the wakes saw, and each entry stands after as many hard events as it saw, the merge
-/// of journal and hard events is a legal log (`kernel/power/suspend.c`, `s2idle_enter`, `s2idle_wake`;
+/// The merge of a journal and hard events is a legal log, if three facts hold. The journal is one of the gate
+/// by itself; each waker makes its hard events and wakes in turn by the numbers that the wakes saw; and each
+/// entry comes after as many hard events as it saw (`kernel/power/suspend.c`, `s2idle_enter`, `s2idle_wake`;
 /// `drivers/base/power/wakeup.c`, `pm_system_wakeup`).
 #[tactic(auto, using(crate::proofs::Merges::merges_to_legal))]
 pub fn journal_and_hard_events_merge()

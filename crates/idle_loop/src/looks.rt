@@ -1,3 +1,5 @@
+//! A look at the event word that sees at least as many events as an earlier one.
+
 ghost use Rattle.std.specs.Prelude.{◌≡◌, ◌≤◌};
 ghost use Rattle.sleep_model.specs.Word.{position};
 ghost use Rattle.event_word.specs.Looks.{GrewTo};

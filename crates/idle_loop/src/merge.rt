@@ -23,8 +23,9 @@ fn put_hards(log: &mut Vec<IdleEntry>, makers: &[u32], from: u32, to: u32) -> Re
     Ok(())
 }
 
-/// The one log of a gate's journal and of the hard events, of which the makers are given in order, all the oldest first:
-/// each entry of the journal stands after as many hard events as it saw. `Mem` if there is no memory for the log.
+/// The one log of a gate's journal and of the hard events, whose makers are given in order, all the oldest
+/// first. Each entry of the journal comes after as many hard events as it saw. `Mem` if there is no memory
+/// for the log.
 pub fn merge_idle(
     alloc: Global,
     journal: &[IdleEntry],

@@ -11,7 +11,7 @@ pub struct Waker<'t> {
     pub(crate) now: WakerNow,
     /// The least hard number that a wake after its latest hard event sees.
     pub(crate) least: u64,
-    /// How many hard events stood before each of its own, the oldest first.
+    /// How many hard events came before each of its own, the oldest first.
     pub(crate) ranks: Vec<u32>,
 }
 

@@ -51,7 +51,7 @@ fn roles_of<'t>(
     Ok(roles)
 }
 
-/// Whether that part's waker is through.
+/// Whether that role's waker is done.
 fn is_done(sizes: IdleSizes, role: &Role<'_>) -> bool
     ensures { OnTrue result (IsDone sizes role.now) }
 {
@@ -61,7 +61,7 @@ fn is_done(sizes: IdleSizes, role: &Role<'_>) -> bool
     }
 }
 
-/// Whether every waker is through.
+/// Whether every waker is done.
 fn are_done(sizes: IdleSizes, roles: &[Role<'_>]) -> bool
     ensures { OnTrue result (AreDone sizes roles.now) }
 {
@@ -114,8 +114,8 @@ fn to_end<R: Threads + Wait + Sync>(
     unreachable!()
 }
 
-/// Runs wakers and idler by several workers (`kernel/power/suspend.c`, `s2idle_loop`). There are 1 to 16 wakers, and 1 to
-/// 1,000 events and sessions. `Mem` if there is no memory.
+/// Runs wakers and idler by several workers (`kernel/power/suspend.c`, `s2idle_loop`). There are 1 to 16
+/// wakers, and 1 to 1,000 events and sessions. `Mem` if there is no memory.
 pub fn run_idle<R: Threads + Wait + Sync>(
     rt: &R,
     alloc: Global,

@@ -73,7 +73,7 @@ fn try_enter<R: Wait, E: Events>(rt: &R, gate_log: &mut GateLog<24>, events: &mu
     Turn::Did
 }
 
-/// The idler comes back from idle, where a waker has called (`s2idle_enter`, after its wait).
+/// The idler comes back from idle, if a waker has called (`s2idle_enter`, after its wait).
 fn leave<R: Wait, E: Events>(rt: &R, gate_log: &mut GateLog<24>, events: &mut E) -> Turn
     ensures gains { Gains gate_log.old.sizes.wakers gate_log.old gate_log.new }
     ensures root { E.root events.new ≡ E.root events.old }

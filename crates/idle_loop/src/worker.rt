@@ -47,7 +47,7 @@ struct AfterTurn {
     turn: Turn,
 }
 
-/// A waker's turn: its next step, if it is not through.
+/// A waker's turn: its next step, if it is not done.
 fn waker_turn<R: Wait>(
     world: &IdleWorld<'_, R>,
     pass: IdlePass,
