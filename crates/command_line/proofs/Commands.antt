@@ -1,4 +1,4 @@
--- What the parser is told.
+-- The commands that the parser is given.
 use Rattle.std.proofs.Common.{◌≡◌, ◌∙◌, true, false, refl, ap, ap₂, codes}
 use Rattle.std.proofs.lemmas.Bool.{not-true}
 use Rattle.clap.specs.Built.{AddsSubcommand}

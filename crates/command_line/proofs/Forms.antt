@@ -97,7 +97,7 @@ check_words name (x ∷ []) few ends = lifted (alone_leaf (codes "check")) (alon
 check_words name (x ∷ y ∷ []) few ends = lifted (alone_leaf (codes "check")) (alone_read Check) None (x ∷ y ∷ []) (alone_more (codes "check") Check x (y ∷ []) (neither (is_end_of_options x) (is_end_of_options y || false) ends).0)
 check_words name (x ∷ y ∷ z ∷ rest) few ends = absurd (not_few x y z rest few)
 
--- where the first word's turn fails, the level does
+-- if the first word's turn fails, the level does
 level_fails : (s : Shape) (names : Names) (h : Held) (word : Text) (words : List Text) (has : Bool) (under : Kinds) (k : ErrorKind) (ks : Kinds)
     → turn_fault s names (walk_from h) word ≡ k ∷ ks → level_fault s names h (word ∷ words) has under ≡ k ∷ ks
 unfolding walk_fault

@@ -14,7 +14,7 @@ use Rattle.command_line.specs.Parses.{alone_app, alone_read, run_app, run_read, 
 use Rattle.command_line.proofs.Turns.{place, turn_by, word_is, IsLong, IsPlain}
 use Rattle.command_line.proofs.Named.{joined_parts, minus_devices, minus_seed, minus_workers, names_no_workers, same_text}
 
--- what is read is what is asked for, where no step fails, and else nothing is asked for
+-- what is read is what is asked for, if no step fails, and else nothing is asked for
 abbrev pub Agrees : Kinds → Option Command → Option Command → Type 0
 Agrees [] read asked = read ≡ asked
 Agrees (k ∷ ks) read asked = asked ≡ None
@@ -106,7 +106,7 @@ run_one x end = alone (bytes_eq x (codes "--workers")) refl
     alone true e = subst (λ z. RunAgrees (z ∷ [])) (sym (same_text x (codes "--workers") e)) refl
     alone false e = joined e (bytes_eq (take (length workers_prefix) x) workers_prefix) refl
 
--- what stands of the option after a word that holds its value
+-- the row of the option after a word that holds its value
 abbrev given : Text → List Row
 given v = used (with_index 1 (filled workers_rule)) (v ∷ []) []
 

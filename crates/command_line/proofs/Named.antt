@@ -10,7 +10,7 @@ use Rattle.command_line.specs.declared.command.Command.{Command}
 use Rattle.command_line.specs.Words.{number_in, seeded_of, workers_of, workers_prefix}
 use Rattle.command_line.proofs.Turns.{stripped}
 
--- no `=` stands in the bytes, or there is one after what stands before the first
+-- no `=` is in the bytes, or one follows those before the first
 abbrev IsCut : List ℕ → Type 0
 IsCut r = (before_first (λ b. eqb b 61) r ≡ r) ⊎ ((t : List ℕ) × (r ≡ before_first (λ b. eqb b 61) r ++ 61 ∷ t))
 
@@ -29,7 +29,7 @@ cut : (r : List ℕ) → IsCut r
 cut [] = inl refl
 cut (c ∷ cs) = cut_after c cs (eqb c 61) refl (cut cs)
 
--- of a word `--name` or `--name=value`, what stands after the hyphens
+-- of a word `--name` or `--name=value`, what follows the hyphens
 long_parts : (x : List ℕ) (p : List ℕ × Option (List ℕ)) → long_of x ≡ Some p → (r : List ℕ) × (x ≡ 45 ∷ 45 ∷ r) × (before_first (λ b. eqb b 61) r ≡ p.0)
 long_parts x p e = first (stripped 45 x)
   where

@@ -29,7 +29,7 @@ digits_are n (d ∷ ds) e =
     let under : digit_value d < 10 = omega (arith, digit.1, digit.2) in
     ((under, rest.0), rest.1 ∙ ap (λ k. fold (λ n b. 10 * n + (b - 48)) k ds) next)
 
--- no plus stands before digits
+-- no plus comes before digits
 no_plus : (d : ℕ) (ds : List ℕ) → is_digit d ≡ true → without_leading_plus (d ∷ ds) ≡ d ∷ ds
 no_plus d ds e = go (eqb d 43) refl
   where

@@ -11,7 +11,7 @@ use Rattle.clap.specs.Simple.{Shape}
 use Rattle.clap.specs.Faults.{bundle_fault, bundle_step_fault, flag_word_fault, flags_fault, other_fault, step_fault, turn_fault}
 use Rattle.clap.specs.declared.error.kind.ErrorKind.TheVariants.{UnknownArgument}
 
--- a byte stands first, or there is none to strip
+-- a byte comes first, or there is none to strip
 pub stripped : (c : ℕ) (x : Text) → ((r : Text) × (x ≡ c ∷ r)) ⊎ (strip_byte c x ≡ None)
 stripped c [] = inr refl
 stripped c (y ∷ ys) = go (eqb y c) refl

@@ -18,7 +18,7 @@ has_no_zero_before (b ∷ c ∷ bs) = nat_lt 48 b
 abbrev pub value_of : List ℕ → ℕ
 value_of word = fold (λ n b. 10 * n + (b - 48)) 0 word
 
--- the number that a word is, where it is one of this range: decimal digits, and no 0 before others
+-- the number that a word is, if it is one of this range: decimal digits, and no 0 before others
 abbrev pub number_in : ℕ → ℕ → List ℕ → Option ℕ
 number_in least most word =
     if list_all is_digit word && has_no_zero_before word && nat_le least (value_of word) && nat_le (value_of word) most
@@ -28,7 +28,7 @@ number_in least most word =
 abbrev pub workers_of : List ℕ → Option Command
 workers_of word = option_map Run (number_in 1 64 word)
 
--- what stands before a worker's number in one word
+-- what comes before a worker's number in one word
 abbrev pub workers_prefix : List ℕ
 workers_prefix = codes "--workers="
 
@@ -76,21 +76,21 @@ workers_number word =
     if bytes_eq (take (length workers_prefix) word) workers_prefix then number_in 1 64 (drop (length workers_prefix) word)
     else None
 
--- the option begins with this word: alone, or in one word with its number
+-- the option begins with this word: by itself, or in one word with its number
 abbrev pub begins_option : List ℕ → Bool
 begins_option word = bytes_eq word (codes "--workers") || bytes_eq (take (length workers_prefix) word) workers_prefix
 
--- how many words stand before the option; all, where it does not stand
+-- how many words come before the option; all, if there is none
 abbrev pub option_index : List (List ℕ) → ℕ
 option_index words = position_or_len begins_option words
 
--- how many workers the option asks for that stands first of these words; four, where no word is left
+-- how many workers the option asks for that begins these words; four, if no word is left
 abbrev pub workers_named : List (List ℕ) → Option ℕ
 workers_named [] = Some 4
 workers_named (word ∷ []) = workers_number word
 workers_named (word ∷ n ∷ words) = if bytes_eq word (codes "--workers") then number_in 1 64 n else workers_number word
 
--- the words after the option that stands first of these
+-- the words after the option that begins these
 abbrev pub after_option : List (List ℕ) → List (List ℕ)
 after_option [] = []
 after_option (word ∷ []) = []
@@ -106,13 +106,13 @@ abbrev pub idle_sizes : List (List ℕ) → ℕ → Option Command
 idle_sizes (wakers ∷ events ∷ sessions ∷ []) workers = idle_sized wakers events sessions workers
 idle_sizes _ workers = None
 
--- the words after idle: the sizes, and the option before them, between them or after them. Where it stands twice, the second one is no size.
+-- the words after idle: the sizes, with the option before, between or after them. If the option comes twice, the second one is no size.
 abbrev pub idle_of : List (List ℕ) → Option Command
 idle_of words =
     let place = option_index words in
     option_and_then (λ n. idle_sizes (take place words ++ after_option (drop place words)) n) (workers_named (drop place words))
 
--- what these words ask for, where they are of a form; the first is the program's name
+-- what these words ask for, if they are of a form; the first is the program's name
 abbrev pub command_of : List (List ℕ) → Option Command
 command_of [] = None
 command_of (name ∷ []) = None

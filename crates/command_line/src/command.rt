@@ -1,3 +1,5 @@
+//! The commands of the program.
+
 /// What the program is asked to do.
 #[derive(Clone, Copy, Debug, PartialEq, Eq)]
 pub enum Command {
@@ -21,7 +23,8 @@ pub enum Command {
     Locks,
     /// To read a machine and a log of it, and to write the log's statistics.
     Stats,
-    /// To run 1 to 16 wakers of 1 to 1,000 events each against the idler of 1 to 1,000 sessions, by 1 to 64 workers.
+    /// To run 1 to 16 wakers of 1 to 1,000 events each against the idler of 1 to 1,000 sessions, by 1 to 64
+    /// workers.
     Idle {
         wakers: u32,
         events: u32,

@@ -16,14 +16,14 @@ fn workers_word(word: &str) -> Option<u64>
     }
 }
 
-/// Whether the option begins with this word: alone, or in one word with its number.
+/// Whether the option begins with this word: by itself, or in one word with its number.
 fn begins_option(word: &str) -> bool
     ensures { result ≡ begins_option word.now }
 {
     word == "--workers" || word.starts_with("--workers=")
 }
 
-/// How many words stand before the option; all, where it does not stand.
+/// How many words come before the option; all, if there is none.
 fn option_index(words: &[String]) -> usize
     ensures place { result ≡ option_index (map string_bytes words.now) }
     ensures most { result ≤ length words.now }
@@ -36,7 +36,7 @@ fn option_index(words: &[String]) -> usize
     words.len()
 }
 
-/// How many workers the option asks for that stands first of these words; four, where no word is left.
+/// How many workers the option asks for that begins these words; four, if no word is left.
 fn workers_named(words: &[String]) -> Option<u64>
     ensures { result ≡ workers_named (map string_bytes words.now) }
 {
@@ -47,7 +47,7 @@ fn workers_named(words: &[String]) -> Option<u64>
     }
 }
 
-/// The words after the option that stands first of these.
+/// The words after the option that begins these.
 fn after_option(words: &[String]) -> &[String]
     ensures { map string_bytes result.now ≡ after_option (map string_bytes words.now) }
 {
@@ -88,7 +88,7 @@ fn sizes_of(words: &[String], workers: u32) -> Option<Command>
     }
 }
 
-/// A run of the sizes of which one stands before the option.
+/// A run of the sizes, if one of them comes before the option.
 fn after_one(wakers: &str, behind: &[String], workers: u32) -> Option<Command>
     ensures { result ≡ idle_sizes (wakers.now ∷ map string_bytes behind.now) workers }
 {
@@ -98,7 +98,7 @@ fn after_one(wakers: &str, behind: &[String], workers: u32) -> Option<Command>
     }
 }
 
-/// A run of the sizes of which two stand before the option.
+/// A run of the sizes, if two of them come before the option.
 fn after_two(wakers: &str, events: &str, behind: &[String], workers: u32) -> Option<Command>
     ensures { result ≡ idle_sizes (wakers.now ∷ events.now ∷ map string_bytes behind.now) workers }
 {
@@ -108,7 +108,7 @@ fn after_two(wakers: &str, events: &str, behind: &[String], workers: u32) -> Opt
     }
 }
 
-/// A run of the sizes that stand before the option and after it.
+/// A run of the sizes before the option and after it.
 fn sizes_around(before: &[String], behind: &[String], workers: u32) -> Option<Command>
     ensures { result ≡ idle_sizes (map string_bytes before.now ++ map string_bytes behind.now) workers }
 {

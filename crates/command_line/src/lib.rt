@@ -2,8 +2,8 @@
 //!
 //! Its tests are those of the whole program, `row_trials`.
 //!
-//! Promises: The words ask for exactly that command, with 1 to 64 workers and 4 if the words name none, or they are
-//! of no form. Each number is in its range. By the clauses of `command_of`: `asks`, `range`.
+//! Promises: The words ask for exactly that command, with 1 to 64 workers and 4 if the words name none, or
+//! they are of no form. Each number is in its range. By the clauses of `command_of`: `asks`, `range`.
 //!
 //! Begin reading in `src/words.rt`, `specs/Words.antt`.
 #![tactic(auto)]

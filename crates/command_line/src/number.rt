@@ -1,3 +1,5 @@
+//! Decimal numbers of a range, as words of the command line.
+
 ghost use Rattle.std.specs.Prelude.{◌≡◌, true};
 ghost use Rattle.std.specs.List.{list_all};
 ghost use Rattle.command_line.specs.Words.{is_digit, has_no_zero_before, number_in};
@@ -20,7 +22,7 @@ fn has_no_zero_before(bytes: &[u8]) -> bool
     }
 }
 
-/// The number that a word is, where it is one of this range: decimal digits, and no 0 before others.
+/// The number that a word is, if it is one of this range: decimal digits, and no 0 before others.
 pub fn number_in(least: u64, most: u64, word: &str) -> Option<u64>
     ensures { result ≡ number_in least most word.now }
 {

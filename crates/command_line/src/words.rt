@@ -1,3 +1,5 @@
+//! The words of the command line, parsed by `clap` to a command.
+
 ghost use Rattle.std.specs.Prelude.{◌≡◌, ℕ, [], ◌∷◌, IfOk, IfErr, IfSome, Option, Some, option_map, map, string_bytes};
 ghost use Rattle.std.specs.List.{list_any};
 ghost use Rattle.clap.specs.Words.{FailsBy, app_of, fault_of, found_of, rows_of, shape_of, subcommand_of, subcommand_rows_of};
@@ -20,7 +22,8 @@ fn has_end_of_options(words: &[String]) -> bool
     words.iter().any(|word| word.as_str() == "--")
 }
 
-/// Whether these are one to three words, and none is `--`, after which a word with hyphens would be no option.
+/// Whether these are one to three words, and none is `--`, after which a word with hyphens would be no
+/// option.
 fn are_few(words: &[String]) -> bool
     ensures { result ≡ are_few (map string_bytes words.now) }
 {
@@ -123,7 +126,7 @@ fn command_read(matches: &ArgMatches) -> Option<Command>
     }
 }
 
-/// What the words of the command line ask for, where they are of a form that the parser knows.
+/// What the words of the command line ask for, if they are of a form that the parser knows.
 fn parsed(alloc: Global, words: &[String]) -> Result<Option<Command>, Mem>
     ensures { IfOk result (λ c. c ≡ parsed_of (map string_bytes words.now)) }
 {
@@ -142,8 +145,8 @@ fn parsed(alloc: Global, words: &[String]) -> Result<Option<Command>, Mem>
     }
 }
 
-/// What the words of the command line ask for; the first is the program's name. `None` if they are of no form, as
-/// where they call for help. An error is out of memory.
+/// What the words of the command line ask for; the first is the program's name. `None` if they are of no
+/// form, or call for help. An error is out of memory.
 pub fn command_of(alloc: Global, words: &[String]) -> Result<Option<Command>, Mem>
     ensures asks { IfOk result (λ c. c ≡ command_of (map string_bytes words.now)) }
     ensures range { IfOk result (λ c. IfSome c IsInRange) }

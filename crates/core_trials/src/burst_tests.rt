@@ -1,3 +1,5 @@
+//! Tests of bursts of workers on threads.
+
 ghost use Rattle.std.specs.Prelude.{◌≡◌, ◌≤◌, ◌+◌, [], ◌∷◌, length, map, IfOk, reverse};
 ghost use Rattle.sleep_model.specs.Accepted.{IsAccepted};
 ghost use Rattle.sleep_model.specs.Numbers.{time_of};
@@ -30,10 +32,10 @@ const ATTEMPT: &str =
 const LID: &str =
     r#"{"version":1,"sources":["lid"],"actors":[{"name":"k","kind":"irq","script":[{"op":"awake","source":"lid"},{"op":"relax","source":"lid"}]}]}"#;
 
-/// Whose tasks there are, where a machine has no source of its own.
+/// Whose tasks there are, if a machine has no source of its own.
 const FEW: [Actor; 3] = [Actor::Script(0), Actor::Auto, Actor::Timer(0)];
 
-/// Whose tasks there are, where it has one.
+/// Whose tasks there are, if it has one.
 const MORE: [Actor; 4] = [
     Actor::Script(0),
     Actor::Auto,
@@ -78,7 +80,7 @@ fn more_tasks<'m>(alloc: Global, plans: &'m MachinePlans<'_>) -> Result<Vec<Task
     Ok(tasks)
 }
 
-/// What goes into a machine's first burst with these tasks, and the table of its seats.
+/// The contents of a machine's first burst with these tasks, and the table of its seats.
 fn first_contents<'m>(
     alloc: Global,
     plans: &'m MachinePlans<'_>,
@@ -129,7 +131,8 @@ fn first_burst<'m, R: Threads + Sync + Wait>(
     Ok(make_burst(rt, alloc, &plan, contents)?.did)
 }
 
-/// How many turns did something in the first burst over the plans of a machine of one script and at most one source.
+/// How many turns did something in the first burst over the plans of a machine of one script and at most one
+/// source.
 fn burst_over<R: Threads + Sync + Wait>(
     rt: &R,
     alloc: Global,

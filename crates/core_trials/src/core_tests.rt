@@ -1,3 +1,5 @@
+//! Tests of the core's turns, one actor at a time, over an event word that others move.
+
 ghost use Rattle.std.specs.Prelude.{◌≡◌, ◌≤◌, reverse, true};
 ghost use Rattle.sleep_model.specs.Accepted.{IsAccepted};
 ghost use Rattle.sleep_model.specs.Order.{parents_of};
@@ -36,7 +38,7 @@ const MANAGER: Actor = Actor::Script(0);
 
 const START: Stamp = Stamp { pos: 0, tick: 0 };
 
-/// One turn of an actor that has made no call on a source, where none is due.
+/// One turn of an actor that has made no call on a source, if none is due.
 fn turn<R: Wait, E: Events>(
     rt: &R,
     core: &mut Core<'_>,
@@ -55,7 +57,8 @@ fn turn<R: Wait, E: Events>(
     Ok(core.turn(rt, events, who, 0, START, now)?)
 }
 
-/// Turns of an actor up to the first that makes no entry: what it waits for then, and None if nothing is due of it.
+/// Turns of an actor up to the first that makes no entry: what it waits for then, and None if nothing is due
+/// of it.
 fn run<R: Wait, E: Events>(
     rt: &R,
     core: &mut Core<'_>,
@@ -88,7 +91,7 @@ fn has_actor(machine: &Machine, who: Actor) -> bool
     }
 }
 
-/// What came of the turns of one actor alone.
+/// What came of the turns of only one actor.
 #[derive(Drop)]
 struct Alone {
     waits: Option<Why>,
@@ -101,7 +104,7 @@ struct Alone {
     entries: EntryList,
 }
 
-/// What the core of an actor alone shows, after its turns.
+/// What the core shows after the turns of only one actor.
 fn seen_alone(alloc: Global, core: Core<'_>, waits: Option<Why>) -> Alone {
     Alone {
         waits,
@@ -138,7 +141,7 @@ fn run_over<R: Wait, E: Events>(
     }
 }
 
-/// The turns of one actor of a machine alone, up to its first wait or its end, with that word.
+/// The turns of only one actor of a machine, up to its first wait or its end, with that word.
 fn run_one<R: Wait, E: Events>(
     rt: &R,
     alloc: Global,
@@ -157,7 +160,7 @@ fn run_one<R: Wait, E: Events>(
     alone
 }
 
-/// The same where the machine has that actor.
+/// The same if the machine has that actor.
 fn run_known<R: Wait, E: Events>(
     rt: &R,
     alloc: Global,
@@ -207,7 +210,7 @@ fn kinds_in(alloc: Global, entries: &EntryList) -> Result<Vec<Kind>, Mem> {
     Ok(kinds)
 }
 
-/// What the manager of the family does alone, with that word, in order.
+/// What only the manager of the family makes, with that word, in order.
 fn kinds_of<R: Wait, E: Events>(rt: &R, alloc: Global, events: &mut E) -> Result<Vec<Kind>, Fail> {
     let alone = run_alone(rt, alloc, events, FAMILY, MANAGER)?;
     let kinds = kinds_in(alloc, &alone.entries);
@@ -215,7 +218,7 @@ fn kinds_of<R: Wait, E: Events>(rt: &R, alloc: Global, events: &mut E) -> Result
     Ok(kinds?)
 }
 
-/// What an actor of a machine waits for, after its first turns, where no event comes.
+/// What an actor of a machine waits for, after its first turns, if no event comes.
 fn waits_for<R: Wait>(rt: &R, alloc: Global, file: &str, who: Actor) -> Result<Option<Why>, Fail> {
     let alone = run_alone(rt, alloc, &mut PlainEvents::new(), file, who)?;
     let waits = alone.waits;
@@ -318,7 +321,7 @@ fn a_machine_sleeps_till_its_alarm(rt: HostRuntime) -> Result<(), Fail> {
     Ok(())
 }
 
-/// Whether the first script is still, and all are or not.
+/// Whether the first script is stopped, and all are or not.
 fn is_stopped<R: Wait>(rt: &R, alloc: Global, file: &str, are_stopped: bool) -> Result<bool, Fail> {
     let alone = run_alone(rt, alloc, &mut PlainEvents::new(), file, MANAGER)?;
     let all = alone.are_stopped == are_stopped;
@@ -327,8 +330,8 @@ fn is_stopped<R: Wait>(rt: &R, alloc: Global, file: &str, are_stopped: bool) -> 
     Ok(all && first)
 }
 
-/// A script is still that sleeps on or has exited, and so are all where each is; none of those has slept, and no attempt is
-/// open.
+/// A script is stopped that sleeps on or has exited, and so are all if each is. None of those has slept, and
+/// no attempt is open.
 #[test]
 fn scripts_are_stopped(rt: HostRuntime) -> Result<(), Fail> {
     assert!(rt; is_stopped(&rt, rt.alloc(), SLEEPER, true)?);
@@ -358,8 +361,8 @@ fn is_its_wait(who: Actor, waits: Option<Why>) -> bool {
     }
 }
 
-/// What an actor waits for that can do nothing: the end of its sleep, a mark, its turn in a phase, or work; and
-/// nothing is due of one that has exited.
+/// What an actor waits for that can do nothing: the end of its sleep, a mark, its turn in a phase, or work;
+/// and nothing is due of one that has exited.
 #[test]
 fn actors_say_what_they_wait_for(rt: HostRuntime) -> Result<(), Fail> {
     for who in &ACTORS {

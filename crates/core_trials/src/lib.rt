@@ -1,6 +1,6 @@
-//! Tests of the core and of what a run makes of it: the core over an event word that others move, a source's calls
-//! through its seat, and bursts of workers on threads. What may be sent to a thread is said here, too. No program
-//! stands on this crate.
+//! Tests of the core and of what a run makes of it: the core over an event word that others move, a source's
+//! calls through its seat, and bursts of workers on threads. What may be sent to a thread is tried here, too.
+//! No program uses this crate.
 //!
 //! Begin reading in `src/`.
 #![tactic(auto)]

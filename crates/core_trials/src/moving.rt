@@ -1,3 +1,5 @@
+//! An event word that moves at its second look, as a second processor would move it.
+
 ghost use Rattle.sleep_model.specs.Word.{position};
 
 use event_word::Events;

@@ -1,3 +1,5 @@
+//! Tests of a source's calls through its seat at the event word.
+
 ghost use Rattle.std.specs.Prelude.{◌≡◌, ◌≤◌, ◌^◌, IfOk};
 ghost use Rattle.event_word.specs.Seats.{IsSeatOf};
 ghost use Rattle.wakeup_source.specs.SourceStates.{unstamped, latest, new_source};
@@ -45,7 +47,7 @@ fn one_source(alloc: Global) -> Result<(EventTable, SeatedSource, LookSeat), Mem
     Ok((table, source, look))
 }
 
-/// The end of an event at that moment, where it comes by itself by then.
+/// The end of an event at that moment, if it comes by itself by then.
 fn expire<R: Wait>(
     rt: &R,
     table: &EventTable,

@@ -6,7 +6,7 @@ use run_objects::{SeatedCore, SeatedSource};
 use sleep_core::Core;
 use world_workers::Worker;
 
-/// What may be sent to a thread, and nothing else, goes through.
+/// Returns the value: only what may be sent to a thread is accepted.
 fn sent<T: Send + Drop>(value: T) -> T
     ensures { result ≡ value }
 {

@@ -1,4 +1,4 @@
--- How the program ends where lines are not answered.
+-- How the program ends if lines are not answered.
 use Rattle.std.proofs.Common.{List, ℕ, sym, subst}
 use Rattle.program_ending.specs.declared.ending.Ending.{Ending}
 use Rattle.program_ending.specs.CommandEndings.{Refuses}

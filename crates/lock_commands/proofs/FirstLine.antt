@@ -1,9 +1,9 @@
--- The first line of a text, and what stands after it.
+-- The first line of a text, and what follows it.
 use Rattle.std.proofs.Common.{◌≡◌, ◌≢◌, ℕ, ◌==◌, ◌<◌, ◌≤◌, Bool, true, false, List, [], ◌∷◌, length, if◌then◌else◌, refl, ap, arith}
 use Rattle.std.specs.List.{onto_first}
 use Rattle.lock_commands.specs.Lines.{lines, before, after_first}
 
--- what stands after is no longer than the text
+-- what follows is no longer than the text
 no_longer : (mark : ℕ) (text : List ℕ) → length (after_first mark text) ≤ length text
 no_longer mark [] = omega arith
 no_longer mark (b ∷ text) = on (b == mark) (no_longer mark text)
@@ -12,7 +12,7 @@ no_longer mark (b ∷ text) = on (b == mark) (no_longer mark text)
     on true ih = omega arith
     on false ih = omega arith
 
--- what stands after the first line is shorter than the text
+-- what follows the first line is shorter than the text
 pub shorter : (text : List ℕ) → text ≢ [] → length (after_first 10 text) < length text
 shorter [] n = absurd (n refl)
 shorter (b ∷ text) n = on (b == 10) (no_longer 10 text)

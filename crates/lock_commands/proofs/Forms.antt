@@ -4,7 +4,7 @@ use Rattle.std.specs.List.{list_all}
 use Rattle.lock_commands.specs.TextAnswers.{first_bad}
 use Rattle.lock_commands.specs.Verbs.{is_line}
 
--- where no line is the first of no form, all are of a form
+-- if no line is the first of no form, all are of a form
 pub all_good : (n : ℕ) (lines : List (List ℕ)) → first_bad n lines ≡ None → list_all is_line lines ≡ true
 all_good n [] h = refl
 all_good n (line ∷ lines) h = on (is_line line) h (all_good (n + 1) lines)

@@ -1,4 +1,4 @@
--- What is said of writes, of names and of sources.
+-- The texts that answer writes, names and sources.
 use Rattle.std.specs.Prelude.{ℕ, List, ◌++◌, codes, flat_map, map}
 use Rattle.sleep_model.specs.Text.{newline, source_line, space}
 use Rattle.wake_locks.specs.declared.answer.LockAnswer.{LockAnswer}

@@ -1,4 +1,4 @@
--- What `locks` tells of an input, and why it refuses one (own).
+-- What `locks` answers to an input, and why it refuses one (own).
 use Rattle.std.specs.Prelude.{◌≡◌, List, ℕ, Ok, Err}
 use Rattle.program_ending.specs.declared.ending.Ending.{Ending}
 use Rattle.program_ending.specs.declared.ending.Ending.TheVariants.{Refused, NoMemory}
@@ -18,7 +18,7 @@ RefusesLocks bytes (BadLockLine n) = text_answer bytes ≡ Err (Line n)
 RefusesLocks bytes (SourceFull name) = text_answer bytes ≡ Err (Full name)
 RefusesLocks bytes refusal = ⊥
 
--- how the program ends where lines are not answered
+-- how the program ends if lines are not answered
 abbrev pub IsEndingOfLines : LinesFault → Ending → Type 0
 IsEndingOfLines (Line n) ending = ending ≡ Refused (BadLockLine n)
 IsEndingOfLines (Full name) ending = ending ≡ Refused (SourceFull name)

@@ -1,4 +1,4 @@
--- What was read and written where locks ends (own).
+-- What was read and written, by how `locks` ends (own).
 use Rattle.std.specs.Prelude.{ℕ}
 use Rattle.program_ending.specs.declared.ending.Ending.{Ending}
 use Rattle.program_ending.specs.declared.refusal.Refusal.TheVariants.{LongLocks}

@@ -7,7 +7,7 @@ abbrev pub lines : List ℕ → List (List ℕ)
 lines [] = []
 lines (b ∷ bytes) = if b == 10 then [] ∷ lines bytes else onto_first b (lines bytes)
 
--- the bytes before the first of that value, all where there is none (strchr)
+-- the bytes before the first of that value, all if there is none (strchr)
 abbrev pub before : ℕ → List ℕ → List ℕ
 before mark [] = []
 before mark (b ∷ bytes) = if b == mark then [] else b ∷ before mark bytes
@@ -17,10 +17,10 @@ abbrev pub after_first : ℕ → List ℕ → List ℕ
 after_first mark [] = []
 after_first mark (b ∷ bytes) = if b == mark then bytes else after_first mark bytes
 
--- what stands before the first space
+-- what comes before the first space
 abbrev pub word : List ℕ → List ℕ
 word line = before 32 line
 
--- what stands after the first space
+-- what follows the first space
 abbrev pub rest : List ℕ → List ℕ
 rest line = after_first 32 line

@@ -15,7 +15,7 @@ use Rattle.lock_commands.specs.Answers.{answer_text, names_line}
 use Rattle.lock_commands.specs.Lines.{rest}
 use Rattle.lock_commands.specs.Verbs.{verb_of}
 
--- the known locks, the moment, and what was said so far
+-- the known locks, the moment, and the text so far
 pub record LinesState : Type 0 where
   pub locks : List LockState
   pub now : ℕ
@@ -25,7 +25,7 @@ pub record LinesState : Type 0 where
 abbrev pub first_state : LinesState
 first_state = record { locks = []; now = 0; shown_text = [] }
 
--- why lines are not answered, where a call of theirs is not made
+-- why lines are not answered, if a call of theirs is not made
 abbrev pub fault_of : LockFault → LinesFault
 fault_of (lock_fault.Full name) = fault.Full name
 fault_of lock_fault.Mem = fault.Mem

@@ -8,12 +8,12 @@ use Rattle.lock_commands.specs.Lines.{lines}
 use Rattle.lock_commands.specs.Steps.{LinesState, carried_all, first_state}
 use Rattle.lock_commands.specs.Verbs.{is_line}
 
--- the number of the first line of no form, where the first of these has that number
+-- the number of the first line of no form, if the first of these has that number
 abbrev pub first_bad : ℕ → List (List ℕ) → Option ℕ
 first_bad n [] = None
 first_bad n (line ∷ rest) = if is_line line then first_bad (n + 1) rest else Some n
 
--- all that was said, and then a line for the source of each lock
+-- the whole text so far, and then a line for the source of each lock
 abbrev pub ended : Result LinesState LinesFault → Result (List ℕ) LinesFault
 ended (Ok state) = Ok (state.shown_text ++ source_lines state.now state.locks)
 ended (Err why) = Err why
@@ -27,6 +27,7 @@ answered None these = ended (carried_all these first_state)
 abbrev pub text_answer : List ℕ → Result (List ℕ) LinesFault
 text_answer bytes = answered (first_bad 1 (lines bytes)) (lines bytes)
 
--- after all these lines each known lock stands as its source's entries say: active exactly if an event is in progress, and until when that ends (wakeup_source_activate, wakeup_source_deactivate)
+-- after all these lines each known lock is as its source's entries say: active exactly if an event is in progress, and until when that ends
+-- (wakeup_source_activate, wakeup_source_deactivate)
 abbrev pub AgreeAfter : List ℕ → Type 0
 AgreeAfter bytes = (state : LinesState) → carried_all (lines bytes) first_state ≡ Ok state → AllAgree state.locks

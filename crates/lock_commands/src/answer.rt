@@ -1,3 +1,5 @@
+//! The answers to all lines of a text.
+
 ghost use Rattle.std.specs.Prelude.{◌≡◌, ◌≤◌, Ok, length, IfOk, IfErr, OnOk};
 ghost use Rattle.lock_commands.specs.Lines.{lines};
 ghost use Rattle.lock_commands.specs.TextAnswers.{AgreeAfter, first_bad, text_answer};

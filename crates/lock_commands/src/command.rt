@@ -1,3 +1,5 @@
+//! The command `locks`: the answers to an input, and how the program ends.
+
 ghost use Rattle.std.specs.Prelude.{◌≤◌, IfErr, IfOk, OnOk, length};
 ghost use Rattle.program_ending.specs.CommandEndings.{Refuses};
 ghost use Rattle.lock_commands.specs.TextAnswers.{AgreeAfter};
@@ -12,7 +14,7 @@ use sleep_base::{ByteSink, ByteSource};
 use std::alloc::Global;
 use std::sync::Wait;
 
-/// How the program ends where lines are not answered.
+/// How the program ends if lines are not answered.
 fn ending_of(fault: LinesFault) -> Ending
     ensures { IsEndingOfLines fault result }
 {
@@ -23,10 +25,10 @@ fn ending_of(fault: LinesFault) -> Ending
     }
 }
 
-/// What the command `locks` tells of an input: the answers to its lines, as [`answer_lines`] gives them.
+/// What the command `locks` answers to an input: the answers to its lines, as [`answer_lines`] gives them.
 ///
-/// `BadLockLine` is the first line of no form. `SourceFull` names the first lock on which a call is to be made though its
-/// history has fewer than four places left. `NoMemory` comes if it is out of memory.
+/// `BadLockLine` is the first line of no form. `SourceFull` names the first lock on which a call is to be
+/// made though its history has room for fewer than four entries. `NoMemory` comes if it is out of memory.
 #[tactic(auto, using(crate::proofs::Ending::refuses))]
 pub fn locks_of<R: Wait>(rt: &R, alloc: Global, bytes: &[u8]) -> Result<Vec<u8>, Ending>
     requires { length bytes.now ≤ MOST_BYTES }

@@ -1,3 +1,5 @@
+//! Texts, cut at the first byte of a value.
+
 ghost use Rattle.std.specs.Prelude.{◌≡◌, ◌≢◌, ◌<◌, ◌∷◌, [], length};
 ghost use Rattle.lock_commands.specs.Lines.{before, after_first, lines};
 
@@ -14,7 +16,7 @@ pub(crate) fn cut(text: &[u8], mark: u8) -> (&[u8], &[u8])
     (text, b"")
 }
 
-/// The first line of a text that is not empty, and what stands after its newline.
+/// The first line of a text that is not empty, and what follows its newline.
 #[tactic(auto, using(crate::proofs::FirstLine::first_of, crate::proofs::FirstLine::shorter))]
 pub(crate) fn first_line(text: &[u8]) -> (&[u8], &[u8])
     requires { text.now ≢ [] }

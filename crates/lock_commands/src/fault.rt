@@ -1,3 +1,5 @@
+//! Why the lines of an input are not answered.
+
 use sleep_base::Mem;
 use sleep_model::Name;
 use std::alloc::AllocError;

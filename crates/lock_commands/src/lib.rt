@@ -1,14 +1,16 @@
 //! The command `locks`: lines that lock and unlock names, what each asks for, and the text of all answers.
 //!
-//! Its tests stand in `part_cases`, and in `row_trials` those of the whole program.
+//! Its tests are in `part_cases`, and in `row_trials` those of the whole program.
 //!
-//! Promises: The text of the answers to lines that lock and unlock names is the one that is defined, for every list
-//! of lines: each line is cut, read and carried out as its definition says, over the names of `wake_locks`. The
-//! first line of no form is named before any is carried out. A full source is named exactly if a call meets it
-//! first. After all lines each name stands as its source's entries say: it is active exactly if an event is in
-//! progress, and until when that ends. By the clauses of `answer_lines`, `locks_of`: `outcome`, `refused`, `agree`.
+//! Promises: The text of the answers to lines that lock and unlock names is the one that is defined, for
+//! every list of lines: each line is cut, read and carried out as its definition says, over the names of
+//! `wake_locks`. The first line of no form is named before any is carried out. A full source is named exactly
+//! if a call meets it first. After all lines each name is as its source's entries say: it is active exactly
+//! if an event is in progress, and until when that ends. By the clauses of `answer_lines`, `locks_of`:
+//! `outcome`, `refused`, `agree`.
 //!
-//! Begin reading in `src/answer.rt`, `src/state.rt`; `specs/Steps.antt`, `specs/Verbs.antt`, `specs/TextAnswers.antt`.
+//! Begin reading in `src/answer.rt`, `src/state.rt`; `specs/Steps.antt`, `specs/Verbs.antt`,
+//! `specs/TextAnswers.antt`.
 #![tactic(auto)]
 
 mod answer;

@@ -1,3 +1,5 @@
+//! The state that lines are carried out on: the known locks, the moment, and the text so far.
+
 use crate::cut::first_line;
 use crate::fault::LinesFault;
 use crate::text::{answer_text, push_names, push_sources, push_text};
@@ -9,13 +11,13 @@ use std::sync::Wait;
 use wake_locks::{LockAnswer, WakeLocks};
 use wakeup_source::MOST_ENTRIES;
 
-/// What is so after some lines: the known locks, the moment in ms, and what was said so far.
+/// What is so after some lines: the known locks, the moment in ms, and the text so far.
 #[derive(Drop)]
 pub(crate) struct LineRunner {
     locks: WakeLocks<MOST_ENTRIES>,
     now: u64,
     shown_text: Vec<u8>,
-    /// The names that were told last, whose places are used again.
+    /// The names that were shown last, whose room is used again.
     names: Vec<Name>,
 }
 
@@ -101,7 +103,7 @@ impl LineRunner {
         Ok(())
     }
 
-    /// Tells the names that are active, or those that are not, after this word.
+    /// Shows the names that are active, or those that are not, after this word.
     fn show(&mut self, word: &str, active: bool) -> Result<(), LinesFault>
         ensures done { OnOk result (self.new ≡ shown word.now active self.old) }
         ensures refused { IfErr result (λ e. e ≡ fault.Mem) }
@@ -165,7 +167,7 @@ impl LineRunner {
         Ok(())
     }
 
-    /// All that was said, and then a line for the source of each known lock.
+    /// The whole text so far, and then a line for the source of each known lock.
     pub(crate) fn finish(self) -> Result<Vec<u8>, LinesFault>
         requires timely { ExpiriesAreDue self.now self.locks }
         requires small { self.now ≤ 2 ^ 62 }

@@ -1,3 +1,5 @@
+//! The pieces of the text of answers.
+
 ghost use Rattle.std.specs.Prelude.{◌≡◌, ◌++◌, ◌∷◌, [], OnOk, decimal, flat_map};
 ghost use Rattle.sleep_model.specs.Text.{counts_text, source_line, times_text, space};
 ghost use Rattle.lock_commands.specs.Answers.{answer_text, counted_line, names_line, spaced};

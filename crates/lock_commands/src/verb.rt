@@ -1,3 +1,5 @@
+//! What a line asks for, by its first word.
+
 ghost use Rattle.std.specs.Prelude.{◌≡◌, ◌≤◌, IfSome};
 ghost use Rattle.std.specs.Str.{bytes_eq};
 ghost use Rattle.lock_commands.specs.Lines.{rest};
@@ -11,7 +13,7 @@ const MOST_MS: u64 = 86_400_000;
 
 const MOST_DIGITS: usize = 8;
 
-/// What a line asks for. The text of a lock or an unlock stands after the line's first space.
+/// What a line asks for. The text of a lock or an unlock follows the line's first space.
 #[derive(Clone, Copy, Debug, PartialEq, Eq)]
 pub enum LockVerb {
     /// To write the text to `wake_lock`.
@@ -20,9 +22,9 @@ pub enum LockVerb {
     Unlock,
     /// To let 1 to 86,400,000 ms go by.
     After(u64),
-    /// To tell the names that are active, as `wake_lock` does where it is read.
+    /// To show the names that are active, as `wake_lock` does if it is read.
     Active,
-    /// To tell those that are not, as `wake_unlock` does.
+    /// To show those that are not, as `wake_unlock` does.
     Inactive,
 }
 
@@ -43,7 +45,7 @@ fn starts_right(digits: &[u8]) -> bool
     }
 }
 
-/// The ms that digits spell, where they are 1 to 86,400,000 and no 0 stands before them.
+/// The ms that digits spell, if they are 1 to 86,400,000 and do not begin with 0.
 fn milliseconds(digits: &[u8]) -> Option<u64>
     ensures is { result ≡ milliseconds digits.now }
     ensures few { IfSome result (λ ms. ms ≤ 86400000) }
@@ -106,7 +108,7 @@ pub(crate) fn verb_of(line: &[u8]) -> Option<LockVerb>
     }
 }
 
-/// What stands after the first space of a line.
+/// What follows the first space of a line.
 pub(crate) fn rest(line: &[u8]) -> &[u8]
     ensures { result.now ≡ rest line.now }
 {

@@ -1,4 +1,4 @@
--- A link that an entry adds may stand after those that are there.
+-- A link that an entry adds may be added after those that are there.
 use Rattle.std.proofs.Common.{◌≡◌, ◌<◌, ◌&&◌, Bool, true, false, List, length, None, refl, sym, subst, ltb-true}
 use Rattle.std.specs.Prelude.{nat_lt}
 use Rattle.std.proofs.lemmas.Bool.{and_parts}
@@ -38,7 +38,7 @@ module _ (m : Machine) (past : List Entry) (stand : AreLinks (parents_of m.devic
       (within m s ends.0, within m c ends.1, told.0, told.1, stand)
   by_kind k keeps fits = tt
 
--- where all entries keep the rules, one more that does adds no link that may not stand
+-- if all entries keep the rules, one more that does adds no link that may not be added
 pub may_add : (m : Machine) → IsAccepted m → (past : List Entry) → KeepsEach m past → (e : Entry) → KeepsEntry m past e → fits_entry m e ≡ true → MayAdd (state_of m (journal past)).graph e.kind
 may_add m a past each e keeps fits =
     by_kind m past (links_stand m a.scripts a.links (journal past) ((lists m past).legal each).journal) e.kind keeps.links

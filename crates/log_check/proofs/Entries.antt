@@ -19,7 +19,7 @@ use Rattle.log_check.proofs.Adding.{may_add}
 use Rattle.log_check.proofs.Walking.{all_passed, first_left, one_more, one_of_all, parted, then_left}
 
 module _ (m : Machine) (log : Log) (p : Passage) (machine : p.machine ≡ m) (entries : p.entries ≡ log.entries) (kept : KeepsEach m (past_of p)) where
-  -- where none is left
+  -- if none is left
   pub whole : [] ≡ drop p.passed log.entries → past_of p ≡ reverse log.entries
   whole none = ap (λ (xs : List Entry). reverse (take p.passed xs)) entries ∙ all_passed log.entries p.passed none
 
@@ -63,7 +63,7 @@ module _ (m : Machine) (log : Log) (p : Passage) (machine : p.machine ≡ m) (en
       keeps : KeepsEntry m (past_of p) e
       keeps = broken_is o None b none
 
-      -- it breaks none, and adds no link that may not stand
+      -- it breaks none, and adds no link that may not be added
       pub may_link : IsAccepted m → IsWritable m log → MayAdd (state_of p.machine (journal_of p)).graph e.kind
       may_link a fits = subst (λ (k : Machine). MayAdd (state_of k (journal_of p)).graph e.kind) (sym machine) (may_add m a (past_of p) kept e keeps (fits_model fits))
 

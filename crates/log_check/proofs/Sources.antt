@@ -36,7 +36,7 @@ same_whole m past told e same =
     let own = length-map-range_with_len (λ s. stats_at (history s past) (time_of past)) 0 (length m.sources + 1) in
     sym (take_all (length told) told (omega arith)) ∙ (same ∙ take_all (length told) (stats_of m past) (omega (arith, e, own)))
 
--- a place where they differ
+-- an index at which they differ
 pub differ_here : (m : Machine) (past : List Entry) (told : List Stats) (k : ℕ) (x own : Stats) → length told ≡ length m.sources + 1 → k < length told → take k told ≡ take k (stats_of m past) → slice_get told k ≡ Some x
     → own ≡ stats_at (history k past) (time_of past) → (x ≡ own → ⊥) → Differ told (stats_of m past) (Some k)
 differ_here m past told k x own each here same is own_is not_same = (here, same, λ e. not_same (one _ (sym is ∙ (e ∙ own_stats m past k (omega (arith, each, here)))) ∙ sym own_is))
@@ -44,7 +44,7 @@ differ_here m past told k x own each here same is own_is not_same = (here, same,
     one : (y : Stats) → Some x ≡ Some y → x ≡ y
     one y h = cc
 
--- a log that says that it is finished is, where what it says is so
+-- a log that says that it is finished is, if what it says is so
 pub over : (m : Machine) (log : Log) (past : List Entry) (b : Bool) → past ≡ reverse log.entries → log.end ≡ Finished → b ≡ is_finished_after m past → IsTrue b ↔ IsFinishedLog m log
 over m log past b all says is = (λ t. record { says = says; finished = sym same ∙ t }, λ f. same ∙ f.finished)
   where

@@ -5,7 +5,7 @@ use Rattle.std.proofs.lemmas.Bool.{and_parts}
 use Rattle.std.proofs.lemmas.List.{reverse-append}
 use Rattle.sleep_model.specs.declared.entry.Entry.{Entry}
 
--- the first that is left stands after those that were passed
+-- the first that is left follows those that were passed
 pub first_left : (xs : List Entry) (n : ℕ) (x : Entry) (rest : List Entry) → drop n xs ≡ x ∷ rest → slice_get xs n ≡ Some x
 first_left [] zero x rest h = absurd (cc)
 first_left [] (suc n) x rest h = absurd (cc)
@@ -40,13 +40,13 @@ taken xs n x h = ap reverse (by xs n h) ∙ reverse-append (take n xs) (x ∷ []
 pub one_more : (xs : List Entry) (n k : ℕ) (x : Entry) → slice_get xs n ≡ Some x → k ≡ n + 1 → reverse (take k xs) ≡ x ∷ reverse (take n xs)
 one_more xs n k x h e = ap (λ j. reverse (take j xs)) (e ∙ add-one n) ∙ taken xs n x h
 
--- all entries, the newest first, where one stands after those that were passed
+-- all entries, the newest first, if one follows those that were passed
 pub parted : (xs : List Entry) (n : ℕ) (x : Entry) → slice_get xs n ≡ Some x → reverse xs ≡ reverse (drop (suc n) xs) ++ x ∷ reverse (take n xs)
 parted xs n x h =
     ap reverse (sym (take-append-drop (suc n) xs)) ∙ (reverse-append (take (suc n) xs) (drop (suc n) xs)
     ∙ ap (λ (zs : List Entry). reverse (drop (suc n) xs) ++ zs) (taken xs n x h))
 
--- where none is left all were passed
+-- if none is left all were passed
 pub all_passed : (xs : List Entry) (n : ℕ) → [] ≡ drop n xs → reverse (take n xs) ≡ reverse xs
 all_passed xs n h = ap reverse (by xs n h)
   where

@@ -12,7 +12,7 @@ abbrev pub IsVerdict : Machine → Log → Verdict → Type 0
 IsVerdict m log Good = IsGood m log
 IsVerdict m log (Bad line definition) = IsFirstBad m log line definition
 
--- two lists of statistics are one, or the first place where they differ is that one (own)
+-- two lists of statistics are equal, or that is the first index at which they differ (own)
 abbrev pub Differ : List Stats → List Stats → Option ℕ → Type 0
 Differ told own None = told ≡ own
 Differ told own (Some k) =

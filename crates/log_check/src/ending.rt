@@ -25,8 +25,8 @@ const END: u8 = 20;
 pub enum Verdict {
     /// Legal and finished.
     Good,
-    /// Its first bad line, from 1: an entry, a source's statistics, or the end; and the number of the least rule that is
-    /// broken there.
+    /// Its first bad line, from 1: an entry, a source's statistics, or the end; and the number of the least
+    /// rule that is broken there.
     Bad { line: u32, definition: u8 },
 }
 
@@ -64,7 +64,7 @@ fn is_same(told: Stats, own: Stats) -> bool
     told == own
 }
 
-/// The first source whose statistics are not those that the log tells, if there is one. `Mem` if a sum has no room.
+/// The first source whose statistics are not those of the log, if there is one. `Mem` if a sum has no room.
 fn first_wrong(past: &Passed<'_>, told: &[Stats]) -> Result<Option<usize>, Mem>
     requires each { length told.now ≡ length past.now.machine.sources + 1 }
     requires few { length past.now.machine.sources ≤ 255 }
@@ -79,8 +79,8 @@ fn first_wrong(past: &Passed<'_>, told: &[Stats]) -> Result<Option<usize>, Mem>
     Ok(None)
 }
 
-/// Whether every script has exited, no attempt is open, and nobody can make anything. `Mem` if a moment is beyond all
-/// time, a number has no room, or if there is no memory for a walk.
+/// Whether every script has exited, no attempt is open, and nobody can make anything. `Mem` if a moment is
+/// beyond all time, a number has no room, or if there is no memory for a walk.
 fn is_finished(past: &Passed<'_>) -> Result<bool, Mem>
     ensures { IfOk result (λ b. b ≡ is_finished_after past.now.machine (past_of past.now)) }
 {
@@ -88,8 +88,8 @@ fn is_finished(past: &Passed<'_>) -> Result<bool, Mem>
     Ok(past.have_all_exited() && is_idle_script)
 }
 
-/// Whether the log says that it is finished, and is. `Mem` if a sum or a number has no room, or if there is no memory for
-/// a walk.
+/// Whether the log says that it is finished, and is. `Mem` if a sum or a number has no room, or if there is
+/// no memory for a walk.
 fn ends_finished(past: &Passed<'_>, log: &Log) -> Result<bool, Mem>
     requires { past_of past.now ≡ reverse log.now.entries }
     ensures { IfOk result (λ b. IsTrue b ↔ IsFinishedLog past.now.machine log.now) }
@@ -100,8 +100,8 @@ fn ends_finished(past: &Passed<'_>, log: &Log) -> Result<bool, Mem>
     }
 }
 
-/// The verdict on a log all of whose entries keep the rules and were passed. `Mem` if a sum or a number has no room, or
-/// if there is no memory for a walk.
+/// The verdict on a log all of whose entries keep the rules and were passed. `Mem` if a sum or a number has
+/// no room, or if there is no memory for a walk.
 pub(crate) fn judge_end(past: &Passed<'_>, log: &Log) -> Result<Verdict, Mem>
     requires all { past_of past.now ≡ reverse log.now.entries }
     requires kept { KeepsEach past.now.machine (reverse log.now.entries) }

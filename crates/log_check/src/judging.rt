@@ -1,3 +1,5 @@
+//! The verdict on a log: its first bad line, and the least rule that this breaks.
+
 ghost use Rattle.std.specs.Prelude.{◌≡◌, true, IfOk};
 ghost use Rattle.sleep_model.specs.Accepted.{IsAccepted};
 ghost use Rattle.sleep_model.specs.Fits.{IsWritable, fits_entry};
@@ -13,8 +15,9 @@ use sleep_base::{Mem, lost};
 use sleep_model::{Entry, Log, Machine};
 use std::alloc::Global;
 
-/// The number of the least rule that an entry breaks after the entries that were passed, which keep all rules, if it breaks
-/// one. `Mem` if a moment is beyond all time, a number has no room, or if there is no memory for a walk.
+/// The number of the least rule that an entry breaks after the entries that were passed, which keep all
+/// rules, if it breaks one. `Mem` if a moment is beyond all time, a number has no room, or if there is no
+/// memory for a walk.
 fn broken(past: &Passed<'_>, e: Entry) -> Result<Option<u8>, Mem>
     requires fits { fits_entry past.now.machine e ≡ true }
     requires kept { KeepsEach past.now.machine (past_of past.now) }
@@ -27,8 +30,9 @@ fn broken(past: &Passed<'_>, e: Entry) -> Result<Option<u8>, Mem>
     }
 }
 
-/// Judges a log that fits a machine as files spell it: good exactly if it is legal and finished, else its first bad
-/// line, with the number of the least rule that this breaks. `Mem` if there is no memory for the account.
+/// Judges a log that fits a machine as files spell it: good exactly if it is legal and finished, else its
+/// first bad line, with the number of the least rule that this breaks. `Mem` if there is no memory for the
+/// account.
 pub fn check(alloc: Global, machine: &Machine, log: &Log) -> Result<Verdict, Mem>
     requires accepted { IsAccepted machine.now }
     requires fits { IsWritable machine.now log.now }

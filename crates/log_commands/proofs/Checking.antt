@@ -42,7 +42,7 @@ module _ (old new : Streams) where
   refused bytes ReadFault read h out = absurd h
   refused bytes WriteFault read h out = absurd h
 
-  -- an input that was read ends the command as what is told of it is written
+  -- an input that was read ends the command, once its verdict is written
   pub check_read : (bytes : List ℕ) (judged : Result Judged Ending) (ending : Ending) → ReadWhole 268435456 old.input new.input bytes → IfOk judged (λ j. IsJudged bytes j.text.items j.good)
       → IfErr judged (Refuses (RefusesCheck bytes)) → WritesVerdict judged old.output new.output ending → CheckEnded old new ending
   check_read bytes (Ok judged) ending read gives refuses h = written bytes judged.text.items judged.good ending read gives h

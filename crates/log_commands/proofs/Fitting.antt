@@ -30,7 +30,7 @@ no_machine (Some d) m b e f = by_rule (first_broken d) e f
     by_rule None g h = absurd (cc)
     by_rule (Some x) g h = absurd (cc)
 
--- a machine that a file spells has names that are told apart
+-- a machine that a file spells has no name twice
 pub named : (bytes : List ℕ) (m : Machine) → machine_in bytes ≡ Some m → AreNamed m
 named bytes m spells = machines_named m (bytes, spells)
 

@@ -1,4 +1,4 @@
--- What a verdict that is told says of an input.
+-- What the text of a verdict says of an input.
 use Rattle.std.proofs.Common.{◌≡◌, ◌≤◌, ◌∙◌, ℕ, true, false, true≢false, List, length, Some, sym, subst, arith}
 use Rattle.sleep_model.specs.declared.log.Log.{Log}
 use Rattle.sleep_model.specs.declared.machine.Machine.{Machine}
@@ -28,7 +28,7 @@ good_text : (m : Machine) (bytes : List ℕ) (v : Verdict) → IsVerdictOf m byt
 good_text m bytes _ (OfLog log v fits is h) e = record { log = log; fits = fits; is_text = is; good = good_log m log v h e }
 good_text m bytes _ (OfLine line h) e = absurd (true≢false (sym e))
 
--- a log that is told to be legal is, and is finished
+-- a log that the text calls legal is, and is finished
 pub good_log_text : (bytes shown_text : List ℕ) (m : Machine) → machine_in (file_in bytes) ≡ Some m → IsJudged bytes shown_text true → IsGoodText m (text_in bytes)
 good_log_text bytes shown_text m spells j =
     let same = one_machine j.machine m (sym j.spells ∙ spells) in
@@ -44,7 +44,7 @@ module _ (file : List ℕ) (m : Machine) (spells : machine_in file ≡ Some m) (
   bad_text _ (OfLog log v fits is h) e = bad_log log v fits is h e
   bad_text _ (OfLine line h) e = none_bad m (named file m spells) g.log g.fits line (subst (λ (t : List ℕ). IsFirstBad m t line) (sym g.is_text) h)
 
--- a log of which a bad line is told is not legal, or not finished
+-- a log of which the text names a bad line is not legal, or not finished
 pub bad_log_text : (bytes shown_text : List ℕ) (m : Machine) → machine_in (file_in bytes) ≡ Some m → IsJudged bytes shown_text false → IsGoodText m (text_in bytes) → ⊥
 bad_log_text bytes shown_text m spells j g =
     let same = one_machine j.machine m (sym j.spells ∙ spells) in

@@ -25,7 +25,7 @@ use Rattle.log_commands.specs.Input.{IsBadInput, IsLogIn}
 use Rattle.log_commands.specs.Stats.{IsBadLink, IsTextOfGood, IsStatsOf, IsTextOf, RefusesStats}
 use Rattle.log_commands.specs.Taking.{AddsWithin, AllWithin, LinksAreOrdered, refusal_of}
 
--- the machine's links stand
+-- the machine's links are in order
 pub first_stand : (m : Machine) → IsAccepted m → LinksAreOrdered (links_among m)
 first_stand m a = record {
   after = a.parents;
@@ -74,18 +74,18 @@ module _ (m : Machine) (l : Linked) (is : l ≡ links_among m) (log : Log) where
       subst (λ (ls : List Link). CanBeAdded (parents_of m.devices) (added_by ls log.entries)) (reverse-reverse m.links)
       (subst (λ (x : Linked). CanBeAdded x.parents (added_by (reverse x.links) log.entries)) is h)
 
--- what is told of both, where no link is refused
+-- the text for both, if no link is refused
 pub good_log_text : (m : Machine) (log : Log) (r : Result (Vec ℕ Global) Ending) → refusal_of (parents_of m.devices) m.links log.entries ≡ None → IfOk r (λ shown_text. IsTextOf m log shown_text.items)
     → IfOk r (λ shown_text. IsTextOfGood m log shown_text.items)
 good_log_text m log (Ok shown_text) good outcome = record { good = good; outcome = outcome }
 good_log_text m log (Err ending) good outcome = tt
 
--- where no link is refused, only memory can be wanting
+-- if no link is refused, only memory can be short
 pub memory_bad : (m : Machine) (log : Log) (r : Result (Vec ℕ Global) Ending) → IfErr r (λ ending. ending ≡ NoMemory) → IfErr r (Refuses (IsBadLink m log))
 memory_bad m log (Ok shown_text) h = tt
 memory_bad m log (Err ending) h = subst (Refuses (IsBadLink m log)) (sym h) tt
 
--- where both stand in an input, it is told of them
+-- if an input has both, the text is that for them
 pub stats_text_is : (bytes : List ℕ) (m : Machine) (log : Log) (r : Result (Vec ℕ Global) Ending) → IsLogIn bytes m log → IfOk r (λ shown_text. IsTextOfGood m log shown_text.items) → IfOk r (λ shown_text. IsStatsOf bytes shown_text.items)
 stats_text_is bytes m log (Ok shown_text) read h = record { machine = m; log = log; read = read; outcome = h }
 stats_text_is bytes m log (Err ending) read h = tt

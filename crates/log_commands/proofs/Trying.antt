@@ -1,4 +1,4 @@
--- A link that is tried after those that stand.
+-- A link that is tried after those that there are.
 use Rattle.std.proofs.Common.{◌≡◌, ◌≤◌, ◌<◌, ◌∙◌, ◌||◌, ℕ, Bool, true, false, cond, List, [], ◌∷◌, ◌++◌, length, reverse, nat_le, Some, None, refl, sym, ap, subst, arith, le-leb, leb-true}
 use Rattle.std.proofs.lemmas.List.{length-reverse, reverse-append, reverse-reverse}
 use Rattle.sleep_model.specs.declared.entry.Kind.TheVariants as kind
@@ -23,7 +23,7 @@ linked_last [] l s c = refl
 linked_last (x ∷ links) l s c =
     ap (λ b. is_link s c x || b) (linked_last links l s c) ∙ exchanged (is_link s c x) (is_link s c l) (is_linked links s c)
 
--- a link stands among links whichever is the first of them
+-- a link is among links whichever is the first of them
 linked_reverse : (links : List Link) (s c : ℕ) → is_linked (reverse links) s c ≡ is_linked links s c
 linked_reverse [] s c = refl
 linked_reverse (l ∷ links) s c =
@@ -44,7 +44,7 @@ module _ (l : Linked) (s c : ℕ) (stands : LinksAreOrdered l) where
   dependent_is : (b : Bool) → is_dependent l.parents l.links c s ≡ b → is_dependent l.parents (reverse (reverse l.links)) c s ≡ b
   dependent_is b e = ap (λ (ls : List Link). is_dependent l.parents ls c s) (reverse-reverse l.links) ∙ e
 
-  -- as many stand as may
+  -- there are as many as may be
   pub many : 4000 ≤ length l.links → link_refusal l.parents (reverse l.links) s c ≡ Some TooManyLinks
   many h = rw (le-leb 4000 (length (reverse l.links)) (subst (λ (n : ℕ). 4000 ≤ n) (sym (length-reverse l.links)) h)) refl
 
@@ -76,7 +76,7 @@ module _ (l : Linked) (s c : ℕ) (stands : LinksAreOrdered l) where
       free : is_dependent l.parents l.links c s ≡ false
       free = no_path_moved (dependents l.parents l.links) (length l.parents) c s none
 
-  -- it stands, and is passed over
+  -- it is there already, and is passed over
   pub passed : (new : Linked) → new ≡ l → length l.links < 4000 → is_linked l.links s c ≡ true → IsTaken l new (kind.LinkAdd s c None)
   passed new is few old = subst (λ (n : Linked). IsTaken l n (kind.LinkAdd s c None)) (sym is) (record {
     good = rw (few_reversed few, linked_is true old) refl;

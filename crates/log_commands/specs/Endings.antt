@@ -1,4 +1,4 @@
--- What was read and written where check or stats ends (own).
+-- What was read and written, by how `check` or `stats` ends (own).
 use Rattle.std.specs.Prelude.{◌≡◌, ℕ, Bool, true, false, List, Result, Ok, Err}
 use Rattle.std.specs.Io.KnownBytes.{Appends}
 use Rattle.sleep_base.specs.Faults.{Rose}
@@ -15,7 +15,7 @@ use Rattle.log_commands.specs.Stats.{IsStatsOf, RefusesStats}
 abbrev pub most_input : ℕ
 most_input = 268435456
 
--- the text for a log, good or not, was written whole; where a write failed, a front of it
+-- the text for a log, good or not, was written whole; if a write failed, a front of it
 abbrev pub WritesJudged : Stream → Stream → List ℕ → Bool → Ending → Type 0
 WritesJudged old new shown_text good Done = (good ≡ true) × Appends old.bytes new.bytes shown_text
 WritesJudged old new shown_text good Illegal = (good ≡ false) × Appends old.bytes new.bytes shown_text
@@ -33,7 +33,7 @@ WroteVerdict old new ending =
     (bytes shown_text : List ℕ) × (good : Bool) × ReadWhole most_input old.input new.input bytes × IsJudged bytes shown_text good
     × WritesJudged old.output new.output shown_text good ending
 
--- what an ending of check means: done where the log is legal and finished, and else illegal
+-- what an ending of check means: done if the log is legal and finished, and else illegal
 abbrev pub CheckEnded : Streams → Streams → Ending → Type 0
 CheckEnded old new Done = WroteVerdict old new Done
 CheckEnded old new Illegal = WroteVerdict old new Illegal

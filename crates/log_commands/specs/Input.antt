@@ -11,7 +11,7 @@ use Rattle.program_ending.specs.declared.refusal.Refusal.{Refusal}
 use Rattle.program_ending.specs.declared.refusal.Refusal.TheVariants.{LongMachine, Broken, BadLine}
 use Rattle.program_ending.specs.Streams.{most_machine}
 
--- how many bytes stand before the first newline; all where there is none
+-- how many bytes come before the first newline; all if there is none
 abbrev pub line_length : List ℕ → ℕ
 line_length bytes = position_or_len (λ b. b == 10) bytes
 
@@ -23,7 +23,7 @@ file_in bytes = take (line_length bytes) bytes
 abbrev pub text_in : List ℕ → List ℕ
 text_in bytes = drop (line_length bytes + 1) bytes
 
--- the machine that its file spells, and the log that fits it whose text stands after
+-- the machine that its file spells, and the log that fits it, whose text follows
 pub record IsLogIn (bytes : List ℕ) (m : Machine) (log : Log) : Type 0 where
   pub few : length (file_in bytes) ≤ most_machine
   pub spells : machine_in (file_in bytes) ≡ Some m

@@ -1,4 +1,5 @@
--- What `check` tells of an input: whether a log is legal and finished, else its first bad line and the number of the rule that this breaks (own).
+-- What `check` says of an input: whether a log is legal and finished, else its first bad line and the number of the rule that this breaks
+-- (own).
 use Rattle.std.specs.Prelude.{◌≡◌, ◌≤◌, ℕ, Bool, true, false, List, ◌++◌, codes, length, Some}
 use Rattle.sleep_model.specs.declared.log.Log.{Log}
 use Rattle.sleep_model.specs.declared.machine.Machine.{Machine}
@@ -15,7 +16,7 @@ use Rattle.program_ending.specs.Streams.{most_machine}
 use Rattle.log_commands.specs.Input.{IsBadMachine, file_in, text_in}
 use Rattle.log_commands.specs.Telling.{count_row, counted}
 
--- a text has that verdict: that on the log whose text it is; where it is none's, its first line that the grammar has not is the first bad one
+-- a text has that verdict: that on the log whose text it is; if it is none's, its first line that the grammar has not is the first bad one
 pub data IsVerdictOf (m : Machine) (bytes : List ℕ) : Verdict → Type 0 where
   OfLog : (log : Log) (v : Verdict) → IsWritable m log → text m log ≡ bytes → IsVerdict m log v → IsVerdictOf m bytes v
   OfLine : (line : ℕ) → IsFirstBad m bytes line → IsVerdictOf m bytes (Bad line 23)
@@ -37,7 +38,7 @@ pub record ShowsVerdict (m : Machine) (bytes shown_text : List ℕ) (good : Bool
   pub is_text : shown_text ≡ verdict_text verdict
   pub is_good : good ≡ is_good verdict
 
--- a machine stands in the bytes, and this is the text of the verdict on what stands after it
+-- the bytes begin with a machine's file, and this is the text of the verdict on what follows it
 pub record IsJudged (bytes shown_text : List ℕ) (good : Bool) : Type 0 where
   pub machine : Machine
   pub few : length (file_in bytes) ≤ most_machine

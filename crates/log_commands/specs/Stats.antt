@@ -1,4 +1,4 @@
--- What `stats` tells of an input (kernel/power/main.c, suspend_stats_show).
+-- What `stats` says of an input (kernel/power/main.c, suspend_stats_show).
 use Rattle.std.specs.Prelude.{◌≡◌, ◌⊎◌, ℕ, List, Some, None}
 use Rattle.sleep_model.specs.declared.log.Log.{Log}
 use Rattle.sleep_model.specs.declared.machine.Machine.{Machine}
@@ -27,14 +27,14 @@ pub record IsTextOfGood (m : Machine) (log : Log) (shown_text : List ℕ) : Type
   pub good : refusal_of (parents_of m.devices) m.links log.entries ≡ None
   pub outcome : IsTextOf m log shown_text
 
--- a machine and its log stand in the bytes, no link of the log is refused, and the text is that of them
+-- the bytes are those of a machine and its log, no link of the log is refused, and the text is that of them
 pub record IsStatsOf (bytes shown_text : List ℕ) : Type 0 where
   pub machine : Machine
   pub log : Log
   pub read : IsLogIn bytes machine log
   pub outcome : IsTextOfGood machine log shown_text
 
--- a machine and its log stand in the bytes, and the first link of the log that is refused is so
+-- the bytes are those of a machine and its log, and the first link of the log that is refused is so
 pub record HasBadLink (bytes : List ℕ) (refusal : Refusal) : Type 0 where
   pub machine : Machine
   pub log : Log

@@ -1,4 +1,4 @@
--- The links that a log adds, each tried after those that stand (drivers/base/core.c, device_link_add).
+-- The links that a log adds, each tried after those that there are (drivers/base/core.c, device_link_add).
 use Rattle.std.specs.Prelude.{◌≡◌, ◌≤◌, ◌<◌, ℕ, nat_le, List, [], ◌∷◌, length, reverse, if◌then◌else◌, Option, Some, None}
 use Rattle.std.specs.Option.{option_or}
 use Rattle.sleep_model.specs.declared.entry.Entry.{Entry}
@@ -12,7 +12,8 @@ use Rattle.sleep_stats.specs.Linked.{added_after}
 use Rattle.program_ending.specs.declared.refusal.Refusal.{Refusal}
 use Rattle.program_ending.specs.declared.refusal.Refusal.TheVariants.{TooManyLinks, LinkCycle}
 
--- why a link is refused after these, the oldest first: as many stand as may, or it closes a cycle; one that stands is passed over (device_link_add; the number is own)
+-- why a link is refused after these, the oldest first: there are as many as may be, or it closes a cycle; one that is there is passed over
+-- (device_link_add; the number is own)
 abbrev pub link_refusal : List (Option ℕ) → List Link → ℕ → ℕ → Option Refusal
 link_refusal parents links supplier consumer =
     if nat_le 4000 (length links) then Some TooManyLinks
@@ -33,7 +34,7 @@ refusal_of parents links (e ∷ later) =
 
 -- ---- as they are taken
 
--- the links stand, each device after its parent
+-- the links are in order, each device after its parent
 pub record LinksAreOrdered (l : Linked) : Type 0 where
   pub after : EachAfterParent 0 l.parents
   pub few : length l.links ≤ 4000

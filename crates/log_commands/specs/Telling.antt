@@ -1,4 +1,5 @@
--- The text for a log: its counts, the last failures, the longest chain of devices, and their levels (kernel/power/main.c, suspend_stats_show).
+-- The text for a log: its counts, the last failures, the longest chain of devices, and their levels (kernel/power/main.c,
+-- suspend_stats_show).
 use Rattle.std.specs.Prelude.{ℕ, suc, List, [], ◌∷◌, ◌++◌, length, codes, decimal, Option, Some, None}
 use Rattle.std.specs.List.{flat_map}
 use Rattle.sleep_base.specs.declared.errno.Errno.{Errno}
@@ -32,7 +33,7 @@ abbrev pub failed_dev_row : Machine → LastDev → List ℕ
 failed_dev_row m d =
     codes "last_failed_dev " ++ device m d.device ++ space ++ phase_name d.phase ++ space ++ name_of d.error ++ newline
 
--- that line, where there is one
+-- that line, if there is one
 abbrev pub dev_row : Machine → Option LastDev → List ℕ
 dev_row m None = []
 dev_row m (Some d) = failed_dev_row m d
@@ -41,7 +42,7 @@ dev_row m (Some d) = failed_dev_row m d
 abbrev pub failed_errno_row : Errno → List ℕ
 failed_errno_row r = codes "last_failed_errno " ++ name_of r ++ newline
 
--- that line, where there is one
+-- that line, if there is one
 abbrev pub errno_row : Option Errno → List ℕ
 errno_row None = []
 errno_row (Some r) = failed_errno_row r

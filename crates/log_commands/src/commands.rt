@@ -1,4 +1,4 @@
-//! The commands themselves: each reads a machine with a log of it, and writes what it tells of them.
+//! The commands themselves: each reads a machine with a log of it, and writes what it finds.
 
 ghost use Rattle.std.specs.Prelude.{◌≡◌};
 ghost use Rattle.program_ending.specs.Streams.{stream, streams};

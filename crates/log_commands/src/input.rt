@@ -25,7 +25,7 @@ pub struct LogInput {
     pub log: Log,
 }
 
-/// How many bytes stand before the first newline; all where there is none.
+/// How many bytes come before the first newline; all if there is none.
 fn line_length(bytes: &[u8]) -> usize
     ensures is { result ≡ line_length bytes.now }
     ensures most { result ≤ length bytes.now }
@@ -86,8 +86,9 @@ fn log_of(alloc: Global, machine: &Machine, bytes: &[u8]) -> Result<Log, Ending>
 
 /// The machine that the bytes up to their first newline spell, and the log whose text those after it are.
 ///
-/// `LongMachine` if the machine's bytes are more than 16,777,216, `Broken` if they break a rule of the format,
-/// `BadLine` if the others are the text of no log that fits the machine. `NoMemory` if it is out of memory.
+/// `LongMachine` if the machine's bytes are more than 16,777,216, `Broken` if they break a rule of the
+/// format, `BadLine` if the others are the text of no log that fits the machine. `NoMemory` if it is out of
+/// memory.
 pub fn read_log_input(alloc: Global, bytes: &[u8]) -> Result<LogInput, Ending>
     ensures read { IfOk result (λ r. IsLogIn bytes.now r.machine r.log) }
     ensures links { IfOk result (λ r. r.links ≡ links_among r.machine) }

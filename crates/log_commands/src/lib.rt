@@ -1,13 +1,12 @@
-//! Commands that read a machine with a log of it, and tell of them: `check` judges the log, `stats` says what it
-//! counts.
+//! Commands that read a machine with a log of it: `check` judges the log, `stats` says what it counts.
 //!
-//! Its tests stand in `format_trials`, and in `row_trials` those of the whole program.
+//! Its tests are in `format_trials`, and in `row_trials` those of the whole program.
 //!
-//! Promises: The verdict on a text that is to be a log of a machine. For a machine with its log the text of the
-//! counts, of a longest chain and of all levels; or the first cause that refuses them, the machine's before the
-//! log's, and that before the first link that is refused. An input of a machine and a log that fits it, no link of
-//! which is refused, is never refused. By the clauses of `read_log_input`: `read`, `refused`; `stats_of`: `outcome`,
-//! `refused`; `judge`: `judged`, `refused`; `proofs/Fitting.antt`.
+//! Promises: The verdict on a text that is to be a log of a machine. For a machine with its log the text of
+//! the counts, of a longest chain and of all levels; or the first cause that refuses them, the machine's
+//! before the log's, and that before the first link that is refused. An input of a machine and a log that
+//! fits it, no link of which is refused, is never refused. By the clauses of `read_log_input`: `read`,
+//! `refused`; `stats_of`: `outcome`, `refused`; `judge`: `judged`, `refused`; `proofs/Fitting.antt`.
 //!
 //! Begin reading in `src/texts.rt`, `src/input.rt`, `src/verdict.rt`, `src/links.rt`, `src/stats.rt`;
 //! `specs/Endings.antt`, `specs/Input.antt`, `specs/Judging.antt`, `specs/Stats.antt`.

@@ -11,7 +11,7 @@ use device_links::{LinkFault, Links};
 use program_ending::{Ending, Refusal};
 use sleep_model::{Kind, Log};
 
-/// Adds a link that is active. One that stands is passed over.
+/// Adds a link that is active. One that is there already is passed over.
 fn add_link(links: &mut Links, supplier: u32, consumer: u32) -> Result<(), Ending>
     requires stands { LinksAreOrdered links.old }
     requires supplier { supplier < length links.old.parents }
@@ -48,8 +48,9 @@ fn take_link(links: &mut Links, kind: Kind) -> Result<(), Ending>
     }
 }
 
-/// Tries the links that a log adds, in turn after those that stand. `TooManyLinks` where 4,000 links stand before an
-/// entry that adds one, `LinkCycle` where fewer stand and it closes a cycle: the first entry of which either is so.
+/// Tries the links that a log adds, in turn after those that there are. `TooManyLinks` if there are 4,000
+/// before an entry that adds one, `LinkCycle` if there are fewer and it closes a cycle: the first entry of
+/// which either is so.
 pub(crate) fn take_links(links: Links, log: &Log) -> Result<(), Ending>
     requires stands { LinksAreOrdered links }
     requires within { AllWithin (length links.parents) log.now.entries }

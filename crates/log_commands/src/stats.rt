@@ -20,8 +20,8 @@ use sleep_model::{Log, Machine};
 use sleep_stats::{count, longest};
 use std::alloc::Global;
 
-/// The text for a machine and its log. `NoMemory` if it is out of memory, and where the log has more entries than have
-/// numbers.
+/// The text for a machine and its log. `NoMemory` if it is out of memory, or if the log has more entries than
+/// have numbers.
 fn text_of_log(alloc: Global, machine: &Machine, log: &Log) -> Result<Vec<u8>, Ending>
     requires accepted { IsAccepted machine.now }
     requires stand { CanBeAdded (parents_of machine.now.devices) (added_links machine.now log.now) }
@@ -60,10 +60,10 @@ fn text_if_linked(
     }
 }
 
-/// The text for the machine and the log in these bytes: what the log counts of its attempts, its last failures, the
-/// longest chain of devices at its end, and each device's level.
+/// The text for the machine and the log in these bytes: what the log counts of its attempts, its last
+/// failures, the longest chain of devices at its end, and each device's level.
 ///
-/// Refused in turn: the machine, the log (`read_log_input`), and a link that the log adds where 4,000 stand
+/// Refused in turn: the machine, the log (`read_log_input`), and a link that the log adds after 4,000 others
 /// (`TooManyLinks`) or that closes a cycle (`LinkCycle`). `NoMemory` if it is out of memory.
 pub fn stats_of(alloc: Global, bytes: &[u8]) -> Result<Vec<u8>, Ending>
     ensures outcome { IfOk result (λ shown_text. IsStatsOf bytes.now shown_text.items) }

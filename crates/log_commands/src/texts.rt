@@ -69,7 +69,7 @@ fn put_failed_dev(text: &mut Vec<u8>, machine: &Machine, last: LastDev) -> Resul
     Ok(())
 }
 
-/// Puts the line of a device whose callback failed after a text, where there is one.
+/// Puts the line of a device whose callback failed after a text, if there is one.
 fn put_dev(text: &mut Vec<u8>, machine: &Machine, failed: Option<LastDev>) -> Result<(), Mem>
     ensures { OnOk result (text.new.items ≡ text.old.items ++ dev_row machine.now failed) }
 {
@@ -88,7 +88,7 @@ fn put_failed_errno(text: &mut Vec<u8>, error: Errno) -> Result<(), Mem>
     Ok(())
 }
 
-/// Puts the line of an attempt's error after a text, where there is one.
+/// Puts the line of an attempt's error after a text, if there is one.
 fn put_errno(text: &mut Vec<u8>, failed: Option<Errno>) -> Result<(), Mem>
     ensures { OnOk result (text.new.items ≡ text.old.items ++ errno_row failed) }
 {

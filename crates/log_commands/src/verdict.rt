@@ -25,7 +25,8 @@ pub struct Judged {
     pub good: bool,
 }
 
-/// The verdict on the log whose text these bytes are; where they are none's, their first line that the grammar has not.
+/// The verdict on the log whose text these bytes are; if they are none's, their first line that the grammar
+/// has not.
 fn verdict_on(alloc: Global, machine: &Machine, bytes: &[u8]) -> Result<Verdict, Mem>
     requires spelled { IsSpelled machine.now }
     requires accepted { IsAccepted machine.now }
@@ -79,11 +80,11 @@ fn judge_text(alloc: Global, machine: &Machine, bytes: &[u8]) -> Result<Judged, 
     Ok(Judged { text, good })
 }
 
-/// What `check` writes of the machine and the log in these bytes: whether the log is legal and finished, else its first bad line
-/// and the number of what that breaks.
+/// What `check` writes of the machine and the log in these bytes: whether the log is legal and finished, else
+/// its first bad line and the number of what that breaks.
 ///
-/// Refused where the bytes up to the first newline are no machine's file: `LongMachine` if they are more than 16,777,216,
-/// `Broken` if they break a rule of the format. `NoMemory` if it is out of memory.
+/// Refused if the bytes up to the first newline are no machine's file: `LongMachine` if they are more than
+/// 16,777,216, `Broken` if they break a rule of the format. `NoMemory` if it is out of memory.
 pub fn judge(alloc: Global, bytes: &[u8]) -> Result<Judged, Ending>
     ensures judged { IfOk result (λ j. IsJudged bytes.now j.text.items j.good) }
     ensures refused { IfErr result (Refuses (RefusesCheck bytes.now)) }

@@ -1,4 +1,4 @@
--- The whole input was read, and what is told of it was written; or it was not read.
+-- The whole input was read and the answers were written, or it was not read.
 use Rattle.std.proofs.Common.{List, ℕ, refl, subst, sym}
 use Rattle.program_ending.specs.declared.refusal.Refusal.TheVariants.{LongLocks}
 use Rattle.lock_commands.specs.Command.{IsLocksOf, RefusesLocks}

@@ -1,4 +1,4 @@
--- The whole input was read, and what is told of it was written; or it was not read.
+-- The whole input was read and its text was written, or it was not read.
 use Rattle.std.proofs.Common.{List, ℕ, refl, subst, sym}
 use Rattle.program_ending.specs.Streams.{ReadWhole, Streams, stream, streams}
 use Rattle.log_commands.proofs.Checking.{check_read, check_unread}

@@ -1,4 +1,4 @@
--- The whole input was read, and what is told of it was written; or it was not read.
+-- The whole input was read and its text was written, or it was not read.
 use Rattle.std.proofs.Common.{List, ℕ, refl, subst, sym}
 use Rattle.program_ending.specs.declared.refusal.Refusal.TheVariants.{LongInput}
 use Rattle.log_commands.specs.Stats.{IsStatsOf, RefusesStats}
