@@ -350,7 +350,7 @@ ends id n v ws slots owns whole first final =
       makers = subst (λ z. AreBelow z r.log) (sym kp.1 ∙ whole) r.makers;
       each_made = λ k low. (seen.known owns k low).1;
       turns = r.turns;
-      positions_once = positions_once r.next r.log r.makers r.turns;
+      placed = positions_once r.next r.log r.makers r.turns;
       last = (last, ap (λ (x : EventNow). position x) last ∙ at_length r.next r.log r.makers r.turns);
       seen = let h = seen.heard owns in (all_end r.log v.heard v.looked h.0 seen.looked.0, order_end v.heard v.looked h.1 (in_order v.floor v.looked seen.looked.1));
     }

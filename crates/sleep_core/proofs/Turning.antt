@@ -216,7 +216,7 @@ admits_more h reserved e own core makes leaves own_is has short =
       room = suffices.place;
       attempts = subst (λ (xs : List JournalEntry). attempts_after e.kind (attempts (entries xs)) < 2 ^ 32) (sym has.past) (omega (arith, few));
       runs = subst (λ (xs : List JournalEntry). runs_after e.kind (runs (entries xs)) < 2 ^ 32) (sym has.past) leaves.runs;
-      script_position = position_small (length reserved.machine.actors) reserved.past e.actor short;
+      position = position_small (length reserved.machine.actors) reserved.past e.actor short;
       marks = subst (λ (xs : List JournalEntry). MarksAreSmall e.kind (raised (length reserved.machine.marks) (entries xs))) (sym has.past)
           (subst (λ (x : Machine). MarksAreSmall e.kind (raised (length x.marks) past)) (sym has.machine) leaves.marks);
     }
