@@ -43,12 +43,12 @@ pub(crate) fn given<R: Threads + Wait + Sync>(
     given_with(rt, alloc, words, input, &OpenGate)
 }
 
-/// Whether the status was 0, that was written, and nothing was said on standard error.
+/// Whether the status was 0, that was written, and nothing was written to standard error.
 pub(crate) fn is_done(outcome: &Outcome, out: &[u8]) -> bool {
     outcome.status() == 0 && outcome.out() == out && outcome.err().is_empty()
 }
 
-/// Whether the status was 0, a text was written that ends so, and nothing was said on standard error.
+/// Whether the status was 0, a text was written that ends so, and nothing was written to standard error.
 pub(crate) fn ends_so(outcome: &Outcome, end: &[u8]) -> bool {
     outcome.status() == 0 && outcome.out().ends_with(end) && outcome.err().is_empty()
 }

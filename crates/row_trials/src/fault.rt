@@ -1,3 +1,4 @@
+//! Why the rows cannot be run.
 use sleep_base::{Failed, Mem};
 use std::alloc::{AllocError, AllocFailed};
 

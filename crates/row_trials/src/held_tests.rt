@@ -12,8 +12,9 @@ use std::thread::{Threads, yield_now};
 /// How often a gate looks for what it waits for.
 const LOOKS: u32 = 10_000_000;
 
-/// A task that reads the count, which it can once a timed event has ended, and then puts the machine to sleep, over an
-/// asynchronous device. Of two workers one has both scripts, autosleep's work and the device, and the other the four timers.
+/// A task that reads the count, which it can once a timed event has ended, and then puts the machine to
+/// sleep, over an asynchronous device. Of two workers one has both scripts, autosleep's work and the device,
+/// and the other the four timers.
 const READER: &str =
     r#"{"version":1,"devices":[{"name":"d","async":true}],"sources":["s","t","u"],"actors":[{"name":"k","kind":"irq","script":[{"op":"event","source":"s","ms":5}]},{"name":"w","kind":"user","script":[{"op":"read"},{"op":"save"},{"op":"state","text":"mem"}]}]}"#;
 
@@ -21,16 +22,16 @@ const READER: &str =
 const SETTER: &str =
     r#"{"version":1,"actors":[{"name":"w","kind":"user","script":[{"op":"autosleep","text":"mem"},{"op":"wait","mark":"never"}]}]}"#;
 
-/// The job of the reader, of the timer after the first source's, and the passes of a first burst: three rounds of the
-/// scripts, of which the last makes nothing, and one of the timers.
+/// The job of the reader, of the timer after the first source's, and the passes of a first burst: three
+/// rounds of the scripts, of which the last makes nothing, and one of the timers.
 const READER_JOB: u32 = 1;
 
 const LATER_TIMER: u32 = 5;
 
 const FIRST_ROUNDS: u64 = 3;
 
-/// How often each kind of actor held the machine's lock in bursts. The reader begins its second burst once the first timer
-/// had its turn there.
+/// How often each kind of actor held the machine's lock in bursts. The reader begins its second burst once
+/// the first timer had its turn there.
 #[derive(Drop)]
 struct Holders {
     readers: AtomicU64,
@@ -41,6 +42,7 @@ struct Holders {
 }
 
 impl Gate for Holders {
+    /// Counts the timer's turns, and makes the reader wait for them once.
     fn pass(&self, job: u32) {
         if job == LATER_TIMER {
             self.timers.fetch_add(1, Ordering::SeqCst);
@@ -104,8 +106,9 @@ fn is_run_by_two<R: Threads + Wait + Sync>(
     Ok(is_so)
 }
 
-/// In the second burst the timer ends the event, so the reader goes on there, from its read up to the device's suspend: eight
-/// turns and more. Where the timer makes no expiry in a burst the reader has three tries. The device tries its turn.
+/// In the second burst the timer ends the event, so the reader goes on there, from its read up to the
+/// device's suspend: eight turns and more. If the timer makes no expiry in a burst the reader has three
+/// tries. The device tries its turn.
 #[test]
 fn an_expiry_and_a_device_in_a_burst(rt: HostRuntime) {
     let gate = Holders::none();

@@ -1,4 +1,4 @@
-//! What several workers write, where no one text is right: logs that `check` judges, and lines that are counted.
+//! What several workers write, if no one text is right: logs that `check` judges, and lines that are counted.
 
 use crate::calls::{given, is_done};
 use sleep_base::Mem;

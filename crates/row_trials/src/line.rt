@@ -49,7 +49,7 @@ fn line_of(text: &str) -> Option<Line> {
     Some(Line { verb, number })
 }
 
-/// How many bytes stand before the first newline; all where there is none.
+/// How many bytes precede the first newline; all if there is none.
 fn line_length(bytes: &[u8]) -> usize
     ensures { result ≤ length bytes.now }
 {
@@ -76,7 +76,7 @@ pub(crate) fn cut_line(bytes: &[u8]) -> Option<(Line, &[u8])> {
     Some((line, behind))
 }
 
-/// That many bytes, and those after the newline that stands after them.
+/// That many bytes, and those after the newline that follows them.
 pub(crate) fn cut_piece(bytes: &[u8], count: usize) -> Option<(&[u8], &[u8])> {
     if count > bytes.len() {
         return None;

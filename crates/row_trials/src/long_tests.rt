@@ -49,12 +49,13 @@ fn a_source_with_room_is_not_full(rt: HostRuntime) {
     assert!(rt; is_relaxed(&rt, rt.alloc()) == Ok(true));
 }
 
-/// A task that saves a count and reports 65,536 events, which 16 bits do not count: the script but its last operation.
+/// A task that saves a count and reports 65,536 events, which 16 bits do not count: the script but its last
+/// operation.
 const EVENTS: &str =
     r#"{"version": 1, "sources": ["a", "b", "c", "d"], "actors": [{"name": "w", "kind": "user", "script": [{"op": "read"}, {"op": "save"}, {"op": "event", "source": "a", "times": 16384}, {"op": "event", "source": "b", "times": 16384}, {"op": "event", "source": "c", "times": 16384}, {"op": "event", "source": "d", "times": 16384}, "#;
 
-/// The last operation, and the lines that it makes: an attempt under the count that was saved before the events, which is
-/// given up, and a save of their number, which is answered.
+/// The last operation, and the lines that it makes: an attempt under the count that was saved before the
+/// events, which is given up, and a save of their number, which is answered.
 const LAST: [(&str, &str); 2] = [
     (
         r#"{"op": "state", "text": "mem"}"#,
@@ -117,8 +118,8 @@ fn is_counted<R: Threads + Wait + Sync>(
     writes(rt, alloc, file.as_str(), log.as_str())
 }
 
-/// 65,536 events, after which 16 bits would show the saved count again: the attempt is given up, and a save of their
-/// number is answered.
+/// 65,536 events, after which 16 bits would show the saved count again: the attempt is given up, and a save
+/// of their number is answered.
 #[test]
 fn many_events_do_not_come_round(rt: HostRuntime) {
     for (last, end) in &LAST {
@@ -155,7 +156,7 @@ fn written<R: Threads + Wait + Sync>(rt: &R, alloc: Global) -> Result<Vec<u8>, M
     Ok(text?)
 }
 
-/// How many entries a run of that machine file makes, beside the lines of four sources and of the end.
+/// How many entries a run of that machine file makes, not counting the lines of four sources and of the end.
 fn entries_of<R: Threads + Wait + Sync>(rt: &R, alloc: Global, file: &str) -> Result<usize, Mem> {
     let run = given(rt, alloc, &RUN, file)?;
     let entries = lines(run.out()).saturating_sub(5);
@@ -171,7 +172,7 @@ fn line_of_run<R: Threads + Wait + Sync>(rt: &R, alloc: Global) -> Result<String
     Ok(line)
 }
 
-/// Whether `soak` tells as many entries of it.
+/// Whether `soak` counts as many entries of it.
 fn is_soaked<R: Threads + Wait + Sync>(rt: &R, alloc: Global) -> Result<bool, Mem> {
     let line = line_of_run(rt, alloc)?;
     let soaked = given(rt, alloc, &["sleep", "soak", "7", "20"], "")?;
@@ -180,7 +181,7 @@ fn is_soaked<R: Threads + Wait + Sync>(rt: &R, alloc: Global) -> Result<bool, Me
     Ok(is_so)
 }
 
-/// What is generated is run as a file: its log has as many entries as `soak` tells.
+/// What is generated is run as a file: its log has as many entries as `soak` counts.
 #[test]
 fn a_written_machine_is_run(rt: HostRuntime) {
     assert!(rt; is_soaked(&rt, rt.alloc()) == Ok(true));

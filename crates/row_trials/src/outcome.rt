@@ -117,7 +117,7 @@ impl Outcome {
         self.ends.err.bytes()
     }
 
-    /// What is said of the row of that number.
+    /// The report of the row of that number.
     pub(crate) fn report(&self, alloc: Global, number: usize) -> Result<Vec<u8>, Mem> {
         let status = self.status();
         let left = self.ends.source.left().len();

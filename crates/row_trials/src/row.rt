@@ -34,7 +34,7 @@ pub(crate) struct Row {
     pub(crate) words: Vec<String>,
     pub(crate) input: Vec<u8>,
     pub(crate) streams: Streams,
-    /// How often the next piece of the input stands.
+    /// How often the input has the next piece.
     repeat: usize,
 }
 
@@ -76,7 +76,7 @@ impl Row {
         Ok(left)
     }
 
-    /// Adds a piece to the input, as often as it stands.
+    /// Adds a piece to the input, as often as `repeat` says.
     fn add_piece(&mut self, piece: &[u8]) -> Result<(), RowsFault> {
         for _ in 0..self.repeat {
             self.input.extend_from_slice(piece)?;

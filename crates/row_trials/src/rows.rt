@@ -36,7 +36,7 @@ fn told_outcome<R: Threads + Wait + Sync>(
     text
 }
 
-/// What is said of a row that this line ends.
+/// The report of a row that this line ends.
 fn report<R: Threads + Wait + Sync>(
     rt: &R,
     alloc: Global,
@@ -51,7 +51,7 @@ fn report<R: Threads + Wait + Sync>(
     text
 }
 
-/// Runs the first row, and writes what is said of it. What is left after it.
+/// Runs the first row, and writes its report. What is left after it.
 fn run_row<'a, R: Threads + Wait + Sync, K: ByteSink>(
     rt: &R,
     alloc: Global,
@@ -71,7 +71,7 @@ fn run_row<'a, R: Threads + Wait + Sync, K: ByteSink>(
     Ok(after)
 }
 
-/// Runs each row, and writes what is said of it.
+/// Runs each row, and writes its report.
 pub(crate) fn run_rows<R: Threads + Wait + Sync, K: ByteSink>(
     rt: &R,
     alloc: Global,

@@ -51,8 +51,8 @@ fn comes_to(number: &AtomicU64, least: u64) -> bool {
     false
 }
 
-/// The interrupt begins once the task holds the machine's lock, and the task holds it until the interrupt has made its
-/// calls.
+/// The interrupt begins once the task holds the machine's lock, and the task holds it until the interrupt has
+/// made its calls.
 #[derive(Drop)]
 struct Race {
     held: AtomicBool,
@@ -161,6 +161,7 @@ impl FirstTurns {
 }
 
 impl Gate for FirstTurns {
+    /// Marks that the job has come, once, and whether all that meet have; counts its passes.
     fn pass(&self, job: u32) {
         let at = job as usize;
         let Some(passes) = self.passes.get(at) else {
@@ -188,9 +189,10 @@ fn meets_well<R: Threads + Wait + Sync>(
     Ok(is_so)
 }
 
-/// Words of runs, which of the first three jobs meet, and how often the first two have turns. Of two workers the first has
-/// the task and autosleep's work, the other the timer. Of three, and of the four that a run has where no number is given,
-/// each job has a worker of its own. One worker makes no burst. Sixty-four run a machine with one script.
+/// Words of runs, which of the first three jobs meet, and how often the first two have turns. Of two workers
+/// the first has the task and autosleep's work, the other the timer. Of three, and of the four that a run has
+/// if no number is given, each job has a worker of its own. One worker makes no burst. Sixty-four run a
+/// machine with one script.
 const MEETINGS: [(&[&str], [bool; 3], (u64, u64)); 5] = [
     (
         &["sleep", "run", "--workers", "2"],

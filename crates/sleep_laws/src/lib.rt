@@ -3,9 +3,9 @@
 //!
 //! Promises: In every legal log no device suspends before its dependents or resumes before its suppliers,
 //! each abort restores devices and tasks, and an undisturbed attempt enters. An attempt under a saved count
-//! enters only if no event was registered since that count was read. By the clauses of `dependents_first`,
-//! `suppliers_first`, `restored`, `undisturbed_attempts_enter`, `guarded_sleep`, and of each other function
-//! here.
+//! enters only if no event was registered since its task read that count, and none is in progress. By the
+//! clauses of `dependents_first`, `suppliers_first`, `restored`, `undisturbed_attempts_enter`,
+//! `guarded_sleep`, and of each other function here.
 //!
 //! Begin reading in `src/laws.rt`, `proofs/Lawful.antt`.
 #![tactic(auto)]

@@ -1,3 +1,4 @@
+//! Suspend-to-idle by four workers, and its log merged again from its parts.
 ghost use Rattle.std.specs.Prelude.{◌≡◌};
 
 use idle_loop::{IdleEntry, IdleKind, IdleLog, IdleSizes, merge_idle, run_idle};

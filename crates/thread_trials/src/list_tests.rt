@@ -1,3 +1,4 @@
+//! A pass and the list of what it made, as a test's loop invariant needs them.
 ghost use Rattle.std.specs.Prelude.{◌≡◌, ◌<◌, ◌++◌, [], length, drop};
 ghost use Rattle.turn_lock.specs.Bookings.{placed};
 ghost use Rattle.turn_lock.specs.Passes.{IsPass, Holds, first_of, had_by, made_of, number_of};
@@ -7,7 +8,7 @@ use std::alloc::Global;
 use std::sync::Wait;
 use turn_lock::{Held, Made, Pass, SharedLocks, give, take};
 
-/// A pass that holds nothing, beside its list.
+/// A pass that holds nothing, with its list.
 #[derive(Drop)]
 pub(crate) struct PassHolder {
     pub pass: Pass<NumberList>,
@@ -15,7 +16,7 @@ pub(crate) struct PassHolder {
     ghost listed: { made_of pass.token ≡ made.items },
 }
 
-/// A pass that holds an object, beside its list as it will be once the object is back.
+/// A pass that holds an object, with its list as it will be once the object is back.
 #[derive(Drop)]
 pub(crate) struct Busy {
     pub held: Held<NumberList>,
@@ -58,7 +59,7 @@ impl PassHolder {
 }
 
 impl Busy {
-    /// Adds a number at the end of the object's list, where there is memory.
+    /// Adds a number at the end of the object's list, if there is memory.
     #[tactic(auto, using(turn_lock::proofs::Listed::grown_more, turn_lock::proofs::Listed::listed_more))]
     pub(crate) fn note(self, x: u32) -> Busy
         ensures { (result.held.token ≡ self.held.token) × (result.object ≡ self.object) }

@@ -1,3 +1,4 @@
+//! A list of numbers under a lock, and two workers that overlap at it.
 ghost use Rattle.std.specs.Prelude.{◌≡◌, ◌≤◌, ◌++◌, [], ◌∷◌, IfOk, true, false, length, vec_len};
 ghost use Rattle.turn_lock.specs.Passes.{IsPass, AreAll, first_of};
 ghost use Rattle.turn_lock.specs.Passing.{tokens};
@@ -29,7 +30,7 @@ impl Booked for NumberList {
 }
 
 impl NumberList {
-    /// Adds a number, where there is memory. Answers whether there was.
+    /// Adds a number, if there is memory. Answers whether there was.
     pub(crate) fn note(&mut self, x: u32) -> bool
         ensures added { result ≡ true → self.new.notes.items ≡ self.old.notes.items ++ x ∷ [] }
         ensures kept { result ≡ false → self.new.notes.items ≡ self.old.notes.items }

@@ -1,3 +1,4 @@
+//! Many workers add numbers under locks, and each number is in exactly one list.
 ghost use Rattle.std.specs.Prelude.{◌≡◌, ◌≤◌, [], map, length, IfOk};
 ghost use Rattle.turn_lock.specs.Passes.{IsPass, AreAll, AreNew, first_of, made_of, number_of};
 ghost use Rattle.turn_lock.specs.Passing.{tokens};
@@ -11,7 +12,7 @@ use std::thread::Threads;
 use std::{mem, thread};
 use turn_lock::{LockTable, Made, Pass, SharedLocks, close_locks};
 
-/// What stands in place of an entry that was struck out; no worker adds it.
+/// The mark in place of an entry that was struck out; no worker adds it.
 const STRUCK: u32 = u32::MAX;
 
 /// All turns of one worker, which takes the two objects in turn and adds a number to each.
@@ -103,7 +104,7 @@ fn is_struck(journal: &NumberList) -> bool {
     true
 }
 
-/// Whether each entry of the lists stands at its place, and each entry of the two values is in one list, once.
+/// Whether each entry of the lists is at its index, and each entry of the two values is in one list, once.
 fn each_once(values: &mut Vec<NumberList>, lists: &Vec<Vec<Made<u32>>>) -> bool {
     let mut stood = true;
     for list in lists {
@@ -115,7 +116,7 @@ fn each_once(values: &mut Vec<NumberList>, lists: &Vec<Vec<Made<u32>>>) -> bool 
     }
 }
 
-/// How many numbers each of two objects has, where each is in one list, once.
+/// How many numbers each of two objects has, if each is in one list, once.
 fn counted_in(values: &mut Vec<NumberList>, lists: &Vec<Vec<Made<u32>>>) -> Option<(usize, usize)> {
     let once = each_once(values, lists);
     match values.as_slice() {
@@ -124,7 +125,7 @@ fn counted_in(values: &mut Vec<NumberList>, lists: &Vec<Vec<Made<u32>>>) -> Opti
     }
 }
 
-/// How many numbers each of two objects has after all turns of all workers, where each is in one list, once.
+/// How many numbers each of two objects has after all turns of all workers, if each is in one list, once.
 fn counted<R: Threads + Wait + Sync>(
     rt: &R,
     alloc: Global,

@@ -1,3 +1,4 @@
+//! The log that is merged of what several workers made.
 use log_merge::{merge, rises};
 use sleep_model::{
     Actor, Entry, EntryList, EntryReader, EventNow, Kind, ListOf, SourceEntry, SourceList, Stamp,
@@ -138,7 +139,7 @@ fn are_of_two(reader: &mut EntryReader<'_>) -> bool {
     }
 }
 
-/// Two workers overlap: in the one log the first steps of both stand before the second ones.
+/// Two workers overlap: in the one log the first steps of both come before the second ones.
 #[test]
 fn two_workers_overlap(rt: HostRuntime) -> Result<(), Fail> {
     let log = log_of(rt.alloc(), met(&rt, rt.alloc())?)?;

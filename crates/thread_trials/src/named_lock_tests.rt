@@ -1,3 +1,4 @@
+//! Named locks: their calls, their ends, and how many there may be.
 ghost use Rattle.std.specs.Prelude.{◌≤◌, OnOk};
 ghost use Rattle.wake_locks.specs.Locks.{AreBefore, ExpiriesAreDue};
 

@@ -1,3 +1,4 @@
+//! Jobs of a pool: their turns are counted, a Stop ends its part, and workers overlap.
 ghost use Rattle.std.specs.Prelude.{◌≡◌, ◌+◌, ◌<◌, ◌≤◌};
 ghost use Rattle.std.proofs.Common.{rules};
 
@@ -15,6 +16,7 @@ struct CountingJob {
     stops: bool,
 }
 
+/// A job that does something on its first `wants` turns, and then stops or is done.
 fn that_wants(wants: u64, stops: bool) -> CountingJob
     ensures { (result.left ≡ 1000) × (result.did ≡ 0) }
 {
@@ -33,6 +35,7 @@ impl Job<AtomicU64> for CountingJob {
 
     ghost made = { λ a _ b. a.did ≤ b.did };
 
+    /// Does something while it wants to, then answers `Stop` or `Done`.
     fn turn(&mut self, shared: &AtomicU64, _now: u64) -> Turn {
         self.left -= 1;
         if self.wants == 0 {
@@ -70,8 +73,8 @@ fn ten_thousand_turns_are_counted(rt: HostRuntime) {
     assert!(rt; ten_thousand(&rt, 16) == 10_000);
 }
 
-/// Of six jobs in three parts, the third stops at its second turn. Its part ends there: the fourth has had one turn.
-/// The other parts go on.
+/// Of six jobs in three parts, the third stops at its second turn. Its part ends there: the fourth has had
+/// one turn. The other parts go on.
 #[test]
 fn a_stop_ends_its_part_alone(rt: HostRuntime) {
     let shared = AtomicU64::new(0);
@@ -96,7 +99,8 @@ fn a_worker_makes_a_thousand_rounds(rt: HostRuntime) {
     assert!(rt; burst(&rt, &mut none, &shared, 0, 4) == 0);
 }
 
-/// The parts are as long as said: of five jobs, two workers have three and two. Where each first of a part stops, no other has a turn.
+/// The parts are as long as said: of five jobs, two workers have three and two. If each first of a part
+/// stops, no other has a turn.
 #[test]
 fn the_parts_are_contiguous(rt: HostRuntime) {
     let shared = AtomicU64::new(0);
@@ -116,7 +120,7 @@ struct Begun {
     second: AtomicBool,
 }
 
-/// A job whose first turn waits for a while until the other has begun, and stops where it did not see that.
+/// A job whose first turn waits for a while until the other has begun, and stops if it did not see that.
 #[derive(Clone, Copy, Drop)]
 struct Meeting {
     left: u64,
@@ -143,6 +147,7 @@ impl Job<Begun> for Meeting {
 
     ghost made = { λ _ _ _. Unit {0} };
 
+    /// Meets the other job once, then is done; it stops if they do not meet.
     fn turn(&mut self, shared: &Begun, _now: u64) -> Turn {
         self.left -= 1;
         if self.met {

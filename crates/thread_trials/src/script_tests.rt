@@ -1,3 +1,4 @@
+//! The job of an actor, turn by turn: its entries, the calls that it makes, and what its timer ends.
 ghost use Rattle.std.specs.Prelude.{◌≡◌, ◌≤◌, ◌<◌, ◌+◌, length, IfOk, OnOk};
 ghost use Rattle.sleep_model.specs.Places.{all_operations};
 ghost use Rattle.sleep_model.specs.Scripts.{operations};
@@ -167,7 +168,8 @@ fn reports_an_event(job: &mut ActorJob<'_>) -> Result<bool, Mem>
     Ok(owed && !owes && source == 0 && is_event)
 }
 
-/// Whether a script reads the count, keeps the system awake, by source 1, while it sets autosleep, makes an event and exits.
+/// Whether a script reads the count, keeps the system awake, by source 1, while it sets autosleep, makes an
+/// event and exits.
 fn goes_on(job: &mut ActorJob<'_>) -> Result<bool, Mem>
     requires turns { job.old.turns ≤ 2 }
     requires calls { job.old.calls ≤ 1 }
@@ -187,8 +189,9 @@ fn goes_on(job: &mut ActorJob<'_>) -> Result<bool, Mem>
     Ok(both && is_event && job.calls() == 4 && matches!(job.next(), Want::Nothing))
 }
 
-/// Whoever makes a callback makes its reports; a good write to autosleep keeps the system awake while it is set, by the source
-/// after the others; an operation that is a call makes it; and a script that has exited does nothing.
+/// Whoever makes a callback makes its reports; a good write to autosleep keeps the system awake while it is
+/// set, by the source after the others; an operation that is a call makes it; and a script that has exited
+/// does nothing.
 #[test]
 fn jobs_make_turns_and_calls(rt: HostRuntime) -> Result<(), Fail> {
     let machine = machine(rt.alloc())?;

@@ -1,3 +1,4 @@
+//! Calls on one wakeup source: their entries, their limit and their statistics.
 ghost use Rattle.std.specs.Prelude.{◌≡◌};
 
 use event_word::PlainEvents;
@@ -32,6 +33,7 @@ fn at(now: u64) -> CallBy
     }
 }
 
+/// Statistics of these counts and times.
 fn stats(counts: [u32; 3], times: [u64; 4]) -> Stats {
     Stats {
         active_count: counts[0],
@@ -47,7 +49,7 @@ fn stats(counts: [u32; 3], times: [u64; 4]) -> Stats {
 /// A source whose history has room for all of a test.
 type Source = WakeSource<MOST_ENTRIES>;
 
-/// A relax where no event is in progress leaves its note alone.
+/// A relax while no event is in progress leaves only its note.
 #[test]
 fn a_relax_of_an_inactive_source_is_noted(rt: HostRuntime) -> Result<(), Fail> {
     let mut events = PlainEvents::new();

@@ -1,9 +1,10 @@
+//! What workers share or take may be sent to a thread.
 ghost use Rattle.std.specs.Prelude.{◌≡◌};
 
 use sleep_script::{ActorJob, TimerJob};
 use wakeup_source::{MOST_ENTRIES, WakeSource};
 
-/// What may be sent to a thread, and nothing else, goes through.
+/// Only what may be sent to a thread is accepted.
 fn sent<T: Send + Drop>(value: T) -> T
     ensures { result ≡ value }
 {

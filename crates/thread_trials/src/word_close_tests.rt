@@ -1,3 +1,4 @@
+//! The table of the word is closed after steps of two workers.
 ghost use Rattle.std.specs.Prelude.{◌≡◌, [], IfOk};
 ghost use Rattle.event_word.specs.Seats.{AreAll, AreNew, number_of, made_of};
 ghost use Rattle.event_word.specs.Lists.{tokens};
@@ -11,7 +12,8 @@ use std::test::Fail;
 use std::thread;
 use std::thread::Threads;
 
-/// Two steps of a source: the first begins an event, and the second ends it, or is hard, where another source came before.
+/// Two steps of a source: the first begins an event, and the second ends it, or is hard if another source
+/// came before.
 fn two_steps(table: &EventTable, seat: EventSeat, came: &AtomicBool) -> EventSeat
     requires table { seat.token.table_id ≡ table.now.cells.shared.table_id }
     requires new { made_of seat.token ≡ [] }

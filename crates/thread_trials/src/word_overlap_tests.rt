@@ -1,3 +1,4 @@
+//! Two workers make steps of the event word that overlap.
 ghost use Rattle.std.specs.Prelude.{◌≡◌, []};
 ghost use Rattle.event_word.specs.Seats.{AreNew, made_of};
 ghost use Rattle.event_word.specs.Lists.{tokens};

@@ -1,3 +1,4 @@
+//! A step of the event word answers the word before it.
 use event_word::{Bump, Events, PlainEvents, look_from};
 use sleep_model::EventNow;
 

@@ -1,3 +1,4 @@
+//! Many workers make steps of the event word: each finds another position.
 ghost use Rattle.std.specs.Prelude.{◌≡◌, ◌≤◌, [], map, IfOk};
 ghost use Rattle.event_word.specs.Seats.{AreAll, AreNew, number_of, made_of};
 ghost use Rattle.event_word.specs.Lists.{tokens};
@@ -11,8 +12,8 @@ use std::test::Fail;
 use std::thread;
 use std::thread::Threads;
 
-/// A worker that has ended: its seat, the positions of the words that its steps found, and whether each look found a
-/// later one.
+/// A worker that has ended: its seat, the positions of the words that its steps found, and whether each look
+/// found a later one.
 #[derive(Drop)]
 struct Done {
     seat: EventSeat,
@@ -20,14 +21,15 @@ struct Done {
     later: bool,
 }
 
-/// Adds a position, where there is memory.
+/// Adds a position, if there is memory.
 fn note(positions: &mut Vec<u64>, position: u64) {
     if positions.reserve(1).is_ok() {
         positions.push_reserved(position);
     }
 }
 
-/// All steps of one worker: events one after another, with a hard step in each. It looks at the word after each step.
+/// All steps of one worker: events one after another, with a hard step in each. It looks at the word after
+/// each step.
 fn work(alloc: Global, table: &EventTable, seat: EventSeat, turns: u32) -> Done
     requires table { seat.token.table_id ≡ table.now.cells.shared.table_id }
     requires new { made_of seat.token ≡ [] }
@@ -76,7 +78,7 @@ fn burst<R: Threads + Wait + Sync>(
     Ok(done)
 }
 
-/// Counts how often each position was found, where no look went back.
+/// Counts how often each position was found, if no look went back.
 fn count(times: &mut Vec<u32>, positions: &Vec<u64>, later: bool) {
     for &position in positions {
         if !later {
@@ -88,8 +90,8 @@ fn count(times: &mut Vec<u32>, positions: &Vec<u64>, later: bool) {
     }
 }
 
-/// The seats of all workers, in order. Counts the positions that they found, and forgets those of a worker that looked
-/// back.
+/// The seats of all workers, in order. Counts the positions that they found, and forgets those of a worker
+/// that looked back.
 fn gathered(
     alloc: Global,
     done: Vec<Done>,
@@ -120,7 +122,8 @@ fn are_once(times: &[u32]) -> bool {
     true
 }
 
-/// Whether ten thousand steps of all workers found each position once, and the last word is the one after them.
+/// Whether ten thousand steps of all workers found each position once, and the last word is the one after
+/// them.
 fn each_once<R: Threads + Wait + Sync>(
     rt: &R,
     alloc: Global,

@@ -1,3 +1,4 @@
+-- The lemmas of this crate.
 pub mod Booking
 pub mod Invariance
 pub mod NewPasses

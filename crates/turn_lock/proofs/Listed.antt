@@ -11,7 +11,7 @@ module _ {I : Type 0} where
       let e : (place + 1) + length ys ≡ place + length (y ∷ ys) = omega arith in
       ap (λ l. made object place y ∷ l) (placed_end object (place + 1) ys x ∙ ap (λ n. placed object (place + 1) ys ++ made object n x ∷ []) e)
 
-  -- once one more stands at the end
+  -- once one more is at the end
   whole_more : (had old now : List I) (x : I) → had ++ drop (length had) old ≡ old → now ≡ old ++ x ∷ [] → now ≡ had ++ (drop (length had) old ++ x ∷ [])
   whole_more had old now x grown e = e ∙ (ap (λ l. l ++ x ∷ []) (sym grown) ∙ append_assoc had (drop (length had) old) (x ∷ []))
 

@@ -7,7 +7,7 @@ module _ {I : Type 0} where
   abbrev pub made : ℕ → ℕ → I → Made I
   made object place x = record { object = object; place = place; entry = x }
 
-  -- the entries of an object that stand from this place on
+  -- the entries of an object from this index on
   abbrev pub placed : ℕ → ℕ → List I → List (Made I)
   placed object place [] = []
   placed object place (x ∷ xs) = made object place x ∷ placed object (place + 1) xs
@@ -17,7 +17,7 @@ module _ {I : Type 0} where
   of_object object [] = []
   of_object object (m ∷ ms) = if m.object == object then m ∷ of_object object ms else of_object object ms
 
-  -- what one pass made of an object's entries, each with the number of its maker, which stand from this place on
+  -- what one pass made of an object's entries from this index on, each with the number of its maker
   abbrev pub made_by : ℕ → ℕ → ℕ → List (ℕ × I) → List (Made I)
   made_by number object place [] = []
   made_by number object place (e ∷ es) =

@@ -1,4 +1,4 @@
--- What `Held` ends as, where its value is lent.
+-- What `Held` ends as while its value is borrowed.
 use Rattle.std.specs.Borrow.{Lends, Fml, RattleType, MutBor}
 use Rattle.turn_lock.specs.declared.table.Held.{Held}
 use Rattle.turn_lock.specs.contracts.table.Held.{the_row}

@@ -1,3 +1,4 @@
+-- The definitions of this crate.
 pub mod Bookings
 pub mod Locks
 pub mod Passes

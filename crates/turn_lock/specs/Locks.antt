@@ -1,4 +1,4 @@
--- The rule of the table, and what each step tells. Word i is 0 while object i is at home, and else 1.
+-- The rule of the table, and what each step makes known. Word i is 0 while object i is at home, and else 1.
 use Rattle.std.specs.Prelude.{◌≡◌, ◌≢◌, ℕ, ◌<◌, ◌≤◌, true, false, List, [], ◌∷◌, ◌++◌, length, drop, slice_index, slice_index_or, Option, Some, None}
 use mathlib.Core.Option.{some}
 use lib.ListN.{get_elem?}

@@ -1,3 +1,4 @@
+//! An object under a lock: its list of entries, and its root.
 ghost use Rattle.std.specs.Prelude.{List};
 
 /// An object under a lock: it has a list of entries, and a root, which never changes.

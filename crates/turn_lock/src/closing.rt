@@ -50,8 +50,8 @@ fn unslotted<V: Drop>(mut closed: Closed<Option<V>, Global>, mut values: Vec<V>)
     values
 }
 
-/// Closes the table; the passes stand in the order of their numbers. Each object's value comes back with the root that it had
-/// at `new`, and with the list of then followed by the entries of the passes.
+/// Closes the table; the passes are in the order of their numbers. Each object's value comes back with the
+/// root that it had at `new`, and with the list of then followed by the entries of the passes.
 pub fn close_locks<V: Booked>(
     alloc: Global,
     locks: LockTable<V>,

@@ -1,4 +1,4 @@
-//! The rule of the table, and what each step tells.
+//! The rule of the table, and what each step makes known.
 ghost use Rattle.std.specs.Prelude.{[], ◌∷◌, ◌++◌, ◌+◌, List};
 ghost use Rattle.turn_lock.specs.Locks.{Kept, keeper, pass_view, spent, takes, gives};
 

@@ -1,7 +1,7 @@
 //! What a seat at the table knows.
 use std::collections::LinkedList;
 
-/// An entry that a pass made, with its object and where it stands in that object's list.
+/// An entry that a pass made, with its object and its index in that object's list.
 #[derive(Drop)]
 pub struct Made<I> {
     pub object: u64,
@@ -15,11 +15,11 @@ pub struct PassView<V, I> {
     pub first: LinkedList<V>,
     /// Whether it is the table's own seat.
     pub keeps: bool,
-    /// How many passes there are, where it is the table's own.
+    /// How many passes there are, for the table's own seat.
     pub next: u64,
-    /// What the passes made that came back, in order, where it is the table's own.
+    /// What the passes made that came back, in order, for the table's own seat.
     pub known: LinkedList<LinkedList<Made<I>>>,
-    /// The pass's number, where it is a pass's.
+    /// The pass's number, for the seat of a pass.
     pub number: Option<u64>,
     /// The object that is out with it.
     pub out: Option<u64>,

@@ -1,4 +1,4 @@
--- Locks that stand as their sources' entries say, one after another.
+-- Locks that agree with their sources' entries, one after another.
 use Rattle.std.proofs.Common.{ℕ, zero, suc, ◌<◌, ◌+◌, List, [], ◌∷◌, length, get_or, take, add-one, arith}
 use Rattle.wake_locks.specs.Counted.{AllAgree, Agrees}
 use Rattle.wake_locks.specs.Locks.{LockState}

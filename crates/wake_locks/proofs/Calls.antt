@@ -63,7 +63,7 @@ expires now None end d = absurd (let no : false ≡ true = d in cc)
 expires now (Some b) None d = absurd (let no : false ≡ true = d in cc)
 expires now (Some b) (Some e) d = d
 
--- an expiry comes where it is due
+-- an expiry comes when it is due
 pub may : (made : SourceCall) (now : ℕ) (own : List Entry) → IsMeant made now (status_of own) → MayCall made own now
 may call.Awake now own meant = tt
 may call.Relax now own meant = tt
@@ -86,7 +86,7 @@ stands_by (call.Event ms false) now own (Some b) (Some e) h meant = rw (lasts ms
 stands_by call.Expire now own None end h meant = rw h.since_is refl
 stands_by call.Expire now own (Some b) end h meant = refl
 
--- how the lock then stands
+-- the status of the lock after it
 pub stands : (made : SourceCall) (now : ℕ) (own : List Entry) → SourceInvariant own → IsMeant made now (status_of own) → status_after made now (status_of own) ≡ status_of (own_after made now own)
 stands made now own kept meant = stands_by made now own (since own) (expiry own) (stands_now own kept) meant
 
@@ -108,7 +108,7 @@ word_moves made now own meant = moves_by made now own (since own) (expiry own) m
 some_none : (n : ℕ) → Some n ≡ None → ⊥
 some_none n e = cc
 
--- an event that lasts is its note, and a start where none is in progress
+-- an event that lasts is its note, and a start if none is in progress
 started : (ms now : ℕ) (own : List Entry) → 1 ≤ ms → entries (call.Event ms false) now own None ≡ step_entry 0 step.Start (who.Script 0) now (numbers own) ∷ note_entry 0 (call.Event ms false) (who.Script 0) now (numbers own) ∷ own
 started ms now own l = rw (lasts ms l) refl
 

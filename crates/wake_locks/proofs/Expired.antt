@@ -22,7 +22,7 @@ use Rattle.wake_locks.proofs.Placed.{put_there, put_before, at_place}
 
 -- ---- the next one
 
--- the lock that comes next, and where it is
+-- the lock that comes next, and its index
 pub record Next (to : ℕ) (locks : List LockState) (at end : ℕ) : Type 0 where
   pub due : Due
   pub is : next_due to locks ≡ Some due
@@ -54,7 +54,7 @@ after_there to locks at end d n = rw (n.lock_is d) (omega (arith, n.behind, n.en
 
 -- ---- one after another
 
--- where none is due nothing more is made
+-- if none is due nothing more is made
 pub none_more : (places to n : ℕ) (locks : List LockState) → next_due to locks ≡ None → expiries places to n locks ≡ stopped locks None
 none_more places to zero locks e = refl
 none_more places to (suc n) locks e = rw e refl
@@ -112,7 +112,7 @@ count_less to [] at d new l e f = absurd (omega arith)
 count_less to (x ∷ xs) zero d new l e f = rw (e, f) (omega arith)
 count_less to (x ∷ xs) (suc i) d new l e f = omega (arith, count_less to xs i d new (omega (arith, l)) e f)
 
--- where none is counted, none is due
+-- if none is counted, none is due
 pub none_counted : (to : ℕ) (locks : List LockState) → due_count to locks ≡ 0 → NoneDue to locks
 none_counted to [] e = tt
 none_counted to (x ∷ xs) e = go (is_due to x.status) refl e (none_counted to xs)
@@ -138,14 +138,14 @@ due_of_none to lock (Until end) o e = go (nat_le end to) e
     go true e = absurd (first_some lock end o e)
     go false e = (refl, e)
 
--- where none comes next, none is due
+-- if none comes next, none is due
 pub none_due : (to : ℕ) (locks : List LockState) → next_due to locks ≡ None → NoneDue to locks
 none_due to [] e = tt
 none_due to (x ∷ xs) e =
     let both = due_of_none to x x.status (next_due to xs) e in
     (both.0, none_due to xs both.1)
 
--- where none is due, none comes next
+-- if none is due, none comes next
 pub none_next : (to : ℕ) (locks : List LockState) → NoneDue to locks → next_due to locks ≡ None
 none_next to [] h = refl
 none_next to (x ∷ xs) h = go x.status h.0 (none_next to xs h.1)
@@ -228,6 +228,6 @@ pub failed_same : (places at end : ℕ) (d : LockState) (locks later : List Lock
 failed_same places at end d locks later (Full name) w = w.0
 failed_same places at end d locks later Mem w = w.0
 
--- what a call there left, where it ended with a fault
+-- what a call there left, if it ended with a fault
 pub at_failed : (places at end : ℕ) (d : LockState) (locks later : List LockState) (made : Result LockAnswer LockFault) (fault : LockFault) → made ≡ Err fault → WriteEnded places (Ok (record { lock = get_or locks at d; made = call.Expire })) end locks later made → WriteEnded places (Ok (record { lock = get_or locks at d; made = call.Expire })) end locks later (Err fault)
 at_failed places at end d locks later made fault is w = subst (WriteEnded places (Ok (record { lock = get_or locks at d; made = call.Expire })) end locks later) is w

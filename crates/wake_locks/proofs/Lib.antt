@@ -1,3 +1,4 @@
+-- The lemmas of this crate.
 pub mod Agreeing
 mod Calls
 pub mod Digits

@@ -80,7 +80,7 @@ none_after to locks at l e = record {
         rw late tt
 
 module _ (locks : List LockState) (to : ℕ) (found : Soonest) where
-  -- where one is due it is the one that was found
+  -- if one is due it is the one that was found
   found_is : (due : Due) → MatchDue locks (Some due) (found_by to found) → (nat_le found.end to ≡ true) × (found.end ≡ due.at)
   found_is due m = go (nat_le found.end to) m
     where
@@ -88,7 +88,7 @@ module _ (locks : List LockState) (to : ℕ) (found : Soonest) where
       go true m = (refl, m.2)
       go false m = absurd m
 
-  -- where none is due none was found
+  -- if none is due none was found
   none_found : MatchDue locks None (found_by to found) → nat_le found.end to ≡ false
   none_found m = go (nat_le found.end to) m
     where
@@ -111,7 +111,7 @@ module _ (locks : List LockState) (to : ℕ) (found : Soonest) where
         let later : nat_le end due.at ≡ false = grind (arith, nat_tests, found_is due m) in
         rw later m
 
-    -- where it ends after the moment that is asked about, what was found stays as it is
+    -- if it ends after the moment that is asked about, what was found stays as it is
     late_due : (end : ℕ) (o : Option Due) → nat_le end found.end ≡ true → nat_le end to ≡ false → MatchDue locks o (found_by to found) → MatchDue locks o None
     late_due end o e t m =
         let late : nat_le found.end to ≡ false = grind (arith, nat_tests) in
@@ -143,7 +143,7 @@ module _ (locks : List LockState) (to : ℕ) (found : Soonest) where
     more_due Endless o e b l m = never_due o l m
     more_due (Until end) o e b l m = end_due end o e b m
 
--- the same is said of what is left of the locks
+-- the claim for the rest of the locks
 least_more : (at end : ℕ) (found : Soonest) (lock : LockState) (locks : List LockState) → end ≡ end_or_never lock.status → NoneEndsBefore (min found.end found.others) locks
     → NoneEndsBefore (min (with_lock at end found).end (with_lock at end found).others) (lock ∷ locks)
 least_more at end found lock locks e h = go (nat_le end found.end)

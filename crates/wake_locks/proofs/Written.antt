@@ -27,7 +27,7 @@ set_same [] i d l = absurd (omega arith)
 set_same (x ∷ xs) zero d l = refl
 set_same (x ∷ xs) (suc i) d l = ap (λ (ys : List LockState). x ∷ ys) (set_same xs i d (omega (arith, l)))
 
--- out of memory is told of no full source
+-- out of memory is not reported as a full source
 mem_is_not_full : (r : Result (Unit {0}) LockFault) (name : List ℕ) → r ≡ Err Mem → r ≡ Err (Full name) → ⊥
 mem_is_not_full r name e f = cc
 
@@ -59,7 +59,7 @@ few_is n l = grind (arith, nat_tests)
 many_is : (n : ℕ) → 100 ≤ n → nat_lt n 100 ≡ false
 many_is n l = grind (arith, nat_tests)
 
--- a new lock, where as many are known as may be
+-- a new lock, if as many are known as may be
 pub none_ended : (places : ℕ) (name : List ℕ) (made : SourceCall) (now : ℕ) (locks : List LockState) → 100 ≤ length locks → WriteEnded places (on_lock name made (length locks) None) now locks locks (Ok NoSpace)
 none_ended places name made now locks l = rw (many_is (length locks) l) (refl, refl, tt)
 
@@ -86,7 +86,7 @@ new_failed places name made now locks new Mem l c =
 
 -- ---- whole writes
 
--- a call that a lock may have however it stands
+-- a call that a lock may have in any status
 timed_meant : (ns now : ℕ) (s : LockStatus) → IsMeant (timed ns) now s
 timed_meant ns now s = go (ns == 0) refl
   where

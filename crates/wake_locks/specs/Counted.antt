@@ -1,4 +1,4 @@
--- What is counted of a lock, and that it stands as its source's entries say.
+-- What is counted of a lock, and that it agrees with its source's entries.
 use Rattle.std.specs.Prelude.{◌≡◌, ℕ, List, [], ◌∷◌}
 use Rattle.sleep_model.specs.Sources.{stats_at}
 use Rattle.wake_locks.specs.declared.lock.LockStats.{LockStats}
@@ -9,7 +9,8 @@ use Rattle.wake_locks.specs.Locks.{LockState}
 abbrev pub lock_stats : ℕ → LockState → LockStats
 lock_stats now lock = record { name = lock.name; stats = stats_at lock.own now }
 
--- it stands as its source's entries say: inactive without an event in progress, else until that ends (wakeup_source_activate, wakeup_source_deactivate)
+-- its status is that of its source's entries: inactive without an event in progress, else until that ends (wakeup_source_activate,
+-- wakeup_source_deactivate)
 abbrev pub Agrees : LockState → Type 0
 Agrees lock = lock.status ≡ status_of lock.own
 

@@ -17,7 +17,7 @@ abbrev pub first_of : LockState → ℕ → Option Due → Option Due
 first_of lock at None = Some (record { lock = lock; at = at })
 first_of lock at (Some later) = if nat_le at later.at then Some (record { lock = lock; at = at }) else Some later
 
--- this lock, where it ends by itself by that moment and none after it ends before it
+-- this lock, if it ends by itself by that moment and none after it ends before it
 abbrev pub due_of : ℕ → LockState → LockStatus → Option Due → Option Due
 due_of to lock Inactive behind = behind
 due_of to lock Endless behind = behind
@@ -37,7 +37,7 @@ pub record Advanced : Type 0 where
   pub locks : List LockState
   pub full : Option LockState
 
--- the locks where expiries end, and a lock whose full source ended them
+-- the locks when expiries end, and a lock whose full source ended them
 abbrev pub stopped : List LockState → Option LockState → Advanced
 stopped locks full = record { locks = locks; full = full }
 
@@ -46,7 +46,7 @@ abbrev pub after_next : Option Due → List LockState → List LockState
 after_next None locks = locks
 after_next (Some due) locks = after_expiry due locks
 
--- where none is due all are made; a full source stops them; else it goes on
+-- if none is due all are made; a full source stops them; else it goes on
 abbrev pub onward : ℕ → Option Due → List LockState → Advanced → Advanced
 onward places None locks later = stopped locks None
 onward places (Some due) locks later = if nat_lt places (length due.lock.own + 4) then stopped locks (Some due.lock) else later

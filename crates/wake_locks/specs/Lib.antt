@@ -1,3 +1,4 @@
+-- The definitions of this crate.
 pub mod Counted
 pub mod Expiries
 pub mod LockFields

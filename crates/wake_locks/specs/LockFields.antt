@@ -18,17 +18,17 @@ use Rattle.wake_locks.specs.Expiries.{Due, next_due}
 use Rattle.wake_locks.specs.Locks.{LockState, AreSortedByName, by_name}
 use Rattle.wake_locks.specs.LockStatuses.{is_due, end_or_never, never}
 
--- how a source with an event in progress stands, by when that ends
+-- the status of a source with an event in progress, by when that ends
 abbrev pub status_by : Option ℕ → LockStatus
 status_by None = Endless
 status_by (Some end) = Until end
 
--- how a source stands, by when its event began and when it ends
+-- the status of a source, by when its event began and when it ends
 abbrev pub status_from : Option ℕ → Option ℕ → LockStatus
 status_from None end = Inactive
 status_from (Some began) end = status_by end
 
--- how a source with these entries stands
+-- the status of a source with these entries
 abbrev pub status_of : List Entry → LockStatus
 status_of own = status_from (since own) (expiry own)
 
@@ -59,7 +59,7 @@ pub record IsMade (by : CallBy) (made : SourceCall) (word later : EventNow) (old
   pub word_is : later ≡ word_after_kinds (makes made (since (unstamped old.past))) word
   pub short : length new.past ≤ most_entries
 
--- a call that a lock may have: an event has a length and is no hard one, an expiry comes where it is due
+-- a call that a lock may have: an event has a length and is no hard one, an expiry comes when it is due
 abbrev pub IsMeant : SourceCall → ℕ → LockStatus → Type 0
 IsMeant (call.Event ms hard) now before = (1 ≤ ms) × (hard ≡ false)
 IsMeant call.Expire now before = is_due now before ≡ true
@@ -126,11 +126,11 @@ with_floor floor found = record { at = found.at; end = found.end; others = min f
 abbrev pub index_and_end : Soonest → ℕ × ℕ
 index_and_end found = (found.at, found.end)
 
--- the same, where it ends by that moment
+-- the same, if it ends by that moment
 abbrev pub found_by : ℕ → Soonest → Option (ℕ × ℕ)
 found_by to found = if nat_le found.end to then Some (found.at, found.end) else None
 
--- what is found of the locks from that place on: which ends first, where one ends by that moment, and that no other ends before `others`
+-- what is found of the locks from that index on: which ends first, if one ends by that moment, and that no other ends before `others`
 pub record IsSoonest (to : ℕ) (locks : List LockState) (from : ℕ) (found : Soonest) : Type 0 where
   pub within : from ≤ length locks
   pub behind : from ≤ found.at

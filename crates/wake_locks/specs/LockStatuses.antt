@@ -1,17 +1,18 @@
--- How a lock stands after each call on its source.
+-- The status of a lock after each call on its source.
 use Rattle.std.specs.Prelude.{ℕ, ◌+◌, max, Bool, true, false, nat_le, Option, Some, None}
 use Rattle.sleep_model.specs.declared.machine.SourceCall.{SourceCall}
 use Rattle.sleep_model.specs.declared.machine.SourceCall.TheVariants as call
 use Rattle.wake_locks.specs.declared.status.LockStatus.{LockStatus}
 use Rattle.wake_locks.specs.declared.status.LockStatus.TheVariants.{Inactive, Endless, Until}
 
--- after an event that ends at that moment: a later end that stands is not cut (pm_wakeup_ws_event)
+-- after an event that ends at that moment: a later end is not cut (pm_wakeup_ws_event)
 abbrev pub lasting_until : ℕ → LockStatus → LockStatus
 lasting_until end Inactive = Until end
 lasting_until end Endless = Until end
 lasting_until end (Until stands) = Until (max end stands)
 
--- after a lock without a timeout it lasts until it is unlocked; one with a timeout makes it last until then, unless it lasts until a later moment; an unlock and an expiry end it (pm_wake_lock, pm_wake_unlock)
+-- after a lock without a timeout it lasts until it is unlocked; one with a timeout makes it last until then, unless it lasts until a later
+-- moment; an unlock and an expiry end it (pm_wake_lock, pm_wake_unlock)
 abbrev pub status_after : SourceCall → ℕ → LockStatus → LockStatus
 status_after call.Awake now before = Endless
 status_after (call.Event ms hard) now before = lasting_until (now + ms) before

@@ -16,7 +16,7 @@ use Rattle.wake_locks.specs.declared.status.LockStatus.{LockStatus}
 use Rattle.wake_locks.specs.declared.status.LockStatus.TheVariants.{Inactive}
 use Rattle.wake_locks.specs.LockStatuses.{status_after, is_in_progress, is_due}
 
--- a lock: its name, how it stands, and the entries of its source, the newest first (struct wakelock)
+-- a lock: its name, its status, and the entries of its source, the newest first (struct wakelock)
 pub record LockState : Type 0 where
   pub name : List ℕ
   pub status : LockStatus
@@ -49,7 +49,7 @@ after_call made now lock = record {
 abbrev pub by_name : List ℕ → List ℕ → Ordering
 by_name = slice_cmp nat_cmp
 
--- this lock where the names are the same, none if its name comes later, else what is found after it
+-- this lock if the names are the same, none if its name comes later, else what is found after it
 abbrev pub found_lock : Ordering → LockState → Option LockState → Option LockState
 found_lock Less lock behind = behind
 found_lock Equal lock behind = Some lock
@@ -100,7 +100,7 @@ abbrev pub NoneDue : ℕ → List LockState → Type 0
 NoneDue now [] = Unit {0}
 NoneDue now (lock ∷ locks) = (is_due now lock.status ≡ false) × NoneDue now locks
 
--- no entry is later than that moment, and no expiry at or before it stands
+-- no entry is later than that moment, and no expiry at or before it is pending
 pub record ExpiriesAreDue (now : ℕ) (locks : List LockState) : Type 0 where
   pub before : AreBefore now locks
   pub none_due : NoneDue now locks

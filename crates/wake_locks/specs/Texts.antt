@@ -24,28 +24,28 @@ nanoseconds digits =
 abbrev pub timed : ℕ → SourceCall
 timed ns = if ns == 0 then call.Awake else call.Event ((ns + 999999) / 1000000) false
 
--- what stands after the spaces
+-- what follows the spaces
 abbrev pub after_spaces : Option ℕ → List ℕ → List ℕ
 after_spaces None rest = []
 after_spaces (Some at) rest = drop at rest
 
--- the call of what stands after a name: spaces, and a timeout (pm_wake_lock)
+-- the call of what follows a name: spaces, and a timeout (pm_wake_lock)
 abbrev pub timeout : List ℕ → Option SourceCall
 timeout rest = option_map timed (nanoseconds (after_spaces (position (λ b. not (b == 32)) rest) rest))
 
--- a name and a call, where the name is one
+-- a name and a call, if the name is one
 abbrev pub named : List ℕ → Option SourceCall → Option (List ℕ × SourceCall)
 named name made = if is_name name then option_map (λ c. (name, c)) made else None
 
--- what a line asks for, by where its first space is
+-- what a line asks for, by the index of its first space
 abbrev pub asked_in : Option ℕ → List ℕ → Option (List ℕ × SourceCall)
 asked_in None line = named line (Some call.Awake)
 asked_in (Some at) line = named (take at line) (timeout (drop at line))
 
--- what a text for wake_lock asks for, where it is of a form (pm_wake_lock)
+-- what a text for wake_lock asks for, if it is of a form (pm_wake_lock)
 abbrev pub lock_text : List ℕ → Option (List ℕ × SourceCall)
 lock_text text = asked_in (position (λ b. b == 32) (line_of text)) (line_of text)
 
--- the name in a text for wake_unlock, where it is of a form (pm_wake_unlock)
+-- the name in a text for wake_unlock, if it is of a form (pm_wake_unlock)
 abbrev pub unlock_text : List ℕ → Option (List ℕ)
 unlock_text text = if is_name (line_of text) then Some (line_of text) else None

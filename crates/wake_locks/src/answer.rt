@@ -1,3 +1,4 @@
+//! What a call on named locks answers, and why it fails.
 ghost use Rattle.std.specs.Prelude.{◌≡◌};
 ghost use Rattle.wake_locks.specs.Writes.{answered};
 

@@ -2,7 +2,7 @@
 
 ghost use Rattle.std.specs.Prelude.{◌≡◌, ◌<◌, min, replicate, slice_index, slice_set};
 
-/// How many locks stand in a row.
+/// How many locks are in a row.
 pub(crate) const ROW: usize = 8;
 
 /// How many rows the known locks have at most.

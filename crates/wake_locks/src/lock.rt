@@ -1,3 +1,4 @@
+//! A named lock: its name, its status and its source.
 use crate::answer::LockFault;
 use crate::status::LockStatus;
 use event_word::PlainEvents;
@@ -17,8 +18,8 @@ pub struct LockStats {
     pub stats: Stats,
 }
 
-/// A lock: a name, and the wakeup source of that name (`struct wakelock`). Nobody looks at the event word here, so
-/// each source moves one of its own.
+/// A lock: a name, and the wakeup source of that name (`struct wakelock`). Nobody looks at the event word
+/// here, so each source moves one of its own.
 #[derive(Drop)]
 pub(crate) struct Lock<const CAP: usize> {
     name: Name,
@@ -130,7 +131,7 @@ impl<const CAP: usize> Lock<CAP> {
         }
     }
 
-    /// When it ends by itself, which is not before its last entry; never, where it does not.
+    /// When it ends by itself, which is not before its last entry; never, if it does not.
     pub(crate) fn end_or_never(&self) -> u64
         ensures end { result ≡ end_or_never self.now.status }
         ensures behind { IsNotBefore (latest self.now.own) (end_of self.now.status) }

@@ -1,3 +1,4 @@
+//! The named locks of a process, in the order of their names.
 use crate::answer::{LockAnswer, LockFault, answered};
 use crate::floors::{Floors, ROW};
 use crate::lock::{Lock, LockStats};
@@ -68,7 +69,7 @@ impl<const CAP: usize> WakeLocks<CAP> {
         }
     }
 
-    /// Where the lock of that name is, or where it would go.
+    /// The index of the lock of that name, or the one that it would get.
     fn index_of(&self, name: &Name) -> Result<usize, usize>
         ensures found { IfOk result (IsAt name.now self.now) }
         ensures absent { IfErr result (IsGapFor name.now self.now) }
@@ -151,7 +152,8 @@ impl<const CAP: usize> WakeLocks<CAP> {
         answered(made)
     }
 
-    /// A call on a new lock, which goes there, unless as many are known as may be. After a fault all is as before.
+    /// A call on a new lock, which goes there, unless as many are known as may be. After a fault all is as
+    /// before.
     fn call_new<R: Wait>(
         &mut self,
         rt: &R,
@@ -175,7 +177,7 @@ impl<const CAP: usize> WakeLocks<CAP> {
         }
     }
 
-    /// Puts a new lock there. Where there is no memory, all is as before.
+    /// Puts a new lock there. If there is no memory, all is as before.
     fn insert(&mut self, at: usize, lock: Lock<CAP>) -> Result<LockAnswer, LockFault>
         requires gap { IsGapFor lock.name self.old at }
         requires few { length self.old < 100 }
@@ -193,8 +195,8 @@ impl<const CAP: usize> WakeLocks<CAP> {
         Ok(LockAnswer::Done)
     }
 
-    /// Makes each expiry up to that moment at its own, those of one moment by name (`pm_wakeup_timer_fn`). After a
-    /// fault those that were made stand.
+    /// Makes each expiry up to that moment at its own, those of one moment by name (`pm_wakeup_timer_fn`).
+    /// After a fault those that were made stay.
     pub fn advance<R: Wait>(&mut self, rt: &R, to: u64) -> Result<(), LockFault>
         requires time { AreBefore to self.old }
         requires small { to ≤ 2 ^ 63 }
@@ -213,8 +215,8 @@ impl<const CAP: usize> WakeLocks<CAP> {
         Ok(())
     }
 
-    /// The lock that ends first by that moment, the first by name of those that end together. No lock is looked at before
-    /// one may end.
+    /// The lock that ends first by that moment, the first by name of those that end together. No lock is
+    /// looked at before one may end.
     fn next_due(&mut self, to: u64) -> Option<Soonest>
         requires small { to ≤ 2 ^ 63 }
         ensures same { self.new ≡ self.old }
@@ -234,7 +236,7 @@ impl<const CAP: usize> WakeLocks<CAP> {
         Some(found)
     }
 
-    /// The lock that ends first, where one ends by that moment.
+    /// The lock that ends first, if one ends by that moment.
     fn first_to_end(&mut self, to: u64) -> Soonest
         requires { to < never }
         ensures same { self.new ≡ self.old }
@@ -254,8 +256,8 @@ impl<const CAP: usize> WakeLocks<CAP> {
         found
     }
 
-    /// The same with the locks of a row, which stand before the others. No lock is looked at where none of the row ends by
-    /// that moment.
+    /// The same with the locks of a row, which come before the others. No lock is looked at if none of the
+    /// row ends by that moment.
     fn past_row(&mut self, to: u64, row: usize, found: Soonest) -> Soonest
         requires small { to < never }
         requires in_range { row * 8 < length self.old }
@@ -274,8 +276,8 @@ impl<const CAP: usize> WakeLocks<CAP> {
         found
     }
 
-    /// The same with the locks between two places, which stand before the others, and a moment before which none of these
-    /// ends.
+    /// The same with the locks between two indices, which come before the others, and a moment before which
+    /// none of these ends.
     fn with_row(&self, from: usize, until: usize, behind: Soonest) -> (Soonest, u64)
         requires ordered { from ≤ until }
         requires in_range { until ≤ length self.now }
@@ -304,7 +306,7 @@ impl<const CAP: usize> WakeLocks<CAP> {
         Ok(ListOf::of_vec(names))
     }
 
-    /// The same in a list that is there, in place of what stood in it. After an error some of them stand there.
+    /// The same in a list that is there, in place of what was in it. After an error it has some of them.
     pub fn list_names(&self, active: bool, names: &mut Vec<Name>) -> Result<(), Mem>
         ensures { OnOk result (names.new.items ≡ names_of active self.now) }
     {
@@ -317,8 +319,8 @@ impl<const CAP: usize> WakeLocks<CAP> {
         Ok(())
     }
 
-    /// What is counted of each known lock at that moment, in the order of their names. Each stands as its source's entries
-    /// say.
+    /// What is counted of each known lock at that moment, in the order of their names. Each agrees with its
+    /// source's entries.
     pub fn all_stats(&self, now: u64) -> Result<Vec<LockStats>, Mem>
         requires time { AreBefore now self.now }
         requires small { now ≤ 2 ^ 63 }
@@ -332,7 +334,7 @@ impl<const CAP: usize> WakeLocks<CAP> {
         Ok(all)
     }
 
-    /// The statistics of that lock's source at that moment, where it is known (`print_wakeup_source_stats`).
+    /// The statistics of that lock's source at that moment, if it is known (`print_wakeup_source_stats`).
     pub fn stats(&self, name: &Name, now: u64) -> Option<Stats>
         requires time { AreBefore now self.now }
         requires small { now ≤ 2 ^ 63 }

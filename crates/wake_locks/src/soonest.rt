@@ -1,3 +1,4 @@
+//! The lock that ends first of those seen so far.
 ghost use Rattle.std.specs.Prelude.{◌≡◌};
 ghost use Rattle.wake_locks.specs.LockFields.{with_floor, with_lock};
 
@@ -16,7 +17,7 @@ pub(crate) struct Soonest {
 }
 
 impl Soonest {
-    /// The same with one more lock, which stands before the others and ends at that moment.
+    /// The same with one more lock, which comes before the others and ends at that moment.
     pub(crate) fn with_lock(self, at: usize, end: u64) -> Soonest
         ensures { result ≡ with_lock at end self }
     {

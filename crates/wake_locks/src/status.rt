@@ -1,10 +1,11 @@
+//! The status of a lock: inactive, or active until a moment or for ever.
 ghost use Rattle.std.specs.Prelude.{◌≡◌, ◌≤◌, ◌^◌};
 ghost use Rattle.wake_locks.specs.LockStatuses.{status_after, lasting_until, is_in_progress, end_or_never};
 
 use crate::soonest::NEVER;
 use sleep_model::SourceCall;
 
-/// How a lock stands: whether an event is in progress on its source, and whether it ends by itself.
+/// The status of a lock: whether an event is in progress on its source, and whether it ends by itself.
 #[derive(Clone, Copy, Debug, PartialEq, Eq)]
 pub enum LockStatus {
     /// No event is in progress.
@@ -16,7 +17,7 @@ pub enum LockStatus {
 }
 
 impl LockStatus {
-    /// How a lock stands after a call on its source: a later, shorter timeout does not cut an earlier one.
+    /// The status of a lock after a call on its source: a later, shorter timeout does not cut an earlier one.
     pub(crate) fn after(self, call: SourceCall, now: u64) -> LockStatus
         requires { now ≤ 2 ^ 63 }
         ensures { result ≡ status_after call now self }
@@ -28,7 +29,7 @@ impl LockStatus {
         }
     }
 
-    /// How it stands after an event that ends at that moment.
+    /// Its status after an event that ends at that moment.
     fn lasting_until(self, end: u64) -> LockStatus
         ensures { result ≡ lasting_until end self }
     {
@@ -45,7 +46,7 @@ impl LockStatus {
         !matches!(self, LockStatus::Inactive)
     }
 
-    /// When it ends by itself; never, where it does not.
+    /// When it ends by itself; never, if it does not.
     pub(crate) fn end_or_never(self) -> u64
         ensures { result ≡ end_or_never self }
     {

@@ -1,3 +1,4 @@
+//! What a text for wake_lock or wake_unlock asks for.
 ghost use Rattle.std.specs.Prelude.{◌≡◌, ◌≤◌, ◌<◌, ℕ, length, not, ◌==◌, position, if◌then◌else◌, IfSome, Some, None};
 ghost use Rattle.sleep_model.specs.NameBytes.{is_name};
 ghost use Rattle.wake_locks.specs.Texts.{line_of, nanoseconds, timed, after_spaces, timeout, named, lock_text, unlock_text};
@@ -13,7 +14,7 @@ const MOST_DIGITS: usize = 20;
 /// Nanoseconds in a millisecond.
 const MILLISECOND: u64 = 1_000_000;
 
-/// The name that a text is, where it is one.
+/// The name that a text is, if it is one.
 fn name_of(text: &[u8]) -> Option<Name>
     ensures { result ≡ (if is_name text.now then Some text.now else None) }
 {
@@ -33,7 +34,7 @@ fn line_of(text: &[u8]) -> &[u8]
     }
 }
 
-/// The timeout that digits spell, where it is one.
+/// The timeout that digits spell, if it is one.
 fn nanoseconds(digits: &[u8]) -> Option<u64>
     ensures { result ≡ nanoseconds digits.now }
 {
@@ -69,7 +70,7 @@ fn is_no_space(byte: u8) -> bool
     byte != b' '
 }
 
-/// Where the first space is.
+/// The index of the first space.
 fn first_space(line: &[u8]) -> Option<usize>
     ensures is { result ≡ position (λ b. b == 32) line.now }
     ensures within { IfSome result (λ at. at < length line.now) }
@@ -77,7 +78,7 @@ fn first_space(line: &[u8]) -> Option<usize>
     line.iter().position(|byte| *byte == b' ')
 }
 
-/// Where the first byte is that is no space.
+/// The index of the first byte that is no space.
 fn first_other(rest: &[u8]) -> Option<usize>
     ensures is { result ≡ position (λ b. not (b == 32)) rest.now }
     ensures within { IfSome result (λ at. at < length rest.now) }
@@ -85,7 +86,7 @@ fn first_other(rest: &[u8]) -> Option<usize>
     rest.iter().position(|byte| is_no_space(*byte))
 }
 
-/// What stands after the spaces.
+/// What follows the spaces.
 fn after_spaces(rest: &[u8]) -> &[u8]
     ensures { result.now ≡ after_spaces (position (λ b. not (b == 32)) rest.now) rest.now }
 {
@@ -95,7 +96,7 @@ fn after_spaces(rest: &[u8]) -> &[u8]
     }
 }
 
-/// The call of what stands after a name.
+/// The call of what follows a name.
 fn timeout(rest: &[u8]) -> Option<SourceCall>
     ensures { result ≡ timeout rest.now }
 {
@@ -103,7 +104,7 @@ fn timeout(rest: &[u8]) -> Option<SourceCall>
     Some(timed(ns))
 }
 
-/// A name and a call, where the name is one.
+/// A name and a call, if the name is one.
 fn named(name: &[u8], call: Option<SourceCall>) -> Option<(Name, SourceCall)>
     ensures { result ≡ named name.now call }
 {

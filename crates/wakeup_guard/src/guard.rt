@@ -1,3 +1,4 @@
+//! The guard of an attempt: the saved count of events, and how many the attempt began with.
 use sleep_base::Errno;
 use sleep_model::{EventNow, FrozeEnd, Group, Kind, SkipCause};
 use std::marker::Model;
@@ -74,8 +75,8 @@ impl<const BITS: u32> Guard<BITS> {
         self.has_changed(now) || now.hard > self.forgotten
     }
 
-    /// Forgets the hard events so far (`pm_wakeup_clear`). It is for a caller that keeps a guard without a journal: the
-    /// core tells a guard of entries by `note`.
+    /// Forgets the hard events so far (`pm_wakeup_clear`). It is for a caller that has a guard without a
+    /// journal: the core reports entries to a guard by `note`.
     pub fn clear_hard(&mut self, now: EventNow)
         ensures { self.new ≡ record self.old { forgotten = now.hard } }
     {

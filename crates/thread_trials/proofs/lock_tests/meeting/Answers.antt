@@ -1,3 +1,4 @@
+-- Proof that `meeting` meets what `map_vec` requires.
 use Rattle.turn_lock.proofs.LastPasses.{one_of_all_alone}
 use Rattle.thread_trials.proofs.lock_tests.meeting.Goals as goal
 

@@ -1,3 +1,4 @@
+-- The invariant of the loop of `objects`.
 use Rattle.std.proofs.Common.{◌≡◌, vec_len}
 use Rattle.thread_trials.proofs.lock_tests.objects.Given as goal
 

@@ -1,3 +1,4 @@
+-- Proof that `burst` meets its contract, and that it meets what `map_vec` requires.
 use Rattle.std.proofs.Common.{rules, arith, ◌≡◌, ◌<◌, ◌∙◌, get_or, length, map, List, [], ◌∷◌, ℕ, zero, suc, sym, ap, subst}
 use Rattle.std.proofs.lemmas.List.{length-map}
 use mathlib.Core.Option.{some, some-injective, some-ne-none}

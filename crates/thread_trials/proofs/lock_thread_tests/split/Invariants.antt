@@ -1,3 +1,4 @@
+-- The invariant of the loop of `split`.
 use Rattle.std.proofs.Common.{◌≡◌, map}
 use Rattle.thread_trials.specs.declared.list_tests.PassHolder.{PassHolder}
 use Rattle.thread_trials.proofs.lock_thread_tests.split.Given as goal

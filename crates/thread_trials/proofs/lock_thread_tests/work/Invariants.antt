@@ -1,3 +1,4 @@
+-- The invariant of the loop of `work`.
 use Rattle.std.proofs.Common.{◌≡◌}
 use Rattle.turn_lock.specs.Passes.{IsPass, first_of, number_of}
 use Rattle.thread_trials.proofs.lock_thread_tests.work.Given as goal

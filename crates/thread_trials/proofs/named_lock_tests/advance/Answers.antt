@@ -1,3 +1,4 @@
+-- Proof that `advance` meets what `advance` requires.
 use Rattle.std.proofs.Common.{arith}
 use Rattle.wake_locks.proofs.Timely.{before_later}
 use Rattle.thread_trials.proofs.named_lock_tests.advance.Goals as goal

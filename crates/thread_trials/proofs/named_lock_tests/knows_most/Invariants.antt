@@ -1,3 +1,4 @@
+-- The invariant of the loop of `knows_most`.
 use Rattle.wake_locks.specs.Locks.{ExpiriesAreDue}
 use Rattle.thread_trials.proofs.named_lock_tests.knows_most.Given as goal
 

@@ -1,3 +1,4 @@
+-- Proof that `meeting` meets what `map_vec` requires.
 use Rattle.event_word.proofs.Seating.{new_at}
 use Rattle.thread_trials.proofs.word_overlap_tests.meeting.Goals as goal
 

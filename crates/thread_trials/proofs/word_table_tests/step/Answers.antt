@@ -1,3 +1,4 @@
+-- Proof that `step` meets what `hard`, `finish` and `start` require.
 use Rattle.std.proofs.Common.{rules}
 use Rattle.sleep_model.specs.declared.word.WordKind.TheVariants.{Start, Finish, Hard}
 use Rattle.event_word.proofs.Seating.{can_now}

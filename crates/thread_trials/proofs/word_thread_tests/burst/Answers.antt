@@ -1,3 +1,4 @@
+-- Proof that `burst` meets its contract, and that it meets what `map_vec` requires.
 use Rattle.std.proofs.Common.{rules, arith, ◌≡◌, ◌<◌, ◌∙◌, get_or, length, map, List, [], ◌∷◌, ℕ, zero, suc, sym, ap, refl, subst}
 use Rattle.std.proofs.lemmas.List.{length-map}
 use mathlib.Core.Option.{some, some-injective, some-ne-none}
@@ -30,7 +31,7 @@ module _ {A : Type 0} where
   read_at (y ∷ ys) zero x d e = some-injective y x e
   read_at (y ∷ ys) (suc k) x d e = read_at ys k x d e
 
--- the workers' seats, each as it was given
+-- the workers' seats are those that they were given
 all_done : (look : Token) (seats : List EventSeat) (done : List Done) → AreNew look (tokens seats) → length done ≡ length seats
     → ((k : ℕ) (d : Done) → k < length seats → (s : EventSeat) × (s ≡ get_or seats k s) × ((get_or done k d).seat.token.table_id ≡ s.token.table_id) × (number_of (get_or done k d).seat.token ≡ number_of s.token))
     → AreAll look (map (λ (d : Done). d.seat.token) done)

@@ -1,3 +1,4 @@
+-- The invariant of the loop of `gathered`.
 use Rattle.std.proofs.Common.{◌≡◌, map}
 use Rattle.event_word.specs.Lists.{tokens}
 use Rattle.thread_trials.specs.declared.word_thread_tests.Done.{Done}

@@ -1,3 +1,4 @@
+-- The invariant of the loop of `work`.
 use Rattle.std.proofs.Common.{◌≡◌, length}
 use Rattle.event_word.specs.Steps.{is_active}
 use Rattle.event_word.specs.Seats.{number_of, made_of}

@@ -1,3 +1,4 @@
+-- Proof that `close_locks` meets its contract, and that it meets what `unslotted` requires.
 use Rattle.std.proofs.Common.{rules, subst, List}
 use Rattle.turn_lock.specs.Locks.{AreClosed}
 use Rattle.turn_lock.specs.Passing.{made_lists}

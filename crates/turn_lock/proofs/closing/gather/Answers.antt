@@ -1,3 +1,4 @@
+-- Proof that `gather` meets what `join_seat` requires.
 use Rattle.std.proofs.Common.{rules, ap, sym, ◌∙◌, Some, ℕ}
 use Rattle.turn_lock.proofs.Invariance.{may_join}
 use Rattle.turn_lock.proofs.LastPasses.{came, known_length}

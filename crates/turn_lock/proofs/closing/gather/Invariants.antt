@@ -1,3 +1,4 @@
+-- The invariant of the loop of `gather`.
 use Rattle.std.proofs.Common.{◌≡◌, ◌++◌}
 use Rattle.turn_lock.specs.Passes.{IsOwn, first_of}
 use Rattle.turn_lock.specs.Passing.{made_lists}

@@ -1,3 +1,4 @@
+-- Proof that the loop of `unslotted` keeps its invariant.
 use Rattle.std.proofs.Common.{rules, ap, sym, ◌∙◌, subst, Some, ◌≡◌, ◌<◌, false, get_or}
 use mathlib.Core.Option.{some}
 use lib.ListN.{get_elem?}

@@ -1,3 +1,4 @@
+-- The invariant of the loop of `unslotted`.
 use Rattle.std.proofs.Common.{◌≡◌, ◌<◌, ℕ, false, get_or, vec_len, vec_capacity}
 use Rattle.std.specs.Slots.{slots_items, slots_len, slots_filled}
 use Rattle.std.specs.Slots.Ownership.{Filled}

@@ -1,3 +1,4 @@
+-- The invariant of the loop of `slotted`.
 use Rattle.std.proofs.Common.{◌≡◌, map, Some}
 use Rattle.turn_lock.proofs.opening.slotted.Given as goal
 

@@ -1,3 +1,4 @@
+-- Proof that `give` meets what `store` requires.
 use Rattle.std.proofs.Common.{rules, ◌∷◌, ◌++◌, ◌∙◌, sym, ap, Some}
 use lib.ListN.{get_elem?}
 use Rattle.atomic_table.specs.Table.{rest}

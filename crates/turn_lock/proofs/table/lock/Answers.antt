@@ -1,3 +1,4 @@
+-- Proof that `lock` meets what `compare_exchange` requires.
 use Rattle.std.proofs.Common.{rules, ◌<◌, sym, ap, ◌∙◌, subst, length, List}
 use Rattle.turn_lock.proofs.Invariance.{may_take}
 use Rattle.turn_lock.proofs.table.lock.Goals as goal

@@ -1,3 +1,4 @@
+-- The invariant of the loop of `lock`.
 use Rattle.std.proofs.Common.{◌≡◌}
 use Rattle.turn_lock.proofs.table.lock.Given as goal
 

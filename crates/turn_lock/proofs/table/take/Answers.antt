@@ -1,3 +1,4 @@
+-- Proof that `take` meets what `exchange` requires.
 use Rattle.std.proofs.Common.{rules, ◌∷◌, ◌∙◌, sym, ap, Some}
 use Rattle.atomic_table.specs.Table.{rest}
 use Rattle.turn_lock.proofs.table.take.Goals as goal

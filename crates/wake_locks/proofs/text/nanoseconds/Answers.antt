@@ -1,3 +1,4 @@
+-- Proof that `nanoseconds` meets its contract.
 use Rattle.std.proofs.Common.{◌+◌, ◌-◌, ◌*◌, drop, get_or, arith}
 use Rattle.wake_locks.proofs.Digits.{too_long, no_smaller, one_more}
 use Rattle.wake_locks.proofs.text.nanoseconds.Goals as goal

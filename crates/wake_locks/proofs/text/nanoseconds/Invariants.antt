@@ -1,3 +1,4 @@
+-- The invariant of the loop of `nanoseconds`.
 use Rattle.std.proofs.Common.{◌≡◌, ◌≤◌, ◌+◌, ◌-◌, ◌*◌, drop, fold}
 use Rattle.wake_locks.specs.Texts.{value_of}
 use Rattle.wake_locks.proofs.text.nanoseconds.Given as goal

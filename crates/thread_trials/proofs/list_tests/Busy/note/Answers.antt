@@ -1,3 +1,4 @@
+-- Proof that `Busy::note` keeps the invariant of its type.
 use Rattle.std.proofs.Common.{rules, ◌≡◌, ◌++◌, ◌∷◌, [], ap, ◌∙◌, true}
 use Rattle.turn_lock.specs.Passes.{had_by}
 use Rattle.turn_lock.proofs.Listed.{grown_more, listed_more}

@@ -1,3 +1,4 @@
+-- Proof that `LockTable::empty` meets what `new` requires.
 use Rattle.std.proofs.Common.{rules}
 use Rattle.turn_lock.proofs.Invariance.{opens}
 use Rattle.turn_lock.proofs.table.LockTable.empty.Goals as goal

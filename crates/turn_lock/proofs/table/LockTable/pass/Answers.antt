@@ -1,3 +1,4 @@
+-- Proof that `LockTable::pass` meets what `split_seat` requires.
 use Rattle.std.proofs.Common.{rules}
 use Rattle.turn_lock.proofs.Invariance.{may_split}
 use Rattle.turn_lock.proofs.table.LockTable.pass.Goals as goal

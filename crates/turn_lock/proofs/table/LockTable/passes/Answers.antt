@@ -1,3 +1,4 @@
+-- Proof that the loop of `LockTable::passes` keeps its invariant.
 use Rattle.std.proofs.Common.{rules, ap, ◌∙◌}
 use Rattle.turn_lock.proofs.NewPasses.{passes_more}
 use Rattle.turn_lock.proofs.table.LockTable.passes.Goals as goal

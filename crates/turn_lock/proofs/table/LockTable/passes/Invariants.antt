@@ -1,3 +1,4 @@
+-- The invariant of the loop of `LockTable::passes`.
 use Rattle.std.proofs.Common.{◌≡◌, [], length}
 use Rattle.turn_lock.specs.Passes.{AreNew, first_of}
 use Rattle.turn_lock.specs.Passing.{tokens}

@@ -1,3 +1,4 @@
+-- Proof that `Lock::call` meets its contract, and that it keeps the invariant of its type, and that it meets what `make` requires.
 use Rattle.std.proofs.Common.{◌≡◌, true, ◌≤◌, ◌∙◌, length, Err, sym, ap, subst, arith}
 use Rattle.sleep_model.specs.Sources.{makes, since}
 use Rattle.event_word.specs.Steps.{has_room_for_all}

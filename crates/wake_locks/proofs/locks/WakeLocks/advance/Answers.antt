@@ -1,3 +1,5 @@
+-- Proof that `WakeLocks::advance` meets its contract, and that its loop keeps its invariant, and that it keeps the invariant of its type,
+-- and that it meets what `call_at` requires.
 use Rattle.std.proofs.Common.{◌≡◌, ◌≤◌, ◌+◌, Err, None, ◌-◌, ◌∙◌, List, [], length, get_or, sym, ap, subst, refl, arith}
 use Rattle.std.proofs.lemmas.Grind.{common_steps}
 use Rattle.wake_locks.specs.Expiries.{next_due, expiries, stopped, IsAdvance}

@@ -1,3 +1,4 @@
+-- The invariant of the loop of `WakeLocks::advance`.
 use Rattle.std.proofs.Common.{◌≡◌, ◌≤◌, ◌+◌, length, None}
 use Rattle.wake_locks.specs.Expiries.{expiries, stopped}
 use Rattle.wake_locks.specs.Locks.{AreBefore}

@@ -1,3 +1,4 @@
+-- Proof that the loop of `WakeLocks::all_stats` keeps its invariant, and that it meets what `lock_stats` requires.
 use Rattle.std.proofs.Common.{◌≤◌, ◌∙◌, get_or, sym, subst, arith}
 use Rattle.std.proofs.lemmas.Grind.{common_steps}
 use Rattle.wake_locks.specs.Counted.{Agrees}

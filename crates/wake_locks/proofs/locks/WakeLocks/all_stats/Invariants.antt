@@ -1,3 +1,4 @@
+-- The invariant of the loop of `WakeLocks::all_stats`.
 use Rattle.std.proofs.Common.{◌≡◌, map, take}
 use Rattle.wake_locks.specs.Counted.{AllAgree, lock_stats}
 use Rattle.wake_locks.proofs.locks.WakeLocks.all_stats.Given as goal

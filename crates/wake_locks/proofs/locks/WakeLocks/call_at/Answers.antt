@@ -1,3 +1,5 @@
+-- Proof that `WakeLocks::call_at` meets its contract, and that it keeps the invariant of its type, and that it meets what `lower`
+-- requires.
 use Rattle.std.proofs.Common.{◌<◌, ◌∙◌, ℕ, min, List, length, get_or, set, sym, subst, arith}
 use Rattle.std.proofs.lemmas.List.{length-set}
 use Rattle.wake_locks.specs.Locks.{LockState}

@@ -1,3 +1,4 @@
+-- Proof that `WakeLocks::call_new` meets its contract.
 use Rattle.std.proofs.Common.{◌<◌, List, length, subst, arith}
 use Rattle.wake_locks.specs.Locks.{LockState, new_lock}
 use Rattle.wake_locks.proofs.Written.{Called, new_ended, new_failed}

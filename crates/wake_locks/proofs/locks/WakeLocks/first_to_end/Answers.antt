@@ -1,3 +1,4 @@
+-- Proof that the loop of `WakeLocks::first_to_end` keeps its invariant, and that it meets what `past_row` requires.
 use Rattle.std.proofs.Common.{◌≡◌, ◌*◌, ◌+◌, ◌-◌, ◌∙◌, min, List, length, refl, sym, ap, subst, arith}
 use Rattle.wake_locks.specs.LockFields.{IsSoonest}
 use Rattle.wake_locks.specs.Locks.{LockState}

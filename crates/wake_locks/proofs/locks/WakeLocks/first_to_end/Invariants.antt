@@ -1,3 +1,4 @@
+-- The invariant of the loop of `WakeLocks::first_to_end`, and the measure by which it ends.
 use Rattle.std.proofs.Common.{◌≡◌, ◌≤◌, ◌+◌, ◌*◌, min, length}
 use Rattle.wake_locks.specs.LockFields.{IsSoonest}
 use Rattle.wake_locks.proofs.locks.WakeLocks.first_to_end.Given as goal

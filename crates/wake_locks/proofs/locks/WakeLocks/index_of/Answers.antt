@@ -1,3 +1,4 @@
+-- Proof that `WakeLocks::index_of` meets its contract, and that its loop keeps its invariant.
 use Rattle.std.proofs.Common.{◌≡◌, ◌<◌, ◌+◌, ◌-◌, ◌/◌, ◌∙◌, List, length, get_or, sym, ap, subst, arith}
 use Rattle.std.specs.declared.cmp.Ordering.TheVariants.{Less, Equal, Greater}
 use Rattle.wake_locks.specs.Locks.{LockState, by_name, AreSortedByName}

@@ -1,3 +1,4 @@
+-- The invariant of the loop of `WakeLocks::index_of`, and the measure by which it ends.
 use Rattle.std.proofs.Common.{◌≤◌, ◌-◌, length}
 use Rattle.wake_locks.specs.LockFields.{AreAllBefore}
 use Rattle.wake_locks.proofs.Placed.{ArePreceded}

@@ -1,3 +1,4 @@
+-- Proof that `WakeLocks::insert` meets its contract, and that it keeps the invariant of its type.
 use Rattle.std.proofs.Common.{◌≡◌, ◌<◌, ◌∙◌, min, List, length, sym, ap, subst, arith}
 use Rattle.std.specs.List.{insert}
 use Rattle.std.proofs.lemmas.Grind.{common_steps}

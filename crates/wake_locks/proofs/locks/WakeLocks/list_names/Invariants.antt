@@ -1,3 +1,4 @@
+-- The invariant of the loop of `WakeLocks::list_names`.
 use Rattle.std.proofs.Common.{◌≡◌, take}
 use Rattle.wake_locks.specs.Locks.{names_of}
 use Rattle.wake_locks.proofs.locks.WakeLocks.list_names.Given as goal

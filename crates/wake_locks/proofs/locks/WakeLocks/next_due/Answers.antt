@@ -1,3 +1,4 @@
+-- Proof that `WakeLocks::next_due` meets its contract.
 use Rattle.std.proofs.Common.{Option, None, sym, subst}
 use Rattle.wake_locks.specs.Expiries.{Due}
 use Rattle.wake_locks.specs.LockFields.{MatchDue, NoneEndsBefore}

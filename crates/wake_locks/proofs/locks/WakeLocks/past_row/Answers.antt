@@ -1,3 +1,5 @@
+-- Proof that `WakeLocks::past_row` meets its contract, and that it keeps the invariant of its type, and that it meets what `of_row`,
+-- `set_row` and `with_row` require.
 use Rattle.std.proofs.Common.{◌≡◌, ◌<◌, ◌+◌, ◌*◌, ◌∙◌, ℕ, min, List, length, get_or, sym, ap, subst, arith}
 use Rattle.wake_locks.specs.LockFields.{AreFloors, IsSoonest, NoneEndsWithin, with_floor}
 use Rattle.wake_locks.specs.Locks.{LockState}

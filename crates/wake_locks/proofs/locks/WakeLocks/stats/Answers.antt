@@ -1,3 +1,4 @@
+-- Proof that `WakeLocks::stats` meets its contract, and that it meets what `stats` requires.
 use Rattle.std.proofs.Common.{◌≡◌, ◌≤◌, List, get_or, refl, sym, subst, arith}
 use Rattle.wakeup_source.specs.SourceStates.{latest}
 use Rattle.wake_locks.specs.Locks.{LockState}

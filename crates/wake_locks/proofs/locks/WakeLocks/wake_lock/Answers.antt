@@ -1,3 +1,4 @@
+-- Proof that `WakeLocks::wake_lock` meets its contract, and that it meets what `call_at` and `call_new` require.
 use Rattle.std.proofs.Common.{Result, [], get_or, sym, subst, arith}
 use Rattle.wake_locks.specs.declared.answer.LockAnswer.{LockAnswer}
 use Rattle.wake_locks.specs.declared.status.LockStatus.TheVariants.{Inactive}

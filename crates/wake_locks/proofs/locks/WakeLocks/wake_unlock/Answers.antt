@@ -1,3 +1,4 @@
+-- Proof that `WakeLocks::wake_unlock` meets its contract, and that it meets what `call_at` requires.
 use Rattle.std.proofs.Common.{Result, [], get_or, refl, sym, subst, arith}
 use Rattle.sleep_model.specs.declared.machine.SourceCall.TheVariants.{Relax}
 use Rattle.wake_locks.specs.declared.answer.LockAnswer.{LockAnswer}

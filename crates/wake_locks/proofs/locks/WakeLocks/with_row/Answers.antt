@@ -1,3 +1,4 @@
+-- Proof that `WakeLocks::with_row` meets its contract, and that its loop keeps its invariant, and that it meets what `index` requires.
 use Rattle.std.proofs.Common.{◌≡◌, ◌<◌, ◌+◌, ◌-◌, suc, List, length, get_or, sym, ap, subst, arith}
 use Rattle.wake_locks.specs.LockFields.{IsSoonest, NoneEndsWithin}
 use Rattle.wake_locks.specs.Locks.{LockState}

@@ -1,3 +1,4 @@
+-- The invariant of the loop of `WakeLocks::with_row`, and the measure by which it ends.
 use Rattle.std.proofs.Common.{◌≤◌, ◌<◌, ℕ}
 use Rattle.wake_locks.specs.LockFields.{IsSoonest, NoneEndsWithin}
 use Rattle.wake_locks.specs.LockStatuses.{never}
