@@ -30,7 +30,7 @@ same_attempt (Some n) (Some k) same = refl
 same_attempt None (Some k) same = refl
 same_attempt (Some n) None same = refl
 
--- keys are the same where the things and the attempts are
+-- keys are the same if the things and the attempts are
 pub key_eq : (w v : What) (a b : Option ℕ) → eq-value.it (key_for w a) (key_for v b) ≡ (is_thing w v && is_for a b)
 key_eq (what.Device d p) (what.Device e q) a b = same_attempt a b (d == e && is_phase p q)
 key_eq (what.Syscore x) (what.Syscore y) a b = same_attempt a b (x == y)

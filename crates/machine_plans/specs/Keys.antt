@@ -28,7 +28,7 @@ thing_of (what.Platform step) = thing.Platform (step_rank step)
 abbrev pub key_for : What → Option ℕ → Key
 key_for thing attempt = record { thing = thing_of thing; attempt = attempt }
 
--- where each key is found is the first of its answers
+-- the index at which each key is found is that of the first of its answers
 abbrev pub IsIndexed : List Answer → (Key → Option ℕ) → Type 0
 IsIndexed answers at = (thing : What) (attempt : Option ℕ) →
     option_and_then (slice_get answers) (at (key_for thing attempt)) ≡ answer_for thing attempt answers

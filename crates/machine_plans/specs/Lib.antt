@@ -1,3 +1,4 @@
+-- The definitions of this crate.
 pub mod PlannedAnswers
 pub mod Keys
 pub mod PlanFields

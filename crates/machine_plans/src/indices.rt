@@ -1,4 +1,4 @@
-//! Where the first answer of each thing and attempt stands.
+//! The index of the first answer of each thing and attempt.
 
 ghost use Rattle.std.specs.Prelude.{◌≡◌, ◌<◌, ◌^◌, length, IfOk};
 ghost use Rattle.indexmap.specs.IndexMap.{get};

@@ -1,3 +1,4 @@
+//! The planned answers of a machine, found by thing and attempt.
 use crate::indices::first_indices;
 use crate::key::{Key, key_of};
 use indexmap::IndexMap;
@@ -66,8 +67,8 @@ impl<'a> PlannedAnswers<'a> {
         self.answers.get(*place as usize)
     }
 
-    /// The error that a thing answers in an attempt. None if it answers 0 or 1, and where the
-    /// machine gives no answer.
+    /// The error that a thing answers in an attempt. None if it answers 0 or 1, or if the machine gives no
+    /// answer.
     pub fn error(&self, what: What, attempt: u32) -> Option<Errno>
         ensures { result ≡ answer_error (answer_among self.now what attempt) }
     {
@@ -77,8 +78,8 @@ impl<'a> PlannedAnswers<'a> {
         }
     }
 
-    /// The number that a thing answers in an attempt: 0, 1, or an error as a negative number; 0 where
-    /// the machine gives no answer.
+    /// The number that a thing answers in an attempt: 0, 1, or an error as a negative number; 0 if the
+    /// machine gives no answer.
     pub fn number(&self, what: What, attempt: u32) -> i32
         ensures { result ≡ answer_number (answer_among self.now what attempt) }
     {
@@ -88,7 +89,8 @@ impl<'a> PlannedAnswers<'a> {
         }
     }
 
-    /// What a thing reports in an attempt, in order: calls on sources. Nothing where the machine gives no answer.
+    /// What a thing reports in an attempt, in order: calls on sources. Nothing if the machine gives no
+    /// answer.
     pub fn reports(&self, what: What, attempt: u32) -> &'a [Report]
         ensures { result.now ≡ answer_reports (answer_among self.now what attempt) }
     {

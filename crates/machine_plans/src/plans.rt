@@ -1,3 +1,4 @@
+//! What is planned of a machine: its answers, and its scripts turn by turn.
 use crate::planned_answers::PlannedAnswers;
 use script_plan::{Plan, plans_of};
 use sleep_base::Mem;
@@ -5,8 +6,8 @@ use sleep_model::Machine;
 use std::alloc::Global;
 use std::marker::Model;
 
-/// A machine, what its callbacks answer by thing and attempt, and the steps of each of its scripts, taken and counted
-/// once. Contracts see the machine.
+/// A machine, what its callbacks answer by thing and attempt, and the steps of each of its scripts, taken and
+/// counted once. Contracts see the machine.
 #[derive(Drop)]
 pub struct MachinePlans<'m> {
     machine: &'m Machine,

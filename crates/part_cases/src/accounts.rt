@@ -1,4 +1,4 @@
-//! What is kept of devices and of tasks: `devices FLAG ..` with what each device is, `tasks SCRIPTS MARKS`.
+//! The state of devices and of tasks: `devices FLAG ..` with what each device is, `tasks SCRIPTS MARKS`.
 
 ghost use Rattle.std.specs.Bool.{OnTrue};
 ghost use Rattle.sleep_state.specs.TaskStates.{PositionIsSmall, MarksAreSmall};
@@ -36,6 +36,7 @@ const VERBS: [(&str, AccountQuestion); 7] = [
     ("by_late", AccountQuestion::ByLate),
 ];
 
+/// The reply to a question about devices.
 fn reply_of(devices: &Devices, verb: AccountQuestion, words: Words) -> CaseReply {
     let device = words.number(0);
     one(match verb {
@@ -61,6 +62,7 @@ fn note(devices: &mut Devices, text: &str) -> CaseReply {
 }
 
 impl CaseRunner for Devices {
+    /// Answers a question about devices, or notes an entry.
     fn answer(&mut self, line: &str, out: &mut Out) {
         let (word, rest) = cut(line, ' ');
         let reply = match found(&VERBS, word) {
@@ -77,7 +79,7 @@ const FLAGS: [(&str, DeviceFlags); 3] = [
     ("runtime_suspended", DeviceFlags::RUNTIME_SUSPENDED),
 ];
 
-/// What is kept at first of devices that are so.
+/// The first state of devices with these flags.
 fn preserved_of(alloc: Global, text: &str) -> Result<Devices, Mem> {
     let name = Name::of_bytes(b"d").ok_or(Mem)?;
     let mut devices = Vec::new(alloc);
@@ -133,6 +135,7 @@ fn position_reply(tasks: &Tasks, script: u32) -> CaseReply {
     )
 }
 
+/// The reply to a question about tasks.
 fn task_reply(tasks: &Tasks, asks: TaskQuestion, words: Words) -> CaseReply {
     match asks {
         TaskQuestion::ScriptPosition => position_reply(tasks, words.number(0)),
@@ -185,6 +188,7 @@ fn note_task(tasks: &mut Tasks, text: &str) -> CaseReply {
 }
 
 impl CaseRunner for Tasks {
+    /// Answers a question about tasks, or notes an entry.
     fn answer(&mut self, line: &str, out: &mut Out) {
         let (word, rest) = cut(line, ' ');
         let reply = match found(&ASKS, word) {

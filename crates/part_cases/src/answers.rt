@@ -1,4 +1,5 @@
-//! What callbacks answer: `answers`, with `given ATTEMPT RET WHAT` for each answer of a machine, whose attempt is `-` for any.
+//! What callbacks answer: `answers`, with `given ATTEMPT RET WHAT` for each answer of a machine, whose
+//! attempt is `-` for any.
 
 use crate::asked::{ReplyWord, Words, cut, found};
 use crate::parts::{CaseRunner, answer_lines};
@@ -41,7 +42,7 @@ struct AnswerCase {
     answers: Vec<Answer>,
 }
 
-/// A question to a book.
+/// A question about planned answers.
 #[derive(Clone, Copy)]
 enum AnswerQuestion {
     Number,
@@ -55,7 +56,7 @@ const ASKS: [(&str, AnswerQuestion); 3] = [
     ("found", AnswerQuestion::Found),
 ];
 
-/// What a book says of an attempt.
+/// What the planned answers say of an attempt.
 fn reply_of(
     planned_answers: &PlannedAnswers,
     asks: AnswerQuestion,
@@ -71,7 +72,7 @@ fn reply_of(
     }
 }
 
-/// What a book of these answers says.
+/// What a machine with these answers plans.
 fn asked(
     alloc: Global,
     answers: &[Answer],
@@ -118,6 +119,7 @@ impl AnswerCase {
 }
 
 impl CaseRunner for AnswerCase {
+    /// Takes an answer, or replies to a question.
     fn answer(&mut self, line: &str, out: &mut Out) {
         let (word, rest) = cut(line, ' ');
         if word == "given" {
@@ -133,7 +135,7 @@ impl CaseRunner for AnswerCase {
     }
 }
 
-/// Answers the lines of a book.
+/// Answers the lines of a part `answers`.
 pub fn answers(alloc: Global, lines: &str, out: &mut Out) {
     let mut case = AnswerCase {
         alloc,

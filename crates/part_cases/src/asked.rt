@@ -35,7 +35,8 @@ const FLAGS: [(&str, bool); 6] = [
     ("soft", false),
 ];
 
-/// The actor of that text, as a log has it, with a number in place of a name: `task:0`, `auto`, `dev:1`, `timer:0`, `time`.
+/// The actor of that text, as a log has it, with a number in place of a name: `task:0`, `auto`, `dev:1`,
+/// `timer:0`, `time`.
 pub fn actor_of(text: &str) -> Actor {
     let (kind, name) = cut(text, ':');
     let number = number_of(name);
@@ -56,7 +57,7 @@ const ACTORS: [(&str, Actor); 5] = [
     ("time", Actor::Time),
 ];
 
-/// What a word stands for in a table.
+/// What a word means in a table.
 pub fn found<T: Copy>(table: &[(&str, T)], word: &str) -> Option<T> {
     table
         .iter()

@@ -9,7 +9,7 @@ use sleep_base::Mem;
 use sleep_model::Link;
 use std::alloc::Global;
 
-/// Devices, by the words that tell their parents, and the links that are to be made.
+/// Devices, by the words that give their parents, and the links that are to be made.
 #[derive(Drop)]
 struct AtOnce<'a> {
     alloc: Global,
@@ -28,7 +28,7 @@ impl AtOnce<'_> {
         Ok(())
     }
 
-    /// Says the order that the links leave, or only that they are made; none are made where one is refused.
+    /// Says the order that the links leave, or only that they are made; none are made if one is refused.
     fn say_made(&self, in_order: bool, out: &mut Out) -> Result<(), Mem> {
         let parents = parents_in(self.alloc, self.parents)?;
         match Links::with_links(self.alloc, &parents, &self.list)? {
@@ -52,6 +52,7 @@ fn say_links(links: &Links, in_order: bool, out: &mut Out) {
 }
 
 impl CaseRunner for AtOnce<'_> {
+    /// Takes a link, or makes all of them.
     fn answer(&mut self, line: &str, out: &mut Out) {
         let (word, rest) = cut(line, ' ');
         let done = match word {

@@ -41,7 +41,7 @@ const VERBS: [(&str, AutosleepQuestion); 6] = [
     ("work", AutosleepQuestion::Work),
 ];
 
-/// Where the work stands.
+/// The state of the work.
 fn work_reply(work: Work) -> CaseReply {
     match work {
         Work::Resting => one(ReplyWord::Text("resting")),
@@ -66,7 +66,7 @@ fn reply_of(auto: &Autosleep, verb: AutosleepQuestion, words: Words) -> CaseRepl
     }
 }
 
-/// Notes an entry, where the work ran a few times alone.
+/// Notes an entry, after few runs of the work.
 #[tactic(auto, using(crate::proofs::Running::runs_few))]
 fn noted(auto: &mut Autosleep, who: Actor, kind: Kind) -> CaseReply {
     if auto.runs() > 9 {
@@ -85,6 +85,7 @@ fn note(auto: &mut Autosleep, text: &str) -> CaseReply {
 }
 
 impl CaseRunner for Autosleep {
+    /// Answers a question about the work, or notes an entry.
     fn answer(&mut self, line: &str, out: &mut Out) {
         let (word, rest) = cut(line, ' ');
         let reply = match found(&VERBS, word) {

@@ -1,5 +1,5 @@
-//! Where devices stand, and what the phases make of it: `board PARENT .., ASYNC .., SUPPLIER CONSUMER ..` with the parent of
-//! each device, whether it is asynchronous, and active links.
+//! The states of devices, and what the phases make of them: `board PARENT .., ASYNC .., SUPPLIER CONSUMER ..`
+//! with the parent of each device, whether it is asynchronous, and active links.
 
 use crate::asked::{ReplyWord, Words, cut, found};
 use crate::boards_due::asked_reply;
@@ -28,7 +28,7 @@ pub struct BoardCase {
     pub none: Flags,
 }
 
-/// The device that a board tells, in a phase where it is of one.
+/// The device that a board finds, in a phase if the question is of one.
 #[derive(Clone, Copy)]
 enum Next {
     Prepared,
@@ -54,7 +54,7 @@ const NEXT: [(&str, Next); 9] = [
     ("waits_above", Next::WaitsAbove),
 ];
 
-/// The device that a board tells.
+/// The device that a board finds.
 fn next_of(board: &Board, next: Next, words: Words) -> Option<u32> {
     let (phase, device) = (words.phase(0), words.number(1));
     match next {
@@ -111,7 +111,7 @@ fn reply_of(board: &Board, asks: BoardQuestion, words: Words) -> CaseReply {
     }
 }
 
-/// Each stand and its name.
+/// Each state and its name.
 const STATES: [(&str, PhaseState); 10] = [
     ("unprepared", PhaseState::Unprepared),
     ("prepared", PhaseState::Prepared),
@@ -125,6 +125,7 @@ const STATES: [(&str, PhaseState); 10] = [
     ("resumed", PhaseState::Resumed),
 ];
 
+/// The name of a state.
 fn state_name(state: PhaseState) -> &'static str {
     match state {
         PhaseState::Unprepared => "unprepared",
@@ -189,6 +190,7 @@ fn question_reply(board: &Board, word: &str, words: Words) -> Option<CaseReply> 
 }
 
 impl CaseRunner for BoardCase {
+    /// Answers a question about the board, or changes it.
     fn answer(&mut self, line: &str, out: &mut Out) {
         let (word, rest) = cut(line, ' ');
         let reply = match question_reply(&self.board, word, Words::of(rest)) {
@@ -199,7 +201,7 @@ impl CaseRunner for BoardCase {
     }
 }
 
-/// The active links that words tell.
+/// The active links that words give.
 fn links_in(alloc: Global, text: &str) -> Result<Vec<Link>, Mem> {
     let mut links = Vec::new(alloc);
     for link in text.split(';') {
@@ -221,7 +223,7 @@ fn linked(alloc: Global, parents: &str, links: &str) -> Result<Links, Mem> {
     Links::with_links(alloc, &parents, &list)?.ok_or(Mem)
 }
 
-/// Flags that words tell.
+/// Flags that words give.
 fn flags_in(alloc: Global, text: &str) -> Result<Vec<bool>, Mem> {
     let mut flags = Vec::new(alloc);
     for word in text.split(' ') {
@@ -230,7 +232,7 @@ fn flags_in(alloc: Global, text: &str) -> Result<Vec<bool>, Mem> {
     Ok(flags)
 }
 
-/// The board that a text tells.
+/// The board that a text gives.
 fn wired(alloc: Global, text: &str) -> Result<Board, Mem> {
     let (parents, rest) = cut(text, ',');
     let (asynchronous, list) = cut(rest, ',');
@@ -257,7 +259,7 @@ pub fn boards(alloc: Global, text: &str, lines: &str, out: &mut Out) {
     }
 }
 
-/// What is told of a stand: that it is prepared, ready, not down, down, direct-complete, not up, taken.
+/// What holds of a state: that it is prepared, ready, not down, down, direct-complete, not up, taken.
 fn state_reply(state: PhaseState) -> [bool; 7] {
     [
         is_prepared(state),
@@ -270,7 +272,7 @@ fn state_reply(state: PhaseState) -> [bool; 7] {
     ]
 }
 
-/// Says what is told of each stand.
+/// Says what holds of each state.
 pub fn states(lines: &str, out: &mut Out) {
     for line in lines.split('\n') {
         if let Some(state) = found(&STATES, line) {

@@ -1,4 +1,5 @@
-//! What the phases make on a board: prepare and complete, the walks down and up, a device on its way, a request.
+//! What the phases make on a board: prepare and complete, the walks down and up, a device on its way, a
+//! request.
 
 use crate::asked::{ReplyWord, Words, found};
 use crate::boards::BoardCase;
@@ -11,20 +12,21 @@ use phase_suspend::{Down, DownEnv, runtime_due};
 use sleep_base::Errno;
 use sleep_model::Due;
 
-// No error stands.
+// There is no error.
 const FINE: Down = Down {
     failed: None,
     own: None,
 };
 
-// A device's error stands, and a synchronous one's before it.
+// A device's error, and a synchronous one's before it.
 const FAILED: Down = Down {
     failed: Some(Errno::EBUSY),
     own: Some(Errno::EIO),
 };
 
-/// What is asked: prepare with a phase's error, complete, the walk down where devices ask to be left alone and a wakeup is
-/// pending, a device there, both where errors stand and a wakeup is pending, the walk up and a device there.
+/// What is asked: prepare with a phase's error, complete, the walk down if devices ask for direct-complete
+/// and a wakeup is pending, a device there, both if there are errors and a wakeup is pending, the walk up and
+/// a device there.
 #[derive(Clone, Copy)]
 enum Asked {
     Prepare,
@@ -48,8 +50,8 @@ const ASKED: [(&str, Asked); 8] = [
     ("device_up", Asked::DeviceUp),
 ];
 
-/// What a walk down looks at: flags of devices that ask to be left alone and are runtime suspended; none is a source of
-/// wakeup.
+/// What a walk down looks at: flags of devices that ask for direct-complete and are runtime suspended; none
+/// is a source of wakeup.
 fn env_of<'a>(case: &'a BoardCase, asks: &'a Flags, pending: bool) -> DownEnv<'a> {
     DownEnv {
         board: &case.board,
@@ -86,7 +88,8 @@ fn due_of(case: &BoardCase, asked: Asked, words: Words) -> Due {
     }
 }
 
-/// The answer to a device's request to be suspended or resumed, where runtime PM is disabled by direct-complete and by late.
+/// The answer to a device's request to be suspended or resumed, if runtime PM is disabled by direct-complete
+/// and by late.
 fn request_of(case: &BoardCase, words: Words) -> ReplyWord {
     let (by_direct, by_late) = (words.flag(1), words.flag(2));
     error(runtime_due(

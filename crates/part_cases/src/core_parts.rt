@@ -16,7 +16,7 @@ use crate::tables::{flags, rows, stacks};
 use crate::trees::{requests, trees};
 use std::alloc::Global;
 
-/// A part of the core, whose head has numbers alone or nothing.
+/// A part of the core, whose head has only numbers or nothing.
 #[derive(Clone, Copy)]
 enum Subject {
     Phases,
@@ -98,7 +98,7 @@ fn answer_listed(alloc: Global, part: Listed, text: &str, lines: &str, out: &mut
     }
 }
 
-/// Answers the lines of a part of the core. Whether the head tells one.
+/// Answers the lines of a part of the core. Whether the head names one.
 pub fn answer_core_part(alloc: Global, head: &str, lines: &str, out: &mut Out) -> bool {
     let (name, rest) = cut(head, ' ');
     if let Some(part) = found(&SUBJECTS, name) {

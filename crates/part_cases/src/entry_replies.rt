@@ -102,6 +102,7 @@ fn doing(step: PlatDo) -> &'static str {
     }
 }
 
+/// The word of an undo of the platform.
 fn undoing(step: PlatUndo) -> &'static str {
     match step {
         PlatUndo::Recover => "platform_recover",

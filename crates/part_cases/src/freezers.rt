@@ -77,6 +77,7 @@ fn note(freezer: &mut Freezer<'_>, text: &str) -> CaseReply {
 }
 
 impl CaseRunner for Freezer<'_> {
+    /// Answers a question about the freezer, or notes an entry.
     fn answer(&mut self, line: &str, out: &mut Out) {
         let (word, rest) = cut(line, ' ');
         let reply = match found(&VERBS, word) {

@@ -37,7 +37,7 @@ fn say_step(step: &Step, out: &mut Out) {
     }
 }
 
-/// The kind of a task, where it is one of the generator's.
+/// The kind of a task, if it is one of the generator's.
 fn kind_name(kind: &TaskKind) -> &'static str {
     match kind {
         TaskKind::User => "user",
@@ -46,7 +46,8 @@ fn kind_name(kind: &TaskKind) -> &'static str {
     }
 }
 
-/// Says the name of a task; its kind, how often its script is made and how many steps that has; and the steps of a line.
+/// Says the name of a task; its kind, how often its script is made and how many steps that has; and the steps
+/// of a line.
 fn say_task(script: &Script, out: &mut Out) {
     let steps = script.steps.as_slice();
     out.line(script.name.bytes());

@@ -61,6 +61,7 @@ fn note<const BITS: u32>(guard: &mut Guard<BITS>, text: &str) -> CaseReply {
 }
 
 impl<const BITS: u32> CaseRunner for Guard<BITS> {
+    /// Answers a question about the guard, or notes an entry.
     fn answer(&mut self, line: &str, out: &mut Out) {
         let (word, rest) = cut(line, ' ');
         let reply = match found(&VERBS, word) {

@@ -11,6 +11,7 @@ use std::alloc::Global;
 use std::sync::Wait;
 use std::thread::Threads;
 
+/// The name of a kind of entry.
 fn kind_name(kind: IdleKind) -> &'static str {
     match kind {
         IdleKind::Hard => "hard",
@@ -58,7 +59,8 @@ fn len_within(entries: &[IdleEntry], words: Words) -> ReplyWord {
     ReplyWord::Flag(least <= entries.len() && entries.len() <= most)
 }
 
-/// Answers a line about a log: its entries, its count of hard events or of wakes, or whether the idler sleeps at the end.
+/// Answers a line about a log: its entries, its count of hard events or of wakes, or whether the idler sleeps
+/// at the end.
 fn say_of(log: &IdleLog, line: &str, out: &mut Out) {
     let (word, rest) = cut(line, ' ');
     match word {

@@ -1,5 +1,5 @@
-//! What entries say, spelled as in a log, with an underscore for each space before its names and numbers, and a number in
-//! place of each name: `begin late 2`, `save_err 3 EINVAL`, `skip_direct suspend 2`.
+//! What entries say, spelled as in a log, with an underscore for each space before its names and numbers, and
+//! a number in place of each name: `begin late 2`, `save_err 3 EINVAL`, `skip_direct suspend 2`.
 
 use crate::asked::{Words, actor_of, cut, found};
 use sleep_model::{Actor, FrozeEnd, Group, Kind, Phase, PlatDo, PlatUndo, SkipCause, State, Thaw};
@@ -7,7 +7,7 @@ use sleep_model::{Actor, FrozeEnd, Group, Kind, Phase, PlatDo, PlatUndo, SkipCau
 // Any phase.
 const ANY: Phase = Phase::Prepare;
 
-/// Each first word, with what it says where all numbers are 0.
+/// Each first word, with its kind of entry if all numbers are 0.
 const TASKS: [(&str, Kind); 37] = [
     ("frozen", Kind::Frozen),
     ("read_wait", Kind::ReadWait),

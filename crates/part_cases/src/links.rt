@@ -44,7 +44,7 @@ fn known(parent: Option<u32>, count: usize) -> Option<u32>
     }
 }
 
-/// The parents of devices, which words tell.
+/// The parents of devices, which words give.
 pub fn parents_in(alloc: Global, text: &str) -> Result<Vec<Option<u32>>, Mem>
     ensures { IfOk result (λ v. EachAfterParent 0 v.items) }
 {
@@ -79,7 +79,7 @@ fn say_done(done: Result<(), LinkFault>, out: &mut Out) {
     }
 }
 
-/// Adds a link. Whether it is added, or would close a cycle whose path is not told.
+/// Adds a link. Whether it is added, or would close a cycle whose path is not named.
 fn tried(links: &mut Links, words: Words) -> CaseReply {
     match links.add(words.number(0), words.number(1)) {
         Ok(()) => one(ReplyWord::Number(0)),

@@ -1,4 +1,4 @@
-//! Lines that lock and unlock names: `lock_lines`. In texts a bar stands for each newline.
+//! Lines that lock and unlock names: `lock_lines`. In texts a bar is a newline.
 
 use crate::asked::{Words, cut};
 use crate::reply::{Out, number};
@@ -17,6 +17,7 @@ fn say_text(text: &[u8], out: &mut Out) {
     out.end();
 }
 
+/// Says why lines are refused.
 fn say_fault(fault: &LinesFault, out: &mut Out) {
     match fault {
         LinesFault::Line(line) => {
@@ -32,7 +33,7 @@ fn say_fault(fault: &LinesFault, out: &mut Out) {
     }
 }
 
-/// What lines are answered, where they are not too long.
+/// What lines are answered, if they are not too long.
 fn answered<R: Wait>(rt: &R, alloc: Global, lines: &[u8]) -> Result<Vec<u8>, LinesFault> {
     if lines.len() > MOST_BYTES as usize {
         return Err(LinesFault::Mem);

@@ -71,7 +71,7 @@ pub fn say_times(list: &EntryList, out: &mut Out) {
 }
 
 impl EntryCase {
-    /// A journal with room for these entries alone, which has them.
+    /// A journal which has these entries, and room for no others.
     fn journal(&self) -> Result<Journal, Mem> {
         let mut journal = Journal::new(self.alloc);
         journal.reserve(self.made.len())?;
@@ -147,7 +147,7 @@ fn log_of(alloc: Global, lines: &str) -> Result<Log, Mem> {
     })
 }
 
-/// What a log counts, where it has few entries.
+/// What a log counts, if it has few entries.
 fn counted(log: &Log) -> Option<Counts> {
     (log.entries.len() <= u32::MAX as usize).then(|| count(log))
 }
@@ -165,8 +165,9 @@ fn last_reply(last: Option<LastDev>) -> CaseReply {
     }
 }
 
-/// Says what a log counts: successes, failures, failed freezes, then failures of prepare, suspend, late, noirq, resume, early
-/// and resume_noirq; the errors of the last two attempts that failed; the last two devices that failed.
+/// Says what a log counts: successes, failures, failed freezes, then failures of prepare, suspend, late,
+/// noirq, resume, early and resume_noirq; the errors of the last two attempts that failed; the last two
+/// devices that failed.
 fn say_counts(counts: &Counts, out: &mut Out) {
     out.list(&[counts.success, counts.fail, counts.failed_freeze]);
     out.list(&[

@@ -1,5 +1,5 @@
-//! Tries the parts of the core, of a run and of the program by cases. Each line of its input is a call of a part,
-//! and each line of its output is what that call answers.
+//! Tries the parts of the core, of a run and of the program by cases. Each line of its input is a call of a
+//! part, and each line of its output is what that call answers.
 //!
 //! Begin reading in `tools/worked/parts/`; `src/core_parts.rt`, `src/other_parts.rt`.
 #![tactic(auto)]
@@ -63,7 +63,7 @@ fn answer_all<R: Threads + Wait + Sync>(rt: &R, alloc: Global, text: &str, out: 
     }
 }
 
-/// What the input is answered. Whether that could be said.
+/// The answers to the input. Whether they could be written.
 fn answer_input<R: Threads + Wait + Sync>(
     rt: &R,
     alloc: Global,
@@ -83,6 +83,7 @@ fn can_write(err: &mut StdSink) -> bool {
     write_all(err, b"to standard error\n").is_ok() && err.faults() == 0
 }
 
+/// Reads the input and writes the answers; the status says whether all was well.
 fn main(rt: HostRuntime) -> ExitCode {
     let alloc = rt.alloc();
     let mut source = StdSource::input(&rt);

@@ -1,5 +1,5 @@
-//! The one log of a journal and the sources' histories: `merge`, with `at LIST TIME POS TICK ENTRY` for each entry, of the
-//! journal where the list is 0, else of that history of seven.
+//! The one log of a journal and the sources' histories: `merge`, with `at LIST TIME POS TICK ENTRY` for each
+//! entry, of the journal if the list is 0, else of that history of seven.
 
 use crate::asked::{ReplyWord, Words, cut};
 use crate::kinds::entry_of;
@@ -37,7 +37,7 @@ fn behind(text: &str, words: u32) -> &str {
     rest
 }
 
-/// The entry that a line tells.
+/// The entry that a line gives.
 fn made_of(text: &str) -> Option<StampedEntry> {
     let words = Words::of(text);
     let (actor, kind) = entry_of(behind(text, 4))?;
@@ -99,7 +99,7 @@ fn merged(
     merge(alloc, journal, histories)
 }
 
-/// The one log of these, where the journal, of two entries, is kept as a run keeps it.
+/// The one log of these, whose journal, of two entries, is held as a run holds it.
 fn merged_preserved(
     alloc: Global,
     made: &[JournalEntry],
@@ -152,6 +152,7 @@ impl MergeCase {
 }
 
 impl CaseRunner for MergeCase {
+    /// Takes an entry, or answers a call.
     fn answer(&mut self, line: &str, out: &mut Out) {
         let (word, rest) = cut(line, ' ');
         let done = match word {

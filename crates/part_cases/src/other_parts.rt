@@ -1,4 +1,5 @@
-//! The parts of the outside, of the model, of scripts and logs, and of suspend-to-idle, by the first word of a head.
+//! The parts of the outside, of the model, of scripts and logs, and of suspend-to-idle, by the first word of
+//! a head.
 
 use crate::answers::answers;
 use crate::asked::{Words, cut, found};

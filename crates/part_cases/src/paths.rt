@@ -27,7 +27,7 @@ const VERBS: [(&str, PathQuestion); 6] = [
     ("sleep", PathQuestion::Sleep),
 ];
 
-/// The name of a stage that is one alone.
+/// The name of a stage that has no parameter.
 fn alone_name(stage: Stage) -> &'static str {
     match stage {
         Stage::Notifies => "notifies",
@@ -99,6 +99,7 @@ fn sleep_reply(sleep: Option<Sleep>) -> CaseReply {
     }
 }
 
+/// The reply to a question about the path.
 fn reply_of(path: &Path, verb: PathQuestion) -> CaseReply {
     match verb {
         PathQuestion::Attempts => one(number(path.attempts())),
@@ -110,7 +111,7 @@ fn reply_of(path: &Path, verb: PathQuestion) -> CaseReply {
     }
 }
 
-/// Notes an entry of an actor, after a position and at a time, where few attempts were begun.
+/// Notes an entry of an actor, after a position and at a time, after few attempts.
 #[tactic(auto, using(sleep_state::proofs::Counting::attempts_few))]
 fn noted(path: &mut Path, who: Actor, kind: Kind, pos: u64, time: u64) -> CaseReply {
     if path.attempts() > 9 {
@@ -132,6 +133,7 @@ fn note(path: &mut Path, text: &str) -> CaseReply {
 }
 
 impl CaseRunner for Path {
+    /// Answers a question about the path, or notes an entry.
     fn answer(&mut self, line: &str, out: &mut Out) {
         let (word, rest) = cut(line, ' ');
         let reply = match found(&VERBS, word) {

@@ -1,12 +1,13 @@
-//! The table of phases: `phases`, and a table of the row of a phase with a copy that walks the other way, `phase_twice PHASE`.
+//! The table of phases: `phases`, and a table of the row of a phase with a copy that walks the other way,
+//! `phase_twice PHASE`.
 
 use crate::asked::{ReplyWord, Words, cut, found};
 use crate::parts::{CaseRunner, answer_lines};
 use crate::reply::{CaseReply, Out, five, one};
 use phase_table::{CaseTable, Phase, PhaseRow, phases};
 
-/// What a row says: its phase, the mirror, whether the phase walks forward, whether devices go down in it, and whether it
-/// tests for a wakeup.
+/// What a row says: its phase, the mirror, whether the phase walks forward, whether devices go down in it,
+/// and whether it tests for a wakeup.
 fn row_reply(row: PhaseRow) -> CaseReply {
     five(
         ReplyWord::Phase(row.phase),
@@ -24,8 +25,8 @@ fn found_reply(row: Option<PhaseRow>) -> CaseReply {
     }
 }
 
-/// What a phase says: the mirror, whether it walks forward, whether devices go down in it, whether they come up, and
-/// whether it tests for a wakeup.
+/// What a phase says: the mirror, whether it walks forward, whether devices go down in it, whether they come
+/// up, and whether it tests for a wakeup.
 fn phase_reply(phase: Phase) -> CaseReply {
     five(
         ReplyWord::Phase(phase.mirror()),
@@ -59,6 +60,7 @@ const VERBS: [(&str, RowQuestion); 3] = [
 ];
 
 impl<const LEN: usize> CaseRunner for CaseTable<LEN> {
+    /// Answers a question about a phase.
     fn answer(&mut self, line: &str, out: &mut Out) {
         let (word, rest) = cut(line, ' ');
         let phase = Words::of(rest).phase(0);

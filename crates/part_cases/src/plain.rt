@@ -1,5 +1,5 @@
-//! Plain values of the model and of the outside: errors, names, lists, flags of devices, positions of the event word, and
-//! an index of keys: `plain`.
+//! Plain values of the model and of the outside: errors, names, lists, flags of devices, positions of the
+//! event word, and an index of keys: `plain`.
 
 use crate::asked::{ReplyWord, Words, cut};
 use crate::reply::{CaseReply, NO_CALL, Out, long, number, one, size, three};
@@ -37,7 +37,7 @@ fn say_name(text: &str, out: &mut Out) {
     }
 }
 
-/// The numbers that words tell.
+/// The numbers that words give.
 pub fn numbers_in(alloc: Global, text: &str) -> Result<Vec<u32>, Mem> {
     let mut numbers = Vec::new(alloc);
     for word in text.split(' ') {

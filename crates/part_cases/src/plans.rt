@@ -1,5 +1,5 @@
-//! The plan of a script: `plan TEXT`. The script is made twice; it has two calls on a source, a write of the text to autosleep,
-//! three writes to the state, and an event.
+//! The plan of a script: `plan TEXT`. The script is made twice; it has two calls on a source, a write of the
+//! text to autosleep, three writes to the state, and an event.
 
 ghost use Rattle.std.specs.Prelude.{◌≡◌, length, IfOk};
 ghost use Rattle.sleep_model.specs.Scripts.{operations};
@@ -63,6 +63,7 @@ fn operation_reply(op: Option<&Op>) -> CaseReply {
 }
 
 impl CaseRunner for Plan<'_> {
+    /// Answers a question about the plan.
     fn answer(&mut self, line: &str, out: &mut Out) {
         let (word, rest) = cut(line, ' ');
         let place = rest.parse::<u32>().unwrap_or(0) as usize;

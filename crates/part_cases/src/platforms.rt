@@ -26,6 +26,7 @@ const NEXT: [(&str, Next); 4] = [
     ("next_cpu_on", Next::CpuOn),
 ];
 
+/// The next notifier or processor of a kind of step.
 fn next_of(platform: &Platform, next: Next) -> Option<u32> {
     match next {
         Next::Called => platform.next_called(),
@@ -77,6 +78,7 @@ fn turned_by(platform: &mut Platform, text: &str) -> CaseReply {
 }
 
 impl CaseRunner for Platform {
+    /// Answers what is next of the platform, or makes a turn of it.
     fn answer(&mut self, line: &str, out: &mut Out) {
         let (word, rest) = cut(line, ' ');
         let reply = match found(&NEXT, word) {
@@ -116,7 +118,7 @@ fn platform_of(alloc: Global, machine: &Machine) -> Result<Platform, Mem> {
     Platform::new(alloc, machine)
 }
 
-/// The platform that a text tells.
+/// The platform that a text gives.
 fn platform_in(alloc: Global, text: &str) -> Result<Platform, Mem> {
     let machine = machine_of(alloc, text)?;
     let platform = platform_of(alloc, &machine);

@@ -6,7 +6,7 @@ use sleep_base::Errno;
 use sleep_model::EventNow;
 use std::alloc::Global;
 
-/// An answer: its words, the first alone where the others are `End`.
+/// An answer: its words, or only the first if the others are `End`.
 #[derive(Clone, Copy)]
 pub struct CaseReply {
     words: [ReplyWord; 5],
@@ -219,7 +219,7 @@ impl Out {
         self.end();
     }
 
-    /// Adds a line of numbers, `-` where there is none.
+    /// Adds a line of numbers, `-` if there is none.
     pub fn list(&mut self, numbers: &[u32]) {
         if numbers.is_empty() {
             self.put(b"-");

@@ -1,5 +1,5 @@
-//! Bytes in and out: `source CHUNK FAILS TEXT`, `sink ROOM CHUNK FAILS`, a reader and a writer of std as streams, and each
-//! call that reads or writes all: `whole`. A `FAILS` is the number of a call that fails.
+//! Bytes in and out: `source CHUNK FAILS TEXT`, `sink ROOM CHUNK FAILS`, a reader and a writer of std as
+//! streams, and each call that reads or writes all: `whole`. A `FAILS` is the number of a call that fails.
 
 use crate::asked::{ReplyWord, Words, cut};
 use crate::parts::{CaseRunner, answer_lines};
@@ -10,14 +10,14 @@ use sleep_base::{
 };
 use std::alloc::Global;
 
-/// A source that gives at most so many bytes a call, where one call fails.
+/// A source that gives at most so many bytes a call, one of whose calls fails.
 fn source_of(alloc: Global, words: Words, text: &str) -> Result<MemSource, Mem> {
     let fails = vec![in alloc; words.long(1)]?;
     let bytes = text.as_bytes().to_vec(alloc)?;
     Ok(MemSource::new(bytes, (words.number(0) as usize).max(1), fails))
 }
 
-/// A sink with that room which takes at most so many bytes a call, where one call fails.
+/// A sink with that room which takes at most so many bytes a call, one of whose calls fails.
 fn sink_of(alloc: Global, words: Words) -> Result<MemSink, Mem> {
     let fails = vec![in alloc; words.long(2)]?;
     let (room, chunk) = (words.number(0) as usize, words.number(1) as usize);
@@ -34,6 +34,7 @@ fn say_read<S: ByteSource>(source: &mut S, out: &mut Out) {
 }
 
 impl CaseRunner for MemSource {
+    /// Answers a line about a source.
     fn answer(&mut self, line: &str, out: &mut Out) {
         match line {
             "read" => say_read(self, out),
@@ -56,6 +57,7 @@ fn say_write<K: ByteSink>(sink: &mut K, text: &str, out: &mut Out) {
 }
 
 impl CaseRunner for MemSink {
+    /// Answers a line about a sink.
     fn answer(&mut self, line: &str, out: &mut Out) {
         let (word, text) = cut(line, ' ');
         match word {

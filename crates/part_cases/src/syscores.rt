@@ -40,6 +40,7 @@ fn resumed(core: &mut Syscore) -> CaseReply {
     }
 }
 
+/// The reply to a call on the core's parts.
 fn reply_of(core: &mut Syscore, verb: SyscoreCall, words: Words) -> CaseReply {
     match verb {
         SyscoreCall::Suspend => suspended(core, words),
@@ -61,6 +62,7 @@ fn note(core: &mut Syscore, text: &str) -> CaseReply {
 }
 
 impl CaseRunner for Syscore {
+    /// Answers a call on the core's parts, or notes an entry.
     fn answer(&mut self, line: &str, out: &mut Out) {
         let (word, rest) = cut(line, ' ');
         let reply = match found(&VERBS, word) {

@@ -50,6 +50,7 @@ fn changed(rows: &mut Rows, word: &str, words: Words) -> CaseReply {
 }
 
 impl CaseRunner for Rows {
+    /// Answers a question about rows, or changes them.
     fn answer(&mut self, line: &str, out: &mut Out) {
         let (word, rest) = cut(line, ' ');
         let words = Words::of(rest);
@@ -91,6 +92,7 @@ pub fn stacks(alloc: Global, lines: &str, out: &mut Out) {
 }
 
 impl CaseRunner for Flags {
+    /// Answers a call on flags.
     fn answer(&mut self, line: &str, out: &mut Out) {
         let (word, rest) = cut(line, ' ');
         let words = Words::of(rest);

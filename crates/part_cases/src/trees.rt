@@ -46,6 +46,7 @@ fn numbered(tree: &Tree, word: &str, device: u32, out: &mut Out) {
 }
 
 impl CaseRunner for Tree {
+    /// Answers a call on the tree, by a name or a number.
     fn answer(&mut self, line: &str, out: &mut Out) {
         let (word, rest) = cut(line, ' ');
         let (name, parent) = cut(rest, ' ');
@@ -67,8 +68,8 @@ pub fn trees(alloc: Global, lines: &str, out: &mut Out) {
     out.say(one(ReplyWord::Number(devices.len() as i128)));
 }
 
-/// The answer to a request, and what is kept of the device then: whether it is suspended, whether it is prepared, and whether
-/// runtime PM is disabled by direct-complete and by late.
+/// The answer to a request, and the state of the device then: whether it is suspended, whether it is
+/// prepared, and whether runtime PM is disabled by direct-complete and by late.
 fn requested(words: Words) -> CaseReply {
     let to_suspended = words.flag(3);
     let mut kept = Runtime {

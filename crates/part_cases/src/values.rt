@@ -1,4 +1,5 @@
-//! JSON values: `json` with texts and whether they are read, and `value TEXT` with questions about what a text spells.
+//! JSON values: `json` with texts and whether they are read, and `value TEXT` with questions about what a
+//! text spells.
 
 use crate::asked::{ReplyWord, Words, cut, found};
 use crate::reply::{CaseReply, NO_CALL, Out, maybe_long, one, two};
@@ -25,7 +26,7 @@ fn nested(alloc: Global, depth: u32) -> Result<Vec<u8>, Mem> {
     Ok(text)
 }
 
-/// Bytes that numbers tell.
+/// Bytes that numbers give.
 fn bytes_in(alloc: Global, text: &str) -> Result<Vec<u8>, Mem> {
     let mut bytes = Vec::new(alloc);
     for word in text.split(' ') {
@@ -99,7 +100,7 @@ fn counted(count: Option<usize>) -> ReplyWord {
     }
 }
 
-/// Says a text between bars, where a bar stands for each newline; `-` if there is none.
+/// Says a text between bars, in which a bar is a newline; `-` if there is none.
 fn say_text(text: Option<&str>, out: &mut Out) {
     let Some(text) = text else {
         return out.line(b"-");
@@ -132,7 +133,7 @@ fn item<'v, 'a>(value: &'v Value<'a>, place: u32) -> Option<&'v Value<'a>> {
     as_array(value)?.get(place as usize)
 }
 
-/// The value right below a value, by a name or a place; itself where there is no step.
+/// The value right below a value, by a name or an index; itself if there is no step.
 fn below<'v, 'a>(value: &'v Value<'a>, step: &str) -> Option<&'v Value<'a>> {
     if step.is_empty() {
         return Some(value);
@@ -150,7 +151,7 @@ fn at<'v, 'a>(value: &'v Value<'a>, path: &str) -> Option<&'v Value<'a>> {
     below(below(below(value, first)?, second)?, third)
 }
 
-/// Answers a line about a value: what is asked, and where.
+/// Answers a line about a value: what is asked, and of which value below it.
 fn answer_value(value: &Value<'_>, line: &str, out: &mut Out) {
     let (word, path) = cut(line, ' ');
     match (at(value, path), found(&ASKS, word)) {

@@ -24,7 +24,7 @@ actor_is (actor.Timer i) (actor.Timer j) h = ap actor.Timer (number_is i j h)
 actor_is actor.Time actor.Time h = refl
 actor_is _ _ h = absurd (cc)
 
--- ---- an actor's steps, where calls and histories after its entries stay
+-- ---- an actor's steps, while calls and histories after its entries stay
 
 -- of each source no more
 abbrev pub IsWithin : List Entry → List Entry → Type 0

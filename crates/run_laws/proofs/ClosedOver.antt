@@ -28,7 +28,7 @@ use Rattle.merge_laws.proofs.Placing.{number_is, word_is}
 use Rattle.run_laws.specs.ClosedOver.{IsInLine, IsClosedOver, IsSeenLast, LooksLast, TableCovers, is_looked, has_position}
 use Rattle.wakeup_source.specs.Shown as shown
 
--- ---- an entry that stands after all others goes to the end
+-- ---- an entry that comes after all others goes to the end
 
 put_before_last : (a x : JournalEntry) (l : List JournalEntry) → precedes a x ≡ true → put_in_order a (l ++ x ∷ []) ≡ put_in_order a l ++ x ∷ []
 put_before_last a x [] h = ap (λ (b : Bool). cond b (x ∷ a ∷ []) (a ∷ x ∷ [])) (log_order.one_way a x h)
@@ -239,7 +239,7 @@ abbrev closed_from : ℕ → ℕ → (ℕ → List JournalEntry) → List Journa
 closed_from i zero of = []
 closed_from i (suc n) of = reverse (of i) ++ closed_from (suc i) n of
 
--- of one source the newest step is gone
+-- the newest step of one source is left out
 abbrev without : ℕ → List JournalEntry → (ℕ → List JournalEntry) → ℕ → List JournalEntry
 without t rest of k = cond (t == k) rest (of k)
 
@@ -253,7 +253,7 @@ closed_none i zero of h = refl
 closed_none i (suc n) of h =
     ap₂ (λ (a b : List JournalEntry). a ++ b) (ap (λ (l : List JournalEntry). reverse l) (h i (omega arith))) (closed_none (suc i) n of (λ k l. h k (omega (arith, l))))
 
--- where the newest step of one source stands
+-- the position of the newest step of one source
 record IsSplit (x : JournalEntry) (with_it without_it : List JournalEntry) : Type 0 where
   front : List JournalEntry
   back : List JournalEntry
@@ -458,7 +458,7 @@ placed_at [] k h = refl
 placed_at (x ∷ hs) zero h = all_left has_position (map of_source x) (sources_entries hs) h
 placed_at (x ∷ hs) (suc k) h = placed_at hs k (all_right has_position (map of_source x) (sources_entries hs) h)
 
--- a word that a seat looked at was there
+-- a word that a seat looked at was the word at that moment
 seen_one : (past : List SourceStep) (now : EventNow) (words : List EventNow) → AreSeen past words → list_any (is_word now) words ≡ true → IsSeen past now
 seen_one past now [] h g = absurd (cc)
 seen_one past now (w ∷ words) h g = by (is_word now w) refl g (seen_one past now words h.1)

@@ -174,7 +174,7 @@ timely m (e ∷ l) x h is = by (jumps e) refl (λ before. timely m l x h.1 befor
         (both (jumps e) (e.entry.time == x.entry.time) leap (same_number e.entry.time x.entry.time (sym (n.jumped leap).0 ∙ sym is))))
     by false plain rest = has_more true e l x (rest (is ∙ n.stayed plain))
 
--- ---- jumps stay held
+-- ---- what is known of jumps is preserved
 
 jumps_stay : (m : Machine) (of of' : ℕ → List Entry) (l : List JournalEntry) → EachJump (λ jump. (s : ℕ) → before jump.entry.time (of' s) ≡ before jump.entry.time (of s)) l
     → AreJumps m (unstamped l) of → AreJumps m (unstamped l) of'

@@ -1,3 +1,4 @@
+-- The lemmas of this crate.
 pub mod Acts
 pub mod Called
 pub mod Invariant

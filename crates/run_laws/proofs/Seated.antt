@@ -1,4 +1,4 @@
--- Calls and turns keep what a seat made and looked at, and at the closed table these lay all steps.
+-- Calls and turns preserve what a seat made and looked at, and at the closed table these are all steps.
 use Rattle.std.proofs.Common.{◌≡◌, ◌∙◌, ◌<◌, ◌+◌, ◌==◌, ◌||◌, ◌++◌, ℕ, zero, suc, Bool, true, false, List, [], ◌∷◌, length, map, reverse, get_or, Option, Some, None, is_some, refl, sym, ap, subst, arith}
 use Rattle.std.proofs.lemmas.List.{reverse-append, reverse-reverse}
 use Rattle.std.proofs.lemmas.Bool.Decides.{nat_tests}

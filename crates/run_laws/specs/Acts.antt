@@ -22,7 +22,7 @@ pub record Made : Type 0 where
 abbrev pub unstamped : List JournalEntry → List Entry
 unstamped entries = map (λ e. e.entry) entries
 
--- the entry before these, where that is so
+-- the entry before these, if that is so
 abbrev pub put_if : Bool → JournalEntry → List JournalEntry → List JournalEntry
 put_if now e entries = if now then e ∷ entries else entries
 
@@ -60,7 +60,7 @@ pub record IsKnown (m : Machine) (made : Made) (who : Actor) : Type 0 where
   pub in_journal : filter is_journals (made.own who) ≡ entries_of who made.journal
   pub in_sources : (s : ℕ) → filter (λ e. is_of s (class_of e.entry.kind)) (made.own who) ≡ entries_of who (made.of s)
 
--- so for all actors, and each source's entries are legal where they stand
+-- so for all actors, and each source's entries are legal after the older ones
 pub record AreSteps (m : Machine) (made : Made) : Type 0 where
   pub of_actors : (who : Actor) → IsKnown m made who
   pub of_sources : (s : ℕ) → IsSource (unstamped (made.of s))

@@ -24,7 +24,8 @@ abbrev pub knows : Stamp → List JournalEntry → Bool
 knows floor [] = true
 knows floor (e ∷ past) = nat_le e.stamp.tick floor.tick && nat_le (next_position e) floor.pos
 
--- a call is the caller's next, its source is between calls, and the caller knew its own newest entry and each jump, and has the journal's time
+-- a call is the caller's next, its source is between calls, and the caller knew its own newest entry and each jump, and has the journal's
+-- time
 pub record IsReady (m : Machine) (made : Made) (by : CallBy) (call : SourceCall) (source : SourceState) : Type 0 where
   pub invariant : RunInvariant m made
   pub entries : made.of source.id ≡ map of_source source.past

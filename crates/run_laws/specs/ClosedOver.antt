@@ -56,7 +56,7 @@ pub record IsSeenLast (looked : List (List EventNow)) (histories : List (List So
   pub behind : (s : ℕ)
       → list_all (λ e. nat_le (next_position e) (position now)) (map of_source (slice_index_or histories s [])) ≡ true
 
--- where no source's floor is above a look, the look saw the last word
+-- if no source's floor is above a look, the look saw the last word
 abbrev pub LooksLast : Type 0
 LooksLast =
     (made : List (List MadeStep)) (looked : List (List EventNow)) (answer now : EventNow)

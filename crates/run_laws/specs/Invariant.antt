@@ -1,4 +1,4 @@
--- What is known of all that was made so far, and what it tells at the end (own).
+-- The invariant of a run: what is known of all that was made so far, and what follows at the end (own).
 use Rattle.std.specs.Prelude.{◌≡◌, ◌+◌, ℕ, Bool, true, false, ◌&&◌, ◌||◌, nat_le, nat_lt, List, [], ◌∷◌, length, map, filter, reverse, slice_index_or, None}
 use Rattle.std.specs.List.{list_all}
 use Rattle.sleep_model.specs.declared.word.EventNow.{EventNow}

@@ -1,4 +1,4 @@
--- A job tells what its actor makes next, and follows what was made (own).
+-- A job says what its actor makes next, and follows what was made (own).
 use Rattle.std.specs.Prelude.{◌≡◌, ℕ, Bool, true, false, [], ◌∷◌}
 use Rattle.sleep_model.specs.declared.entry.Actor.{Actor}
 use Rattle.sleep_model.specs.declared.entry.Actor.TheVariants as actor
@@ -15,7 +15,7 @@ use Rattle.sleep_model.specs.Sources.{owed}
 use Rattle.sleep_script.specs.Jobs.{IsJobOf, IsWanted, JobState, after_call, after_turn}
 use Rattle.run_laws.specs.Acts.{IsFree, IsNext, Made, unstamped, with_entry}
 
--- the job is where all that was made has brought its actor
+-- the job has the state that all that was made leaves it in
 abbrev pub IsJob : Machine → Made → Actor → JobState → Type 0
 IsJob m made who job = IsJobOf m who (unstamped made.journal) (notes_of who (unstamped (made.own who))) job
 
@@ -46,13 +46,13 @@ pub record WantsNext (m : Machine) (made : Made) (e : JournalEntry) (who : Actor
   pub call : (s : ℕ) (made_call : SourceCall) → is_timer who ≡ false → e.entry.kind ≡ note s made_call
       → IsWanted job (want.Source s made_call) → IsNext m made who e.entry (Notes s made_call)
 
--- each job tells what is next of its actor
+-- each job says what is next of its actor
 abbrev pub JobsWantNext : Type 0
 JobsWantNext =
     (m : Machine) (made : Made) (e : JournalEntry) (who : Actor) (job : JobState)
     → IsJob m made who job → IsFree m made who → WantsNext m made e who job
 
--- where no source is owed a step, each actor is inside no call
+-- if no source is owed a step, each actor is inside no call
 abbrev pub SettledIsFree : Type 0
 SettledIsFree =
     (m : Machine) (made : Made) (who : Actor) → ((s : ℕ) → owed (unstamped (made.of s)) ≡ []) → IsFree m made who

@@ -28,7 +28,7 @@ items_by who noted = filter (λ n. is_same n.entry.entry.actor who) noted
 abbrev pub made_of : ℕ → List (List (Made Noted)) → ℕ → List (Made Noted)
 made_of object passes k = of_object object (slice_index_or passes k [])
 
--- each pass made entries of one actor alone, and no two of the same
+-- each pass made entries of one actor only, and no two of the same
 pub record HaveMakers (makers : ℕ → Actor) (object : ℕ) (passes : List (List (Made Noted))) : Type 0 where
   pub own : (k : ℕ) → k < length passes
       → list_all (λ m. is_same m.entry.entry.entry.actor (makers k)) (made_of object passes k) ≡ true

@@ -1,4 +1,4 @@
--- What a source keeps beside its seat at the table of the event word, and the journal beside the machine's (own).
+-- What a source has besides its seat at the table of the event word, and the journal besides the machine's (own).
 use Rattle.std.specs.Prelude.{◌≡◌, ◌<◌, ℕ, Bool, true, ◌||◌, List, [], ◌∷◌, length, map, reverse, Some, slice_index_or}
 use Rattle.std.specs.List.{list_all, list_any}
 use Rattle.sleep_model.specs.declared.word.EventNow.{EventNow}
@@ -39,7 +39,7 @@ newest_tick (e ∷ past) = e.stamp.tick
 abbrev pub IsFresh : SourceState → Type 0
 IsFresh source = source.floor.tick ≡ newest_tick source.past
 
--- by a call the source keeps its seat so
+-- after a call the source has its seat in that state
 pub record SeatAgrees (new : SourceView) : Type 0 where
   pub made : List MadeStep
   pub looked : List EventNow
@@ -47,7 +47,7 @@ pub record SeatAgrees (new : SourceView) : Type 0 where
   pub looked_is : new.looked ≡ Some looked
   pub seated : IsSeated made looked new.source.past
 
--- a call on a source whose bump tells its seat's steps and looks leaves the seat's those of the source
+-- a call on a source whose bump makes known its seat's steps and looks leaves the seat's those of the source
 abbrev pub SeatAgreesAfterCalls : Type 0
 SeatAgreesAfterCalls =
     (by : CallBy) (call : SourceCall) (old new : SourceView) (made : List MadeStep) (looked : List EventNow)

@@ -23,7 +23,8 @@ pub record IsAfter (floor stamp : Stamp) : Type 0 where
   pub tick : floor.tick < stamp.tick
   pub pos : floor.pos ≤ stamp.pos
 
--- an actor may make an entry of the journal: it is inside no call, has made all that are due, and the entry is legal and after what its actor and the journal last knew
+-- an actor may make an entry of the journal: it is inside no call, has made all that are due, and the entry is legal and after what its
+-- actor and the journal last knew
 pub record MayTurn (m : Machine) (made : Made) (who : Actor) (floor : Stamp) (e : JournalEntry) : Type 0 where
   pub invariant : RunInvariant m made
   pub by : e.entry.actor ≡ who
@@ -36,7 +37,7 @@ pub record MayTurn (m : Machine) (made : Made) (who : Actor) (floor : Stamp) (e 
   pub behind : IsAfter floor e.stamp
   pub last : IsAfter (newest_stamp made.journal) e.stamp
 
--- time may jump: where nobody can make anything, after all that was made
+-- time may jump: nobody can make anything, after all that was made
 pub record MayLeap (m : Machine) (made : Made) (floor : Stamp) (e : JournalEntry) : Type 0 where
   pub invariant : RunInvariant m made
   pub by : e.entry.actor ≡ actor.Time

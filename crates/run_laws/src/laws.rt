@@ -9,9 +9,9 @@ ghost use Rattle.run_laws.specs.Passes.{LogSaysWho};
 ghost use Rattle.run_laws.specs.Seated.{SeatAgreesAfterCalls, SeatsCoverTable, WatchAgrees};
 ghost use Rattle.run_laws.specs.Turned.{LeapGrows, TurnGrows};
 
-/// Where the table of the word is closed, each source's seat made the steps of its history, and each look
-/// was one of a seat, all steps have positions without a gap and chain, each look saw a word between two of
-/// them, and the closing tells the last word.
+/// If the table of the word is closed, each source's seat made the steps of its history, and each look was
+/// one of a seat, all steps have positions without a gap and chain, each look saw a word between two of them,
+/// and the closing answers the last word.
 pub fn closed_table_covers_the_word()
     ensures { TableCovers }
 {}
@@ -27,8 +27,8 @@ pub fn invariant_begins()
     ensures { InvariantBegins }
 {}
 
-/// What is known of all that was made is known again after each entry that may be made: jumps stay held,
-/// each entry keeps its side of each, and each list goes on falling.
+/// What is known of all that was made is known again after each entry that may be made: what is known of
+/// jumps is preserved, each entry stays on its side of each jump, and each list falls on.
 pub fn invariant_grows()
     ensures { InvariantGrows }
 {}
@@ -44,8 +44,8 @@ pub fn last_look_saw_the_last_word()
     ensures { LooksLast }
 {}
 
-/// What is known at the end makes the merge a legal log; where the run is over, or nobody goes on, by all
-/// that was made and the last word that was seen, a finished or a stuck one.
+/// What is known at the end makes the merge a legal log; if the run is over, or nobody goes on, by all that
+/// was made and the last word that was seen, it is a finished or a stuck one.
 pub fn invariant_ends()
     ensures { InvariantEnds }
 {}
@@ -78,7 +78,7 @@ pub fn turns_keep_all_known()
     ensures { TurnGrows }
 {}
 
-/// A jump of time after all that was made, where nobody can make anything, leaves all known again.
+/// A jump of time after all that was made, at which nobody can make anything, leaves all known again.
 pub fn jumps_keep_all_known()
     ensures { LeapGrows }
 {}
@@ -95,12 +95,12 @@ pub fn turns_keep_the_watch()
     ensures { WatchAgrees }
 {}
 
-/// At the closed table, what each source and the machine keep beside their seats lays all steps.
+/// At the closed table, what each source and the machine have besides their seats gives all steps.
 pub fn seats_cover_the_table()
     ensures { SeatsCoverTable }
 {}
 
-/// Where the table of locks is closed, and each pass made entries of one actor alone, a journal has gained of
+/// If the table of locks is closed, and each pass made entries of one actor only, a journal has gained of
 /// each actor what its pass made, each entry with the journal before it.
 pub fn log_says_who<V, R>()
     ensures { LogSaysWho V R }

@@ -101,7 +101,7 @@ module _ (m : Machine) (journal : List JournalEntry) (sources : List SourceState
   pub legal_journal : JournalPart m (entries journal)
   legal_journal = subst (JournalPart m) (sym (entries_unstamped journal)) r.invariant.of_journal
 
-  -- where nobody goes on and no moment is pending no attempt is open
+  -- if nobody goes on and no moment is pending no attempt is open
   pub closes : (word : EventNow) → next_time m (entries journal) (histories sources) ≡ None → is_idle m (entries journal) (histories sources) word ≡ true → maker (entries journal) ≡ None
   closes word none idle =
       no_attempt m (entries journal) (ranked m (entries journal) r.accepted.parents (links_stand m r.accepted.scripts r.accepted.links (entries journal) legal_journal)) legal_journal

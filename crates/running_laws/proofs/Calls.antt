@@ -51,7 +51,7 @@ use Rattle.running_laws.proofs.Rising.{EndsBy, call_brief, call_ends, call_longe
 
 -- ---- what a call adds
 
--- a source's entries as they stand in the log
+-- a source's entries as the log has them
 abbrev noted : SourceState → List JournalEntry
 noted source = map of_source source.past
 
@@ -122,7 +122,7 @@ more_second : (b : Bool) (x y z : ℕ) → y ≡ one_more b z → x + y ≡ one_
 more_second true x y z e = omega (arith, e)
 more_second false x y z e = omega (arith, e)
 
--- where one history has one note more
+-- one history has one note more
 made_more : (n s : ℕ) (of other : ℕ → List Entry) (who : Actor) (b : Bool) → s < n → ((t : ℕ) → (s == t) ≡ false → other t ≡ of t) → notes_of who (other s) ≡ one_more b (notes_of who (of s))
     → made n other who ≡ one_more b (made n of who)
 made_more zero s of other who b l h g = absurd (omega arith)
@@ -138,7 +138,7 @@ made_more (suc n) s of other who b l h g = by (s == n) refl (λ k. made_more n s
         let within : s < n = grind (arith, nat_tests) in
         ap (λ (own : List Entry). notes_of who own + made n other who) (h n is) ∙ more_second b (notes_of who (of n)) (made n other who) (made n of who) (before within)
 
--- ---- what entries tell
+-- ---- what entries say
 
 moves_told : (m : Machine) (s : ℕ) (x : WordKind) (who : Actor) (time : ℕ) (before : EventNow) → is_word64 time ≡ true → fits_actor m who ≡ true → is_ranged_entry m (states.step_entry s x who time before) ≡ true
 moves_told m s step.Start who time before timed acts = both _ _ (both _ _ timed acts) refl

@@ -53,13 +53,13 @@ map_reverse (x ∷ xs) =
     ap (map of_source) (reverse-append (x ∷ []) xs) ∙ (map_onto (reverse xs) x
     ∙ (ap (λ (l : List JournalEntry). l ++ of_source x ∷ []) (map_reverse xs) ∙ sym (reverse-append (of_source x ∷ []) (map of_source xs))))
 
--- a history that is kept has its source's entries
+-- a history of the journal has its source's entries
 preserved_at : (sources : List SourceState) (s : ℕ) → map of_source (slice_index_or (journal_histories sources) s []) ≡ reverse (of_sources sources s)
 preserved_at [] s = refl
 preserved_at (x ∷ sources) zero = map_reverse x.past
 preserved_at (x ∷ sources) (suc s) = preserved_at sources s
 
--- each rises where each source's entries do
+-- each rises if each source's entries do
 preserved_rise : (sources : List SourceState) → ((s : ℕ) → rises (reverse (of_sources sources s)) ≡ true) → list_all (λ history. rises (map of_source history)) (journal_histories sources) ≡ true
 preserved_rise [] h = refl
 preserved_rise (x ∷ sources) h =
@@ -117,7 +117,7 @@ module _ (m : Machine) (journal : List JournalEntry) (sources : List SourceState
           let pos : nat_le (next_position e) floor.pos ≡ true = second (nat_le e.stamp.tick floor.tick) (nat_le (next_position e) floor.pos) h in
           grind (arith, nat_tests)
 
-  -- the entries of the one log have been told each by itself
+  -- the entries of the one log were checked each by itself
   pub told_all : list_all (is_ranged_entry m) (reverse (merge (reverse journal) (journal_histories sources))) ≡ true
   told_all =
       all_reverse (is_ranged_entry m) (merge (reverse journal) (journal_histories sources))
@@ -127,7 +127,7 @@ module _ (m : Machine) (journal : List JournalEntry) (sources : List SourceState
 
   module _ (steps : List (List MadeStep)) (looks : List (List EventNow)) (answer word : EventNow) (closed_over : IsClosedOver steps looks answer (reverse journal) (journal_histories sources))
       (seen : was_seen looks word ≡ true) (low : floor.pos ≤ position word) where
-    -- the log of the merge is legal; and where the run is over by that word it is finished, where nobody goes on stuck
+    -- the log of the merge is legal; and if the run is over by that word it is finished, if nobody goes on it is stuck
     pub running_ends : (log : Log) → IsMergeOf m (reverse journal) (journal_histories sources) log
         → IsLegalLog m log
         × ((log.end ≡ Finished) → is_finished m (entries journal) (histories sources) word ≡ true → IsFinishedLog m log)

@@ -65,7 +65,7 @@ before_some t (x ∷ xs) = by_time (nat_lt x.time t) (before_some t xs)
     by_time true h = omega (arith, h)
     by_time false h = omega (arith, h)
 
--- where sums are no greater, neither is each
+-- if sums are no greater, neither is each
 below_each : (n : ℕ) (f g : ℕ → ℕ) → ((i : ℕ) → f i ≤ g i) → below n g ≤ below n f → (i : ℕ) → i < n → g i ≤ f i
 below_each zero f g h l i k = absurd (omega arith)
 below_each (suc n) f g h l i k = by_last (nat_lt i n) refl (below_each n f g h (omega (arith, l, h n)) i)

@@ -92,7 +92,7 @@ module _ (m : Machine) (journal : List JournalEntry) (sources : List SourceState
 
   -- ---- who is enabled
 
-  -- an actor is enabled where it has a call to make, or an entry is due of it
+  -- an actor is enabled if it has a call to make, or an entry is due of it
   pub enabled_is : (now : EventNow) (who : Actor) (n : ℕ) → n ≡ calls_made m sources who
       → (nat_lt n (calls_due m who (entries journal)) || is_made (due m (entries journal) who now)) ≡ is_enabled m (entries journal) (histories sources) now who
   enabled_is now who n e =

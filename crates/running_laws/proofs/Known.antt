@@ -48,7 +48,7 @@ knows_more floor later (e ∷ l) t p h =
     let pos : next_position e ≤ floor.pos = at_most (next_position e) floor.pos (second (nat_le e.stamp.tick floor.tick) (nat_le (next_position e) floor.pos) h) in
     both (nat_le e.stamp.tick later.tick) (nat_le (next_position e) later.pos) (at_most_is e.stamp.tick later.tick (omega (arith, tick, t))) (at_most_is (next_position e) later.pos (omega (arith, pos, p)))
 
--- of a list that falls it knows all, where it knows the newest
+-- of a list that falls it knows all, if it knows the newest
 pub knows_each : (floor : Stamp) (l : List JournalEntry) → falls l ≡ true → knows floor l ≡ true → list_all (λ e. knows floor (e ∷ [])) l ≡ true
 knows_each floor [] f h = refl
 knows_each floor (e ∷ l) f h =
@@ -138,7 +138,7 @@ history_unstamped s l = filter_map_through (λ (e : JournalEntry). e.entry) (λ 
 own_of_own : (who : Actor) (l : List JournalEntry) → notes_of who (own_of who (unstamped l)) ≡ notes_of who (unstamped l)
 own_of_own who l = sym (notes_own who (unstamped l))
 
--- how many calls an actor has made is told by its own entries, and by the sources'
+-- how many calls an actor has made is counted from its own entries, or from the sources'
 pub made_is_notes : (m : Machine) (all : Made) (who : Actor) → RunInvariant m all → made (length m.sources + 1) (λ s. unstamped (all.of s)) who ≡ notes_of who (unstamped (all.own who))
 made_is_notes m all who invariant =
     made_by (length m.sources + 1) (λ s. unstamped (all.of s)) (λ s. history s (unstamped (all.own who))) who
@@ -157,7 +157,7 @@ few_notes who (e ∷ own) = by_note (is_note_of who e (class_of e.kind)) (few_no
     by_note true h = omega (arith, h)
     by_note false h = omega (arith, h)
 
--- where no source has more entries than its places
+-- if no source has more entries than its room
 pub few_made : (n : ℕ) (of : ℕ → List Entry) (who : Actor) → ((s : ℕ) → length (of s) ≤ 60000) → made n of who ≤ 60000 * n
 few_made zero of who h = omega arith
 few_made (suc n) of who h = omega (arith, few_made n of who h, h n, few_notes who (of n))

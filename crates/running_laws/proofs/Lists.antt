@@ -13,7 +13,7 @@ use Rattle.run_laws.specs.Acts.{unstamped}
 use Rattle.run_laws.proofs.Called.{unstamped_same}
 use Rattle.running_laws.specs.Running.{AreSources, IsSourceOf, histories, of_sources}
 
--- a journal without its stamps, said twice
+-- a journal without its stamps, defined in two ways
 pub entries_unstamped : (journal : List JournalEntry) → entries journal ≡ unstamped journal
 entries_unstamped [] = refl
 entries_unstamped (e ∷ journal) = ap (λ (l : List Entry). e.entry ∷ l) (entries_unstamped journal)

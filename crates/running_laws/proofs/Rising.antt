@@ -60,7 +60,7 @@ call_longer by c old new h =
 
 -- ---- ticks
 
--- the tick of the newest entry, said twice
+-- the tick of the newest entry, defined in two ways
 pub newest_is : (past : List SourceEntry) → newest_tick past ≡ (newest_stamp (map of_source past)).tick
 newest_is [] = refl
 newest_is (e ∷ past) = refl

@@ -192,7 +192,7 @@ module _ (m : Machine) (journal : List JournalEntry) (sources : List SourceState
 
 -- ---- with one worker
 
--- one actor's stamp, where all others know another
+-- one actor's stamp, while all others know another
 abbrev pub moved_one : Stamp → Actor → Stamp → Actor → Stamp
 moved_one floor who stamp other = cond (is_same who other) stamp floor
 
@@ -202,7 +202,7 @@ is_moved_one floor who stamp = record {
   others = λ other is. ap (λ (b : Bool). cond b stamp floor) is;
 }
 
--- all come to know what one knows, where that is no less
+-- all come to know what one knows, if that is no less
 pub all_raised : (m : Machine) (journal : List JournalEntry) (sources : List SourceState) (jobs : Actor → JobState) (floor : Stamp) (who : Actor) (stamp : Stamp) → floor.tick ≤ stamp.tick → floor.pos ≤ stamp.pos
     → IsGoing m journal sources jobs (moved_one floor who stamp) → IsRunning m journal sources jobs stamp
 all_raised m journal sources jobs floor who stamp tick pos g =

@@ -1,4 +1,4 @@
--- A run of a machine, as far as it has come: its journal and its sources' histories, which are kept apart (own: Linux keeps no such log).
+-- A run of a machine, as far as it has come: its journal and its sources' histories, in lists of their own (own: Linux keeps no such log).
 use Rattle.std.specs.Prelude.{◌≡◌, ◌≤◌, ◌<◌, ◌+◌, ◌*◌, ℕ, zero, suc, true, false, List, [], ◌∷◌, length, map, reverse, Some, slice_get, slice_index_or}
 use Rattle.sleep_model.specs.declared.entry.Actor.{Actor}
 use Rattle.sleep_model.specs.declared.entry.Entry.{Entry}
@@ -71,7 +71,7 @@ abbrev pub CallsNext : Machine → List JournalEntry → List SourceState → Ac
 CallsNext m journal sources who s call =
     slice_get (calls_of m who (entries journal)) (calls_made m sources who) ≡ Some (note s call)
 
--- each actor's job stands where the entries so far have brought it
+-- each actor's job has the state that the entries so far leave it in
 abbrev pub AreJobs : Machine → List JournalEntry → List SourceState → (Actor → JobState) → Type 0
 AreJobs m journal sources jobs =
     (who : Actor) → IsActor m who → IsJobOf m who (entries journal) (calls_made m sources who) (jobs who)
@@ -111,7 +111,8 @@ pub record IsBounded (journal : List JournalEntry) (sources : List SourceState) 
   pub time : time_of (entries journal) ≤ length journal * 86400000
   pub expiries : ExpiriesAreBounded (entries journal) (histories sources)
 
--- what a run keeps, between turns: all that is known of what was made, sources that are between calls, jobs that stand where it has brought them, the last stamp of each actor, and how far ticks and time have come
+-- the invariant of a run, between turns: all that is known of what was made, sources that are between calls, jobs in the states that the
+-- run leaves them in, the last stamp of each actor, and how far ticks and time have come
 pub record IsGoing
     (m : Machine) (journal : List JournalEntry) (sources : List SourceState) (jobs : Actor → JobState)
     (floors : Actor → Stamp) : Type 0 where

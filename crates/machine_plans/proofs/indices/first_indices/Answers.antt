@@ -1,3 +1,4 @@
+-- Proof that the loop of `first_indices` keeps its invariant.
 use Rattle.std.proofs.Common.{◌≡◌, ◌<◌, ◌+◌, ◌-◌, ℕ, length, arith, subst}
 use Rattle.indexmap.specs.IndexMap.{get}
 use Rattle.machine_plans.specs.contracts.key.KeyPartialEq.TheImpl.{eq-value}

@@ -1,3 +1,4 @@
+-- The invariant of the loop of `first_indices`.
 use Rattle.indexmap.specs.IndexMap.{get}
 use Rattle.machine_plans.specs.contracts.key.KeyPartialEq.TheImpl.{eq-value}
 use Rattle.machine_plans.proofs.Indexing.{IsIndexedFrom}

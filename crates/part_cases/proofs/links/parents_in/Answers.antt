@@ -1,3 +1,4 @@
+-- Proof that the loop of `parents_in` keeps its invariant.
 use Rattle.std.proofs.Common.{rules, sym, subst}
 use Rattle.sleep_model.specs.Order.{EachAfterParent}
 use Rattle.sleep_model.proofs.Children.{after_parent_push}

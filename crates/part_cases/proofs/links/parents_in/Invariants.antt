@@ -1,3 +1,4 @@
+-- The invariant of the loop of `parents_in`.
 use Rattle.sleep_model.specs.Order.{EachAfterParent}
 use Rattle.part_cases.proofs.links.parents_in.Given as goal
 

@@ -1,3 +1,4 @@
+-- Proof that `acts_are_steps` meets its contract.
 use Rattle.run_laws.proofs.laws.acts_are_steps.Goals as goal
 use Rattle.run_laws.proofs.Acts.{acts_are_steps}
 

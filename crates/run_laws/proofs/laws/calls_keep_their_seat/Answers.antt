@@ -1,3 +1,4 @@
+-- Proof that `calls_keep_their_seat` meets its contract.
 use Rattle.run_laws.proofs.laws.calls_keep_their_seat.Goals as goal
 use Rattle.run_laws.proofs.Seated.{seat_keeps}
 

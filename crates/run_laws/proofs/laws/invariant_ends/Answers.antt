@@ -1,3 +1,4 @@
+-- Proof that `invariant_ends` meets its contract.
 use Rattle.run_laws.proofs.laws.invariant_ends.Goals as goal
 use Rattle.run_laws.proofs.Premises.{ends_legal}
 

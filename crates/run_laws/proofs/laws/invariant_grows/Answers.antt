@@ -1,3 +1,4 @@
+-- Proof that `invariant_grows` meets its contract.
 use Rattle.run_laws.proofs.laws.invariant_grows.Goals as goal
 use Rattle.run_laws.proofs.Invariant.{grows}
 

@@ -1,3 +1,4 @@
+-- Proof that `invariant_merges` meets its contract.
 use Rattle.run_laws.proofs.laws.invariant_merges.Goals as goal
 use Rattle.run_laws.proofs.Premises.{merges}
 

@@ -1,3 +1,4 @@
+-- Proof that `log_says_who` meets its contract.
 use Rattle.run_laws.proofs.laws.log_says_who.Goals as goal
 use Rattle.run_laws.proofs.Passes.{log_says_who}
 

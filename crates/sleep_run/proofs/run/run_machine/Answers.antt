@@ -1,3 +1,4 @@
+-- Proof that `run_machine` meets its contract.
 use Rattle.std.proofs.Common.{◌∙◌, rules}
 use Rattle.sleep_run.proofs.Ended.{run_of}
 use Rattle.sleep_run.proofs.run.run_machine.Goals as goal

@@ -1,3 +1,4 @@
+-- Proof that `MachinePlans::script` meets its contract.
 use Rattle.std.proofs.Common.{◌<◌, length, subst, sym}
 use Rattle.sleep_model.specs.declared.machine.Machine.{Machine}
 use Rattle.machine_plans.proofs.Scripted.{one_plan}
