@@ -10,12 +10,12 @@ use Rattle.event_word.proofs.Invariance.{at_end}
 use Rattle.wakeup_source.specs.SourceStates.{new_source}
 use Rattle.run_objects.specs.Objects.{AreFirst, AreUncalled, SeatedSourceState, seats_of}
 
--- the token at the place of a seat
+-- the token at the index of a seat
 token_at : (front rest : List EventSeat) (seat : EventSeat) → get_elem? (tokens (front ++ seat ∷ rest)) (length front) ≡ some seat.token
 token_at [] rest seat = refl
 token_at (x ∷ front) rest seat = token_at front rest seat
 
--- the seat that comes next has the number of its place
+-- the seat that comes next has the number of its index
 pub came : (seats yielded left rest : List EventSeat) (seat : EventSeat) → AreFirst (tokens seats) → yielded ++ left ≡ seats → left ≡ seat ∷ rest
     → (number_of seat.token ≡ Some (length yielded)) × IsUntouched seat.token
 came seats yielded left rest seat are whole next =

@@ -1,4 +1,4 @@
--- Seats that come back lay the table, with what their objects kept beside them.
+-- Seats that come back close the table, with what their objects had besides them.
 use Rattle.std.proofs.Common.{◌≡◌, ◌∙◌, ◌<◌, ◌||◌, ◌++◌, ℕ, zero, suc, Bool, true, false, List, [], ◌∷◌, length, map, reverse, get_or, refl, sym, ap, subst, arith}
 use Rattle.std.proofs.lemmas.List.{length-map, reverse-reverse}
 use Rattle.std.specs.List.{list_all, list_any}

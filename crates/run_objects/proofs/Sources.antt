@@ -1,4 +1,4 @@
--- A whole call leaves the seat the source's, and can be made wherever the source has four places.
+-- A whole call leaves the seat the source's, and can be made whenever the source has room for four entries.
 use Rattle.std.proofs.Common.{◌≡◌, ◌≤◌, ◌<◌, ◌+◌, ◌==◌, ◌++◌, ◌&&◌, ◌∙◌, ℕ, suc, Bool, true, false, nat_lt, cond, List, [], ◌∷◌, length, Option, Some, None, Result, Ok, Err, OnOk, OnErr, is_some, refl, sym, ap, subst, arith}
 use Rattle.std.proofs.lemmas.Bool.Decides.{nat_tests}
 use Rattle.sleep_model.specs.declared.entry.Entry.{Entry}
@@ -77,7 +77,7 @@ can_all (call.Event ms hard) began n h = can_event began hard (ms == 0) n h
 can_all call.Expire None n h = refl
 can_all call.Expire (Some s) n h = can_one step.Finish n true [] (omega arith) refl refl
 
--- a seat that made the steps of a history with four places left can make those of a call
+-- a seat that made the steps of a history with room for four entries can make those of a call
 pub can_call : (c : SourceCall) (made : List MadeStep) (past : List SourceEntry) → made ≡ steps_in (unstamped past) → length past + 4 ≤ most_entries
     → can_make (length made) (is_active made) (makes c (since (unstamped past))) ≡ true
 can_call c made past is room =

@@ -1,4 +1,4 @@
--- What a closed table of the event word says of the journal and the histories that were kept beside its seats (own).
+-- What a closed table of the event word says of the journal and the histories of its seats (own).
 use Rattle.std.specs.Prelude.{◌≡◌, true, List, map, reverse}
 use Rattle.std.specs.List.{list_any}
 use Rattle.sleep_model.specs.declared.word.EventNow.{EventNow}
@@ -13,7 +13,7 @@ use Rattle.run_objects.specs.Objects.{SeatedSourceState}
 abbrev pub histories_of : List SeatedSourceState → List (List SourceEntry)
 histories_of sources = map (λ s. reverse s.source.past) sources
 
--- all steps of all sources are laid, and each of these words was seen by one of the seats
+-- all steps of all sources are made, and each of these words was seen by one of the seats
 pub record IsClosedTable (looked : List EventNow) (journal : List JournalEntry) (histories : List (List SourceEntry)) : Type 0 where
   pub steps : List (List MadeStep)
   pub looks : List (List EventNow)

@@ -25,12 +25,12 @@ no_seat = record {
   me = (source_view 0, []);
 }
 
--- the seat of a source that is in its place
+-- the seat of a source that is not out in a call
 abbrev pub event_seat : Option EventSeat → Token
 event_seat None = no_seat
 event_seat (Some seat) = seat.token
 
--- the seat that only looks, in its place
+-- the seat that only looks, not out in a call
 abbrev pub look_seat : Option LookSeat → Token
 look_seat None = no_seat
 look_seat (Some seat) = seat.token
@@ -43,12 +43,12 @@ source_state s = record { source = s.source; seat = event_seat s.seat }
 abbrev pub core_state : machine.Inside → SeatedCoreState
 core_state s = record { core = s.core; seat = look_seat s.seat }
 
--- the seat is in its place, and the source's
+-- the seat is not out, and is the source's
 pub record SourceFieldsInvariant (s : source.Inside) : Type 0 where
   pub placed : is_some s.seat ≡ true
   pub kept : IsSeatedSource (source_state s)
 
--- the seat is in its place, and the machine's
+-- the seat is not out, and is the machine's
 pub record CoreFieldsInvariant (s : machine.Inside) : Type 0 where
   pub placed : is_some s.seat ≡ true
   pub kept : IsSeatedCore (core_state s)

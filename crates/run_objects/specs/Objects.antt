@@ -1,4 +1,4 @@
--- What a machine and a wakeup source keep beside their seats at the table of the event word, as contracts see them.
+-- What a machine and a wakeup source have besides their seats at the table of the event word, as contracts see them.
 use Rattle.std.specs.Prelude.{◌≡◌, ◌≤◌, ℕ, List, [], ◌∷◌, map, Some, None}
 use mathlib.Core.Option.{some}
 use lib.ListN.{get_elem?}
@@ -19,7 +19,8 @@ pub record SeatedCoreState : Type 0 where
   pub core : CoreState
   pub seat : Token
 
--- between calls the seat is the source's, its steps and looks are those of the source's history, and the source last knew the tick of its newest entry (wakeup_source_activate)
+-- between calls the seat is the source's, its steps and looks are those of the source's history, and the source last knew the tick of its
+-- newest entry (wakeup_source_activate)
 pub record IsSeatedSource (s : SeatedSourceState) : Type 0 where
   pub seat : IsSourceSeat s.seat
   pub number : number_of s.seat ≡ Some s.source.id
@@ -34,7 +35,7 @@ pub record IsSeatedCore (s : SeatedCoreState) : Type 0 where
   pub seen : AreSeen (looked_of s.seat) s.core.past
   pub low : (last_stamp s.core.past).pos ≤ floor_of s.seat
 
--- what a source's seat tells of the word, beside the source (combined_event_count)
+-- what a source's seat makes known of the word, and the source (combined_event_count)
 abbrev pub viewed_source_of : SeatedSourceState → SourceView
 viewed_source_of s = viewed_source None (Some (made_of s.seat)) (Some (looked_of s.seat)) (floor_of s.seat) s.source
 
@@ -46,11 +47,11 @@ seats_of sources = map (λ s. s.seat) sources
 abbrev pub AreUncalled : List SeatedSourceState → Type 0
 AreUncalled sources = (k : ℕ) (s : SeatedSourceState) → get_elem? sources k ≡ some s → s.source ≡ new_source k
 
--- the seat at each place has that number, and did nothing yet (wakeup_source_create)
+-- the seat at each index has that number, and did nothing yet (wakeup_source_create)
 abbrev pub AreFirst : List Token → Type 0
 AreFirst seats = (k : ℕ) (t : Token) → get_elem? seats k ≡ some t → (number_of t ≡ Some k) × IsUntouched t
 
--- each source keeps its seat (wakeup_source_activate)
+-- each source has its seat (wakeup_source_activate)
 abbrev pub SourcesInvariant : List SeatedSourceState → Type 0
 SourcesInvariant [] = Unit {0}
 SourcesInvariant (s ∷ rest) = IsSeatedSource s × SourcesInvariant rest

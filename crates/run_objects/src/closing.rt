@@ -34,8 +34,8 @@ fn split(
     Ok((seats, histories))
 }
 
-/// Closes the table: what its seats did lays the word. Answers the journal, and the history of each source, in the
-/// order of their numbers. `Mem` if there is no memory.
+/// Closes the table: what its seats did gives the word. Answers the journal, and the history of each source,
+/// in the order of their numbers. `Mem` if there is no memory.
 pub fn close_table(
     alloc: Global,
     table: EventTable,

@@ -24,7 +24,7 @@ use sleep_model::{Actor, EventNow, Journal, Stamp};
 use std::marker::Model;
 use std::sync::Wait;
 
-/// The machine as it stands under its lock: its core, and the seat by which it looks at the event word
+/// The machine under its lock: its core, and the seat by which it looks at the event word
 /// (`kernel/power/suspend.c`, `combined_event_count`). Contracts see the core, and what its seat knows.
 #[derive(Drop)]
 pub struct SeatedCore<'m> {
@@ -45,7 +45,7 @@ impl<'m> Model for SeatedCore<'m> {
     ghost invariant = { CoreFieldsInvariant };
 }
 
-/// Takes the seat out of its place.
+/// Takes the seat out for a call.
 #[inline(always)]
 fn taken(place: &mut Option<LookSeat>) -> LookSeat
     requires { IsSome place.old }
@@ -95,8 +95,8 @@ impl<'m> SeatedCore<'m> {
         word
     }
 
-    /// One turn of an actor, by a word that is looked at: as that of the core alone. `NotYet`, `Done` and `Mem` come
-    /// where they come of the core, and nothing of it has changed then.
+    /// One turn of an actor, by a word that is looked at: as that of the core by itself. `NotYet`, `Done` and
+    /// `Mem` come if they come of the core, and nothing of it has changed then.
     #[inline(always)]
     pub fn turn<R: Wait>(
         &mut self,
@@ -123,8 +123,8 @@ impl<'m> SeatedCore<'m> {
         answer
     }
 
-    /// One turn of an actor, by the word that was looked at last: as that of the core alone. `NotYet`, `Done` and `Mem`
-    /// come where they come of the core, and nothing of it has changed then.
+    /// One turn of an actor, by the word that was looked at last: as that of the core by itself. `NotYet`,
+    /// `Done` and `Mem` come if they come of the core, and nothing of it has changed then.
     pub fn turn_by<R: Wait>(
         &mut self,
         rt: &R,
@@ -147,8 +147,9 @@ impl<'m> SeatedCore<'m> {
         self.core.turn(rt, &mut seen, who, calls, floor, now)
     }
 
-    /// Time jumps to `to` ms, later than now, as seen at the word that was looked at last. That the moment is the
-    /// next pending one is for the caller to see to. `Mem` if there is no memory; nothing has changed then.
+    /// Time jumps to `to` ms, later than now, as seen at the word that was looked at last. That the moment is
+    /// the next pending one is for the caller to see to. `Mem` if there is no memory; nothing has changed
+    /// then.
     pub fn jump(&mut self, word: EventNow, to: u64, floor: Stamp) -> Result<Stamp, Mem>
         requires seen { list_any (is_word word) (looked_of self.old.seat) ≡ true }
         requires newest { position word ≡ floor_of self.old.seat }

@@ -7,7 +7,8 @@ use event_word::Events;
 use sleep_model::EventNow;
 use std::marker::Model;
 
-/// A word that was looked at: a turn that sees it is one by that look (`kernel/power/suspend.c`, `pm_wakeup_pending`).
+/// A word that was looked at: a turn that sees it is one by that look (`kernel/power/suspend.c`,
+/// `pm_wakeup_pending`).
 #[derive(Clone, Copy, Drop)]
 pub(crate) struct SeenWord {
     word: EventNow,

@@ -17,7 +17,7 @@ use std::marker::Model;
 use std::sync::Wait;
 use wakeup_source::{CallBy, MOST_ENTRIES, SourceFault, WakeSource};
 
-/// A wakeup source as it stands under its lock, with its seat at the event word (`struct wakeup_source`,
+/// A wakeup source under its lock, with its seat at the event word (`struct wakeup_source`,
 /// `combined_event_count`). Contracts see the source, and what its seat knows.
 #[derive(Drop)]
 pub struct SeatedSource {
@@ -38,7 +38,7 @@ impl Model for SeatedSource {
     ghost invariant = { SourceFieldsInvariant };
 }
 
-/// Takes the seat out of its place.
+/// Takes the seat out for a call.
 #[inline(always)]
 fn taken(place: &mut Option<EventSeat>) -> EventSeat
     requires { IsSome place.old }
@@ -116,9 +116,9 @@ impl SeatedSource {
         &self.source
     }
 
-    /// A whole call (`__pm_stay_awake`, `__pm_relax`, `pm_wakeup_ws_event`, `pm_wakeup_timer_fn`). Answers what the
-    /// caller then knows. `Full` where fewer than four places are left, `Mem` if there is no memory: nothing has
-    /// changed then.
+    /// A whole call (`__pm_stay_awake`, `__pm_relax`, `pm_wakeup_ws_event`, `pm_wakeup_timer_fn`). Answers
+    /// what the caller then knows. `Full` if fewer than four places are left, `Mem` if there is no memory:
+    /// nothing has changed then.
     #[inline(always)]
     pub fn call<R: Wait>(
         &mut self,

@@ -23,11 +23,11 @@ items_count [] = refl
 items_count (e ∷ past) = omega (arith, length-append (items past) (record { entry = e; past = past } ∷ []), items_count past)
 
 module _ {I : Type 0} where
-  -- what stands after the list that was had is what was gained
+  -- what follows the list that was there is what was gained
   pub placed_more : (object place : ℕ) (had now more : List I) → now ≡ had ++ more → length had ≡ place → placed object (length had) (drop (length had) now) ≡ placed object place more
   placed_more object place had now more grown count =
       ap (λ (l : List I). placed object (length had) (drop (length had) l)) grown ∙ ap (placed object (length had)) (drop-append_seam had more) ∙ ap (λ (n : ℕ). placed object n more) count
 
-  -- nothing stands after it where nothing was gained
+  -- nothing follows it if nothing was gained
   pub placed_none : (object : ℕ) (had now : List I) → now ≡ had → placed object (length had) (drop (length had) now) ≡ []
   placed_none object had now same = placed_more object (length had) had now [] (same ∙ sym (append_none had)) refl

@@ -21,7 +21,7 @@ use Rattle.run_world.specs.Objects.{IsWorldPass, notes_of, root_of}
 use Rattle.run_world.specs.Outcomes.{AfterCoreTurn, AfterReport, FindsMachine, FindsSource}
 
 module _ (m : Machine) (table locks : TableId) (moment : ℕ) (p : Token WorldObject Noted) (is : IsWorldPass m table locks moment p) where
-  -- what is taken at a source's lock is that source, and lent so
+  -- what is taken at a source's lock is that source
   pub source_taken : (s : ℕ) (y z : WorldObject) → IsTaken root_of notes_of p.me.0 (1 + s) y → z ≡ y
       → root_of z ≡ record { machine = None; table = table; number = s; moment = moment }
   source_taken s y z taken same = ap root_of same ∙ taken.3 ∙ is.objects.source s taken.0 taken.2

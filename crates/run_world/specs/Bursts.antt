@@ -16,7 +16,8 @@ AllPlayed count moment (old ∷ olds) (made ∷ passes) (new ∷ news) =
     ((acts : List (List (Made Noted))) × (made ≡ all_gains acts) × Plays count moment old acts new) × AllPlayed count moment olds passes news
 AllPlayed count moment _ _ _ = ⊥
 
--- a burst at that moment: the machine and its sources went in under locks, and came back with what the passes made, each pass what its task's acts added
+-- a burst at that moment: the machine and its sources went in under locks, and came back with what the passes made, each pass what its
+-- task's acts added
 pub record IsBurst
     (moment : ℕ) (machine : SeatedCoreState) (sources : List SeatedSourceState) (tasks : List Task)
     (machine_then : SeatedCoreState) (sources_then : List SeatedSourceState) (tasks_then : List Task) : Type 0 where

@@ -41,7 +41,7 @@ abbrev pub IsRefusedBy : SourceFault → ℕ → Type 0
 IsRefusedBy fault.Full entries = most_entries < entries + 4
 IsRefusedBy fault.Mem entries = entries + 4 ≤ most_entries
 
--- a call that answers a stamp was made; none comes for an expiry alone, whose moment has not come; nothing else changes the source
+-- a call that answers a stamp was made; none comes only for an expiry whose moment has not come; nothing else changes the source
 abbrev pub AfterCall : CallBy → SourceCall → SeatedSourceState → SeatedSourceState → Result (Option Stamp) SourceFault → Type 0
 AfterCall by call old new (Ok (Some stamp)) = IsMade by call old new stamp
 AfterCall by call old new (Ok None) =
@@ -57,7 +57,7 @@ pub record IsTried (old new : CoreState) (who : Actor) (calls : ℕ) (floor : St
   pub after : AfterTurn old new who word floor result
   pub legal : JournalPart new.machine (entries new.past)
 
--- a turn by numbers that are no longer the core's is told the core's own, of which one is not what was given, and nothing has changed
+-- a turn by numbers that are no longer the core's is answered the core's own, of which one is not what was given, and nothing has changed
 pub record IsStale (old new : CoreState) (who : Actor) (calls now : ℕ) (result : Result CoreTurn CoreFault) : Type 0 where
   pub due : ℕ
   pub time : ℕ

@@ -1,3 +1,4 @@
+-- The definitions of this crate.
 pub mod NoteFields
 pub mod Roots
 pub mod Calling

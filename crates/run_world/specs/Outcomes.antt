@@ -70,13 +70,14 @@ pub record IsRefusedReport (fault : SourceFault) (past : List SourceEntry) (gain
   pub refused : IsRefusedBy fault (length past)
   pub gained : gains ≡ []
 
--- a report on a source with that history that answers a stamp added its entries; none comes for an expiry alone, whose moment has not come; nothing else adds any
+-- a report on a source with that history that answers a stamp added its entries; none comes only for an expiry whose moment has not come;
+-- nothing else adds any
 abbrev pub AfterReport : CallBy → SourceCall → ℕ → List SourceEntry → Result (Option Stamp) SourceFault → List (Made Noted) → Type 0
 AfterReport by call s past (Ok (Some stamp)) gains = (report : IsReport by call s stamp gains) × (report.old.source.past ≡ past)
 AfterReport by call s past (Ok None) gains = IsNoReport by call past gains
 AfterReport by call s past (Err fault) gains = IsRefusedReport fault past gains
 
--- the history that a pass finds at a source's lock: what it made there itself stands in it, at its places
+-- the history that a pass finds at a source's lock: what it made there itself is in it, at its indices
 pub record FindsSource (p : Token WorldObject Noted) (s : ℕ) (past : List SourceEntry) : Type 0 where
   pub found : WorldObject
   pub taken : IsTaken root_of notes_of p.me.0 (1 + s) found
@@ -106,7 +107,8 @@ pub record IsNoTurn
   pub floor_low : floor.pos ≤ position word
   pub gained : gains ≡ []
 
--- a turn by numbers that are no longer the core's is told the core's own, of which one is not what was given, and the pass gained nothing
+-- a turn by numbers that are no longer the core's is answered the core's own, of which one is not what was given, and the pass gained
+-- nothing
 pub record IsStaleTurn
     (m : Machine) (who : Actor) (calls now : ℕ) (past : List JournalEntry) (cause : Why) (gains : List (Made Noted))
     : Type 0 where
@@ -127,7 +129,8 @@ pub record IsRefusedTurn
   pub no_device : is_device who ≡ false
   pub gained : gains ≡ []
 
--- a turn by a journal that did something added its entry at its time; whoever waits does so by what is due, or for numbers that are no longer the core's; nothing else adds any
+-- a turn by a journal that did something added its entry at its time; whoever waits does so by what is due, or for numbers that are no
+-- longer the core's; nothing else adds any
 abbrev pub AfterCoreTurn : Machine → Actor → ℕ → Stamp → ℕ → List JournalEntry → Result CoreTurn CoreFault → List (Made Noted) → Type 0
 AfterCoreTurn m who calls floor now past (Ok (Did stamp k attempt)) gains =
     (turn : IsTurn m who calls floor stamp k attempt gains) × (turn.past ≡ past) × (now ≡ time_of (entries past))
@@ -136,7 +139,7 @@ AfterCoreTurn m who calls floor now past (Ok (NotYet cause)) gains =
 AfterCoreTurn m who calls floor now past (Ok Done) gains = IsNoTurn m who calls floor now past Exited gains
 AfterCoreTurn m who calls floor now past (Err fault) gains = IsRefusedTurn m who calls now past gains
 
--- the journal that a pass finds at the machine's lock: what it made there itself stands in it, at its places
+-- the journal that a pass finds at the machine's lock: what it made there itself is in it, at its indices
 pub record FindsMachine (p : Token WorldObject Noted) (past : List JournalEntry) : Type 0 where
   pub found : WorldObject
   pub taken : IsTaken root_of notes_of p.me.0 0 found

@@ -7,7 +7,8 @@ use Rattle.event_word.specs.Seats.{sources_of}
 use Rattle.run_laws.specs.Passes.{Noted}
 use Rattle.run_objects.specs.Objects.{SeatedCoreState, SeatedSourceState}
 
--- what never changes in an object: the machine, where it is that; the table of its seat; the source's number, or how many sources there are; and the burst's moment, where it is a source
+-- what never changes in an object: the machine, if it is that; the table of its seat; the source's number, or how many sources there are;
+-- and the burst's moment, if it is a source
 pub record WorldRoot : Type 0 where
   pub machine : Option Machine
   pub table : TableId

@@ -15,9 +15,9 @@ use std::alloc::Global;
 use std::marker::Model;
 use std::sync::Wait;
 
-/// The machine as it stands under its lock in a burst, in a place of its own on the heap: who takes a lock moves what
-/// stands under it, and a source is moved for each of its calls, so an object of the world has to be small. Contracts
-/// see the machine.
+/// The machine under its lock in a burst, boxed on the heap: who takes a lock moves what the lock guards, and
+/// a source is moved for each of its calls, so an object of the world has to be small. Contracts see the
+/// machine.
 #[derive(Drop)]
 pub struct BoxedCore<'m> {
     core: Box<SeatedCore<'m>>,
@@ -31,7 +31,7 @@ impl<'m> Model for BoxedCore<'m> {
     ghost view = { λ p. p.core.value };
 }
 
-/// That number of calls in the bits that a turn tells it by; more of them wait for ever.
+/// That number of calls in the bits that a turn has for it; more of them wait for ever.
 fn calls_in_bits<R: Wait>(rt: &R, calls: u64) -> u32
     ensures { result ≡ calls }
 {
@@ -42,7 +42,7 @@ fn calls_in_bits<R: Wait>(rt: &R, calls: u64) -> u32
     unreachable!()
 }
 
-/// A turn of the machine, or its own numbers where those given are not all its own.
+/// A turn of the machine, or its own numbers if those given are not all its own.
 fn turn_of<R: Wait>(
     machine: &mut SeatedCore<'_>,
     rt: &R,
@@ -89,8 +89,8 @@ impl<'m> BoxedCore<'m> {
         core
     }
 
-    /// A turn of the machine at the time `now` by an actor that has made `calls` calls on sources; `Stale` where those are
-    /// not all that are due, or that is not the time.
+    /// A turn of the machine at the time `now` by an actor that has made `calls` calls on sources; `Stale` if
+    /// those are not all that are due, or that is not the time.
     pub(crate) fn turn<R: Wait>(
         &mut self,
         rt: &R,

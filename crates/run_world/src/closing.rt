@@ -58,8 +58,8 @@ fn sources_of(alloc: Global, objects: Vec<WorldObject<'_>>) -> Result<Vec<Seated
     Ok(sources)
 }
 
-/// Closes the world: the machine, and its sources in the order of their numbers, with what the passes made, which
-/// stand in the order of theirs. Each keeps its seat. `Mem` if there is no memory.
+/// Closes the world: the machine, and its sources in the order of their numbers, with what the passes made,
+/// which are in the order of theirs. Each has its seat. `Mem` if there is no memory.
 pub fn close_world<'m>(
     alloc: Global,
     locks: LockTable<WorldObject<'m>>,

@@ -2,8 +2,8 @@
 
 use sleep_model::Actor;
 
-/// What sees the turns in a burst (own: Linux has its scheduler). A test waits in it, to bring turns into an order;
-/// each clause holds for every gate.
+/// What sees the turns in a burst (own: Linux has its scheduler). A test waits in it, to bring turns into an
+/// order; each clause holds for every gate.
 pub trait Gate {
     /// The job at that place has its turn next. Its worker holds no lock.
     fn pass(&self, job: u32);

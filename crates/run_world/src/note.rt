@@ -4,8 +4,8 @@ use sleep_model::JournalEntry;
 use std::collections::LinkedList;
 use std::marker::Model;
 
-/// An entry of an object, with the entries there before it. No value of it is made: what a pass knows of its entries
-/// is told by it.
+/// An entry of an object, with the entries there before it. No value of it is made: it says what a pass knows
+/// of its entries.
 #[derive(Drop)]
 pub struct WorldNote {
     entry: JournalEntry,

@@ -1,4 +1,4 @@
-//! What stands under one lock.
+//! What a lock of the world guards.
 
 ghost use Rattle.std.specs.Prelude.{◌≡◌, ◌+◌, List, map, None, Some};
 ghost use Rattle.sleep_model.specs.declared.entry.JournalEntry.{JournalEntry};
@@ -21,7 +21,7 @@ use std::sync::Wait;
 use turn_lock::Booked;
 use wakeup_source::{CallBy, SourceFault};
 
-/// What stands under one lock of the world: the machine (`kernel/power/suspend.c`), or a wakeup source
+/// What one lock of the world guards: the machine (`kernel/power/suspend.c`), or a wakeup source
 /// (`drivers/base/power/wakeup.c`), each with its seat at the event word.
 #[derive(Drop)]
 pub enum WorldObject<'m> {
@@ -68,8 +68,8 @@ impl<'m> WorldObject<'m> {
         }
     }
 
-    /// A turn of the machine that it is, at the time `now` by an actor that has made `calls` calls on sources; `Stale`
-    /// where those are not all that are due, or that is not the time.
+    /// A turn of the machine that it is, at the time `now` by an actor that has made `calls` calls on
+    /// sources; `Stale` if those are not all that are due, or that is not the time.
     pub(crate) fn turn<R: Wait>(
         &mut self,
         rt: &R,

@@ -26,8 +26,8 @@ fn with_machine<'m>(
     Ok(first)
 }
 
-/// The objects of a world, for a burst at that moment in ms: the machine, and its sources, which stand in the order of
-/// their numbers. Each keeps its seat. `Mem` if there is no memory.
+/// The objects of a world, for a burst at that moment in ms: the machine, and its sources, in the order of
+/// their numbers. Each has its seat. `Mem` if there is no memory.
 pub fn world_objects<'m>(
     alloc: Global,
     machine: SeatedCore<'m>,

@@ -15,8 +15,8 @@ use sleep_model::{SourceCall, Stamp};
 use std::sync::Wait;
 use wakeup_source::{CallBy, SourceFault};
 
-/// A wakeup source as it stands under its lock in a burst (`struct wakeup_source`): time stands still in a burst,
-/// and no entry of the source is later than its moment.
+/// A wakeup source under its lock in a burst (`struct wakeup_source`): time does not pass in a burst, and no
+/// entry of the source is later than its moment.
 #[derive(Drop)]
 pub struct TimedSource {
     source: SeatedSource,
@@ -60,7 +60,7 @@ impl TimedSource {
         self.source
     }
 
-    /// A whole call; an expiry is left where its moment has not come.
+    /// A whole call; an expiry is not made if its moment has not come.
     pub(crate) fn report<R: Wait>(
         &mut self,
         rt: &R,

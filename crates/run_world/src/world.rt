@@ -39,7 +39,7 @@ pub struct World<'w, 'm, R, G> {
     pub table: &'w EventTable,
     /// The locks: object 0 is the machine, object 1 + s the source s.
     pub cells: &'w SharedWorld<'m>,
-    /// The time in ms, which stands still in a burst.
+    /// The time in ms, which does not pass in a burst.
     pub moment: u64,
 }
 
@@ -51,10 +51,10 @@ pub struct Reply<'m, A> {
 }
 
 impl<'w, 'm, R: Wait, G: Gate> World<'w, 'm, R, G> {
-    /// A whole call on a source, under its lock alone (`__pm_stay_awake`, `__pm_relax`, `pm_wakeup_ws_event`,
-    /// `pm_wakeup_timer_fn`). Answers as `SeatedSource::call`, and None exactly for an expiry whose moment has not come;
-    /// what the pass then made is what it had made, and the call's entries, which stand at the end of the source's
-    /// history. Any other answer than a stamp adds nothing.
+    /// A whole call on a source, under only its lock (`__pm_stay_awake`, `__pm_relax`, `pm_wakeup_ws_event`,
+    /// `pm_wakeup_timer_fn`). Answers as `SeatedSource::call`, and None exactly for an expiry whose moment
+    /// has not come; what the pass then made is what it had made, and the call's entries, which are at the
+    /// end of the source's history. Any other answer than a stamp adds nothing.
     pub fn report(
         &self,
         pass: WorldPass<'m>,
@@ -81,11 +81,11 @@ impl<'w, 'm, R: Wait, G: Gate> World<'w, 'm, R, G> {
         }
     }
 
-    /// A turn at the time `now` of an actor that has made `calls` calls on sources, under the machine's lock alone. The
-    /// gate hears of the actor once it has the lock, before it looks at anything. `NotYet(Stale)` with the machine's own
-    /// numbers exactly where those are not all calls that are due, or that is not the machine's time. Else answers as
-    /// `SeatedCore::turn`; what the pass then made is what it had made, and the turn's entry, which stands at the end of
-    /// the journal. Any other answer than `Did` adds nothing.
+    /// A turn at the time `now` of an actor that has made `calls` calls on sources, under only the machine's
+    /// lock. The gate hears of the actor once it has the lock, before it looks at anything. `NotYet(Stale)`
+    /// with the machine's own numbers exactly if those are not all calls that are due, or that is not the
+    /// machine's time. Else answers as `SeatedCore::turn`; what the pass then made is what it had made, and
+    /// the turn's entry, which is at the end of the journal. Any other answer than `Did` adds nothing.
     pub fn core_turn(
         &self,
         pass: WorldPass<'m>,

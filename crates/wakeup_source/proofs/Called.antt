@@ -1,4 +1,4 @@
--- Calls, put together of their parts, and what they say where the word or the steps are told.
+-- Calls, put together of their parts, and what they say if the word or the steps are known.
 use Rattle.std.proofs.Common.{◌≡◌, ◌++◌, ◌∙◌, ℕ, Bool, true, ◌==◌, List, [], ◌∷◌, Option, Some, None, is_some, refl, sym, ap, subst, cond, append_assoc}
 use Rattle.sleep_model.specs.declared.entry.Actor.{Actor}
 use Rattle.sleep_model.specs.declared.entry.Entry.{Entry}
@@ -22,9 +22,9 @@ pub more_steps : (by : CallBy) (first second : List WordKind) (old mid new : Sou
 more_steps by [] second old mid new h k = subst (λ (s : SourceView). Steps by second s new) h k
 more_steps by (step ∷ first) second old mid new h k = (h.0, h.1, h.2, more_steps by first second (called.after_step by step h.0 old) mid new h.3 k)
 
--- ---- where the word is told
+-- ---- if the word is known
 
--- steps at a told word
+-- steps at a known word
 shown_steps : (by : CallBy) (steps : List WordKind) (old new : SourceView) (word : EventNow) → old.shown ≡ Some word → Steps by steps old new
     → (unstamped new.source.past ≡ after_steps old.source.id by.actor by.now word steps (unstamped old.source.past)) × (new.shown ≡ Some (word_after_kinds steps word))
 shown_steps by [] old new word t h = (ap (λ (s : SourceView). unstamped s.source.past) h, ap (λ (s : SourceView). s.shown) h ∙ t)
@@ -33,12 +33,12 @@ shown_steps by (step ∷ rest) old new word t h =
     let on = shown_steps by rest (called.after_step by step h.0 old) new (after_step (Some step) word) (ap (shown_after step) t) h.3 in
     (subst (λ (w : EventNow). unstamped new.source.past ≡ after_steps old.source.id by.actor by.now (after_step (Some step) word) rest (step_entry old.source.id step by.actor by.now w ∷ unstamped old.source.past)) at on.0, on.1)
 
--- steps upon entries that stand upon others
+-- steps after entries that follow others
 upon : (s : ℕ) (who : Actor) (time : ℕ) (word : EventNow) (steps : List WordKind) (new own : List Entry) → after_steps s who time word steps (new ++ own) ≡ after_steps s who time word steps new ++ own
 upon s who time word [] new own = refl
 upon s who time word (step ∷ rest) new own = upon s who time (after_step (Some step) word) rest (step_entry s step who time word ∷ new) own
 
--- a call at a told word
+-- a call at a known word
 pub told_source : (by : CallBy) (made : SourceCall) (old new : SourceView) → Calls by made old new → IsShownCall by made old.shown new.shown old.source new.source
 told_source by made old new h = by_shown old.shown refl
   where
@@ -63,7 +63,7 @@ told_source by made old new h = by_shown old.shown refl
           on.1,
         )
 
--- ---- where the steps are told
+-- ---- if the steps are known
 
 made_more : (made : WordKind) (s : ℕ) (who : Actor) (time : ℕ) (before : EventNow) (own : List Entry) → made_after made before (Some (steps_in own)) ≡ Some (steps_in (step_entry s made who time before ∷ own))
 made_more step.Start s who time before own = refl
@@ -82,7 +82,7 @@ own_steps by (step ∷ rest) old new h m =
     own_steps by rest (called.after_step by step h.0 old) new h.3
     (ap (made_after step h.0) m ∙ made_more step old.source.id by.actor by.now h.0 (unstamped old.source.past))
 
--- a call of a bump that tells its steps
+-- a call of a bump that makes its steps known
 pub own_call : (by : CallBy) (made : SourceCall) (old new : SourceView) → Calls by made old new → AreOwnSteps old.made new.made old.source new.source
 own_call by made old new h m =
     let is : h.0 ≡ after_note by made h.1.0 h.0.looked old = h.1.6 in
@@ -91,16 +91,16 @@ own_call by made old new h m =
 
 -- ---- what can be made
 
--- steps after steps can be made where all of them could
+-- steps after steps can be made if all of them could
 pub goes_on_more : (first second : List WordKind) (old mid new : List WordKind → Bool) → CanGoOnAll first old mid → CanGoOnAll second mid new → CanGoOnAll (first ++ second) old new
 goes_on_more first second old mid new h k rest c = k rest (h (second ++ rest) (subst (λ steps. old steps ≡ true) (append_assoc first second rest) c))
 
--- a relax makes its one step where an event is in progress
+-- a relax makes its one step if an event is in progress
 pub finishing_is : (o : Option ℕ) → finishing o ≡ (cond (is_some o) (step.Finish ∷ []) [])
 finishing_is None = refl
 finishing_is (Some since) = refl
 
--- an event is its note, a start where none was in progress, a hard step where it is hard, and a finish where it has no length
+-- an event is its note, a start if none was in progress, a hard step if it is hard, and a finish if it has no length
 pub event_calls : (by : CallBy) (ms : ℕ) (hard : Bool) (old noted started counted new : SourceView) → Notes by (call.Event ms hard) old noted → Steps by (starting (since (unstamped noted.source.past))) noted started
     → Steps by (cond hard (step.Hard ∷ []) []) started counted → Steps by (cond (ms == 0) (step.Finish ∷ []) []) counted new → Calls by (call.Event ms hard) old new
 event_calls by ms hard old noted started counted new n a b d =

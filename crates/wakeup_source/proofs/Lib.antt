@@ -1,3 +1,4 @@
+-- The lemmas of this crate.
 mod Called
 mod Settled
 mod Tallied

@@ -31,7 +31,7 @@ record IsInside (by : CallBy) (steps : List WordKind) (s : SourceView) : Type 0 
 same : (s : ℕ) → (s == s) ≡ true
 same s = grind (arith, nat_tests)
 
--- a new entry stands above the others
+-- a new entry comes after the others
 above : (floor : Stamp) (e : SourceEntry) (past : List SourceEntry) → RiseUpTo floor past → floor.pos ≤ e.stamp.pos → floor.tick < e.stamp.tick → latest (unstamped past) ≤ e.entry.time → RisesAfter e past
 above floor e [] h p t l = tt
 above floor e (x ∷ past) h p t l = (omega (arith, h.0, p), omega (arith, h.1, t), l, h.2)

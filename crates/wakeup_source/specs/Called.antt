@@ -1,4 +1,4 @@
--- What a call on a source does, by what its bump tells.
+-- What a call on a source does, by what its bump makes known.
 use Rattle.std.specs.Prelude.{◌≡◌, ◌≤◌, ◌+◌, ◌++◌, ℕ, Bool, true, List, [], ◌∷◌, Option}
 use Rattle.sleep_model.specs.declared.machine.SourceCall.{SourceCall}
 use Rattle.sleep_model.specs.declared.word.EventNow.{EventNow}
@@ -10,7 +10,7 @@ use Rattle.event_word.specs.Steps.{MadeStep, shown_after, made_after}
 use Rattle.wakeup_source.specs.declared.call_by.CallBy.{CallBy}
 use Rattle.wakeup_source.specs.SourceStates.{SourceState, unstamped, with_note, with_step}
 
--- what a bump tells, and the source that it is a bump of
+-- what a bump makes known, and the source that it is a bump of
 pub record SourceView : Type 0 where
   pub shown : Option EventNow
   pub made : Option (List MadeStep)
@@ -33,7 +33,7 @@ after_step by step before s = record {
   source = with_step by step before s.source;
 }
 
--- these steps are made one after another, each at the word that the holder tells, where it tells one, and no position falls
+-- these steps are made one after another, each at the word that the holder shows, if it shows one, and no position falls
 abbrev pub Steps : CallBy → List WordKind → SourceView → SourceView → Type 0
 Steps by [] old new = new ≡ old
 Steps by (step ∷ rest) old new =

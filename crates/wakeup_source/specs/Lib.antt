@@ -1,3 +1,4 @@
+-- The definitions of this crate.
 pub mod SourceHistoryFields
 pub mod SourceHistories
 pub mod Called

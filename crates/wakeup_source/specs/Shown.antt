@@ -1,4 +1,4 @@
--- A call on a source where its bump tells the word, and where it tells its steps.
+-- A call on a source if its bump shows the word, and if it shows its steps.
 use Rattle.std.specs.Prelude.{◌≡◌, ◌++◌, ℕ, true, List, [], ◌∷◌, Option, Some, None, Result, Ok}
 use Rattle.sleep_model.specs.declared.entry.Actor.{Actor}
 use Rattle.sleep_model.specs.declared.entry.Entry.{Entry}
@@ -29,7 +29,7 @@ abbrev pub source_call : ℕ → SourceCall → Actor → ℕ → EventNow → L
 source_call s call who time word own =
     after_steps s who time word (makes call (since own)) (note_entry s call who time word ∷ [])
 
--- where the holder tells the word, a call adds its entries at that word, and the word then is the one after its steps
+-- if the holder shows the word, a call adds its entries at that word, and the word then is the one after its steps
 abbrev pub IsShownCall : CallBy → SourceCall → Option EventNow → Option EventNow → SourceState → SourceState → Type 0
 IsShownCall by call None shown old new = shown ≡ None
 IsShownCall by call (Some word) shown old new =
@@ -46,7 +46,7 @@ abbrev pub steps_in : List Entry → List MadeStep
 steps_in [] = []
 steps_in (e ∷ own) = step_by (class_of e.kind) e.now (steps_in own)
 
--- where a bump told the history's steps as its own, it does so still
+-- if a bump showed the history's steps as its own, it shows them after the call
 abbrev pub AreOwnSteps : Option (List MadeStep) → Option (List MadeStep) → SourceState → SourceState → Type 0
 AreOwnSteps old_made new_made old new =
     old_made ≡ Some (steps_in (unstamped old.past)) → new_made ≡ Some (steps_in (unstamped new.past))

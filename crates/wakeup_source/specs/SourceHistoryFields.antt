@@ -1,9 +1,9 @@
--- What the fields of a source's book are.
+-- What the fields of a source's history are.
 use Rattle.wakeup_source.specs.declared.source_history.SourceHistory.TheInside.{Inside}
 use Rattle.wakeup_source.specs.SourceHistories.{HistoryState}
 use Rattle.wakeup_source.specs.Tallies.{IsTallied}
 
--- the book as contracts see it
+-- the history as contracts see it
 abbrev pub history_seen : Inside → HistoryState
 history_seen b = record { source = record { id = b.id; past = b.entries.past; floor = b.floor }; room = b.entries.room }
 

@@ -97,7 +97,7 @@ abbrev pub RiseUpTo : Stamp → List SourceEntry → Type 0
 RiseUpTo floor [] = Unit {0}
 RiseUpTo floor (e ∷ past) = (next_position (of_source e) ≤ floor.pos) × (e.stamp.tick ≤ floor.tick) × RisesAfter e past
 
--- each entry, the newest first, is of that source and legal where it stands
+-- each entry, the newest first, is of that source and legal after the older ones
 abbrev pub IsOwnHistory : ℕ → List Entry → Type 0
 IsOwnHistory s [] = Unit {0}
 IsOwnHistory s (e ∷ own) =

@@ -1,3 +1,4 @@
+//! Why a call on a source is refused.
 use std::alloc::AllocError;
 use thiserror::Error;
 

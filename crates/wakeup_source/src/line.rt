@@ -1,3 +1,4 @@
+//! The line of a source's statistics in a log.
 ghost use Rattle.std.specs.Prelude.{◌≡◌, ◌++◌, ◌∷◌, OnOk, IfOk, decimal, string_bytes};
 ghost use Rattle.std.specs.Str.{IsUtf8};
 ghost use Rattle.sleep_model.specs.Text.{source_line, counts_text, times_text, space};
@@ -36,9 +37,9 @@ fn push_times(line: &mut String, stats: &Stats) -> Result<(), AllocError>
     push_number(line, stats.last_time)
 }
 
-/// The line of a source in a log (`print_wakeup_source_stats`): its name, which is text, its three counts and its
-/// four times in ms, with a newline. `Mem` if there is no memory. It is for a caller that prints a source alone: a log's
-/// lines are put together without memory.
+/// The line of a source in a log (`print_wakeup_source_stats`): its name, which is text, its three counts and
+/// its four times in ms, with a newline. `Mem` if there is no memory. It is for a caller that prints one
+/// source only: a log's lines are put together without memory.
 pub fn stats_line(alloc: Global, name: &Name, stats: &Stats) -> Result<String, Mem>
     requires { IsUtf8 name.now }
     ensures { IfOk result (λ line. string_bytes line ≡ source_line name.now stats.now) }

@@ -1,3 +1,4 @@
+//! A wakeup source: its calls, its statistics and its history.
 use crate::call_by::CallBy;
 use crate::fault::SourceFault;
 use crate::source_history::SourceHistory;
@@ -43,7 +44,7 @@ impl<const CAP: usize> WakeSource<CAP> {
     }
 
     /// An event that lasts until it is ended by hand (`__pm_stay_awake`). Answers what the caller then knows.
-    /// `Full` where fewer than four places are left, `Mem` if there is no memory: nothing has changed then.
+    /// `Full` if fewer than four places are left, `Mem` if there is no memory: nothing has changed then.
     pub fn stay_awake<R: Wait, B: Bump>(
         &mut self,
         rt: &R,
@@ -104,8 +105,8 @@ impl<const CAP: usize> WakeSource<CAP> {
         Ok(self.source_history.floor())
     }
 
-    /// An event of `ms` milliseconds, a hard one or not (`pm_wakeup_ws_event`): one without length ends at once, one
-    /// that stands longer is not cut. Answers and refuses as `stay_awake`.
+    /// An event of `ms` milliseconds, a hard one or not (`pm_wakeup_ws_event`): one without length ends at
+    /// once, one that lasts longer is not cut. Answers and refuses as `stay_awake`.
     pub fn event<R: Wait, B: Bump>(
         &mut self,
         rt: &R,
@@ -141,7 +142,7 @@ impl<const CAP: usize> WakeSource<CAP> {
         Ok(self.source_history.floor())
     }
 
-    /// The end of the event in progress where its moment has come (`pm_wakeup_timer_fn`). `None` if it has not,
+    /// The end of the event in progress if its moment has come (`pm_wakeup_timer_fn`). `None` if it has not,
     /// which is tested first. Else answers and refuses as `stay_awake`.
     pub fn expire<R: Wait, B: Bump>(
         &mut self,

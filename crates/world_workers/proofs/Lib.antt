@@ -1,3 +1,4 @@
+-- The lemmas of this crate.
 pub mod Acting
 pub mod Going
 pub mod Pools

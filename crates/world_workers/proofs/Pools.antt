@@ -106,7 +106,7 @@ module _ (passes lent left : List WorldPass) (tasks yielded rest : List Task) (w
       ap (λ (l : List Actor). slice_index_or l place d) (actors_are ∙ ap (λ (l : List Task). map actor_of l) whole)
       ∙ ap (λ (k : ℕ). slice_index_or (map actor_of (yielded ++ t ∷ more)) k d) (place_is ∙ sym n.0) ∙ actor_there yielded more t d
 
-  -- all are lent where no task is left
+  -- each pass is with a worker if no task is left
   pub all_lent : rest ≡ [] → AreContents workers passes tasks
   all_lent none_left =
       let n = contents_count workers lent yielded contents in
@@ -119,7 +119,7 @@ module _ (passes lent left : List WorldPass) (tasks yielded rest : List Task) (w
 
 -- ---- passes that come back
 
--- each pass that is brought back is the one that was lent
+-- each pass that is brought back is the one that was taken
 abbrev pub AreSame : List WorldPass → List WorldPass → Type 0
 AreSame [] [] = Unit {0}
 AreSame [] (q ∷ backs) = ⊥

@@ -1,3 +1,4 @@
+-- The definitions of this crate.
 pub mod Tries
 pub mod Workers
 pub mod Bursts

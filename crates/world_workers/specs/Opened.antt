@@ -26,7 +26,7 @@ pub record Began : Type 0 where
   pub sources : List SeatedSourceState
   pub tasks : List Task
 
--- core and sources stand under locks, and each task has a worker with a pass that has made nothing
+-- locks guard the core and the sources, and each task has a worker with a pass that has made nothing
 pub record IsOpened (b : Began) (own : Token WorldObject Noted) (locks : TableId) (workers : List Worker) : Type 0 where
   pub objects : List WorldObject
   pub passes : List (Pass WorldObject Noted)

@@ -19,10 +19,11 @@ use sleep_script::{ActorJob, TimerJob};
 use std::sync::Wait;
 use wakeup_source::{CallBy, SourceFault};
 
-/// What came of a try of a task, with the pass: what the pool hears of it, or why the task comes to no end of its own.
+/// What came of a try of a task, with the pass: what the pool hears of it, or why the task comes to no end of
+/// its own.
 pub type Tried<'m> = Reply<'m, Result<Turn, Stop>>;
 
-/// Tells a job what its turn of the machine came to.
+/// Reports to a job what its turn of the machine came to.
 fn pass_turn(job: &mut ActorJob<'_>, answer: Result<CoreTurn, CoreFault>) -> Result<Turn, Stop>
     requires made { job.old.pending ≡ [] }
     requires few { job.old.turns < 2 ^ 63 }
@@ -47,7 +48,7 @@ fn pass_turn(job: &mut ActorJob<'_>, answer: Result<CoreTurn, CoreFault>) -> Res
     }
 }
 
-/// Tells a job what its call on that source came to.
+/// Reports to a job what its call on that source came to.
 fn pass_call(
     job: &mut ActorJob<'_>,
     source: u32,
@@ -68,7 +69,7 @@ fn pass_call(
     }
 }
 
-/// Tells the timer of that source what its call came to (`pm_wakeup_timer_fn`).
+/// Reports to the timer of that source what its call came to (`pm_wakeup_timer_fn`).
 fn pass_expiry(
     timer: &mut TimerJob,
     source: u32,
@@ -165,7 +166,8 @@ fn call<'m, R: Wait, G: Gate>(
     }
 }
 
-/// The call of a source's timer, which ends the event in progress once its moment has come (`pm_wakeup_timer_fn`).
+/// The call of a source's timer, which ends the event in progress once its moment has come
+/// (`pm_wakeup_timer_fn`).
 fn expire<'m, R: Wait, G: Gate>(
     world: &World<'_, 'm, R, G>,
     pass: WorldPass<'m>,
@@ -235,8 +237,8 @@ fn act_timer<'m, R: Wait, G: Gate>(
     }
 }
 
-/// One try of a task of that actor: the call on a source that is next, else a turn of the machine. The task notes
-/// what was made, and the pass made just that. It takes one lock, or none.
+/// One try of a task of that actor: the call on a source that is next, else a turn of the machine. The task
+/// notes what was made, and the pass made just that. It takes one lock, or none.
 pub fn act<'m, R: Wait, G: Gate>(
     world: &World<'_, 'm, R, G>,
     pass: WorldPass<'m>,

@@ -29,8 +29,8 @@ use turn_lock::LockTable;
 /// The locks of the world of a burst.
 type WorldLocks<'m> = LockTable<WorldObject<'m>>;
 
-/// Opens a burst at that moment in ms: the machine and its sources go under locks, and each task to a worker. `Mem` where
-/// there is no memory; all that went in is lost then.
+/// Opens a burst at that moment in ms: the machine and its sources go under locks, and each task to a worker.
+/// `Mem` if there is no memory; all that went in is lost then.
 fn open_burst<'m>(
     alloc: Global,
     contents: BurstContents<'m>,
@@ -66,7 +66,8 @@ fn open_burst<'m>(
     Ok((locks, workers))
 }
 
-/// The workers make their turns, side by side where threads can be made. Answers how many turns did something.
+/// The workers make their turns, at the same time if threads can be made. Answers how many turns did
+/// something.
 fn run_workers<'m, R: Threads + Sync + Wait, G: Gate + Sync>(
     rt: &R,
     plan: &BurstPlan<'_, 'm, G>,
@@ -92,8 +93,8 @@ fn run_workers<'m, R: Threads + Sync + Wait, G: Gate + Sync>(
     burst(rt, workers, &world, moment, plan.workers)
 }
 
-/// Closes a burst in which so many turns did something: all come back with what the workers made. `Mem` if there is no
-/// memory; all that went in is lost then.
+/// Closes a burst in which so many turns did something: all come back with what the workers made. `Mem` if
+/// there is no memory; all that went in is lost then.
 fn close_burst<'m>(
     alloc: Global,
     locks: WorldLocks<'m>,
@@ -125,9 +126,9 @@ fn close_burst<'m>(
     })
 }
 
-/// One burst: the machine and its sources go under locks, each task goes to a worker, and all come back with what the
-/// workers made. Time stands still in it. That it is over says nothing of who could go on. `Mem` if there is no memory;
-/// all that went in is lost then.
+/// One burst: the machine and its sources go under locks, each task goes to a worker, and all come back with
+/// what the workers made. Time does not pass in it. That it is over says nothing of who could go on. `Mem` if
+/// there is no memory; all that went in is lost then.
 pub fn make_burst<'m, R: Threads + Sync + Wait, G: Gate + Sync>(
     rt: &R,
     alloc: Global,

@@ -14,7 +14,7 @@ pub struct BurstPlan<'w, 'm, G> {
     pub table: &'w EventTable,
     /// The machine that is run.
     pub machine: &'m Machine,
-    /// Whose task stands at each place.
+    /// Whose task each index has.
     pub actors: &'w [Actor],
     /// How many workers there are.
     pub workers: u8,
@@ -46,7 +46,8 @@ pub struct Burst<'m> {
     pub did: u64,
     /// How many calls on sources were made, but for those of the task that made most. No clause speaks of it.
     pub beside: u64,
-    /// Why a task stopped, if one did: out of memory before a full source, and the least of those. No clause speaks of it.
+    /// Why a task stopped, if one did: out of memory before a full source, and the least of those. No clause
+    /// speaks of it.
     pub stop: Option<Stop>,
 }
 

@@ -5,8 +5,8 @@ use sleep_pool::Turn;
 /// The longest pause, in rounds.
 const LONGEST: u32 = 255;
 
-/// A task whose tries come to nothing takes no lock for a while, twice as long each time. None of this is part of what
-/// is promised: whoever was left out in a burst is asked in the caller's own round after it.
+/// A task whose tries come to nothing takes no lock for a while, twice as long each time. None of this is
+/// part of what is promised: whoever was left out in a burst is asked in the caller's own round after it.
 #[derive(Drop)]
 pub(crate) struct Pause {
     /// How many rounds it still takes no lock.

@@ -46,7 +46,8 @@ pub(crate) fn workers_of<'m>(
     Ok(workers)
 }
 
-/// Why one of these workers stopped, if one did, and how many calls on sources they made, but for those of the busiest.
+/// Why one of these workers stopped, if one did, and how many calls on sources they made, but for those of
+/// the busiest.
 pub(crate) fn came_to(workers: &[Worker<'_>]) -> (Option<Stop>, u64) {
     let mut stop = None;
     let mut calls: u64 = 0;

@@ -37,6 +37,7 @@ impl<'w, 'm, R: Wait, G: Gate> Work<World<'w, 'm, R, G>> for Worker<'m> {
 
     ghost made = { WentOn };
 
+    /// One act of the worker's task by its pass, unless the worker skips the round.
     fn turn(&mut self, shared: &World<'w, 'm, R, G>, now: u64) -> Turn {
         self.left -= 1;
         shared.gate.pass(self.place);

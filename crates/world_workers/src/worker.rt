@@ -17,9 +17,9 @@ pub struct Worker<'m> {
     pub(crate) task: Task<'m>,
     /// Whose task it is.
     pub(crate) who: Actor,
-    /// Where the task stands among those of the burst.
+    /// The index of the task among those of the burst.
     pub(crate) place: u32,
-    /// The time in ms, which stands still in a burst.
+    /// The time in ms, which does not pass in a burst.
     pub(crate) moment: u64,
     /// How many turns it can still make.
     pub(crate) left: u64,
@@ -37,7 +37,8 @@ pub struct Worker<'m> {
 const MOST_TURNS: u64 = 1000;
 
 impl<'m> Worker<'m> {
-    /// The worker of that actor's task, which stands at that place, with that pass, for a burst at that moment in ms.
+    /// The worker of that actor's task, which has that index, with that pass, for a burst at that moment in
+    /// ms.
     pub fn new(pass: WorldPass<'m>, task: Task<'m>, who: Actor, place: u32, moment: u64) -> Self
         requires who { who ≡ actor_of task }
         requires few { turns_of task + 1000 < 2 ^ 63 }

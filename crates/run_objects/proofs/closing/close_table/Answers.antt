@@ -1,3 +1,4 @@
+-- Proof that `close_table` meets its contract.
 use Rattle.std.proofs.Common.{◌++◌, [], ◌∷◌, subst}
 use Rattle.event_word.specs.Histories.{AreClosed}
 use Rattle.event_word.specs.Lists.{looked_lists, made_lists}

@@ -1,3 +1,4 @@
+-- Proof that the loop of `split` keeps its invariant.
 use Rattle.run_objects.proofs.Laying.{histories_more, preserved_more, tokens_more}
 use Rattle.run_objects.proofs.closing.split.Goals as goal
 

@@ -1,3 +1,4 @@
+-- The invariant of the loop of `split`.
 use Rattle.std.proofs.Common.{◌≡◌}
 use Rattle.event_word.specs.Lists.{tokens}
 use Rattle.run_objects.specs.Closed.{histories_of}

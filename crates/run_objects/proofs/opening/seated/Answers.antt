@@ -1,3 +1,4 @@
+-- Proof that the loop of `seated` keeps its invariant, and that it meets what `new` requires.
 use Rattle.std.proofs.Common.{◌≡◌, ◌∙◌, ◌++◌, ℕ, List, [], ◌∷◌, Some, length, sym, ap, arith, append_assoc, length-append}
 use Rattle.event_word.specs.declared.table.EventSeat.{EventSeat}
 use Rattle.wakeup_source.specs.SourceStates.{new_source}

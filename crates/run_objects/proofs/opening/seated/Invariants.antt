@@ -1,3 +1,4 @@
+-- The invariant of the loop of `seated`.
 use Rattle.std.proofs.Common.{◌≡◌, ◌++◌, length}
 use Rattle.event_word.specs.Lists.{tokens}
 use Rattle.run_objects.specs.Objects.{AreUncalled, seats_of}

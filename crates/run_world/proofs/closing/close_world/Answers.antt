@@ -1,3 +1,4 @@
+-- Proof that `close_world` meets its contract, and that it meets what `machine_of` and `sources_of` require.
 use Rattle.turn_lock.specs.Passes.{first_of}
 use Rattle.turn_lock.specs.Passing.{made_lists}
 use Rattle.run_world.proofs.Worlds.{back, closed_world, head_machine, rest_at}

@@ -1,3 +1,4 @@
+-- Proof that the loop of `sources_of` keeps its invariant, and that it meets what `source_of` requires.
 use Rattle.std.proofs.Common.{List, subst}
 use Rattle.run_objects.proofs.Laying.{preserved_more}
 use Rattle.run_world.specs.declared.object.WorldObject.{WorldObject}

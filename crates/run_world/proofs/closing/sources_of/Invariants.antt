@@ -1,3 +1,4 @@
+-- The invariant of the loop of `sources_of`.
 use Rattle.std.proofs.Common.{ℕ}
 use Rattle.run_objects.specs.Objects.{SourcesInvariant}
 use Rattle.run_world.specs.ObjectLists.{AreAt, AreThose}

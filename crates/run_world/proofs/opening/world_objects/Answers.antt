@@ -1,3 +1,4 @@
+-- Proof that the loop of `world_objects` keeps its invariant, and that it meets what `new` requires.
 use Rattle.std.proofs.Common.{rules, ◌≡◌, ◌∙◌, List, [], ◌∷◌, ◌++◌, ap, subst}
 use Rattle.run_objects.specs.Objects.{SeatedSourceState}
 use Rattle.run_objects.proofs.Laying.{preserved_more}

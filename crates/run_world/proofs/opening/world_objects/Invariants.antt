@@ -1,3 +1,4 @@
+-- The invariant of the loop of `world_objects`.
 use Rattle.run_objects.specs.Objects.{SourcesInvariant}
 use Rattle.run_world.specs.ObjectLists.{AreAll, AreTimely}
 use Rattle.run_world.proofs.opening.world_objects.Given as goal

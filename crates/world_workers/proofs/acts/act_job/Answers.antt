@@ -1,3 +1,4 @@
+-- Proof that `act_job` meets its contract.
 use Rattle.run_world.specs.declared.task.Task.TheVariants as task
 use Rattle.world_workers.proofs.Acting.{acted_still}
 use Rattle.world_workers.proofs.acts.act_job.Goals as goal

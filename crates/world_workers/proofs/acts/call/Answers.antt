@@ -1,3 +1,4 @@
+-- Proof that `call` meets its contract.
 use Rattle.std.proofs.Common.{rules, sym, subst}
 use Rattle.sleep_model.specs.declared.entry.Actor.{Actor}
 use Rattle.sleep_model.specs.declared.word.Stamp.{Stamp}

@@ -1,3 +1,4 @@
+-- Proof that `expire` meets its contract.
 use Rattle.std.proofs.Common.{ℕ, sym, subst}
 use Rattle.sleep_model.specs.declared.entry.Actor.TheVariants as actor
 use Rattle.sleep_model.specs.declared.machine.SourceCall.TheVariants as calls

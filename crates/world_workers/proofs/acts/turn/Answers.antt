@@ -1,3 +1,4 @@
+-- Proof that `turn` meets its contract.
 use Rattle.std.proofs.Common.{ℕ, sym, subst}
 use Rattle.sleep_model.specs.declared.entry.Actor.{Actor}
 use Rattle.sleep_model.specs.declared.word.Stamp.{Stamp}

@@ -1,3 +1,4 @@
+-- Proof that `close_burst` meets its contract, and that it meets what `close_world` requires.
 use Rattle.world_workers.proofs.Bursting.{ended, passes_back, world_first}
 use Rattle.world_workers.proofs.burst.close_burst.Goals as goal
 

@@ -1,3 +1,4 @@
+-- Proof that `make_burst` meets its contract, and that it meets what `run_workers` and `close_burst` require.
 use Rattle.std.proofs.Common.{◌≡◌, ◌∙◌, ◌++◌, ℕ, List, length, map, take, drop, sym, ap, subst, arith}
 use Rattle.sleep_model.specs.Numbers.{time_of}
 use Rattle.sleep_state.specs.JournalRooms.{entries}

@@ -1,3 +1,4 @@
+-- Proof that `open_burst` meets what `new` requires.
 use Rattle.std.proofs.Common.{arith}
 use Rattle.world_workers.proofs.Bursting.{world_count}
 use Rattle.world_workers.proofs.burst.open_burst.Goals as goal

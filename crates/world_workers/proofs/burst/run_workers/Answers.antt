@@ -1,3 +1,4 @@
+-- Proof that `run_workers` meets its contract, and that it meets what `burst` requires.
 use Rattle.world_workers.proofs.Pools.{all_workers, each_left, each_worker}
 use Rattle.world_workers.proofs.burst.run_workers.Goals as goal
 

@@ -1,3 +1,4 @@
+-- Proof that the loop of `taken_apart` keeps its invariant.
 use Rattle.std.proofs.Common.{List, subst}
 use Rattle.world_workers.specs.declared.worker.Worker.{Worker}
 use Rattle.world_workers.specs.Workers.{AreWorkersOf}

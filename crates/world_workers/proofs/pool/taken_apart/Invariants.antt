@@ -1,3 +1,4 @@
+-- The invariant of the loop of `taken_apart`.
 use Rattle.std.proofs.Common.{ℕ}
 use Rattle.sleep_model.specs.declared.machine.Machine.{Machine}
 use Rattle.atomic_table.specs.Seated.{TableId}

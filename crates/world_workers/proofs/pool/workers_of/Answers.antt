@@ -1,3 +1,5 @@
+-- Proof that `workers_of` meets its contract, and that its loop keeps its invariant, and that it meets what `new` requires, and that its
+-- indices and sums stay in range.
 use Rattle.std.proofs.Common.{◌≡◌, ◌∙◌, ◌<◌, List, [], ◌∷◌, ◌++◌, length, sym, ap, subst, arith, append_assoc}
 use Rattle.std.proofs.lemmas.List.{length-map}
 use Rattle.sleep_model.specs.declared.entry.Actor.{Actor}

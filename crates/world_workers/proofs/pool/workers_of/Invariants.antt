@@ -1,3 +1,4 @@
+-- The invariant of the loop of `workers_of`.
 use Rattle.std.proofs.Common.{◌≡◌, ◌++◌, List, length}
 use Rattle.turn_lock.specs.declared.table.Pass.{Pass}
 use Rattle.run_laws.specs.Passes.{Noted}

@@ -1,3 +1,4 @@
+-- Proof that `SeatedCore::look` keeps the invariant of its type.
 use Rattle.std.proofs.Common.{◌≡◌, ◌∙◌, ◌≤◌, refl, sym, ap, subst, arith}
 use Rattle.event_word.specs.Seats.{Token, floor_of}
 use Rattle.run_objects.specs.Objects.{IsSeatedCore, SeatedCoreState}

@@ -1,3 +1,4 @@
+-- Proof that `SeatedCore::turn` keeps the invariant of its type.
 use Rattle.std.proofs.Common.{◌≡◌, ◌∙◌, refl, sym, ap, subst}
 use Rattle.event_word.specs.Seats.{Token}
 use Rattle.run_objects.specs.Objects.{IsSeatedCore, SeatedCoreState}

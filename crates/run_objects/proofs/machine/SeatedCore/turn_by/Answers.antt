@@ -1,3 +1,4 @@
+-- Proof that `SeatedCore::turn_by` keeps the invariant of its type.
 use Rattle.std.proofs.Common.{◌≡◌, ◌∙◌, true, sym, subst}
 use Rattle.std.specs.List.{list_any}
 use Rattle.sleep_model.specs.declared.word.EventNow.{EventNow}

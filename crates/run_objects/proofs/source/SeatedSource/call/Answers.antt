@@ -1,3 +1,4 @@
+-- Proof that `SeatedSource::call` meets its contract, and that it keeps the invariant of its type, and that it meets what `make` requires.
 use Rattle.std.proofs.Common.{◌≡◌, ◌∙◌, refl, sym, ap, subst}
 use Rattle.event_word.specs.declared.seats.TableSeat.{TableSeat}
 use Rattle.event_word.specs.Seats.{Token, made_of, number_of}
@@ -14,7 +15,7 @@ make-answer-requires-clause-can g c =
     let token : c.on-events.result.token ≡ event_seat c.self.inside.seat = c.on-events.ensures ∙ sym place in
     can_call c.args.call (made_of c.on-events.result.token) c.self.inside.source.past (ap made_of token ∙ kept.seated.steps) c.if-is_full.ensures.room
 
--- what the call leaves, from the seat as it was in its place
+-- what the call leaves, from the seat as it was before
 left : (g : Over) (c : goal.Joined-self g) → IsLeft (source_state c.self.inside) (record { source = c.make-answer.new.source; seat = c.off.result.token })
 left g c =
     let place : event_seat c.self.inside.seat ≡ c.taken.result.token = ap event_seat c.taken.ensures in

@@ -1,3 +1,4 @@
+-- Proof that `WorldObject::report` meets its contract.
 use Rattle.std.proofs.Common.{◌+◌, ap, sym, subst}
 use Rattle.turn_lock.specs.Passes.{HasGrown, gained}
 use Rattle.run_world.specs.declared.object.WorldObject.{WorldObject}

@@ -1,3 +1,4 @@
+-- Proof that `WorldObject::turn` meets its contract.
 use Rattle.std.proofs.Common.{◌≡◌, ◌∙◌, Some, sym, ap, subst}
 use Rattle.sleep_model.specs.declared.machine.Machine.{Machine}
 use Rattle.turn_lock.specs.Passes.{HasGrown, gained}

@@ -1,3 +1,4 @@
+-- Proof that `World::core_turn` meets its contract, and that it meets what `turn` requires.
 use Rattle.std.proofs.Common.{ap}
 use Rattle.run_world.specs.Roots.{WorldRoot}
 use Rattle.run_world.proofs.Taking.{machine_taken, turn_made}

@@ -1,3 +1,4 @@
+-- Proof that `World::report` meets its contract, and that it meets what `report` requires.
 use Rattle.std.proofs.Common.{◌∙◌, ap, sym}
 use Rattle.run_world.specs.Roots.{WorldRoot}
 use Rattle.run_world.proofs.Taking.{report_made, source_taken}

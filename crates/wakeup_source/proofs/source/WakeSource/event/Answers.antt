@@ -1,3 +1,4 @@
+-- Proof that `WakeSource::event` meets its contract, and that it keeps the invariant of its type.
 use Rattle.std.proofs.Common.{rules, ◌≤◌, ◌+◌, length, sym, subst}
 use Rattle.sleep_model.specs.declared.machine.SourceCall.TheVariants.{Event}
 use Rattle.wakeup_source.specs.SourceStates.{IsSettled}

@@ -1,3 +1,4 @@
+-- Proof that `SourceHistory::note` keeps the invariant of its type.
 use Rattle.wakeup_source.proofs.Tallied.{tallied_note}
 use Rattle.wakeup_source.proofs.source_history.SourceHistory.note.Goals as goal
 

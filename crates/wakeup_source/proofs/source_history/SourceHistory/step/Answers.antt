@@ -1,3 +1,4 @@
+-- Proof that `SourceHistory::step` keeps the invariant of its type.
 use Rattle.wakeup_source.proofs.Tallied.{tallied_step}
 use Rattle.wakeup_source.proofs.source_history.SourceHistory.step.Goals as goal
 

@@ -1,3 +1,4 @@
+-- Proof that `WorkerWorkWorld::turn` meets its contract.
 use Rattle.std.proofs.Common.{refl}
 use Rattle.world_workers.proofs.Going.{went_on}
 use Rattle.world_workers.proofs.turns.WorkerWorkWorld.turn.Goals as goal
