@@ -11,7 +11,7 @@ use Rattle.device_links.specs.Invariant.{active_below, active_above, is_shown_be
 
 -- ---- one more link
 
--- a link that does not stand stands among the active ones neither
+-- a link that is not there is not among the active ones
 not_active : (ls : List Link) (s c : ℕ) → is_linked ls s c ≡ false → is_linked (active_of ls) s c ≡ false
 not_active ls s c e = by_test (is_linked (active_of ls) s c) refl
   where

@@ -31,7 +31,7 @@ pub one_consumer : (b : Bool) (c x : ℕ) → is_among (cond b (c ∷ []) []) x 
 one_consumer false c x m = absurd (false≢true m)
 one_consumer true c x m = eqb-true c x (sym (or-false (c == x)) ∙ m)
 
--- what was visited stands after the others
+-- what was visited follows the others
 behind : (dependents_of dependents_of' : ℕ → List ℕ) (out : List ℕ) → IsOrder dependents_of' out
     → ((d y : ℕ) → is_among out d ≡ false → is_among (dependents_of' d) y ≡ true → (is_among out y ≡ true) ⊎ (is_among (dependents_of d) y ≡ true))
     → (xs : List ℕ) → IsOrder dependents_of xs → IsOrder dependents_of' (filter (λ d. not (is_among out d)) xs ++ out)
@@ -101,7 +101,7 @@ module _ (ps : List (Option ℕ)) (after : EachAfterParent 0 ps) where
         let back = among_flat (dependents ps all) (moved (length ps) (dependents ps all)) fix l.supplier (dependents ps all l.supplier) x (subst (λ (y : ℕ). is_among (dependents ps all l.supplier) y ≡ true) (sym p.0) m) leads in
         true≢false (sym back ∙ not_below_itself (dependents ps all) (moved (length ps) (dependents ps all)) fix l.supplier)
 
-    -- where no device depends on itself each link may be added
+    -- if no device depends on itself each link may be added
     pub acyclic_links : (ls : List Link) → AreApart ps ls → ((d x : ℕ) → is_among (dependents ps ls d) x ≡ true → is_among (dependents ps all d) x ≡ true) → AreLinks ps ls
     acyclic_links [] h i = tt
     acyclic_links (l ∷ ls) h i =
@@ -110,7 +110,7 @@ module _ (ps : List (Option ℕ)) (after : EachAfterParent 0 ps) where
         ap (λ xs. is_among xs l.consumer) (dependents_new ps l ls) ∙ (among_app (dependents ps ls l.supplier) (l.consumer ∷ []) l.consumer ∙ or_right (is_among (dependents ps ls l.supplier) l.consumer) (is_among (l.consumer ∷ []) l.consumer) (among_first l.consumer [])) in
         (h.0, h.1, h.2, no_path_moved (dependents ps ls) (length ps) l.consumer l.supplier (no_cycle l (i l.supplier l.consumer own) ls older), acyclic_links ls h.3 older)
 
-  -- ---- where all was visited without a cycle
+  -- ---- if all was visited without a cycle
 
   module _ (all : List Link) (apart : AreApart ps all) (out : List ℕ) (ordered : IsOrder (dependents ps all) out) (within : (d : ℕ) → is_among out d ≡ true → d < length ps)
       (consumers : (d x : ℕ) → is_among (consumers_of d all) x ≡ true → is_among out x ≡ true) where

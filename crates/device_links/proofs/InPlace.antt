@@ -1,4 +1,4 @@
--- Lists that change in their place: the elements up to an index, and one row of a table.
+-- Lists that change in place: the elements up to an index, and one row of a table.
 use Rattle.std.proofs.Common.{◌≡◌, ◌<◌, ◌≤◌, ◌∙◌, ℕ, List, [], ◌∷◌, ◌++◌, length, take, get_or, set, sym, ap, subst, arith}
 use Rattle.std.proofs.Math.Seq.{take-append_seam}
 use Rattle.std.proofs.lemmas.List.{get_or-set_same, set-set, set-get_or}
@@ -10,7 +10,7 @@ take_whole xs ys n e = ap (λ k. take k (xs ++ ys)) (sym e) ∙ take-append_seam
 
 -- ---- a row
 
--- a row as it stands
+-- a row as it is
 pub refill_first : (rows : List (List ℕ)) (device : ℕ) (row : List ℕ) → get_or rows device [] ≡ row → rows ≡ set rows device row
 refill_first rows device row e = sym (ap (set rows device) (sym e) ∙ set-get_or rows device [])
 
@@ -23,11 +23,11 @@ refill_push rows now device x row l e =
     ap (λ r. set now device (r ++ x ∷ [])) (refilled_row rows now device row l e)
     ∙ (ap (λ r. set r device (row ++ x ∷ [])) e ∙ set-set rows device row (row ++ x ∷ []))
 
--- a row that is shorter than its places has room
+-- a row that is shorter than its capacity has room
 pub has_room : (t : Table) (device n : ℕ) (row : List ℕ) → get_or t.rows device [] ≡ row → length row < n → n ≤ room_at t device → 0 < get_or t.room device 0
 has_room t device n row e l p = let s = ap length e in omega (arith, s, l, p)
 
--- the table with one row made anew, and no fewer places
+-- the table with one row made anew, and no less capacity
 pub record IsRefilled (first : Table) (device : ℕ) (row : List ℕ) (t : Table) : Type 0 where
   pub rows : t.rows ≡ set first.rows device row
   pub places : (d : ℕ) → room_at first d ≤ room_at t d

@@ -1,4 +1,4 @@
--- What is kept of links that are made and grow.
+-- The invariant of links that are made and grow.
 use Rattle.std.proofs.Common.{◌≡◌, ◌<◌, ◌≤◌, ◌+◌, ◌^◌, ◌∙◌, ◌==◌, ℕ, Bool, true, false, not, List, [], ◌∷◌, ◌++◌, length, map, filter, get_or, slice_get, option_to_list, replicate, Option, Some, None, refl, sym, ap, subst, cond, arith, length-append}
 use Rattle.std.specs.List.{range_with_len}
 use Rattle.std.proofs.lemmas.Bool.{eqb-true}
@@ -39,7 +39,7 @@ preserved_new ps l after hangs below suppliers above order h b s a o = record {
   ordered = o;
 }
 
--- what depends directly on a device, as the table tells it
+-- what depends directly on a device, as the table has it
 pub dependents_is : (ps : List (Option ℕ)) (ls : List Link) (t : Table) → IsTableOf (length ps) (dependents ps ls) t.rows → row_at t ≡ dependents ps ls
 dependents_is ps ls t h = λ i d. h.each d i
 
@@ -83,14 +83,14 @@ preserved_more ps ls hangs below suppliers above order k l open' missing order' 
   ordered = ordered';
 }
 
--- the places, where the tables have no fewer
+-- the room, if the tables have no less
 pub room_new : (ps : List (Option ℕ)) (below above : Table) → IsTableOf (length ps) (active_below ps []) below.rows → IsTableOf (length ps) (active_above ps []) above.rows → HaveRoomForAll ps [] below above
 room_new ps below above b a = record {
   below = λ d. let e = ap length (b.each d ∙ below_none ps d ∙ sym (append-nil (children_from d 0 ps))) in omega (arith, e);
   above = λ d. let e = ap length (a.each d ∙ above_none ps d ∙ sym (append-nil (parent_of (slice_get ps d)))) in omega (arith, e);
 }
 
--- and with one more link, where the rows of its ends have places for all that they may hold
+-- and with one more link, if the rows of its ends have room for all that they may hold
 pub room_more : (ps : List (Option ℕ)) → EachAfterParent 0 ps → (l : Link) (ls : List Link) (below above below' above' : Table) → HaveRoomForAll ps ls below above
     → ((d : ℕ) → room_at below d ≤ room_at below' d) → length (dependents ps (l ∷ ls) l.supplier) ≤ room_at below' l.supplier
     → ((d : ℕ) → room_at above d ≤ room_at above' d) → length (superiors ps (l ∷ ls) l.consumer) ≤ room_at above' l.consumer
@@ -108,7 +108,7 @@ room_more ps after l ls below above below' above' h b s a c = record {
     by_consumer d true e = subst (λ (x : ℕ). length (superiors ps (l ∷ ls) x) ≤ room_at above' x) (eqb-true l.consumer d e) c
     by_consumer d false e = let same = ap length (holding_other ps l ls d e) in let had = h.above d in let more = a d in omega (arith, same, had, more)
 
--- what depends on the supplier, and stands above the consumer, counted by the tables
+-- what depends on the supplier, and is above the consumer, counted by the tables
 pub dependents_count : (ps : List (Option ℕ)) (l : Link) (ls : List Link) → length (dependents ps (l ∷ ls) l.supplier) ≡ length (dependents ps ls l.supplier) + 1
 dependents_count ps l ls = ap length (dependents_new ps l ls) ∙ length-append (dependents ps ls l.supplier) (l.consumer ∷ [])
 

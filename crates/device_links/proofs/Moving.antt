@@ -1,4 +1,4 @@
--- What the order tells of links, and what a link leaves of it.
+-- What the order says of links, and what a link leaves of it.
 use Rattle.std.proofs.Common.{◌≡◌, ◌<◌, ◌≤◌, ◌+◌, ◌-◌, ◌∙◌, ℕ, zero, suc, Bool, true, false, not, ◌==◌, ◌||◌, List, [], ◌∷◌, ◌++◌, ◌⊎◌, inl, inr, length, take, drop, filter, get_or, slice_get, reverse, Option, Some, Result, Ok, Err, Vec, IfOk, refl, sym, ap, subst, cond, arith}
 use Rattle.std.specs.Bool.{OnTrue}
 use Rattle.std.specs.List.{flat_map}
@@ -21,7 +21,7 @@ use Rattle.device_links.proofs.Walking.{no_path}
 use Rattle.device_links.proofs.Invariant.{by_marks}
 use Rattle.device_links.proofs.Tabulating.{newest}
 
--- ---- which of two devices stands first
+-- ---- which of two devices comes first
 
 -- what is among one more of the first
 pub among_more : (xs : List ℕ) (i y : ℕ) → i < length xs → is_among (take (i + 1) xs) y ≡ (is_among (take i xs) y || (get_or xs i 0 == y))
@@ -29,7 +29,7 @@ among_more xs i y l =
     ap (λ ys. is_among ys y) (take_more xs i 0 l)
     ∙ (among_app (take i xs) (get_or xs i 0 ∷ []) y ∙ ap (λ b. is_among (take i xs) y || b) (or-false (get_or xs i 0 == y)))
 
--- at a place at which one stands, up to which the other does not
+-- at an index where one is, up to which the other is not
 pub first_at : (xs : List ℕ) (i one other : ℕ) → i < length xs → is_among (take i xs) other ≡ false → get_or xs i 0 ≡ one → (get_or xs i 0 == other) ≡ false → Precedes xs one other
 first_at xs i one other l h e n = record {
   place = i + 1;
@@ -38,7 +38,7 @@ first_at xs i one other l h e n = record {
 }
 
 module _ (dependents_of : ℕ → List ℕ) where
-  -- from any place of an order on all that depend on its devices stand there too
+  -- from any index of an order on it has all that depend on its devices
   order_drop : (xs : List ℕ) (k : ℕ) → IsOrder dependents_of xs → IsOrder dependents_of (drop k xs)
   order_drop xs zero h = h
   order_drop [] (suc k) h = tt
@@ -52,7 +52,7 @@ module _ (dependents_of : ℕ → List ℕ) where
       by_place rest (inl e) y n = among_rest x xs y (within_of xs (dependents_of x) h.1 y (subst (λ (z : ℕ). is_among (dependents_of z) y ≡ true) (sym (eqb-true x d e)) n))
       by_place rest (inr e) y n = among_rest x xs y (rest e y n)
 
-  -- each device stands once
+  -- each device is there once
   order_once : (xs : List ℕ) (k s : ℕ) → IsOrder dependents_of xs → is_among (take k xs) s ≡ true → is_among (drop k xs) s ≡ false
   order_once xs zero s h m = absurd (false≢true m)
   order_once [] (suc k) s h m = absurd (false≢true m)
@@ -66,7 +66,7 @@ module _ (ps : List (Option ℕ)) (after : EachAfterParent 0 ps) (ls : List Link
   fix : Descends (dependents ps ls) (moved (length ps) (dependents ps ls))
   fix = links_descend ps after ls linked (order_ranked ps after ls linked)
 
-  -- what stands before a device does not depend on it
+  -- what comes before a device does not depend on it
   pub stands_apart : (s c : ℕ) → Precedes (order_by ps ls) s c → is_dependent ps ls c s ≡ false
   stands_apart s c f = by_place (cases_lt c (length ps))
     where
@@ -154,7 +154,7 @@ newest_link links l e =
     ∙ newest links (length links - 1) l within (sym (get_or_from_slice_get links (length links - 1) l l (sym e)))
 
 module _ (ps : List (Option ℕ)) (after : EachAfterParent 0 ps) (ls : List Link) (linked : AreLinks ps ls) (l : Link) where
-  -- where the test of the order holds, no path leads from the consumer to the supplier
+  -- if the test of the order holds, no path leads from the consumer to the supplier
   pub stays : (new : Link) (earlier : List Link) → ls ≡ new ∷ earlier → new.consumer ≡ l.consumer → (b : Bool) → OnTrue b (Precedes (order_by ps ls) l.supplier l.consumer)
       → OnTrue b (Leaves (record { parents = ps; links = ls }) l (order_by ps ls))
   stays new earlier e same false h = tt

@@ -167,7 +167,7 @@ picked_as test (l ∷ ls) =
     by_test true = ap (λ k. reverse (filter test ls) ++ k ∷ []) (last_link ls l) ∙ sym (newest_after l (filter test ls))
     by_test false = append-nil (reverse (filter test ls))
 
--- what stands at each number
+-- what has each number
 pub picked_links : (test : Link → Bool) (links : List Link) (numbers : List ℕ) → numbers ≡ numbers_of test (reverse links) → reverse (picked links numbers) ≡ filter test (reverse links)
 picked_links test links numbers e =
     ap reverse (ap (picked links) e ∙ ap (λ ks. picked ks (numbers_of test (reverse links))) (sym (reverse-reverse links)) ∙ picked_as test (reverse links))
@@ -200,7 +200,7 @@ pub suppliers_past : (d : ℕ) (b : Bool) (l : Link) (ls : List Link) → (l.con
 suppliers_past d true l ls e = ap (λ t. suppliers_of d ls ++ cond t (l.supplier ∷ []) []) e ∙ append-nil (suppliers_of d ls)
 suppliers_past d false l ls e = refl
 
--- the links that a device supplies tell all its consumers
+-- the links that a device supplies name all its consumers
 module _ (d : ℕ) where
   abbrev pub supplied : List Link → List Link
   supplied ls = filter (λ l. l.supplier == d) ls
@@ -264,7 +264,7 @@ module _ (d : ℕ) where
 -- ---- a change of the links with these numbers
 
 module _ (f : Link → Link) where
-  -- the links, where those with these numbers are changed in turn
+  -- the links, if those with these numbers are changed in turn
   abbrev pub changed : List ℕ → List Link → List Link
   changed [] ls = ls
   changed (i ∷ is) ls = changed is (set ls i (f (get_or ls i no_link)))
@@ -292,7 +292,7 @@ module _ (f : Link → Link) where
       ∙ (ap (changed is) (set-append_left ls more i (f (get_or ls i no_link)) h.0)
       ∙ changed_front is (set ls i (f (get_or ls i no_link))) more (subst (λ k. AreBelow k is) (sym (length-set ls i (f (get_or ls i no_link)))) h.1))
 
-  -- where the others stay as they are, all are changed
+  -- if the others stay as they are, all are changed
   module _ (test : Link → Bool) (stays : (l : Link) → test l ≡ false → f l ≡ l) where
     changed_reversed : (ls : List Link) → changed (numbers_of test ls) (reverse ls) ≡ map f (reverse ls)
     changed_reversed [] = refl

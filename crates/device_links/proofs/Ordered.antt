@@ -82,7 +82,7 @@ module _ (ps : List (Option ℕ)) (after : EachAfterParent 0 ps) (links : List L
         ∙ (ap (λ ys. filter (λ d. not (is_among ys d)) (range_with_len 0 (length ps)) ++ ys) (w.ends walked_links)
         ∙ order_at_once ps after (reverse links) walked_links)
 
--- what is told by the table is told by the links
+-- what the table says is what the links say
 module _ (ps : List (Option ℕ)) (ls : List Link) (t : Table) (h : IsTableOf (length ps) (dependents ps ls) t.rows) where
   pub goes_as : (from : ℕ) (old new : Visits) (b : Bool) → Goes (length t.rows) (row_at t) from old new b → Goes (length ps) (dependents ps ls) from old new b
   goes_as from old new b g =
@@ -99,7 +99,7 @@ module _ (ps : List (Option ℕ)) (ls : List Link) (t : Table) (h : IsTableOf (l
       let r : x < length ps = apart_within ps after ls apart d x (ap (λ (dependents_of : ℕ → List ℕ). is_among (dependents_of d) x) (sym (dependents_is ps ls t h)) ∙ m) in
       omega (arith, h.count)
 
--- ---- where no links are made
+-- ---- if no links are made
 
 pub linked_apart : (ps : List (Option ℕ)) (ls : List Link) → AreLinks ps ls → AreApart ps ls
 linked_apart ps [] h = tt

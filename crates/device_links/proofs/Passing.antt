@@ -14,7 +14,7 @@ use Rattle.sleep_model.proofs.Acyclic.{links_descend, order_ranked}
 
 -- ---- lists
 
--- these in front of those are the last places of these that are not among those
+-- these in front of those are the last of these that are not among those
 pub onto_new : (xs out : List ℕ) → onto xs out ≡ filter (λ d. not (is_among out d)) (last_occurrences xs) ++ out
 onto_new [] out = refl
 onto_new (x ∷ xs) out = ap (λ b. cond b (onto xs out) (x ∷ onto xs out)) (among_onto xs out x) ∙ by_tests (onto_new xs out) (is_among xs x) (is_among out x) refl

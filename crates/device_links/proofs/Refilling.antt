@@ -1,4 +1,4 @@
--- A row that is made anew has the places that it needs.
+-- A row that is made anew has the capacity that it needs.
 use Rattle.std.proofs.Common.{◌≡◌, ◌<◌, ◌≤◌, ◌+◌, ◌∙◌, ℕ, Bool, true, false, not, ◌==◌, ◌&&◌, List, [], ◌∷◌, ◌++◌, length, take, reverse, get_or, Option, None, refl, sym, ap, subst, cond, arith, length-append}
 use Rattle.std.proofs.lemmas.Bool.{true≢false, eqb-true}
 use Rattle.std.proofs.lemmas.List.{get_or-map, length-map, take_all}

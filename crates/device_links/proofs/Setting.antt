@@ -1,4 +1,4 @@
--- What is kept of links whose state is set.
+-- The invariant of links, one of whose states is set.
 use Rattle.std.proofs.Common.{◌≡◌, ◌<◌, ◌≤◌, ◌-◌, ◌∙◌, ℕ, Bool, true, false, ◌==◌, ◌&&◌, List, [], ◌∷◌, ◌++◌, length, map, reverse, take, get_or, set, slice_get, Option, Some, None, refl, sym, ap, subst, cond, arith, length-append, length-set}
 use Rattle.std.proofs.lemmas.Bool.{true≢false, eqb-true, eqb-false}
 use Rattle.std.proofs.lemmas.List.{length-map, reverse-append, get_or-set_same, get_or-set_other}
@@ -32,12 +32,12 @@ reversed_map {A = A} f (x ∷ xs) =
 abbrev pub linked : List (Option ℕ) → List Link → Linked
 linked ps ls = record { parents = ps; links = ls }
 
--- where nothing is lacking the link stands
+-- if nothing is lacking there is that link
 pub stands_then : (l : Linked) (supplier consumer : ℕ) (o : Option LinkFault) → ((x : LinkFault) → o ≡ Some x → ⊥) → Lacks l supplier consumer o → AreRegistered l supplier consumer × (is_linked l.links supplier consumer ≡ true)
 stands_then l supplier consumer None f h = h
 stands_then l supplier consumer (Some x) f h = absurd (f x refl)
 
--- the children stand first in the row of what depends on a device
+-- the children come first in the row of what depends on a device
 pub children_first : (ps : List (Option ℕ)) (ls : List Link) (d : ℕ) (row supplied : List ℕ) → row ≡ dependents ps ls d → supplied ≡ numbers_of (λ l. l.supplier == d) ls → take (length row - length supplied) row ≡ children_from d 0 ps
 children_first ps ls d row supplied e f =
     ap (λ k. take k row) count ∙ (ap (take (length (children_from d 0 ps))) e ∙ take_whole (children_from d 0 ps) (consumers_of d ls) (length (children_from d 0 ps)) refl)
@@ -132,7 +132,7 @@ module _ (s c : ℕ) (to : Bool) where
     pub set_above : (below above : Table) → HaveRoomForAll ps ls below above → (d : ℕ) → length (superiors ps (map (with_state s c to) ls) d) ≤ room_at above d
     set_above below above h d = let e = ap length (holding_same d) in let l = h.above d in omega (arith, e, l)
 
-    -- all is kept where the rows of both ends are made anew
+    -- the invariant holds if the rows of both ends are made anew
     pub whole_set : (hangs : List (List ℕ)) (below : Table) (suppliers : List (List ℕ)) (above : Table) (a b : List (List ℕ)) (order : List ℕ) → IsWhole ps ls hangs below suppliers above a b order → s < length ps → c < length ps → (below' above' : Table)
         → below'.rows ≡ set below.rows s (active_below ps (map (with_state s c to) ls) s) → ((d : ℕ) → room_at below d ≤ room_at below' d)
         → above'.rows ≡ set above.rows c (active_above ps (map (with_state s c to) ls) c) → ((d : ℕ) → room_at above d ≤ room_at above' d)

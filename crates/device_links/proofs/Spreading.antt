@@ -16,7 +16,7 @@ pub marked_length : (xs : List ℕ) (ms : List Bool) → length (marked xs ms) �
 marked_length [] ms = refl
 marked_length (x ∷ xs) ms = marked_length xs (set ms x true) ∙ length-set ms x true
 
--- a mark was set, or stood
+-- a mark was set, or was there
 set_back : (ms : List Bool) (x d : ℕ) → get_or (set ms x true) d false ≡ true → (x ≡ d) ⊎ (get_or ms d false ≡ true)
 set_back ms x d e = by_test (x == d) refl
   where

@@ -27,7 +27,7 @@ tables_new ps l after t h b s a =
 pub rows_of : (ps : List (Option ℕ)) (ls : List Link) (t : Tables) → AreTables ps ls t → HaveRows (length ps) t
 rows_of ps ls t h = record { dependents = h.all_dependents.count; below = h.once_below.count; suppliers = h.all_suppliers.count; above = h.once_above.count }
 
--- whether the link stands, as the row of its consumer tells
+-- whether there is that link, as the row of its consumer says
 stands_as : (ps : List (Option ℕ)) (ls : List Link) (t : Tables) → AreTables ps ls t → (s c : ℕ) → is_among (row_at t.suppliers c) s ≡ is_linked ls s c
 stands_as ps ls t h s c = ap (λ row. is_among row s) (h.all_suppliers.each c) ∙ suppliers_linked ls s c
 

@@ -15,7 +15,7 @@ use Rattle.device_links.proofs.Passing.{order_closed, onto_new}
 
 -- ---- marks
 
--- each device of a walk stands there once, and was not left yet
+-- each device of a walk is there once, and was not left yet
 abbrev pub Fresh : List Frame → List ℕ → Type 0
 Fresh [] out = Unit {0}
 Fresh (f ∷ rest) out = (is_among out f.device ≡ false) × Fresh rest (f.device ∷ out)
@@ -66,7 +66,7 @@ module _ (dependents_of : ℕ → List ℕ) where
       moved_in a u h g v r s = omega arith
 
   module _ (W : ℕ → List ℕ) where
-    -- where a walk stands
+    -- the frame of a walk
     pub record Visiting (n from : ℕ) (old : List ℕ) (fs : List Frame) (out : List ℕ) (entered left : List Bool) : Type 0 where
       pub ordered : IsOrder dependents_of out
       pub within : (d : ℕ) → is_among out d ≡ true → d < n
@@ -216,7 +216,7 @@ module _ (dependents_of : ℕ → List ℕ) where
     placed = λ fix. w.ends fix ∙ onto_new (moved n dependents_of from) old.out;
   }
 
-  -- where the device was visited before
+  -- if the device was visited before
   pub stays : (n from : ℕ) (old : Visits) → AreVisits n dependents_of old → is_among old.out from ≡ true → IsVisited n dependents_of from old old
   stays n from old v m = record {
     visits = v;

@@ -14,7 +14,7 @@ use Rattle.device_links.specs.declared.walk.Found.{Found}
 use Rattle.device_links.specs.declared.walk.Found.TheVariants.{Reached, Passed}
 use Rattle.device_links.specs.Walks.{AreMarks, Finds, Reaches, on_path}
 
--- what stands at a place is among them
+-- what is at an index is among them
 pub among_at : (xs : List ℕ) (k c : ℕ) → k < length xs → c ≡ get_or xs k c → is_among xs c ≡ true
 among_at [] k c l e = absurd (omega arith)
 among_at (x ∷ xs) zero c l e = ap (λ b. b || is_among xs c) (eq-eqb x c (sym e))
@@ -42,7 +42,7 @@ marks_more marks n ds h x l = record {
 pub marks_same : (marks : List Bool) (n : ℕ) (ds es : List ℕ) → AreMarks marks n ds → ((d : ℕ) → is_among es d ≡ is_among ds d) → AreMarks marks n es
 marks_same marks n ds es h s = record { count = h.count; marked = λ d i. h.marked d i ∙ sym (s d) }
 
--- a device may stand in the middle as well as in front
+-- a device may be in the middle as well as in front
 pub in_front : (xs : List ℕ) (x : ℕ) (ys : List ℕ) (d : ℕ) → is_among (xs ++ x ∷ ys) d ≡ is_among (x ∷ xs ++ ys) d
 in_front [] x ys d = refl
 in_front (z ∷ xs) x ys d = ap (λ b. (z == d) || b) (in_front xs x ys d) ∙ swap (z == d) (x == d) (is_among (xs ++ ys) d)
@@ -77,7 +77,7 @@ pub spare_all : (n : ℕ) → spare (replicate n false) ≡ n
 spare_all zero = refl
 spare_all (suc n) = ap suc (spare_all n)
 
--- the devices of a walk, its top first, where those above the top are kept with the top's parent last
+-- the devices of a walk, its top first, if those above the top are held with the top's parent last
 abbrev pub way : Option Frame → List Frame → List Frame
 way top above = option_to_list top ++ reverse above
 
@@ -159,7 +159,7 @@ module _ (dependents_of : ℕ → List ℕ) where
     weight [] = 0
     weight (f ∷ rest) = 1 + 2 * length (flat_map W (take f.left (dependents_of f.device))) + weight rest
 
-    -- where a walk stands
+    -- the frame of a walk
     pub record Walking (n from target : ℕ) (fs : List Frame) (out : List ℕ) (marks : List Bool) : Type 0 where
       pub closed : IsClosed dependents_of out
       pub waits : Waits fs out
@@ -174,7 +174,7 @@ module _ (dependents_of : ℕ → List ℕ) where
       walked : (d : ℕ) → d ∷ onto (flat_map W (take (length (dependents_of d)) (dependents_of d))) [] ≡ onto (W d) []
       walked d = ap (λ xs. d ∷ onto (flat_map W xs) []) (take_all (length (dependents_of d)) (dependents_of d) (omega arith)) ∙ sym (visits dependents_of W fix [] d refl)
 
-      -- where a path leads from a device of the walk's own to what depends on its top, that depends on itself
+      -- if a path leads from a device of the walk's own to what depends on its top, that depends on itself
       pub loops : (from c : ℕ) (fs : List Frame) (x : ℕ) (xs : List ℕ) → Linked from fs x → LeadsTo dependents_of x xs c → is_among (devices fs) c ≡ true → is_among (flat_map W (dependents_of c)) c ≡ true
       loops from c [] x xs h p i = absurd (false≢true i)
       loops from c (g ∷ gs) x xs h p i = by_place (loops from c gs g.device (x ∷ xs) h.1 (h.0, p)) (or_cases (g.device == c) (is_among (devices gs) c) i)
@@ -321,7 +321,7 @@ module _ (dependents_of : ℕ → List ℕ) where
           same : (d : ℕ) → is_among (W from) d ≡ is_among out d
           same d = sym (or-false (is_among (W from) d)) ∙ (sym (among_onto (W from) [] d) ∙ ap (λ ys. is_among ys d) (sym w.ends))
 
-      -- where the target does not depend on it, no path leads there
+      -- if the target does not depend on it, no path leads there
       pub no_path : (from target : ℕ) → is_among (W from) target ≡ false → (path : List ℕ) → IsPath dependents_of path from target → ⊥
       no_path from target n [] p = p
       no_path from target n (x ∷ xs) p = absurd (true≢false (sym (subst (λ (y : ℕ). is_among (W y) target ≡ true) p.0 (leads_below dependents_of W fix x xs target p.1)) ∙ n))

@@ -56,7 +56,7 @@ pub record HaveRows (n : ℕ) (t : Tables) : Type 0 where
   pub suppliers : length t.suppliers.rows ≡ n
   pub above : length t.above.rows ≡ n
 
--- the tables with one more link; what is left out is not put there, but has its places
+-- the tables with one more link; what is left out is not put there, but has its room
 pub record IsHung (parents : List (Option ℕ)) (l : Link) (old new : Tables) : Type 0 where
   pub dependents : new.dependents.rows ≡ with_number old.dependents.rows (Some l.supplier) l.consumer
   pub suppliers : new.suppliers.rows ≡ with_number old.suppliers.rows (Some l.consumer) l.supplier
@@ -81,7 +81,7 @@ pub record AreVisits (n : ℕ) (dependents_of : ℕ → List ℕ) (v : Visits) :
   pub entered : AreMarks v.entered.items n v.out
   pub left : AreMarks v.left.items n v.out
 
--- a device was visited, with all that depends on it but what was visited before, each at its last place
+-- a device was visited, with all that depends on it but what was visited before, each at its last index
 pub record IsVisited (n : ℕ) (dependents_of : ℕ → List ℕ) (from : ℕ) (old new : Visits) : Type 0 where
   pub visits : AreVisits n dependents_of new
   pub here : is_among new.out from ≡ true

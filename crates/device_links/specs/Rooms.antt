@@ -11,7 +11,7 @@ pub record HaveEnds (l : Link) (t : Tables) : Type 0 where
   pub suppliers : l.consumer < length t.suppliers.rows
   pub above : l.consumer < length t.above.rows
 
--- the rows are the same, with no fewer places
+-- the rows are the same, with no less capacity
 pub record AreRoomier (old new : Tables) : Type 0 where
   pub dependents : new.dependents.rows ≡ old.dependents.rows
   pub below : new.below.rows ≡ old.below.rows
@@ -20,7 +20,7 @@ pub record AreRoomier (old new : Tables) : Type 0 where
   pub places_below : (d : ℕ) → room_at old.below d ≤ room_at new.below d
   pub places_above : (d : ℕ) → room_at old.above d ≤ room_at new.above d
 
--- the rows of a link's ends have room for one more number, and places for all that may come to be seen there
+-- the rows of a link's ends have room for one more number, and for all that may come to be seen there
 pub record HaveRoom (l : Link) (t : Tables) : Type 0 where
   pub dependents : 0 < slice_index t.dependents.room l.supplier
   pub suppliers : 0 < slice_index t.suppliers.room l.consumer

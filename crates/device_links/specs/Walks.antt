@@ -16,7 +16,7 @@ pub record AreMarks (marks : List Bool) (n : ℕ) (devices : List ℕ) : Type 0 
   pub count : length marks ≡ n
   pub marked : (d : ℕ) → d < n → slice_index_or marks d false ≡ is_among devices d
 
--- all that depends on a device, each at its last place, with marks; the target is not among it, and no path leads there
+-- all that depends on a device, each at its last index, with marks; the target is not among it, and no path leads there
 pub record IsWalked (n : ℕ) (dependents_of : ℕ → List ℕ) (from target : ℕ) (below : List ℕ) (marks : List Bool) : Type 0 where
   pub places : below ≡ last_occurrences (moved n dependents_of from)
   pub missing : is_among (moved n dependents_of from) target ≡ false

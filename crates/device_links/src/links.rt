@@ -126,7 +126,7 @@ impl Links {
     /// of the order. A dormant link is neither seen below nor above.
     ///
     /// Tested in turn, each refusal exactly if its test fails: that both are registered
-    /// (`NoDevice`), that a link more has a place among 4,000 (`TooMany`), that these two have none
+    /// (`NoDevice`), that there are fewer than 4,000 links (`TooMany`), that these two have none
     /// yet (`Twice`), and that the consumer would not come to depend on itself (`Cycle`, with a
     /// path from it to the supplier). Out of memory (`Mem`) may come in place of `Cycle`. A refused
     /// link changes nothing.

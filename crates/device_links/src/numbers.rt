@@ -10,7 +10,7 @@ use sleep_base::Mem;
 use sleep_model::Link;
 use std::alloc::Global;
 
-/// The numbers of each device's links, the oldest first. A link's number is its place among all links.
+/// The numbers of each device's links, the oldest first. A link's number is its index among all links.
 #[derive(Drop)]
 pub(crate) struct LinkNumbers {
     /// Of the links that the device supplies.

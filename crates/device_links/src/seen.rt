@@ -1,4 +1,4 @@
-//! The tables of what hangs right below and right above each device.
+//! The tables of what is right below and right above each device.
 
 ghost use Rattle.std.specs.Prelude.{◌≡◌, ◌<◌, ◌^◌, [], IfOk, OnOk, length};
 ghost use Rattle.sleep_model.specs.Order.{EachAfterParent};

@@ -71,7 +71,7 @@ pub(crate) fn children_within<'a>(dependents: &'a [u32], supplied: &[u32]) -> &'
     &dependents[..dependents.len() - supplied.len()]
 }
 
-/// Makes the row of what is seen below a device anew, in its places, from its children and the numbers of the
+/// Makes the row of what is seen below a device anew, in its room, from its children and the numbers of the
 /// links that it supplies.
 pub(crate) fn refill_below(
     table: &mut Rows,
@@ -133,7 +133,7 @@ fn push_consumers(
     }
 }
 
-/// Makes the row of what is seen above a device anew, in its places, from its parent and the numbers of the
+/// Makes the row of what is seen above a device anew, in its room, from its parent and the numbers of the
 /// links that it consumes.
 pub(crate) fn refill_above(
     table: &mut Rows,

@@ -20,8 +20,8 @@ pub(crate) struct Frame {
 pub(crate) enum Found {
     /// The device that was sought, by this path, which begins with the first and ends with it.
     Reached(Vec<u32>),
-    /// All devices below, the first too, each once, which this list has from that place on: last
-    /// places in order, and a mark for each.
+    /// All devices below, the first too, each once, which this list has from that index on: last visits in
+    /// order, and a mark for each.
     Passed(Vec<u32>, usize, Vec<bool>),
 }
 

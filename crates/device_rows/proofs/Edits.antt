@@ -20,11 +20,11 @@ module _ {A B : Type 0} (f : A → B) (xs : List A) (i : ℕ) (x y : A) (within 
       seen_within : i < length (map f xs)
       seen_within = rw length-map within
 
--- ---- places
+-- ---- capacities
 
 -- a list and a number of each element
 module _ {A : Type 0} (f : A → List ℕ) (r : A → ℕ) where
-  -- one element that has no fewer places
+  -- one element that has no less capacity
   pub room_more : (xs : List A) (i : ℕ) (x y : A) → i < length xs → x ≡ get_or xs i x → length (f x) + r x ≤ length (f y) + r y → (d : ℕ)
       → length (get_or (map f xs) d []) + get_or (map r xs) d 0 ≤ length (get_or (map f (set xs i y)) d []) + get_or (map r (set xs i y)) d 0
   room_more [] i x y l at more d = absurd (omega arith)
@@ -33,13 +33,13 @@ module _ {A : Type 0} (f : A → List ℕ) (r : A → ℕ) where
   room_more (z ∷ zs) (suc i) x y l at more zero = omega arith
   room_more (z ∷ zs) (suc i) x y l at more (suc d) = room_more zs i x y (omega arith) at more d
 
-  -- the places of the element that was put there
+  -- the capacity of the element that was put there
   pub room_new : (xs : List A) (i : ℕ) (y : A) → i < length xs → length (get_or (map f (set xs i y)) i []) + get_or (map r (set xs i y)) i 0 ≡ length (f y) + r y
   room_new [] i y l = absurd (omega arith)
   room_new (z ∷ zs) zero y l = refl
   room_new (z ∷ zs) (suc i) y l = room_new zs i y (omega arith)
 
--- a place whose number is above 0 is within the list
+-- an index whose number is above 0 is within the list
 pub above_zero : (xs : List ℕ) (i : ℕ) → 0 < get_or xs i 0 → i < length xs
 above_zero [] i h = absurd (omega arith)
 above_zero (x ∷ xs) zero h = omega arith

@@ -6,11 +6,11 @@ pub record Table : Type 0 where
   pub rows : List (List ℕ)
   pub room : List ℕ
 
--- the row at a place, and none past the end
+-- the row at an index, and none past the end
 abbrev pub row_at : Table → ℕ → List ℕ
 row_at t d = slice_index_or t.rows d []
 
--- how many numbers a row has places for, without more memory
+-- how many numbers a row has room for, without more memory
 abbrev pub room_at : Table → ℕ → ℕ
 room_at t d = length (row_at t d) + slice_index_or t.room d 0
 

@@ -28,7 +28,7 @@ impl Flags {
         Flags { flags }
     }
 
-    /// That number of flags, none of which is set. `Mem` if there is no memory for them.
+    /// That number of flags, none of which is set. `Mem` if there is no memory for it.
     pub fn new(alloc: Global, count: usize) -> Result<Self, Mem>
         ensures { IfOk result (λ f. f ≡ replicate count false) }
     {

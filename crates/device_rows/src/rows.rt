@@ -110,7 +110,7 @@ impl Rows {
         Ok(())
     }
 
-    /// Gives a row places for that number of numbers in all. `Mem` if there is no memory for them.
+    /// Gives a row room for that number of numbers in all. `Mem` if there is no memory for it.
     pub fn reserve_row(&mut self, device: u32, count: usize) -> Result<(), Mem>
         requires { device < length self.old.rows }
         ensures rows { self.new.rows ≡ self.old.rows }
@@ -122,7 +122,7 @@ impl Rows {
         Ok(())
     }
 
-    /// Takes all numbers out of a row, which keeps its places.
+    /// Takes all numbers out of a row, which keeps its room.
     pub fn clear(&mut self, device: u32)
         requires { device < length self.old.rows }
         ensures rows { self.new.rows ≡ slice_set self.old.rows device [] }
@@ -156,8 +156,8 @@ impl Rows {
         Ok(())
     }
 }
-/// A row of at most one number.
 
+/// A row of at most one number.
 fn row_of(alloc: Global, number: Option<u32>) -> Result<Vec<u32>, Mem>
     ensures { IfOk result (λ v. v.items ≡ option_to_list number) }
 {

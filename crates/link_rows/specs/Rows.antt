@@ -9,7 +9,7 @@ pub record IsTableOf (n : ℕ) (f : ℕ → List ℕ) (rows : List (List ℕ)) :
   pub count : length rows ≡ n
   pub each : (d : ℕ) → slice_index_or rows d [] ≡ f d
 
--- a number is put at the end of a row, or left out, and the row has places for that number of them
+-- a number is put at the end of a row, or left out, and the row has room for that number of them
 pub record IsPushed (left_out : Bool) (row number count : ℕ) (old new : Table) : Type 0 where
   pub rows : new.rows ≡ (if left_out then old.rows else with_number old.rows (Some row) number)
   pub kept : (d : ℕ) → room_at old d ≤ room_at new d

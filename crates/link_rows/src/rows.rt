@@ -64,14 +64,14 @@ pub fn is_left_out(parents: &[Option<u32>], link: Link) -> bool
     !link.active || is_parent(parents[link.consumer as usize], link.supplier)
 }
 
-/// Places for a row's numbers, for a link's end, and for a parent.
+/// Room for a row's numbers, for a link's end, and for a parent.
 pub fn room_for(table: &Rows, row: u32) -> usize
     ensures { result ≡ length (row_at table.now row) + 2 }
 {
     table.row(row).len() + 2
 }
 
-/// Gives a row places for `count` numbers, and for one more than it has.
+/// Gives a row room for `count` numbers, and for one more than it has.
 pub fn reserve_one(table: &mut Rows, row: u32, count: usize) -> Result<(), Mem>
     requires { row < length table.old.rows }
     ensures rows { table.new.rows ≡ table.old.rows }
@@ -96,7 +96,7 @@ pub fn push_unless(table: &mut Rows, left_out: bool, row: u32, number: u32)
     }
 }
 
-/// Puts a number at the end of a row, unless it is left out, and gives the row places for `count` numbers.
+/// Puts a number at the end of a row, unless it is left out, and gives the row room for `count` numbers.
 pub fn push_and_reserve(
     table: &mut Rows,
     left_out: bool,
