@@ -1,4 +1,4 @@
--- Each script has its place with the freezer.
+-- Each script has its state of freezing.
 use Rattle.std.proofs.Common.{◌≡◌, ℕ, suc, List, [], ◌∷◌, length, map, refl, ap, arith}
 use Rattle.std.proofs.lemmas.List.{length-set}
 use Rattle.sleep_model.specs.declared.entry.Actor.{Actor}

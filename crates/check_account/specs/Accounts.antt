@@ -205,6 +205,6 @@ pub record AccountsFollow (m : Machine) (past : List Entry) (e : Entry) : Type 0
 abbrev pub AllFollow : Type 0
 AllFollow = (m : Machine) (past : List Entry) (e : Entry) → AccountsFollow m past e
 
--- each script of a machine has its place with the freezer (own)
+-- each script of a machine has its state of freezing (own)
 abbrev pub EachIsKnown : Type 0
 EachIsKnown = (scripts : List Script) (past : List Entry) → length (freezings scripts past) ≡ length scripts

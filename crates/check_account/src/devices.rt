@@ -12,7 +12,7 @@ use sleep_model::{Kind, Machine, PhaseState};
 use std::alloc::Global;
 use std::marker::Model;
 
-/// What the entries of the journal leave of devices, notifiers, processors and the core's parts.
+/// What the entries of the journal leave of devices, notifiers, processors and syscore operations.
 #[derive(Drop)]
 pub struct DeviceAccount {
     pairs: PairStates,
@@ -129,7 +129,7 @@ impl DeviceAccount {
         &self.cpus_off
     }
 
-    /// Which of the core's parts are suspended (`syscore_ops_list`).
+    /// Which syscore operations are suspended (`syscore_ops_list`).
     pub fn stopped(&self) -> &Flags
         ensures { result.now ≡ self.now.stopped }
     {

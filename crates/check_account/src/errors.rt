@@ -1,5 +1,5 @@
-//! The callback that the attempt's maker runs, the errors of the open phase, and what an attempt stops beside
-//! tasks and devices.
+//! The callback that the attempt's maker runs, the errors of the open phase, and what an attempt stops
+//! besides tasks and devices.
 
 ghost use Rattle.std.specs.Prelude.{◌≡◌};
 ghost use Rattle.sleep_model.specs.Answers.{error_of_number};

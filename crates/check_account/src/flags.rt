@@ -1,4 +1,4 @@
-//! Flags of devices, notifiers, processors and the core's parts.
+//! Flags of devices, notifiers, processors and syscore operations.
 
 ghost use Rattle.std.specs.Prelude.{◌≡◌, map, IfOk};
 ghost use Rattle.sleep_model.specs.Devices.{is_one, asks_direct_after};
@@ -66,7 +66,7 @@ pub(crate) fn move_cpus(off: &mut Flags, kind: Kind)
     }
 }
 
-/// A part of the core is suspended or resumed (`syscore_suspend`, `syscore_resume`).
+/// A syscore operation is suspended or resumed (`syscore_suspend`, `syscore_resume`).
 pub(crate) fn move_stopped(stopped: &mut Flags, kind: Kind)
     ensures { stopped.new ≡ stopped_after kind stopped.old }
 {

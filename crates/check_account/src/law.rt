@@ -9,7 +9,7 @@ pub fn accounts_follow()
     ensures { AllFollow }
 {}
 
-/// After every journal each script has its place with the freezer.
+/// After every journal each script has its state of freezing.
 #[tactic(auto, using(crate::proofs::Following::placed))]
 pub fn each_is_known()
     ensures { EachIsKnown }

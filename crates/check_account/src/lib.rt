@@ -3,7 +3,7 @@
 //!
 //! Promises: After each entry of a journal each field of the account is what the definitions read from all
 //! entries so far: of the saved count and the open attempt, of the tasks with the freezer, the marks and
-//! autosleep, of devices, notifiers, processors and the core's parts. By the clauses of `AttemptAccount`,
+//! autosleep, of devices, notifiers, processors and syscore operations. By the clauses of `AttemptAccount`,
 //! `TaskAccount`, `DeviceAccount`: `new`, `pass`, and one call a field; `accounts_follow`, `each_is_known`.
 //!
 //! Begin reading in `src/attempts.rt`, `src/tasks.rt`, `src/devices.rt`; `specs/Accounts.antt`,

@@ -76,7 +76,7 @@ fn set(position: ScriptPosition) -> Result<ScriptPosition, Mem>
     })
 }
 
-/// A script's place after an entry of its own. `Mem` if a counter has no room.
+/// A script's position after an entry of its own. `Mem` if a counter has no room.
 fn position_after(kind: Kind, position: ScriptPosition) -> Result<ScriptPosition, Mem>
     ensures { IfOk result (λ s. s ≡ position_after (position_effect kind) position) }
 {
@@ -115,7 +115,7 @@ fn position_after(kind: Kind, position: ScriptPosition) -> Result<ScriptPosition
     }
 }
 
-/// A script's own entry moves its place. `Mem` if a counter has no room.
+/// A script's own entry moves its position. `Mem` if a counter has no room.
 pub(crate) fn move_position(
     positions: &mut Vec<ScriptPosition>,
     who: Actor,

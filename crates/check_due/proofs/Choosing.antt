@@ -1,4 +1,4 @@
--- What is due whatever the word and the place of the script, is due at these.
+-- What is due for any event word and script position is due at the present ones.
 use Rattle.std.proofs.Common.{◌≡◌, Bool, IfOk, Ok, Err, Result}
 use Rattle.sleep_model.specs.declared.progress.Due.{Due}
 use Rattle.sleep_model.specs.declared.progress.ScriptPosition.{ScriptPosition}

@@ -63,7 +63,7 @@ fn stop_due(past: &Passed<'_>, now: EventNow) -> Due
     }
 }
 
-/// A part of the core that is suspended.
+/// A syscore operation that is suspended.
 fn core_due(past: &Passed<'_>) -> Due
     ensures { (now : EventNow) → result ≡ stage_due past.now.machine (journal_of past.now) now StopsSyscore }
 {
@@ -73,7 +73,7 @@ fn core_due(past: &Passed<'_>) -> Due
     }
 }
 
-/// A part of the core that is resumed.
+/// A syscore operation that is resumed.
 fn resume_due(past: &Passed<'_>) -> Due
     ensures { (now : EventNow) → result ≡ stage_due past.now.machine (journal_of past.now) now StartsSyscore }
 {

@@ -45,7 +45,7 @@ module _ (ps : List (Option ℕ)) (after : EachAfterParent 0 ps) where
     pub hang_within : (d x : ℕ) → is_among (row_at t d) x ≡ true → x < length t.rows
     hang_within d x m = subst (λ (n : ℕ). x < n) (sym h.count) (dependents_within ps after links linked d x (ap (λ ys. is_among ys x) (sym (h.each d)) ∙ m))
 
-    -- a walk over the table is a walk over what hangs below
+    -- a walk over the table is a walk over what depends on it
     pub table_walk : (d : ℕ) → d < length ps → visited (length t.rows) (row_at t) d [] ≡ last_occurrences (moved (length ps) (dependents ps links) d)
     table_walk d l =
         ap (λ n. visited n (row_at t) d []) h.count
@@ -55,7 +55,7 @@ module _ (ps : List (Option ℕ)) (after : EachAfterParent 0 ps) where
   put_places : (M order : List ℕ) → put_last (last_occurrences M) order ≡ moved_last M order
   put_places M order = ap (λ xs. xs ++ last_occurrences M) (filter_agree (λ d. not (is_among (last_occurrences M) d)) (λ d. not (is_among M d)) (λ x. ap not (among_last ps after M x)) order)
 
-  -- a link moves what hung below its consumer before
+  -- a link moves what depended on its consumer before
   pub order_next : (l : Link) (ls : List Link) → AreLinks ps (l ∷ ls) → (t : Table) → IsTableOf (length ps) (dependents ps ls) t.rows → moved_to_end (length t.rows) (row_at t) l.consumer (order_by ps ls) ≡ order_by ps (l ∷ ls)
   order_next l ls linked t h =
       ap (λ out. put_last out (order_by ps ls)) (table_walk ls linked.4 t h l.consumer linked.1)

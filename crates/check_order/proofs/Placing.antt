@@ -99,9 +99,9 @@ children_first ps ls d row supplied e f = (
     count : length row - length supplied ≡ length (children_from d 0 ps)
     count = omega (arith, whole, parts, links, many)
 
--- ---- the links at these places
+-- ---- the links at these indices
 
--- each of the places is below that
+-- each of the indices is below that
 abbrev pub AreBelow : ℕ → List ℕ → Type 0
 AreBelow n [] = Unit {0}
 AreBelow n (x ∷ xs) = (x < n) × AreBelow n xs
@@ -129,7 +129,7 @@ places_below test (l ∷ ls) =
     one true = (omega arith, tt)
     one false = tt
 
--- each place is one of a link
+-- each index is one of a link
 pub place_within : (test : Link → Bool) (links : List Link) (places : List ℕ) → places ≡ places_of test (reverse links) → (j d : ℕ) → j < length places → get_or places j d < length links
 place_within test links places e j d l =
     let below = subst (AreBelow (length (reverse links))) (sym e) (places_below test (reverse links)) in
@@ -137,7 +137,7 @@ place_within test links places e j d l =
     let i = below_at (length (reverse links)) places j d below l in
     omega (arith, n, i)
 
--- the links at these places, in this order
+-- the links at these indices, in this order
 abbrev pub picked : List Link → List ℕ → List Link
 picked links places = map (λ i. get_or links i no_link) places
 

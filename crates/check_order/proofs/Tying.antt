@@ -57,9 +57,9 @@ reversed_map f (x ∷ xs) =
     mapped [] = refl
     mapped (y ∷ ys) = ap (λ zs. f y ∷ zs) (mapped ys)
 
--- ---- what hangs below
+-- ---- what depends on a device
 
--- a device is marked by a walk exactly if it hangs below
+-- a device is marked by a walk exactly if it depends on the walk's first
 pub dependent_is : (ps : List (Option ℕ)) → EachAfterParent 0 ps → (ls : List Link) → AreLinks ps ls → (t : Table) → IsTableOf (length ps) (dependents ps ls) t.rows → (consumer supplier : ℕ) → consumer < length ps → supplier < length ps → (v : VisitedDevices) → Leaves (length t.rows) (visited (length t.rows) (row_at t) consumer []) v → get_or v.marks supplier false ≡ is_dependent ps ls consumer supplier
 dependent_is ps after ls linked t h consumer supplier c s v l =
     l.marked.marked supplier (subst (λ (n : ℕ). supplier < n) (sym h.count) s)

@@ -1,4 +1,4 @@
--- Walks that go into no device twice leave each device at its last place.
+-- Walks that go into no device twice leave each device at its last index.
 use Rattle.std.proofs.Common.{◌≡◌, ◌<◌, ◌≤◌, ◌∙◌, ℕ, zero, suc, Bool, true, false, ◌==◌, ◌||◌, List, [], ◌∷◌, ◌⊎◌, inl, inr, length, get_or, Option, refl, sym, ap, subst, cond, arith, length-append}
 use Rattle.std.specs.List.{flat_map}
 use Rattle.std.proofs.lemmas.Bool.{false≢true, eqb-true, or_cases}
@@ -77,7 +77,7 @@ module _ (dependents_of : ℕ → List ℕ) (W : ℕ → List ℕ) (fix : Descen
               ap (put_first d) (each_visited (visited levels dependents_of) (dependents_of d) (λ c n. below c (hang c n)) out i)
               ∙ ap (λ ys. onto ys out) (sym (fix d))
 
--- what is visited below a registered device is all that hangs below it, each at its last place
+-- what is visited below a registered device is all that depends on it, each at its last index
 pub visited_is : (ps : List (Option ℕ)) → EachAfterParent 0 ps → (ls : List Link) → AreLinks ps ls → (d : ℕ) → d < length ps → visited (length ps) (dependents ps ls) d [] ≡ last_occurrences (moved (length ps) (dependents ps ls) d)
 visited_is ps after ls linked d l =
     visit_is (dependents ps ls) (moved (length ps) (dependents ps ls)) (links_descend ps after ls linked ranked) (order_by ps ls) ranked (length ps) (omega (arith, order_length ps after ls linked)) d (order_covers ps after ls d l) [] (λ x m. absurd (false≢true m))

@@ -15,7 +15,7 @@ pub record IsTableOf (n : ℕ) (f : ℕ → List ℕ) (rows : List (List ℕ)) :
 abbrev pub put_last : List ℕ → List ℕ → List ℕ
 put_last devices order = filter (λ d. not (is_among devices d)) order ++ devices
 
--- the order after a device was moved to its end, with all that hangs below it (device_reorder_to_tail)
+-- the order after a device was moved to its end, with all that depends on it (device_reorder_to_tail)
 abbrev pub moved_to_end : ℕ → (ℕ → List ℕ) → ℕ → List ℕ → List ℕ
 moved_to_end n dependents_of d order = put_last (visited n dependents_of d []) order
 
@@ -34,12 +34,12 @@ pub record IsGraph (t : GraphState) : Type 0 where
   pub after : EachAfterParent 0 t.parents
   pub linked : AreLinks t.parents t.links
 
--- what hangs below and above each device by the links that are active (dpm_wait_for_subordinate, dpm_wait_for_superior)
+-- what is below and above each device by the links that are active (dpm_wait_for_subordinate, dpm_wait_for_superior)
 pub record AreActive (parents : List (Option ℕ)) (links : List Link) (rows_below rows_above : List (List ℕ)) : Type 0 where
   pub below : IsTableOf (length parents) (dependents parents (active_of links)) rows_below
   pub above : IsTableOf (length parents) (superiors parents (active_of links)) rows_above
 
--- what hangs below a link's supplier and above its consumer by active links (dpm_wait_for_subordinate, dpm_wait_for_superior)
+-- what is below a link's supplier and above its consumer by active links (dpm_wait_for_subordinate, dpm_wait_for_superior)
 pub record AreShown (parents : List (Option ℕ)) (links : List Link) (l : Link) (row_below row_above : List ℕ) : Type 0 where
   pub below : row_below ≡ dependents parents (active_of links) l.supplier
   pub above : row_above ≡ superiors parents (active_of links) l.consumer
@@ -48,14 +48,14 @@ pub record AreShown (parents : List (Option ℕ)) (links : List Link) (l : Link)
 abbrev pub links_with : Link → List Link → List Link
 links_with changed links = map (with_state changed.supplier changed.consumer changed.active) links
 
--- ---- the places of links
+-- ---- the indices of links
 
 -- the indices, the oldest first, of the links that a test takes; the newest link comes first, and the oldest has index 0 (own)
 abbrev pub places_of : (Link → Bool) → List Link → List ℕ
 places_of test [] = []
 places_of test (l ∷ earlier) = places_of test earlier ++ (if test l then length earlier ∷ [] else [])
 
--- these are the places of the links that each of n devices supplies, and of those that it consumes (struct dev_links_info)
+-- these are the indices of the links that each of n devices supplies, and of those that it consumes (struct dev_links_info)
 pub record ArePlaced (n : ℕ) (links : List Link) (supplied consumed : List (List ℕ)) : Type 0 where
   pub by_supplier : IsTableOf n (λ d. places_of (λ l. l.supplier == d) links) supplied
   pub by_consumer : IsTableOf n (λ d. places_of (λ l. l.consumer == d) links) consumed
@@ -77,7 +77,7 @@ pub record HaveRoom (l : Link) (rows_hanging rows_supplied rows_consumed : Table
 
 -- ---- all that is made of them
 
--- what hangs below each device by all links, the places of the links, what hangs below and above it by the active ones, and the order
+-- what depends on each device by all links, the indices of the links, what is below and above it by the active ones, and the order
 -- (dpm_list)
 pub record IsMade (t : GraphState) (rows_hanging supplied consumed rows_below rows_above : List (List ℕ)) (devices : List ℕ) : Type 0 where
   pub graph : IsGraph t

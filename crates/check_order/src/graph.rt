@@ -1,4 +1,4 @@
-//! What hangs below what, by devices' parents and their links.
+//! Which devices depend on which, by their parents and links.
 
 ghost use Rattle.std.specs.Prelude.{◌≡◌, ◌<◌, ◌^◌, [], IfOk, OnOk, length, vec_capacity, vec_len};
 ghost use Rattle.sleep_model.specs.Order.{EachAfterParent};
@@ -22,9 +22,9 @@ use std::marker::Model;
 pub struct DeviceGraph {
     parents: Vec<Option<u32>>,
     links: Vec<Link>,
-    // What hangs below each device by all links, dormant ones too.
+    // What depends on each device by all links, dormant ones too.
     hanging: Rows,
-    // The places of the links that each device supplies, and of those that it consumes.
+    // The indices of the links that each device supplies, and of those that it consumes.
     supplied: Rows,
     consumed: Rows,
     // By the links that are active.
@@ -121,7 +121,7 @@ impl DeviceGraph {
         Ok(visits.marks.is_set(supplier))
     }
 
-    /// The order that a link leaves: its consumer is moved to the end, with all that hangs below it.
+    /// The order that a link leaves: its consumer is moved to the end, with all that depends on it.
     fn moved_by(&self, link: Link) -> Result<Vec<u32>, Mem>
         requires { AreLinks self.now.parents (link ∷ self.now.links) }
         ensures { IfOk result (λ v. v.items ≡ order_by self.now.parents (link ∷ self.now.links)) }
@@ -168,7 +168,7 @@ impl DeviceGraph {
         Ok(())
     }
 
-    /// What hangs below the supplier of a link by active ones, after that link's state was set.
+    /// What is below the supplier of a link by active ones, after that link's state was set.
     fn row_below(&self, changed: Link) -> Result<Vec<u32>, Mem>
         ensures { IfOk result (λ v. v.items
             ≡ dependents self.now.parents (active_of (links_with changed self.now.links)) changed.supplier) }
@@ -181,7 +181,7 @@ impl DeviceGraph {
         Ok(row)
     }
 
-    /// What hangs above the consumer of a link by active ones, after that link's state was set.
+    /// What is above the consumer of a link by active ones, after that link's state was set.
     fn row_above(&self, changed: Link) -> Result<Vec<u32>, Mem>
         requires { changed.consumer < length self.now.parents }
         ensures { IfOk result (λ v. v.items

@@ -1,4 +1,4 @@
-//! The links of each device, found by their places among all links.
+//! The links of each device, found by their indices among all links.
 
 ghost use Rattle.std.specs.Prelude.{◌≡◌, ◌++◌, ◌==◌, false, MatchOption, OnOk, map, reverse};
 ghost use Rattle.sleep_model.specs.Order.{active_of, consumers_of, is_link, suppliers_of, with_state};
@@ -31,7 +31,7 @@ fn with_state(link: Link, changed: Link) -> Link
     }
 }
 
-/// The place of the link between these two, looked for among those of the consumer's links. None exactly if
+/// The index of the link between these two, looked for among those of the consumer's links. None exactly if
 /// there is no such link.
 pub(crate) fn place_of(
     links: &[Link],
@@ -52,7 +52,7 @@ pub(crate) fn place_of(
     None
 }
 
-/// Puts after a row the consumers of the changed link's supplier by active links, whose places these are.
+/// Puts after a row the consumers of the changed link's supplier by active links, whose indices these are.
 pub(crate) fn push_consumers(
     row: &mut Vec<u32>,
     links: &[Link],
@@ -70,7 +70,7 @@ pub(crate) fn push_consumers(
     Ok(())
 }
 
-/// Puts after a row the suppliers of the changed link's consumer by active links, whose places these are.
+/// Puts after a row the suppliers of the changed link's consumer by active links, whose indices these are.
 pub(crate) fn push_suppliers(
     row: &mut Vec<u32>,
     links: &[Link],

@@ -37,7 +37,7 @@ fn with_last(alloc: Global, order: &[u32], marks: &Flags, devices: &[u32]) -> Re
     Ok(moved)
 }
 
-/// The order after a device was moved to its end, with all that hangs below it by this table.
+/// The order after a device was moved to its end, with all that depends on it by this table.
 pub(crate) fn move_to_end(
     alloc: Global,
     table: &Rows,

@@ -45,7 +45,7 @@ impl ShownRows {
         }
     }
 
-    /// Puts another row in the place of one that there is.
+    /// Puts another row in place of one that there is.
     pub(crate) fn replace(&mut self, device: u32, row: Vec<u32>)
         requires { device < length self.old }
         ensures { self.new ≡ slice_set self.old device row.items }

@@ -1,4 +1,4 @@
-//! What hangs right below each device, and what each hangs right below.
+//! What is right below each device, and what is right above it.
 
 ghost use Rattle.std.specs.Prelude.{◌≡◌, ◌<◌, ◌^◌, ◌++◌, ◌∷◌, [], IfOk, IfSome, OnOk, length, map, option_to_list, if◌then◌else◌};
 ghost use Rattle.sleep_model.specs.Order.{EachAfterParent, children_from};

@@ -30,7 +30,7 @@ fn put(visits: &mut VisitedDevices, device: u32) -> Result<(), Mem>
     Ok(())
 }
 
-/// Visits a device and all that hangs below it, down to some level.
+/// Visits a device and its dependents to some level.
 fn visit(table: &Rows, levels: u32, device: u32, visits: &mut VisitedDevices) -> Result<(), Mem>
     requires within { (d x : ℕ) → is_among (row_at table.now d) x ≡ true → x < length visits.old.marks }
     requires marked { AreMarked (length visits.old.marks) visits.old }
@@ -51,7 +51,7 @@ fn visit(table: &Rows, levels: u32, device: u32, visits: &mut VisitedDevices) ->
     put(visits, device)
 }
 
-/// A device with all that hangs below it, down to some level, in front of what hangs below it.
+/// A device with its dependents to some level, each in front of its own dependents.
 pub(crate) fn visit_below(alloc: Global, table: &Rows, device: u32) -> Result<VisitedDevices, Mem>
     requires numbered { length table.now.rows < 2 ^ 32 }
     requires within { (d x : ℕ) → is_among (row_at table.now d) x ≡ true → x < length table.now.rows }

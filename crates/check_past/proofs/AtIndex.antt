@@ -59,7 +59,7 @@ none_async p ds (x ∷ xs) h =
     ap (λ b. if b then Some x else find (λ d. p d && is_so (map is_async ds) d) xs) (not_both (p x) (is_so (map is_async ds) x) (not_so ds x h))
     ∙ none_async p ds xs h
 
--- ---- each script has its place
+-- ---- each script has its entry in the lists
 
 position_len : (a : Actor) (p : PositionEffect) (xs : List ScriptPosition) → length (positions_after a p xs) ≡ length xs
 position_len (actor.Script i) p xs = length-set xs i _

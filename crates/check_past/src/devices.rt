@@ -1,4 +1,4 @@
-//! What the passed entries leave of devices, notifiers, processors and the core's parts.
+//! What the passed entries leave of devices, notifiers, processors and syscore operations.
 
 use crate::passed::Passed;
 use device_rows::Flags;
@@ -60,7 +60,7 @@ impl<'m> Passed<'m> {
         self.past_state.journal.devices.cpus_off()
     }
 
-    /// Which of the core's parts are suspended (`syscore_ops_list`).
+    /// Which syscore operations are suspended (`syscore_ops_list`).
     pub fn stopped(&self) -> &Flags
         ensures { result.now ≡ stopped (length self.now.machine.syscore) (journal_of self.now) }
     {

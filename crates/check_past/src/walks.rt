@@ -1,4 +1,4 @@
-//! Who is next among devices, notifiers, processors and the core's parts.
+//! Who is next among devices, notifiers, processors and syscore operations.
 
 ghost use Rattle.std.specs.Prelude.{◌≡◌, ◌-◌, ◌&&◌, not, map, reverse};
 ghost use Rattle.std.specs.List.{find, list_all, list_any, range_with_len};
@@ -392,7 +392,7 @@ impl<'m> Passed<'m> {
         first_off(self.cpus_off(), self.machine.cpus)
     }
 
-    /// The part of the core that is resumed next (`syscore_resume`).
+    /// The syscore operation that is resumed next (`syscore_resume`).
     #[tactic(auto, using(sleep_model::proofs::Searches::find_is_first))]
     pub fn next_started(&self) -> Option<u32>
         ensures { result ≡ next_started self.now.machine (journal_of self.now) }
@@ -400,7 +400,7 @@ impl<'m> Passed<'m> {
         first_stopped(self.stopped(), self.machine.syscore.len() as u32)
     }
 
-    /// The part of the core that is suspended next (`syscore_suspend`).
+    /// The syscore operation that is suspended next (`syscore_suspend`).
     pub fn next_stopped(&self) -> Option<u32>
         ensures { result ≡ next_stopped self.now.machine (journal_of self.now) }
     {

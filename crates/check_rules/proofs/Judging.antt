@@ -32,7 +32,7 @@ of_journal (Notes s call) = (λ h. absurd (cc), λ h. absurd (cc))
 of_journal (Moves s step) = (λ h. absurd (cc), λ h. absurd (cc))
 of_journal OfTime = (λ h. absurd (cc), λ h. absurd (cc))
 
--- ---- places and numbers
+-- ---- indices and numbers
 
 pub at_index : (rule : Rule) → rule_at (rule_index rule) ≡ rule
 at_index Links = refl

@@ -117,7 +117,7 @@ joined false false false e f = refl
 joined true b c e f = absurd (cc)
 joined false b true e f = absurd (cc)
 
--- a script that rests is enabled exactly if it has a call to make
+-- an idle script is enabled exactly if it has a call to make
 pub resting : (m : Machine) (past : List Entry) (of : ℕ → List Entry) (now : EventNow) (i : ℕ) → (is_quiet m past of && is_idle_script m past i) ≡ true
     → nat_lt (made (length m.sources + 1) of (actor.Script i)) (calls_due m (actor.Script i) past) ≡ is_enabled m past of now (actor.Script i)
 resting m past of now i h =

@@ -51,7 +51,7 @@ inside_is own x who e =
 pub calling_next : (of : ℕ → List Entry) (who : Actor) (n : ℕ) (here before : Bool) → here ≡ is_inside (of n) who → before ≡ is_calling n of who → (here || before) ≡ is_calling (n + 1) of who
 calling_next of who n here before e f = rw (add-one, e, f) refl
 
--- ---- the places of histories
+-- ---- the room of histories
 
 both_true : (a b : Bool) → a ≡ true → b ≡ true → (a && b) ≡ true
 both_true true b h g = g

@@ -32,7 +32,7 @@ meant ours.Steps = model.Steps
 meant ours.Enabled = model.Enabled
 meant ours.Source = model.Source
 
--- the place of a rule among all by rising number, from 0 (own)
+-- the index of a rule among all by rising number, from 0 (own)
 abbrev pub rule_index : model.Rule → ℕ
 rule_index model.Links = 0
 rule_index model.Numbers = 1
@@ -50,7 +50,7 @@ rule_index model.Steps = 12
 rule_index model.Enabled = 13
 rule_index model.Source = 14
 
--- the rule at that place (own)
+-- the rule at that index (own)
 abbrev pub rule_at : ℕ → model.Rule
 rule_at zero = model.Links
 rule_at (suc zero) = model.Numbers
@@ -68,7 +68,7 @@ rule_at (suc (suc (suc (suc (suc (suc (suc (suc (suc (suc (suc (suc zero))))))))
 rule_at (suc (suc (suc (suc (suc (suc (suc (suc (suc (suc (suc (suc (suc zero))))))))))))) = model.Enabled
 rule_at _ = model.Source
 
--- an entry keeps the rules before that place (own)
+-- an entry keeps the rules before that index (own)
 abbrev pub KeepsBelow : Machine → List Entry → Entry → ℕ → Type 0
 KeepsBelow m past e n = (rule : model.Rule) → rule_index rule < n → KeepsRule m past e (class_of e.kind) rule
 
@@ -77,7 +77,7 @@ abbrev pub IsBroken : Machine → List Entry → Entry → Option ℕ → Type 0
 IsBroken m past e None = KeepsEntry m past e
 IsBroken m past e (Some n) = (rule : model.Rule) × ((number_of rule ≡ n) × BreaksFirst m past e rule)
 
--- it keeps the rules that entries of sources and jumps have a part in (own)
+-- it keeps the rules that also concern entries of sources and jumps (own)
 pub record KeepsTogether (m : Machine) (past : List Entry) (e : Entry) (part : EntryClass) : Type 0 where
   pub numbers : KeepsRule m past e part model.Numbers
   pub walk : KeepsRule m past e part model.Walk

@@ -1,4 +1,4 @@
--- An entry of the journal that is due at its place.
+-- An entry of the journal that is due at its index.
 use Rattle.std.specs.Prelude.{◌≡◌, List}
 use Rattle.sleep_model.specs.declared.entry.Entry.{Entry}
 use Rattle.sleep_model.specs.declared.machine.Machine.{Machine}
@@ -10,11 +10,11 @@ use Rattle.sleep_model.specs.EntryClasses.{OfJournal, journal, class_of}
 use Rattle.rule_definitions.specs.Numbers.{KeepsNumbers}
 use Rattle.sleep_model.specs.Sources.{history}
 
--- the entry is the journal's, and carries the numbers and the time of its place (own)
+-- the entry is the journal's, and carries the numbers and the time of its index (own)
 abbrev pub HasNumbersOfIndex : List Entry → Entry → Type 0
 HasNumbersOfIndex past e = (class_of e.kind ≡ OfJournal) × KeepsNumbers past e (class_of e.kind)
 
--- the entry of the journal is at its place, and due of its actor, which is inside no call and has made those that come before (own)
+-- the entry of the journal is at its index, and due of its actor, which is inside no call and has made those that come before (own)
 pub record IsNextEntry (m : Machine) (past : List Entry) (e : Entry) : Type 0 where
   pub placed : HasNumbersOfIndex past e
   pub made : due m (journal past) e.actor (numbers past) ≡ Makes e.kind

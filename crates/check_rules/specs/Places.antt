@@ -1,9 +1,9 @@
--- The places of sources' histories.
+-- The room in sources' histories.
 use Rattle.std.specs.Prelude.{◌==◌, ◌&&◌, ℕ, zero, suc, Bool, true, List, Option, Some, None, if◌then◌else◌}
 use Rattle.sleep_model.specs.declared.entry.Entry.{Entry}
 use Rattle.sleep_model.specs.Legal.{is_short}
 
--- the histories of the first n sources have their places (own)
+-- the histories of the first n sources have room (own)
 abbrev pub are_short : List Entry → ℕ → Bool
 are_short past zero = true
 are_short past (suc n) = is_short past n && are_short past n

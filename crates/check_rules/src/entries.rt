@@ -1,4 +1,4 @@
-//! The rules that several kinds of entries have a part in: of the journal, of calls on sources and of their
+//! The rules that concern several kinds of entries: of the journal, of calls on sources and of their
 //! steps.
 
 ghost use Rattle.std.specs.Prelude.{◌≡◌, ◌↔◌, true, IsTrue, IfOk};

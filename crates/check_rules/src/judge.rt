@@ -43,7 +43,7 @@ pub(crate) enum Rule {
     Source,
 }
 
-/// The rule at that place, from 0, among all by rising number.
+/// The rule at that index, from 0, among all by rising number.
 fn rule_at(place: u8) -> Rule
     ensures { meant result ≡ rule_at place }
 {
@@ -140,7 +140,7 @@ fn keeps(past: &Passed<'_>, e: Entry, rule: Rule) -> Result<bool, Mem>
     }
 }
 
-/// Whether an entry keeps the rules that entries of sources and jumps have a part in. `Mem` if a moment is
+/// Whether an entry keeps the rules that also concern entries of sources and jumps. `Mem` if a moment is
 /// beyond all time, a number has no room, or if there is no memory for a walk.
 fn keeps_together(past: &Passed<'_>, e: Entry) -> Result<bool, Mem>
     requires { fits_entry past.now.machine e ≡ true }

@@ -3,7 +3,7 @@
 //!
 //! Promises: `check_rules` finds that an entry keeps a rule exactly if the definition says so, each rule by
 //! itself. The least rule that an entry breaks is named by its number, and none exactly if the entry keeps
-//! all. Whether an entry is the next, the journal's and due at its place, is answered exactly. That no
+//! all. Whether an entry is the next, the journal's and due at its index, is answered exactly. That no
 //! attempt is open and nobody can make anything is found exactly if it is so. By the clauses of
 //! `first_broken`, `is_next_entry`, `is_idle_outside`.
 //!

@@ -1,4 +1,4 @@
-//! Whether an entry of the journal is the next: what is due of its actor, at its place.
+//! Whether an entry of the journal is the next: what is due of its actor, at its index.
 
 ghost use Rattle.std.specs.Prelude.{◌≡◌, ◌↔◌, true, IsTrue, IfOk};
 ghost use Rattle.sleep_model.specs.Fits.{fits_entry};
@@ -23,7 +23,7 @@ fn is_journals(e: Entry) -> bool
     judge::is_of_journal(e.kind)
 }
 
-/// Whether an entry is the journal's, with the numbers and the time of its place.
+/// Whether an entry is the journal's, with the numbers and the time of its index.
 fn has_numbers_of_index(past: &Passed<'_>, e: Entry) -> bool
     ensures { IsTrue result ↔ HasNumbersOfIndex (past_of past.now) e }
 {

@@ -1,4 +1,4 @@
-//! The numbers and the time of a place, and the number of an attempt.
+//! The numbers and the time of an index, and the number of an attempt.
 
 ghost use Rattle.std.specs.Prelude.{◌≡◌, ◌+◌, ◌↔◌, IsTrue};
 ghost use Rattle.sleep_model.specs.EntryClasses.{class_of};
@@ -17,7 +17,7 @@ fn is_word(now: EventNow, word: EventNow) -> bool
     now.inpr == word.inpr && now.count == word.count && now.hard == word.hard
 }
 
-/// Whether an entry has the numbers and the time of its place (`combined_event_count`).
+/// Whether an entry has the numbers and the time of its index (`combined_event_count`).
 pub fn keeps_numbers(past: &Passed<'_>, e: Entry) -> bool
     ensures { IsTrue result ↔ KeepsNumbers (past_of past.now) e (class_of e.kind) }
 {

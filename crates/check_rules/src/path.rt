@@ -102,7 +102,7 @@ fn is_of_stop(past: &Passed<'_>, now: EventNow, kind: Kind) -> bool
     }
 }
 
-/// An entry of the core's parts on the way down.
+/// An entry of syscore operations on the way down.
 fn is_of_core(past: &Passed<'_>, now: EventNow, kind: Kind) -> bool
     ensures { IsTrue result ↔ IsOfRow past.now.machine (journal_of past.now) now StopsSyscore kind }
 {

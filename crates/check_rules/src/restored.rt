@@ -89,7 +89,7 @@ fn is_no_cpu_off(past: &Passed<'_>) -> bool
     is_none_set(past.cpus_off().as_slice())
 }
 
-/// Whether no part of the core is suspended.
+/// Whether no syscore operation is suspended.
 #[tactic(auto, using(crate::proofs::Resting::stopped_len))]
 fn is_none_stopped(past: &Passed<'_>) -> bool
     ensures { IsTrue result ↔ (stopped (length past.now.machine.syscore) (journal_of past.now)

@@ -51,7 +51,7 @@ pub fn keeps_call(past: &Passed<'_>, e: Entry) -> bool
     }
 }
 
-/// Whether a source's history of `entries` entries has a place for one more of that source.
+/// Whether a source's history of `entries` entries has room for one more of that source.
 fn has_room(own: Option<u32>, s: u32, entries: usize) -> bool
     ensures { result ≡ nat_le (with_own own s entries) most_entries }
 {
@@ -61,7 +61,7 @@ fn has_room(own: Option<u32>, s: u32, entries: usize) -> bool
     }
 }
 
-/// Whether each source's history has a place for an entry.
+/// Whether each source's history has room for an entry.
 fn have_room(past: &Passed<'_>, e: Entry) -> bool
     ensures { result ≡ are_short (e ∷ past_of past.now) (length past.now.machine.sources + 1) }
 {
@@ -73,7 +73,7 @@ fn have_room(past: &Passed<'_>, e: Entry) -> bool
     short
 }
 
-/// Whether a source's entry is right: of its call, of a source that is there, and within the places of its
+/// Whether a source's entry is right: of its call, of a source that is there, and within the room of its
 /// history (`drivers/base/power/wakeup.c`).
 #[inline(always)]
 pub fn source_entry(past: &Passed<'_>, e: Entry) -> bool

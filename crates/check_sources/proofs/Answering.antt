@@ -1,4 +1,4 @@
--- The first place of a key is that of the first answer of its thing and attempt.
+-- The first index of a key is that of the first answer of its thing and attempt.
 use Rattle.std.proofs.Common.{◌≡◌, ◌∙◌, ℕ, zero, suc, ◌==◌, Bool, true, false, ◌&&◌, cond, if◌then◌else◌, List, [], ◌∷◌, map, slice_get, Option, Some, None, refl, sym, ap, arith, position}
 use Rattle.std.specs.Prelude.{option_and_then, option_map}
 use Rattle.std.proofs.lemmas.Bool.Decides.{nat_tests}
@@ -49,7 +49,7 @@ key_eq (what.Notifier x) (what.Notifier y) a b = same_attempt a b (x == y) ∙ a
 key_eq (what.Platform x) (what.Platform y) a b = same_attempt a b (step_rank x == step_rank y) ∙ ap (λ c. c && is_for b a) (same_step x y)
 key_eq _ _ a b = refl
 
--- the answer at the first place of a key is the first of its thing and attempt
+-- the answer at the first index of a key is the first of its thing and attempt
 behind : (a : Answer) (rest : List Answer) (o : Option ℕ) → option_and_then (slice_get (a ∷ rest)) (option_map suc o) ≡ option_and_then (slice_get rest) o
 behind a rest None = refl
 behind a rest (Some j) = refl

@@ -19,7 +19,7 @@ use Rattle.check_sources.specs.Calling.{CallState, AgreesOf, CallersAgree, calls
 use Rattle.std.specs.Prelude.{nat_lt, nat_le}
 use Rattle.std.proofs.lemmas.Bool.Decides.{nat_tests}
 
--- ---- places
+-- ---- indices
 
 below : (i n : ℕ) → nat_lt i n ≡ true → i < n
 below i n h = grind (arith, nat_tests)
@@ -94,7 +94,7 @@ apart m actor.Time actor.Auto fa fb h e = omega (arith, e)
 apart m actor.Time (actor.Dev d) fa fb h e = omega (arith, e)
 apart m actor.Time (actor.Timer s) fa fb h e = omega (arith, e)
 
--- ---- a write at a place
+-- ---- a write at an index
 
 at_place : {A : Type 0} → (xs : List A) (p : ℕ) (x d : A) → p < length xs → slice_index_or (slice_set xs p x) p d ≡ x
 at_place [] p x d h = absurd (omega (arith, h))

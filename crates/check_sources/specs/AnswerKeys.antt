@@ -12,17 +12,17 @@ use Rattle.check_sources.specs.declared.answers.AnswerKey.{AnswerKey}
 use Rattle.check_sources.specs.declared.answers.AnsweringThing.{AnsweringThing}
 use Rattle.check_sources.specs.declared.answers.AnsweringThing.TheVariants as thing
 
--- the place of a phase in an attempt (enter_state)
+-- the rank of a phase in an attempt (enter_state)
 abbrev pub phase_rank : Phase → ℕ
 phase_rank p = table.phase_rank p
 
--- the place of a step of the platform in an attempt (struct platform_suspend_ops)
+-- the rank of a step of the platform in an attempt (struct platform_suspend_ops)
 abbrev pub step_rank : PlatDo → ℕ
 step_rank down.Begin = 0
 step_rank down.Prepare = 1
 step_rank down.PrepareLate = 2
 
--- the thing, with places (own)
+-- the thing, with ranks (own)
 abbrev pub thing_of : What → AnsweringThing
 thing_of (what.Device d p) = thing.Device d (phase_rank p)
 thing_of (what.Syscore x) = thing.Syscore x

@@ -12,7 +12,7 @@ use Rattle.sleep_model.specs.Path.{attempts}
 use Rattle.sleep_model.specs.Sources.{history}
 use Rattle.check_sources.specs.ActorRows.{actor_index, actor_count}
 
--- for each place of the row: how many calls were made, how many turns were ended, which calls are owed after those before the first turn
+-- for each index of the row: how many calls were made, how many turns were ended, which calls are owed after those before the first turn
 -- (own)
 pub record CallState : Type 0 where
   pub made : List ℕ
@@ -53,7 +53,7 @@ entered_by m e n c = record c {
       (later_at m c e.actor ++ report_calls m n e.kind ++ calls_after_turn m e.actor (ends_turn e.kind) (turns_at m c e.actor + 1));
 }
 
--- an entry of whatever part, after n attempts (own)
+-- an entry of whatever class, after n attempts (own)
 abbrev pub callers_after : Machine → Entry → ℕ → EntryClass → CallState → CallState
 callers_after m e n (Notes s call) c = noted_by m e.actor c
 callers_after m e n (Moves s step) c = c

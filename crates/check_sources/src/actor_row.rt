@@ -5,7 +5,7 @@ ghost use Rattle.check_sources.specs.ActorRows.{actor_index, actor_count};
 
 use sleep_model::{Actor, Machine};
 
-/// The place of an actor in the row.
+/// The index of an actor in the row.
 pub fn actor_index(machine: &Machine, who: Actor) -> usize
     requires scripts { length machine.now.actors < 2 ^ 32 }
     requires devices { length machine.now.devices < 2 ^ 32 }
@@ -21,7 +21,7 @@ pub fn actor_index(machine: &Machine, who: Actor) -> usize
     }
 }
 
-/// How many places the row has.
+/// How long the row is.
 pub(crate) fn actor_count(machine: &Machine) -> usize
     requires scripts { length machine.now.actors < 2 ^ 32 }
     requires devices { length machine.now.devices < 2 ^ 32 }

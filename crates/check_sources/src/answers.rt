@@ -10,7 +10,7 @@ use sleep_model::{Answer, Machine, PlatDo, Report, What};
 use std::alloc::Global;
 use std::marker::Model;
 
-/// A thing that answers: a phase and a step of the platform by their places in an attempt.
+/// A thing that answers: a phase and a step of the platform by their ranks in an attempt.
 #[derive(Clone, Copy, PartialEq, Eq, Hash)]
 pub(crate) enum AnsweringThing {
     Device(u32, u8),
@@ -26,7 +26,7 @@ pub(crate) struct AnswerKey {
     pub(crate) attempt: Option<u32>,
 }
 
-/// The place of a phase in an attempt.
+/// The rank of a phase in an attempt.
 fn phase_rank(phase: Phase) -> u8
     ensures { result ≡ phase_rank phase }
 {
@@ -44,7 +44,7 @@ fn phase_rank(phase: Phase) -> u8
     }
 }
 
-/// The place of a step of the platform in an attempt.
+/// The rank of a step of the platform in an attempt.
 fn step_rank(step: PlatDo) -> u8
     ensures { result ≡ step_rank step }
 {
@@ -55,7 +55,7 @@ fn step_rank(step: PlatDo) -> u8
     }
 }
 
-/// The thing, with places.
+/// The thing, with ranks.
 fn thing_of(what: What) -> AnsweringThing
     ensures { result ≡ thing_of what }
 {
@@ -111,7 +111,7 @@ impl<'m> AnswerIndex<'m> {
     ghost use Rattle.std.specs.Prelude.{◌≡◌, IfOk, option_copied};
     ghost use Rattle.sleep_model.specs.Answers.{answer, answer_error, answer_for, answer_number, answer_reports};
 
-    /// The answers of a machine. `Mem` if there is no memory for their places.
+    /// The answers of a machine. `Mem` if there is no memory for their index.
     pub fn new(alloc: Global, machine: &'m Machine) -> Result<Self, Mem>
         ensures { IfOk result (λ a. a ≡ machine.now) }
     {

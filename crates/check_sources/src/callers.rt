@@ -39,7 +39,7 @@ impl<'m> Model for Callers<'m> {
     ghost invariant = { λ c. IsSmall c.plans };
 }
 
-/// The number at a place, 0 if there is none.
+/// The number at an index, 0 if it is out of range.
 fn number_at(numbers: &[usize], place: usize) -> usize
     ensures { result ≡ slice_index_or numbers.now place 0 }
 {
