@@ -1,4 +1,4 @@
--- What the maker of an attempt makes, and what it spends: of the table's rows, of notifiers, processors, parts of the core, or devices.
+-- What the maker of an attempt makes, and what it spends: of the table's rows, of notifiers, processors, syscore operations, or devices.
 use Rattle.std.proofs.Common.{◌≡◌, ◌≤◌, ◌<◌, ◌+◌, ◌-◌, ◌∙◌, ℕ, ℤ, suc, pos, negsuc, Bool, true, false, not, ◌&&◌, List, ◌∷◌, length, Option, Some, None, is_some, refl, sym, ap, subst, arith}
 use Rattle.std.proofs.lemmas.Bool.{true≢false}
 use Rattle.sleep_base.specs.declared.errno.Errno.{Errno}
@@ -144,7 +144,7 @@ module _ (m : Machine) (past : List Entry) (time : ℕ) (now : EventNow) (who : 
   rows_fall _ _ (Made.Enters e f) = let one : one_unless (is_some (sleep_of past)) ≡ 1 = ap (λ o. one_unless (is_some o)) e in omega (arith, one)
   rows_fall _ _ _ = omega arith
 
-  -- ---- notifiers, processors, and parts of the core
+  -- ---- notifiers, processors and syscore operations
 
   pub calls_fall : (there : Stage) (k : Kind) → Made m past now there k → Falls (is_call (payer k)) (things_need (length m.notifiers) (ahead_if notifies_ahead (stage_after k (Some there))) (notified_flags m (with k))) (things_need (length m.notifiers) (notifies_ahead there) (notified_flags m past))
   calls_fall _ _ (Made.Notifies x e) =

@@ -94,7 +94,7 @@ module _ (m : Machine) (past : List Entry) (h : JournalPart m past) where
     spends_made acc _ k d a (ByDevice y _ b x) = absurd (true≢false (sym a ∙ b))
     spends_made acc _ _ d a ByTime = absurd (true≢false (sym (maker_is actor.Time a)))
 
-    -- what is due of the attempt's maker spends a place
+    -- what is due of the attempt's maker needs one entry less after it
     pub due_spends : IsAccepted m → (who : Actor) (k : Kind) → due m past who now ≡ Makes k → is_actor who (maker past) ≡ true → needed m (entry_of time now who k ∷ past) + 1 ≤ needed m past
     due_spends acc who k d a = spends_made acc who k d a (made m past now who k d)
 
@@ -108,11 +108,11 @@ module _ (m : Machine) (past : List Entry) (h : JournalPart m past) where
     device_spends_made _ k a (ByDevice d _ b x) = own_spends m past time now d k (stage_of past) x (device_phases m past h)
     device_spends_made _ _ a ByTime = absurd (true≢false (sym a))
 
-    -- what is due of a device spends a place
+    -- what is due of a device needs one entry less after it
     pub due_device_spends : (who : Actor) (k : Kind) → due m past who now ≡ Makes k → is_device who ≡ true → needed m (entry_of time now who k ∷ past) + 1 ≤ needed m past
     due_device_spends who k d a = device_spends_made who k a (made m past now who k d)
 
-    -- what is due of the attempt's maker, or of a device, spends a place
+    -- what is due of the attempt's maker, or of a device, needs one entry less after it
     pub due_own_spends : IsAccepted m → (who : Actor) (k : Kind) → due m past who now ≡ Makes k → (is_actor who (maker past) || is_device who) ≡ true → needed m (entry_of time now who k ∷ past) + 1 ≤ needed m past
     due_own_spends acc who k d a = by_part (or_cases (is_actor who (maker past)) (is_device who) a)
       where

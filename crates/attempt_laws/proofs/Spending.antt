@@ -67,7 +67,7 @@ comes_less m past _ _ (PastCpusUp e) = omega arith
 comes_less m past _ _ (PastPosts e) = omega arith
 
 module _ (m : Machine) (past : List Entry) (time : ℕ) (now : EventNow) where
-  -- what the maker makes spends a place
+  -- what the maker makes needs one entry less after it
   pub maker_spends : (who : Actor) → ((d : ℕ) → is_among (order m past) d ≡ true → d < length m.devices) → (there : Stage) (k : Kind) → Made m past now there k → FitsKind k → DevicePhases m past (Some there) → needed_at m (entry_of time now who k ∷ past) (stage_after k (Some there)) + 1 ≤ needed_at m past (Some there)
   maker_spends who inside there k x f h =
       let p : Payer = payer k in
@@ -124,7 +124,7 @@ module _ (m : Machine) (past : List Entry) (time : ℕ) (now : EventNow) where
   own_open d _ (DeviceMade.OwnEnds p r i y w s) h = closed p state.Suspending d i refl s h
   own_open d _ (DeviceMade.OwnRose p r i y w s) h = closed (mirror p) state.Resuming d (mirror_down p i) refl s h
 
-  -- what a device makes of its own spends a place
+  -- what a device makes of its own needs one entry less after it
   pub own_spends : (d : ℕ) (k : Kind) (s : Option Stage) → DeviceMade m past now d k → DevicePhases m past s → needed_at m (entry_of time now (actor.Dev d) k ∷ past) (stage_after k s) + 1 ≤ needed_at m past s
   own_spends d k None x h = absurd (own_open d k x h)
   own_spends d k (Some here) x h =

@@ -1,4 +1,4 @@
--- What notifiers, processors and parts of the core need, by their flags.
+-- What notifiers, processors and syscore operations need, by their flags.
 use Rattle.std.proofs.Common.{◌≡◌, ◌≢◌, ◌≤◌, ◌<◌, ◌+◌, ◌*◌, ◌∙◌, int_lt, ℕ, zero, suc, Bool, true, false, ◌==◌, ◌||◌, nat_lt, List, [], ◌∷◌, ◌⊎◌, inl, inr, length, slice_set, cond, refl, sym, ap, subst, arith}
 use Rattle.std.specs.List.{range_with_len}
 use Rattle.std.proofs.lemmas.Bool.{true≢false, eqb-true, or_cases}

@@ -71,7 +71,7 @@ rows_from stage.Posts freezes sleeps = 1
 rows_from stage.Ends freezes sleeps = 1
 rows_from _ freezes sleeps = 0
 
--- ---- notifiers, processors, and parts of the core
+-- ---- notifiers, processors and syscore operations
 
 -- a thing that is done, and is to be undone, needs one entry; one that may still be done needs two (pm_notifier_call_chain,
 -- syscore_suspend)
@@ -99,7 +99,7 @@ cpus_ahead (stage.Downs p) = true
 cpus_ahead stage.StopsCpus = true
 cpus_ahead _ = false
 
--- the way down to the suspending of the core's parts (syscore_suspend)
+-- the way down to the suspending of syscore operations (syscore_suspend)
 abbrev pub syscore_ahead : Stage → Bool
 syscore_ahead stage.StopsIrqs = true
 syscore_ahead stage.Checks = true
@@ -162,7 +162,7 @@ needed_at m past (Some here) =
 unfoldable pub needed : Machine → List Entry → ℕ
 needed m past = needed_at m past (stage_of past)
 
--- as many places are enough for an attempt, with the entry that begins it
+-- room for so many entries is enough for an attempt, with the entry that begins it
 abbrev pub enough : Machine → ℕ
 enough m = 40 + 20 * length m.devices + 2 * (length m.notifiers + length m.syscore + m.cpus)
 

@@ -10,14 +10,14 @@
 
 ghost use Rattle.attempt_laws.specs.Room.{NoneNeededOutside, AttemptNeedsFew, OwnEntrySpends, DeviceEntrySpends, OthersNeedNothing};
 
-/// If no attempt is open no place is needed.
+/// If no attempt is open no room is needed.
 #[tactic(auto, using(crate::proofs::Needing::none_needed_outside))]
 pub fn none_needed_outside()
     ensures { NoneNeededOutside }
 {}
 
-/// The entry that begins an attempt, and all that the attempt may need after it, fit in 40 places, 20
-/// more a device, and 2 more a notifier, a part of the core and a processor (`kernel/power/suspend.c`,
+/// The entry that begins an attempt, and all that the attempt may need after it, fit in room for 40 entries,
+/// 20 more a device, and 2 more a notifier, a syscore operation and a processor (`kernel/power/suspend.c`,
 /// `enter_state`).
 #[tactic(auto, using(crate::proofs::Needing::attempt_needs_few))]
 pub fn attempt_needs_few()

@@ -21,7 +21,7 @@ pub record AutosleepState : Type 0 where
   pub queued : Bool
   pub runs : ℕ
 
--- nobody holds the lock, autosleep is off, and the work rests
+-- nobody holds the lock, autosleep is off, and the work is idle
 abbrev pub idle_work : AutosleepState
 idle_work = record { holder = None; on = false; work = Resting; queued = false; runs = 0 }
 

@@ -162,7 +162,7 @@ impl Autosleep {
     ghost use Rattle.sleep_model.specs.Autosleep.{runs_after};
     ghost use Rattle.autosleep_loop.specs.Autosleeps.{autosleep_after, idle_work};
 
-    /// Nobody holds the lock, autosleep is off, and the work rests.
+    /// Nobody holds the lock, autosleep is off, and the work is idle.
     pub fn new() -> Self
         ensures { result ≡ idle_work }
     {

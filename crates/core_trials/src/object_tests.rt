@@ -102,7 +102,7 @@ fn each_call_goes_through_the_seat(rt: HostRuntime) -> Result<(), Fail> {
     Ok(())
 }
 
-/// Hard events, four entries each, up to the last place.
+/// Hard events, four entries each, as many as it has room for.
 fn fill<R: Wait>(rt: &R, table: &EventTable, source: &mut SeatedSource) -> Result<(), Fail>
     requires table { source.old.seat.table_id ≡ table.now.cells.shared.table_id }
     requires time { latest (unstamped source.old.source.past) ≤ 0 }
@@ -115,7 +115,7 @@ fn fill<R: Wait>(rt: &R, table: &EventTable, source: &mut SeatedSource) -> Resul
     Ok(())
 }
 
-/// A source that has no four places left is full, and stays as it is.
+/// A source that has room for fewer than four entries is full, and stays as it is.
 #[test]
 fn a_full_source_is_not_called(rt: HostRuntime) -> Result<(), Fail> {
     let (table, mut source, _look) = one_source(rt.alloc())?;

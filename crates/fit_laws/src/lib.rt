@@ -4,7 +4,7 @@
 //!
 //! Promises: What is due names only things of the machine. If nobody goes on, each script that has not exited
 //! waits for events to end or for a mark, so a stuck log names somebody; and a legal log that is over fits
-//! its machine. By the clauses of `kinds_are_ranged` and the laws beside it; the rest are lemmas.
+//! its machine. By the clauses of `kinds_are_ranged` and the laws with it; the rest are lemmas.
 //!
 //! Begin reading in `proofs/Naming.antt`, `proofs/Fitted.antt`.
 #![tactic(auto)]

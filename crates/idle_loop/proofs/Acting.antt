@@ -98,7 +98,7 @@ or_pass : Pass GateLogState IdleEntry → Option (Pass GateLogState IdleEntry) �
 or_pass d None = d
 or_pass d (Some p) = p
 
--- the pass that was taken out of its place
+-- the pass that was taken out
 pub same_pass : (o : Option (Pass GateLogState IdleEntry)) (p p' : Pass GateLogState IdleEntry) → o ≡ Some p → o ≡ Some p' → p ≡ p'
 unfolding or_pass
 same_pass o p p' is is' = ap (or_pass p) (sym is ∙ is')
@@ -123,9 +123,9 @@ module _ (z : IdleSizes) (locks : TableId) (w w' : IdleWorker) (p p' : Pass Gate
     firsts = ap firsts_of has' ∙ (now_in.pass.first_is ∙ (sym was.pass.first_is ∙ ap firsts_of (sym has)));
   }
 
--- ---- the idler, by its part
+-- ---- the idler, by its role
 
--- who has the idler's part is the idler
+-- who has the idler's role is the idler
 pub in_idles : (z : IdleSizes) (locks : TableId) (who : ℕ) (first : GateLogState) (p : Token GateLogState IdleEntry) (q : Role) (look : TableLook) → q ≡ role.Idles look → IsIn z locks who first p q → IsIn z locks z.wakers first p (role.Idles look)
 in_idles z locks who first p q look is old =
     let idle : IsIn z locks who first p (role.Idles look) = subst (IsIn z locks who first p) is old in

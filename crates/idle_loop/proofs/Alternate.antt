@@ -89,7 +89,7 @@ places_less who (m ∷ ms) =
     let rest : AllLess (suc (length ms)) (ranks who ms) = less_more (length ms) (ranks who ms) (places_less who ms) in
     either_if (AllLess (suc (length ms))) m who (length ms ∷ ranks who ms) (ranks who ms) (λ same. (omega arith, rest)) (λ other. rest)
 
--- the places of later events and of earlier ones
+-- the positions of later events and of earlier ones
 pub record Split (who : ℕ) (later before : List ℕ) : Type 0 where
   pub newer : List ℕ
   pub is : ranks who (later ++ before) ≡ newer ++ ranks who before
@@ -119,7 +119,7 @@ more_least : (n : ℕ) (xs : List ℕ) → AllLeast (suc n) xs → AllMore n xs
 more_least n [] all = tt
 more_least n (x ∷ xs) all = (let low : suc n ≤ x = all.0 in omega arith, more_least n xs all.1)
 
--- the places of events after one of the maker's own, that one, and those before it
+-- the positions of events after one of the maker's own, that one, and those before it
 pub split_at : (who : ℕ) (later before : List ℕ) → (x : List ℕ) × (ranks who (later ++ who ∷ before) ≡ x ++ length before ∷ ranks who before) × AllMore (length before) x
 split_at who later before =
     let s = split who later (who ∷ before) in

@@ -187,7 +187,7 @@ room_any z gate journal gate_log =
     let most : begun journal ≤ z.sessions = gate_log.begun.1 in
     omega arith
 
--- there is a reserved place for one more entry
+-- there is room for one more entry
 pub room_left : (z : IdleSizes) (gate : Gate) (items : List IdleEntry) (ranks : ℕ) → IsGateLog z gate (reverse items) → (len : ℕ) → len ≡ length items → most_of z ≤ ranks → len < ranks
 room_left z gate items ranks gate_log len is most =
     let low : length (reverse items) < most_of z = room_any z gate (reverse items) gate_log in

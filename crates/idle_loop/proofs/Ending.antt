@@ -131,7 +131,7 @@ module _ (z : IdleSizes) (table : TableId) (l : RunLeft) (is : IsLeft z table l)
   counted : now.hard ≡ length (makers_in closed.history)
   counted = ap (λ (w : EventNow). w.hard) (closed.last.0 ∙ word_hard closed.history all) ∙ sym (length-map closed.history (λ (s : SourceStep). s.source))
 
-  -- the places are those of the makers
+  -- the positions are those of the makers
   pub left_makers : AreMakers now.hard (makers_in closed.history) l.ranks.items
   left_makers =
       let same : length l.ranks.items ≡ z.wakers = left_long z table l.gate_log.journal 0 l.seats.items l.ranks.items is.each ∙ is.count in

@@ -1,4 +1,4 @@
--- Places that are filled with the number of their maker, one maker after another.
+-- Positions that are filled with the number of their maker, one maker after another.
 use Rattle.std.proofs.Common.{◌≡◌, ◌∙◌, ℕ, zero, suc, ◌+◌, ◌<◌, ◌≤◌, ◌≢◌, ◌⊎◌, inl, inr, List, [], ◌∷◌, ◌++◌, length, reverse, get_or, set, replicate, Vec, refl, sym, ap, subst, arith}
 use Rattle.std.proofs.lemmas.List.{get_or-set_same, get_or-set_other, length-set, reverse-append, length-reverse, length-replicate, get_or_at, get_or_append_left, ext_get_or}
 use mathlib.Core.Logic.{dite}
@@ -87,7 +87,7 @@ at_older m i ms low = ap (λ (l : List ℕ). get_or l i 0) (back_more m ms) ∙ 
 not_newest : (i n : ℕ) → i < suc n → i ≢ n → i < n
 not_newest i n low other = grind (arith, low, other)
 
--- an event's place is among those of its maker, and of no other
+-- an event's position is among those of its maker, and of no other
 pub in_places : (who i : ℕ) (ms : List ℕ) → i < length ms → at ms i ≡ who → IsInFilling i (ranks who ms)
 in_places who i [] low is = absurd (omega (arith, low))
 in_places who i (m ∷ ms) low is = dite (ℕ_discrete i (length ms))
@@ -116,7 +116,7 @@ out_places who i (m ∷ ms) low other = dite (ℕ_discrete i (length ms))
     let rest : IsNotIn i (ranks who ms) = out_places who i ms low' (λ e. other (at_older m i ms low' ∙ e)) in
     either_if (IsNotIn i) m who (length ms ∷ ranks who ms) (ranks who ms) (λ same. (older, rest)) (λ n. rest))
 
--- the places of the first makers are filled
+-- the positions of the first makers are filled
 pub record AreFilled (count : ℕ) (ms makers : List ℕ) : Type 0 where
   pub long : length makers ≡ length ms
   pub each : (i : ℕ) → i < length ms → at ms i < count → get_or makers i 0 ≡ at ms i
@@ -141,12 +141,12 @@ at_below n i (m ∷ ms) all low = dite (ℕ_discrete i (length ms))
     (λ (newest : i ≡ length ms). subst (λ (a : ℕ). a < n) (sym (ap (at (m ∷ ms)) newest ∙ at_newest m ms)) all.0)
     (λ (older : i ≢ length ms). let low' : i < length ms = not_newest i (length ms) low older in subst (λ (a : ℕ). a < n) (sym (at_older m i ms low')) (at_below n i ms all.1 low'))
 
--- once all makers are done, each place has its maker
+-- once all makers are done, each position has its maker
 pub all_filled : (n : ℕ) (ms makers : List ℕ) → AllBelow n ms → AreFilled n ms makers → makers ≡ reverse ms
 all_filled n ms makers all are = ext_get_or 0 makers (reverse ms) (are.long ∙ sym (length-reverse ms))
     (λ i low. let low' : i < length ms = subst (λ (k : ℕ). i < k) are.long low in are.each i low' (at_below n i ms all low'))
 
--- ---- the lists of places
+-- ---- the lists of positions
 
 pub at_places : (ms : List ℕ) (from : ℕ) (lists : List (Vec ℕ Global)) → HaveRanks ms from lists → (i : ℕ) (v : Vec ℕ Global) → i < length lists → v ≡ get_or lists i v → v.items ≡ reverse (ranks (from + i) ms)
 at_places ms from [] are i v low is = absurd (omega (arith, low))
@@ -166,7 +166,7 @@ less_back : (n : ℕ) (xs : List ℕ) → AllLess n xs → AllLess n (reverse xs
 less_back n [] all = tt
 less_back n (x ∷ xs) all = subst (AllLess n) (sym (reverse-append (x ∷ []) xs)) (less_both n (reverse xs) (x ∷ []) (less_back n xs all.1) (all.0, tt))
 
--- each place of a list is one of all events
+-- each position of a list is one of all events
 pub places_low : (ms : List ℕ) (count len : ℕ) (lists : List (Vec ℕ Global)) → AreMakers count ms lists → len ≡ length ms → (i : ℕ) (v : Vec ℕ Global) → i < length lists → v ≡ get_or lists i v → (k d : ℕ) → k < length v.items → get_or v.items k d < len
 places_low ms count len lists are same i v low is =
     let items : v.items ≡ reverse (ranks (0 + i) ms) = at_places ms 0 lists are.each i v low is in

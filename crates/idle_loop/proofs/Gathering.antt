@@ -53,7 +53,7 @@ split_long (x ∷ ws) [] ps have = absurd have
 split_long (x ∷ ws) (s ∷ qs) [] have = absurd have
 split_long (x ∷ ws) (s ∷ qs) (r ∷ ps) have = let rest = split_long ws qs ps have.2 in (ap suc rest.0, ap suc rest.1)
 
--- what the pass at a place is
+-- what the pass at an index is
 back_at : (z : IdleSizes) (locks table : TableId) (first : GateLogState) (from : ℕ) (ws : List IdleWorker) (qs : List Role) (ps : List (Pass GateLogState IdleEntry)) → AreAt z locks table first from ws → AreSplit ws qs ps
     → (k : ℕ) (t : Token GateLogState IdleEntry) → get_elem? (tokens ps) k ≡ some t → IsPass locks (first ∷ []) t × (number_of t ≡ Some (from + k)) × AreBy (from + k) (own_of (made_of t))
 back_at z locks table first from [] [] [] are have k t at = absurd (some-ne-none t (sym at))

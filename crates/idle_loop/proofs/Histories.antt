@@ -89,7 +89,7 @@ in_numbers false floor (s ∷ made) (hard ∷ seen) plain is = (is.0, is.1, subs
 in_numbers true floor [] seen plain is = absurd is
 in_numbers true floor (s ∷ made) seen plain is = subst (λ (n : ℕ). Alternate false n (befores made) seen) plain.0 (in_numbers false (position s.before) made seen plain.1 is.1)
 
--- a waker's turns, by its places
+-- a waker's turns, by its positions
 pub turns_at_places : (who : ℕ) (history : List SourceStep) (owes : Bool) (floor : ℕ) (seen : List ℕ) → AllHard history → InTurn owes floor (steps_of who history) seen → Alternate owes floor (ranks who (makers_in history)) seen
 turns_at_places who history owes floor seen all is =
     subst (λ (l : List ℕ). Alternate owes floor l seen) (befores_places who history all) (in_numbers owes floor (steps_of who history) seen (all_plain who history all) is)

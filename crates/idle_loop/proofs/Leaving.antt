@@ -22,7 +22,7 @@ use Rattle.idle_loop.specs.WorkerPools.{AreRoles, IsWorkerPool}
 use Rattle.idle_loop.specs.Ends.{AreLeft, AreOff, AreDone, AreWakes, IsIdle, IsIdles, IsLeft, IsLeftAt, IsOff, IsDone, IsWakes}
 use Rattle.idle_loop.proofs.Stepping.{step_count}
 
--- ---- the last part is the idler's, and the others are wakers'
+-- ---- the last role is the idler's, and the others are wakers'
 
 is_idles : (z : IdleSizes) (journal : List IdleEntry) (q : Role) → IsRole z z.wakers journal q → IsIdles q
 is_idles z journal (role.Wakes w) is = absurd (let low : z.wakers < z.wakers = is.low in omega (arith, low))

@@ -33,7 +33,7 @@ pub woke_is : (who : ℕ) (journal : List IdleEntry) → length (seen_by who jou
 woke_is who [] = refl
 woke_is who (e ∷ journal) = woke_if (e.who == who) e.what e.hard (wakes_of who journal) (seen_by who journal) (woke_is who journal)
 
--- ---- parts of a journal
+-- ---- halves of a journal
 
 both_if : (b : Bool) (what : IdleKind) (hard : ℕ) (xs ys zs : List ℕ) → zs ≡ xs ++ ys → (if b then seen_after what hard zs else zs) ≡ (if b then seen_after what hard xs else xs) ++ ys
 both_if true Hard hard xs ys zs is = is

@@ -170,7 +170,7 @@ by_both who (x ∷ xs) ys a b = (a.0, by_both who xs ys a.1 b)
 
 -- ---- a turn, by what the gate gained
 
--- a pass that made what the gate gained goes on with a part that goes with it
+-- a pass that made what the gate gained goes on with a role that agrees with it
 pub goes_on : (z : IdleSizes) (locks : TableId) (who : ℕ) (first : GateLogState) (p p' : Token GateLogState IdleEntry) (q q' : Role) (gains : List IdleEntry) → IsPass locks (first ∷ []) p' → number_of_pass p' ≡ number_of_pass p
     → own_of (made_by_pass p') ≡ gains ++ own_of (made_by_pass p) → AreBy who gains → IsIn z locks who first p q → IsRole z who (gains ++ (own_of (made_by_pass p) ++ first.journal)) q' → IsIn z locks who first p' q'
 goes_on z locks who first p p' q q' gains pass number own by is role' = record {
@@ -193,7 +193,7 @@ goes_alone z locks who first p w w' keeps is = record {
   role = keeps (seen_by who (own_of (made_by_pass p) ++ first.journal)) is.role;
 }
 
--- a waker's part, after what it added
+-- a waker's role, after what it added
 pub waker_on : (z : IdleSizes) (who : ℕ) (journal gains : List IdleEntry) (w w' : Waker) → ((seen : List ℕ) → IsWaker z who seen w → IsWaker z who (seen_by who gains ++ seen) w') → IsWaker z who (seen_by who journal) w
     → IsWaker z who (seen_by who (gains ++ journal)) w'
 waker_on z who journal gains w w' keeps is = subst (λ (l : List ℕ). IsWaker z who l w') (sym (seen_both who gains journal)) (keeps (seen_by who journal) is)
@@ -215,7 +215,7 @@ can_hard z who seen w sizes is free few =
     let most : z.events ≤ 1000 = sizes.events.1 in
     can_now word.Hard (length (made_of w.seat.token)) (is_active (made_of w.seat.token)) (omega arith) refl
 
--- and a place for it
+-- and room for it
 pub place_hard : (z : IdleSizes) (who : ℕ) (seen : List ℕ) (w : Waker) (len : ℕ) → AreSizes z → IsWaker z who seen w → w.now.owes ≡ false → w.now.wakes < z.events → len ≡ length w.ranks.items → len < vec_capacity w.ranks
 place_hard z who seen w len sizes is free few same =
     let room : length (made_of w.seat.token) < z.events = room_hard z who seen w sizes is free few in

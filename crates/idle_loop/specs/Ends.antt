@@ -14,12 +14,12 @@ use Rattle.idle_loop.specs.declared.roles.Role.{Role}
 use Rattle.idle_loop.specs.declared.roles.Role.TheVariants as role
 use Rattle.idle_loop.specs.Turns.{seen_by, befores, InTurn}
 
--- the part is a waker's
+-- the role is a waker's
 abbrev pub IsWakes : Role → Type 0
 IsWakes (role.Wakes w) = Unit {0}
 IsWakes (role.Idles look) = ⊥
 
--- the part is the idler's
+-- the role is the idler's
 abbrev pub IsIdles : Role → Type 0
 IsIdles (role.Wakes w) = ⊥
 IsIdles (role.Idles look) = Unit {0}

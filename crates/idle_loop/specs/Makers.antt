@@ -25,18 +25,18 @@ abbrev pub AllBelow : ℕ → List ℕ → Type 0
 AllBelow n [] = Unit {0}
 AllBelow n (m ∷ ms) = (m < n) × AllBelow n ms
 
--- each of these places is below that (own)
+-- each of these positions is below that (own)
 abbrev pub AllLess : ℕ → List ℕ → Type 0
 AllLess high [] = Unit {0}
 AllLess high (x ∷ xs) = (x < high) × AllLess high xs
 
--- the makers, the oldest event's first, once these places are one maker's (own)
+-- the makers, the oldest event's first, once these positions are one maker's (own)
 abbrev pub filled : ℕ → List ℕ → List ℕ → List ℕ
 filled who [] makers = makers
 filled who (p ∷ ps) makers = filled who ps (slice_set makers p who)
 
 module _ {Z : Type 0} where
-  -- the lists of places are those of the makers from that number on, the oldest place first (own)
+  -- the lists of positions are those of the makers from that number on, the oldest first (own)
   abbrev pub HaveRanks : List ℕ → ℕ → List (Vec ℕ Z) → Type 0
   HaveRanks ms from [] = Unit {0}
   HaveRanks ms from (v ∷ vs) = (v.items ≡ reverse (ranks from ms)) × HaveRanks ms (from + 1) vs

@@ -31,7 +31,7 @@ pub record IsIdler (z : IdleSizes) (who : ℕ) (look : TableLook) : Type 0 where
   pub number : who ≡ z.wakers
   pub sources : sources_of look.token ≡ z.wakers
 
--- the part of the worker of that number, beside that journal (own)
+-- the role of the worker of that number, beside that journal (own)
 abbrev pub IsRole : IdleSizes → ℕ → List IdleEntry → Role → Type 0
 IsRole z who journal (role.Wakes w) = IsWaker z who (seen_by who journal) w
 IsRole z who journal (role.Idles look) = IsIdler z who look
@@ -41,8 +41,8 @@ abbrev pub table_of : Role → TableId
 table_of (role.Wakes w) = w.seat.token.table_id
 table_of (role.Idles look) = look.token.table_id
 
--- a pass and a part of the worker of that number, in a burst that began with that gate: what the pass made is the worker's, and the part
--- goes with it (own)
+-- a pass and a role of the worker of that number, in a burst that began with that gate: what the pass made is the worker's, and the role
+-- agrees with it (own)
 pub record IsIn (z : IdleSizes) (locks : TableId) (who : ℕ) (first : GateLogState) (p : Token GateLogState IdleEntry) (q : Role) : Type 0 where
   pub sizes : AreSizes z
   pub first_sizes : first.sizes ≡ z
@@ -51,7 +51,7 @@ pub record IsIn (z : IdleSizes) (locks : TableId) (who : ℕ) (first : GateLogSt
   pub own : AreBy who (own_of (made_by_pass p))
   pub role : IsRole z who (own_of (made_by_pass p) ++ first.journal) q
 
--- a worker that has its pass, and goes with its part (own)
+-- a worker that has its pass, which agrees with its role (own)
 pub record IsWorker (z : IdleSizes) (locks : TableId) (w : IdleWorker) : Type 0 where
   pub first : GateLogState
   pub pass : Pass GateLogState IdleEntry

@@ -46,7 +46,7 @@ pub record HasWoken (who : ℕ) (old new : Waker) (before after : GateLogState) 
   pub keeps : (seen : List ℕ) → IsWaker before.sizes who seen old → IsWaker before.sizes who (seen_by who gained.gains ++ seen) new
   pub table : new.seat.token.table_id ≡ old.seat.token.table_id
 
--- a worker's pass and part after a turn go with the burst as they did before (own)
+-- a worker's pass and role after a turn agree with the burst as they did before (own)
 pub record HasActed (z : IdleSizes) (locks : TableId) (who : ℕ) (old new : Token GateLogState IdleEntry) (before after : Role) : Type 0 where
   pub keeps : (first : GateLogState) → IsIn z locks who first old before → IsIn z locks who first new after
   pub table : table_of after ≡ table_of before

@@ -38,7 +38,7 @@ abbrev pub AreAt : IdleSizes → TableId → TableId → GateLogState → ℕ �
 AreAt z locks table first from [] = Unit {0}
 AreAt z locks table first from (w ∷ ws) = IsAt z locks table first from w × AreAt z locks table first (from + 1) ws
 
--- the workers from that number on are made of parts and passes, each with 1,000 turns left (own)
+-- the workers from that number on are made of roles and passes, each with 1,000 turns left (own)
 abbrev pub AreWorkersOf : ℕ → List Role → List (Pass GateLogState IdleEntry) → List IdleWorker → Type 0
 AreWorkersOf from [] [] [] = Unit {0}
 AreWorkersOf from [] [] (w ∷ ws) = ⊥
@@ -57,7 +57,7 @@ abbrev pub HavePasses : List IdleWorker → Type 0
 HavePasses [] = Unit {0}
 HavePasses (w ∷ ws) = IsThere w.pass × HavePasses ws
 
--- the parts and the passes of workers (own)
+-- the roles and the passes of workers (own)
 abbrev pub AreSplit : List IdleWorker → List Role → List (Pass GateLogState IdleEntry) → Type 0
 AreSplit [] [] [] = Unit {0}
 AreSplit [] [] (p ∷ ps) = ⊥

@@ -120,7 +120,7 @@ fn work<R: Threads + Wait + Sync>(
     burst(rt, pool, &world, 0, workers);
 }
 
-/// The gate and the parts, after a burst.
+/// The gate and the roles, after a burst.
 fn ended<'t>(
     alloc: Global,
     locks: LockTable<GateLog<24>>,

@@ -33,7 +33,7 @@ pub(crate) struct RunLeft {
     ranks: Vec<Vec<u32>>,
 }
 
-/// The waker that the part is.
+/// The waker that the role is.
 fn waker_of<'t>(role: Role<'t>) -> Waker<'t>
     requires { IsWakes role }
     ensures { role.entry ≡ variant.Wakes result }
@@ -55,7 +55,7 @@ fn idler_of<'t>(role: Role<'t>) -> TableLook<'t>
     }
 }
 
-/// The last part, which is the idler's, and the parts before it.
+/// The last role, which is the idler's, and the roles before it.
 fn apart<'t>(mut roles: Vec<Role<'t>>) -> (Vec<Role<'t>>, Role<'t>)
     requires { 0 < length roles.items }
     ensures { roles.entry.items ≡ result.0.items ++ result.1 ∷ [] }

@@ -6,7 +6,7 @@ ghost use Rattle.idle_loop.specs.Makers.{AreMakers, filled};
 use sleep_base::Mem;
 use std::alloc::Global;
 
-/// A waker made the hard events at these places.
+/// A waker made the hard events at these positions.
 fn fill(makers: &mut Vec<u32>, who: u32, ranks: &[u32])
     requires { All (λ p. p < vec_len makers.old) ranks.now }
     ensures { makers.new.items ≡ filled who ranks.now makers.old.items }
@@ -16,7 +16,7 @@ fn fill(makers: &mut Vec<u32>, who: u32, ranks: &[u32])
     }
 }
 
-/// The makers of all hard events, from the places of each waker's, in the order of the wakers' numbers.
+/// The makers of all hard events, from the positions of each waker's, in the order of the wakers' numbers.
 pub(crate) fn makers_of(alloc: Global, count: u32, ranks: &Vec<Vec<u32>>) -> Result<Vec<u32>, Mem>
     requires { (ms : List ℕ) × AreMakers count ms ranks.now.items }
     ensures few { IfOk result (λ makers. length makers.items < 2 ^ 32) }

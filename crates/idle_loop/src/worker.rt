@@ -111,7 +111,7 @@ fn act<R: Wait>(
     }
 }
 
-/// Takes the pass out of its place.
+/// Takes the pass out.
 pub(crate) fn taken(place: &mut Option<IdlePass>) -> IdlePass
     requires { IsSome place.old }
     ensures { place.old ≡ Some result }

@@ -1,4 +1,4 @@
--- The table of one start lays it.
+-- The table of one start schedules it.
 use Rattle.std.proofs.Common.{◌≡◌, ◌<◌, ℕ, zero, suc, List, [], ◌∷◌, inl, inr, refl, slice_index_or, arith}
 use Rattle.sleep_model.specs.declared.word.WordKind.TheVariants as step
 use Rattle.event_word.specs.Histories.{AreClosed, SourceStep, steps_of}

@@ -6,7 +6,7 @@ use Rattle.sleep_model.specs.declared.entry.JournalEntry.{JournalEntry}
 use Rattle.sleep_model.specs.declared.entry.Kind.{Kind}
 use Rattle.sleep_model.specs.declared.machine.Machine.{Machine}
 
--- the entry with that place, from 0, is left out
+-- the entry with that index, from 0, is left out
 abbrev pub left_out : ℕ → List Entry → List Entry
 left_out k entries = take k entries ++ drop (k + 1) entries
 
@@ -42,7 +42,7 @@ abbrev pub first_stamped : ℕ → ℕ → List JournalEntry → List JournalEnt
 first_stamped pos tick [] = []
 first_stamped pos tick (e ∷ entries) = record e { stamp = record { pos = pos; tick = tick } } ∷ entries
 
--- the entry with that place, from 0, has another stamp, of that position and that tick
+-- the entry with that index, from 0, has another stamp, of that position and that tick
 abbrev pub with_stamp : ℕ → ℕ → ℕ → List JournalEntry → List JournalEntry
 with_stamp k pos tick entries = take k entries ++ first_stamped pos tick (drop k entries)
 
@@ -51,6 +51,6 @@ abbrev pub FailsNext : (Machine → List Entry → Kind → Type 0) → Machine 
 FailsNext law m past [] = ⊥
 FailsNext law m past (e ∷ later) = law m past e.kind → ⊥
 
--- the law fails at the entry with that place, from 0
+-- the law fails at the entry with that index, from 0
 abbrev pub FailsAt : (Machine → List Entry → Kind → Type 0) → Machine → ℕ → List Entry → Type 0
 FailsAt law m k entries = FailsNext law m (reverse (take k entries)) (drop k entries)

@@ -29,7 +29,7 @@ first_link_machine = record empty_machine {
   actors = script (codes "w") task.User 1 (once (op.State (codes "mem") false) ∷ []) ∷ [];
 }
 
--- the machine of the same line, if it needs a clock
+-- the same, if the line needs a clock: its machine
 abbrev pub two_links_machine : Machine
 two_links_machine = record empty_machine {
   devices =

@@ -19,7 +19,7 @@ use Rattle.sleep_model.specs.Numbers.{numbers, time_of}
 use Rattle.sleep_model.specs.EntryClasses.{EntryClass, Notes, class_of, journal}
 use Rattle.sleep_model.specs.Sources.{history, owed, expiry, has_expired}
 
--- an entry of that actor, with the time and the word of its place, before the others
+-- an entry of that actor, with the time and the word of its index, before the others
 abbrev pub put : List Entry → Actor → Kind → List Entry
 put past who k = record { time = time_of past; now = numbers past; actor = who; kind = k } ∷ past
 

@@ -1,4 +1,4 @@
--- Which rules a log breaks at a place.
+-- Which rules a log breaks at an index.
 use Rattle.std.specs.Prelude.{ℕ, Bool, true, false, List, [], ◌∷◌, take, drop, reverse}
 use Rattle.sleep_model.specs.declared.entry.Entry.{Entry}
 use Rattle.sleep_model.specs.declared.machine.Machine.{Machine}
@@ -15,7 +15,7 @@ abbrev pub HoldsNext : Question → Machine → List Entry → List Entry → Ty
 HoldsNext question m past [] = ⊥
 HoldsNext question m past (e ∷ later) = question m past e
 
--- it holds of the entry with that place, from 0
+-- it holds of the entry with that index, from 0
 abbrev pub HoldsAt : Question → Machine → ℕ → List Entry → Type 0
 HoldsAt question m k entries = HoldsNext question m (reverse (take k entries)) (drop k entries)
 

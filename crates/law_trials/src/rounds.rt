@@ -1,6 +1,5 @@
-//! The definitions alone make each worked log: where every job in turn makes what is due of it, and
-//! time jumps where a round did nothing, one worker writes just these entries.
-//!
+//! The definitions make each worked log without the program: one worker writes just these entries, if
+//! every job in turn makes what is due of it, and time jumps after a round that did nothing.
 //! `tools/dev worked` writes this file.
 
 ghost use Rattle.std.specs.Prelude.{◌≡◌};

@@ -21,7 +21,7 @@ ghost use Rattle.law_trials.specs.Timers.{event_expires_machine, event_expires_e
 pub fn rules_are_broken_alone()
     // A link that would close a cycle is added.
     ensures links { HoldsAt (BreaksJust (2 ∷ [])) link_added_machine 1 (says 1 (kind.LinkAdd 0 1 None) link_added_entries) }
-    // A phase that is done carries the time of another place.
+    // A phase that is done carries the time of another index.
     ensures numbers { HoldsAt (BreaksJust (4 ∷ [])) event_stops_a_device_machine 30 (at_time 30 5 event_stops_a_device_entries) }
     // The second attempt counts itself the third, or claims a count that is no longer in force.
     ensures attempts { HoldsAt (BreaksJust (7 ∷ [])) event_stops_a_device_machine 42 (says 42 (kind.Attempt 3 None) event_stops_a_device_entries) }

@@ -44,8 +44,8 @@ pub fn broken_entries_may_not_be_made()
     ensures old_time { Tested event_expires_machine (first_of 10) slept_too_early → ⊥ }
 {}
 
-/// The table of one start lays it; one that lacks the start lays nothing, nor does one whose machine never
-/// saw the word after it.
+/// The table of one start schedules it; one that lacks the start schedules nothing, nor does one whose
+/// machine never saw the word after it.
 pub fn a_table_covers_its_steps()
     ensures closed_over { IsClosedOver made_start looks (word 1 0 0) asleep begun }
     ensures lacks { IsClosedOver made_nothing looks (word 1 0 0) asleep begun → ⊥ }

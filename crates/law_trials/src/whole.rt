@@ -1,7 +1,5 @@
 //! Whole logs that were worked out apart from the program: each is legal for its machine, can be
-//! written, and is finished or stuck.
-//!
-//! `tools/dev worked` writes this file.
+//! written, and is finished or stuck. `tools/dev worked` writes this file.
 
 ghost use Rattle.sleep_model.specs.Fits.{IsWritable};
 ghost use Rattle.sleep_model.specs.Legal.{IsLegalLog, IsFinishedLog};

@@ -35,7 +35,7 @@ abbrev pub unless_full : Option LockState → LinesState → Result LinesState L
 unless_full None state = Ok state
 unless_full (Some lock) state = Err (fault.Full lock.name)
 
--- the lock on which a call is to be made though its source has fewer than four places left
+-- the lock on which a call is to be made though its source has room for fewer than four entries
 abbrev pub full_of : Result Asked LockAnswer → Option LockState
 full_of (Ok asked) = if nat_lt most_entries (length asked.lock.own + 4) then Some asked.lock else None
 full_of (Err why) = None

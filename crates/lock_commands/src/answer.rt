@@ -33,18 +33,20 @@ fn first_bad(bytes: &[u8]) -> Option<u32>
     None
 }
 
-/// What lines that lock and unlock names are answered, as a text. A newline ends each line, and may be missing at the
-/// end. A line is one of these:
+/// What lines that lock and unlock names are answered, as a text. A newline ends each line, and may be
+/// missing at the end. A line is one of these:
 ///
-/// - `lock TEXT`, `unlock TEXT`: writes the text to `wake_lock`, `wake_unlock`; the answer is `0`, `EINVAL` or `ENOSPC`.
+/// - `lock TEXT`, `unlock TEXT`: writes the text to `wake_lock`, `wake_unlock`; the answer is `0`, `EINVAL`
+///   or `ENOSPC`.
 /// - `after MS`: lets 1 to 86,400,000 ms go by, and answers nothing.
-/// - `active`, `inactive`: the answer is the word, with a space and a name for each lock that is active, or not, in
-///   order (`pm_show_wakelocks`).
+/// - `active`, `inactive`: the answer is the word, with a space and a name for each lock that is active, or
+///   not, in order (`pm_show_wakelocks`).
 ///
 /// After the answers comes a line for the source of each known lock, in order (`print_wakeup_source_stats`).
 ///
-/// All lines are tried before the first is carried out: `Line` is the first of no form. `Full` names the first lock
-/// on which a call is to be made though its history has fewer than four places left. `Mem` comes if it is out of memory.
+/// All lines are tried before the first is carried out: `Line` is the first of no form. `Full` names the
+/// first lock on which a call is to be made though its history has room for fewer than four entries. `Mem`
+/// comes if it is out of memory.
 ///
 /// What names show and what sources show agree: a name is active exactly if its source has an event in
 /// progress, and until when that ends.

@@ -10,7 +10,8 @@ use wake_locks::LockFault;
 pub enum LinesFault {
     /// The line of that number, from 1, is the first of no form.
     Line(u32),
-    /// A line's call, or an expiry, meets a lock of that name whose history has fewer than four places left.
+    /// A line's call, or an expiry, meets a lock of that name whose history has room for fewer than four
+    /// entries.
     Full(Name),
     /// There was no memory.
     Mem,

@@ -26,7 +26,7 @@ taken [] n x h = absurd (cc)
 taken (y ∷ ys) zero x h = let e : y ≡ x = cc in ap (λ z. z ∷ []) e
 taken (y ∷ ys) (suc n) x h = ap (λ zs. y ∷ zs) (taken ys n x h)
 
--- two lists are one as far as one place more
+-- two lists are equal to one index further
 pub same_further : (xs ys : List Stats) (n : ℕ) (x : Stats) → take n xs ≡ take n ys → slice_get xs n ≡ Some x → slice_get ys n ≡ Some x → take (n + 1) xs ≡ take (n + 1) ys
 same_further xs ys n x same h g = rw (add-one n) (taken xs n x h ∙ (ap (λ zs. zs ++ x ∷ []) same ∙ sym (taken ys n x g)))
 

@@ -30,7 +30,7 @@ pub record IsLogIn (bytes : List ℕ) (m : Machine) (log : Log) : Type 0 where
   pub fits : IsWritable m log
   pub is_text : text m log ≡ text_in bytes
 
--- why the machine's file is refused: it is too long, or that is the first rule that it breaks, and its first place
+-- why the machine's file is refused: it is too long, or that is the first rule that it breaks, and the first place that breaks it
 abbrev pub IsBadMachine : List ℕ → Refusal → Type 0
 IsBadMachine file LongMachine = most_machine < length file
 IsBadMachine file (Broken rule place) = (length file ≤ most_machine) × (broken_in file ≡ Some (broken_at rule (string_bytes place)))

@@ -136,7 +136,7 @@ own_made m past now d _ (DeviceMade.OwnRises p w b a s n) e =
 own_made m past now d _ (DeviceMade.OwnEnds p r w b a s) e = ends m past now p d r b a (subst (EndsAsync m past p d) (sym (down_is p w)) s) e
 own_made m past now d _ (DeviceMade.OwnRose p r w b a s) e = ends m past now p d r b a (subst (EndsAsync m past p d) (sym (up_is p w)) s) e
 
--- the entry, at its place
+-- the entry, at its index
 abbrev placed : List Entry → EventNow → Actor → Kind → Entry
 placed past now who k = record { time = time_of past; now = now; actor = who; kind = k }
 

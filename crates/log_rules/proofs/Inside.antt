@@ -46,7 +46,7 @@ time_journal (e ∷ past) = time_further past e.time e.now e.actor e.kind (time_
 pub same_number : (s t : ℕ) → (s == t) ≡ true → s ≡ t
 same_number s t e = grind (arith, nat_tests)
 
--- a part is of one source
+-- a class is of one source
 of_one : (p : EntryClass) (s t : ℕ) → is_of s p ≡ true → is_of t p ≡ true → s ≡ t
 of_one (Notes x c) s t e f = sym (same_number x s e) ∙ same_number x t f
 of_one (Moves x c) s t e f = sym (same_number x s e) ∙ same_number x t f
@@ -109,7 +109,7 @@ earlier m past e g = record {
     by_preserved true h = h.1
     by_preserved false h = h
 
--- what the journal asked of the entry, by its part
+-- what the journal asked of the entry, by its class
 abbrev pub JournalIf : Machine → List Entry → Entry → EntryClass → Type 0
 JournalIf m past e OfJournal = JournalStep m (journal past) e OfJournal
 JournalIf m past e OfTime = JournalStep m (journal past) e OfTime

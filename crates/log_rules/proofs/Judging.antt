@@ -76,7 +76,7 @@ get_take [] k (suc n) l = refl
 get_take (x ∷ xs) zero (suc n) l = refl
 get_take (x ∷ xs) (suc k) (suc n) l = get_take xs k n (let less : k < n = omega (arith, l) in less)
 
--- of two lines of statistics that differ first the places are one
+-- the first difference of two lists of statistics has one index
 one_place : (xs ys : List Stats) (k n : ℕ) → take k xs ≡ take k ys → (slice_get xs k ≡ slice_get ys k → ⊥) → take n xs ≡ take n ys → (slice_get xs n ≡ slice_get ys n → ⊥) → k ≡ n
 one_place xs ys k n t d u e = by_less (nat_lt k n) refl (nat_lt n k) refl
   where

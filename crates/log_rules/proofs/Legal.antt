@@ -32,9 +32,9 @@ use Rattle.log_rules.proofs.Makers.{all}
 use Rattle.log_rules.proofs.Quiet.{note_reports, note_thawed, step_thawed_actor}
 use Rattle.log_rules.proofs.Turns.{at_turn, freezes_back, freezes_then, goes_on, inside_turn, note_turn}
 
--- ---- legality of one entry, by its part
+-- ---- legality of one entry, by its class
 
--- what makes one more entry of that part legal
+-- what makes one more entry of that class legal
 record Pieces (m : Machine) (past : List Entry) (e : Entry) (p : EntryClass) : Type 0 where
   in_journal : JournalIf m past e p
   own : OwnStep past e p

@@ -77,7 +77,7 @@ row_journal m past now _ (kind.Hard s) o = o
 row_journal m past now _ kind.Jump o = o
 row_journal m past now s _ o = tt
 
--- the entry, at its place
+-- the entry, at its index
 abbrev placed : List Entry → EventNow → Actor → Kind → Entry
 placed past now who k = record { time = time_of past; now = now; actor = who; kind = k }
 

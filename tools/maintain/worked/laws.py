@@ -2,18 +2,15 @@
 
 LAWS_HEAD = """\
 //! Whole logs that were worked out apart from the program: each is legal for its machine, can be
-//! written, and is finished or stuck.
-//!
-//! `tools/dev worked` writes this file.
+//! written, and is finished or stuck. `tools/dev worked` writes this file.
 
 ghost use Rattle.sleep_model.specs.Fits.{IsWritable};
 ghost use Rattle.sleep_model.specs.Legal.{IsLegalLog, IsFinishedLog};
 """
 
 ROUNDS_HEAD = """\
-//! The definitions alone make each worked log: where every job in turn makes what is due of it, and
-//! time jumps where a round did nothing, one worker writes just these entries.
-//!
+//! The definitions make each worked log without the program: one worker writes just these entries, if
+//! every job in turn makes what is due of it, and time jumps after a round that did nothing.
 //! `tools/dev worked` writes this file.
 
 ghost use Rattle.std.specs.Prelude.{◌≡◌};

@@ -12,7 +12,7 @@ REFUTED = [
     ("never_prepared", "parent_and_child", "TakenOnce", "begin suspend c", "A device that was never prepared suspends, resumes and is completed."),
     ("begun_twice", "smallest_attempt", "NotOwedAlready", "platform begin 0", "The platform hears twice that the attempt begins, and once that it ends."),
     ("never_woken", "smallest_attempt", "Restored", "over 1 0", "The attempt is over while the machine sleeps."),
-    ("down_in_noirq_alone", "parent_and_child", "EntersDown", "enter", "The devices go down in noirq alone, in neither suspend nor late, and the machine enters sleep."),
+    ("down_in_noirq_alone", "parent_and_child", "EntersDown", "enter", "The devices go down only in noirq, in neither suspend nor late, and the machine enters sleep."),
     ("enters_without_a_freeze", "autosleep", "EntersDown", "enter", "The machine enters sleep while a user task was never asked to freeze."),
 ]
 

@@ -35,7 +35,7 @@ LOGS = [
     ("Failures", "platform_prepare_late_fails", "The platform fails in its last preparation: no processor and no interrupt is turned off."),
     ("Failures", "notifier_fails", "A notifier fails: the one before it hears of that, and nothing is frozen."),
     ("Devices", "first_link", "A camera on a bus whose port needs a line."),
-    ("Devices", "two_links", "The same, where the line needs a clock."),
+    ("Devices", "two_links", "The same, if the line needs a clock."),
     ("Devices", "asynchronous_child", "An asynchronous child of a synchronous parent."),
     ("Devices", "direct_complete", "Three generations that are runtime suspended and stay so."),
     ("Devices", "wakeup_is_not_direct", "The same, where the lowest one may wake the machine: no callback is left out."),

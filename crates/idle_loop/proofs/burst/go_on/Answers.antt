@@ -1,4 +1,4 @@
--- The burst is over after its begin: the workers are those that began, with their parts and passes as their turns left them.
+-- The burst is over after its begin: the workers are those that began, with their roles and passes as their turns left them.
 use Rattle.std.proofs.Common.{◌≡◌, ◌∙◌, ◌+◌, ◌++◌, ℕ, List, [], ◌∷◌, length, take, drop, sym, ap, subst, arith}
 use Rattle.std.proofs.lemmas.List.{take-append-le, take_all}
 use Rattle.std.proofs.lemmas.Result.{IfOk-weaker}
