@@ -16,7 +16,7 @@ pub fn none_needed_outside()
     ensures { NoneNeededOutside }
 {}
 
-/// The entry that begins an attempt, and all that the attempt may need after it, fit in room for 40 entries,
+/// An attempt with its first entry, and all that it may need after it, fit in room for this many entries: 40,
 /// 20 more a device, and 2 more a notifier, a syscore operation and a processor (`kernel/power/suspend.c`,
 /// `enter_state`).
 #[tactic(auto, using(crate::proofs::Needing::attempt_needs_few))]

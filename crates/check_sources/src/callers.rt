@@ -14,8 +14,8 @@ use sleep_model::{Actor, Entry, Kind, Machine, Op, Report, What};
 use std::alloc::Global;
 use std::marker::Model;
 
-/// For each actor how many calls on sources it has made, how many turns of its own steps it has ended, and
-/// which calls it owes after those before its first turn.
+/// For each actor how many calls on sources it has made, and how many turns of its own steps it has ended.
+/// Which calls it owes after those before its first turn, too.
 #[derive(Drop)]
 pub struct Callers<'m> {
     plans: Plans<'m>,

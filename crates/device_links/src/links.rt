@@ -122,14 +122,13 @@ impl Links {
         self.add_as(supplier, consumer, true)
     }
 
-    /// Adds a link, active or dormant, and moves the consumer and all that depends on it to the end
-    /// of the order. A dormant link is neither seen below nor above.
+    /// Adds a link, active or dormant, and moves the consumer and all that depends on it to the end of the
+    /// order. A dormant link is neither seen below nor above.
     ///
-    /// Tested in turn, each refusal exactly if its test fails: that both are registered
-    /// (`NoDevice`), that there are fewer than 4,000 links (`TooMany`), that these two have none
-    /// yet (`Twice`), and that the consumer would not come to depend on itself (`Cycle`, with a
-    /// path from it to the supplier). Out of memory (`Mem`) may come in place of `Cycle`. A refused
-    /// link changes nothing.
+    /// Tested in turn, each refusal exactly if its test fails: both are registered (`NoDevice`), there are
+    /// fewer than 4,000 links (`TooMany`), these two have none yet (`Twice`), and the consumer would not come
+    /// to depend on itself (`Cycle`, with a path from it to the supplier). Out of memory (`Mem`) may come in
+    /// place of `Cycle`. A refused link changes nothing.
     pub fn add_as(&mut self, supplier: u32, consumer: u32, active: bool) -> Result<(), LinkFault>
         ensures answer { Adds self.old supplier consumer result }
         ensures ok { OnOk result (self.new ≡ with_link self.old

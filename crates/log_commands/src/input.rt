@@ -87,7 +87,7 @@ fn log_of(alloc: Global, machine: &Machine, bytes: &[u8]) -> Result<Log, Ending>
 /// The machine that the bytes up to their first newline spell, and the log whose text those after it are.
 ///
 /// `LongMachine` if the machine's bytes are more than 16,777,216, `Broken` if they break a rule of the
-/// format, `BadLine` if the others are the text of no log that fits the machine. `NoMemory` if it is out of
+/// format. `BadLine` if the others are the text of no log that fits the machine. `NoMemory` if it is out of
 /// memory.
 pub fn read_log_input(alloc: Global, bytes: &[u8]) -> Result<LogInput, Ending>
     ensures read { IfOk result (λ r. IsLogIn bytes.now r.machine r.log) }

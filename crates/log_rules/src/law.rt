@@ -26,8 +26,8 @@ pub fn devices_keep_rules()
     ensures { OneForDevices }
 {}
 
-/// Who makes the open attempt makes an entry that is due exactly if that entry keeps all rules, at each
-/// row of the attempt's table, on the way down and on the way up (`kernel/power/suspend.c`,
+/// Who makes the open attempt makes an entry that is due exactly if that entry keeps all rules. So it is at
+/// each row of the attempt's table, on the way down and on the way up (`kernel/power/suspend.c`,
 /// `enter_state`, `suspend_devices_and_enter`, `suspend_enter`; `drivers/base/power/main.c`).
 #[tactic(auto, using(crate::proofs::Makers::the_makers))]
 pub fn makers_keep_rules()
