@@ -100,7 +100,7 @@ until_before : (ps : List Piece) (k : ℕ) → length (calls_until ps k) ≡ cal
 until_before ps zero = before_first ps
 until_before ps (suc k) = length-append (calls_until ps k) (calls_at ps (suc k)) ∙ (ap (λ n. n + length (calls_at ps (suc k))) (until_before ps k) ∙ before_next ps k)
 
--- a script has to have made the calls that stand before its turn, and what its callbacks have reported
+-- a script has to have made the calls that come before its turn, and what its callbacks have reported
 pub script_calls_due : (m : Machine) (i : ℕ) (past : List Entry) (calls reported : ℕ) → i < length m.actors
     → calls ≡ calls_before (pieces_in m i) (position_at (positions (length m.actors) past) i).turns → reported ≡ reported_by (actor.Script i) (counts_of m past) → calls + reported ≡ calls_due m (actor.Script i) past
 script_calls_due m i past calls reported l by_turn by_report =

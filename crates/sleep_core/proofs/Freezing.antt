@@ -37,12 +37,12 @@ stays_by : (who : Actor) (part : PositionEffect) (ps : List ScriptPosition) → 
 stays_by (actor.Script i) part ps same = preserved_at ps i (position_after part (position_at ps i)) (same (position_at ps i))
 stays_by _ part ps same = refl
 
--- an exit alone makes a script gone
+-- only an exit makes a script exited
 exits_move : (who : Actor) (k : Kind) (ps : List ScriptPosition) → exits (positions_after who (position_effect k) ps) ≡ exited_flags_after who k (exits ps)
 exits_move who kind.Exit ps = exited_by who ps
 exits_move who k ps = stays_by who (position_effect k) ps (λ p. refl)
 
--- at first nobody is gone
+-- at first nobody has exited
 pub none_exited : (n : ℕ) → exits (replicate n first_position) ≡ replicate n false
 none_exited zero = refl
 none_exited (suc n) = ap (λ rest. false ∷ rest) (none_exited n)

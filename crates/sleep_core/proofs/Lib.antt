@@ -1,3 +1,4 @@
+-- The lemmas of this crate.
 pub mod Boarded
 pub mod Calling
 mod Counted

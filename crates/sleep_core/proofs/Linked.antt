@@ -1,4 +1,4 @@
--- Links change where no attempt is open, so that a board that begins anew is the board then.
+-- Links change only while no attempt is open, so that a board that begins anew is the board then.
 use Rattle.std.proofs.Common.{◌≡◌, ◌≤◌, ◌∙◌, ℕ, Bool, List, ◌∷◌, length, map, replicate, Option, None, sym, ap, subst, arith}
 use Rattle.std.proofs.lemmas.List.{length-map}
 use Rattle.phase_table.specs.declared.phase.Phase.{Phase}
@@ -69,7 +69,7 @@ entry_closed m past now _ _ ByTime h = absurd h
 
 -- ---- the board
 
--- where no attempt is open no device is prepared
+-- while no attempt is open no device is prepared
 unprepared : (m : Machine) (past : List Entry) → JournalPart m past → maker past ≡ None → (p : Phase) → Down p → NoneIsInPhase m p past
 unprepared m past legal none p i = none_stands m past (subst (DevicePhases m past) (stage_none m past legal none) (device_phases m past legal)).0 p i
 
@@ -89,7 +89,7 @@ board_linked m past legal none ls =
     with_stands : List PhaseState → List PhaseState → List PhaseState → BoardState
     with_stands x y z = record { parents = parents_of m.devices; links = ls; asynchronous = map is_async m.devices; suspend = x; late = y; noirq = z }
 
--- where an entry that is due changes links, no device is prepared
+-- when an entry that is due changes links, no device is prepared
 pub settles : (m : Machine) (past : List Entry) → JournalPart m past → (time : ℕ) (now : EventNow) (who : Actor) (k : Kind) → due m past who now ≡ Makes k → Settles m past (record { time = time; now = now; actor = who; kind = k })
 settles m past legal time now who k makes h = by_kind k h (entry_closed m past now who k (made m past now who k makes) h)
   where

@@ -18,9 +18,9 @@ pub positions_len : (n : ℕ) (past : List Entry) → length (positions n past) 
 positions_len n [] = grind (arith, length-replicate)
 positions_len n (e ∷ past) = omega (arith, after_len e.actor (position_effect e.kind) (positions n past), positions_len n past)
 
--- ---- a script makes no more steps than entries stand
+-- ---- a script makes no more steps than there are entries
 
--- what is read after a write: the new place where it was written, else the old one
+-- what is read after a write: the new value at the index that was written, else the old one
 set_read : (ss : List ScriptPosition) (i j : ℕ) (v : ScriptPosition) → (position_at (slice_set ss i v) j ≡ v) ⊎ (position_at (slice_set ss i v) j ≡ position_at ss j)
 set_read [] i j v = inr refl
 set_read (x ∷ xs) zero zero v = inl refl
@@ -68,7 +68,7 @@ pub entries_len : (past : List JournalEntry) → length (entries past) ≡ lengt
 entries_len [] = refl
 entries_len (j ∷ past) = omega (arith, entries_len past)
 
--- so a script whose entry it is has made few, where the journal is short
+-- so a script whose entry it is has made few, if the journal is short
 pub position_small : (n : ℕ) (past : List JournalEntry) (who : Actor) → length past < 2 ^ 63 → PositionIsSmall who (positions n (entries past))
 position_small n past (actor.Script i) short =
     let h = positions_few n (entries past) i in

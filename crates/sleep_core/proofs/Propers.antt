@@ -54,7 +54,7 @@ proper_after (stage.Thaws thaw.Kernel) h = tt
 proper_after (stage.Thaws thaw.All) h = tt
 proper_after _ h = tt
 
--- where there is one
+-- if there is one
 pub proper_if : (past : List Entry) (o : Option Stage) → o ≡ stage_of past → IfSome o IsProper
 proper_if past None e = tt
 proper_if past (Some here) e = proper_of past here (sym e)

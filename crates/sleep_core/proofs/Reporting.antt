@@ -106,7 +106,7 @@ reported_is m (e ∷ past) who is =
     let more = length (report_calls m (attempts past) e.kind) in
     count_more who e.actor more (counts_of m past) (has_count m past who is) ∙ ap (λ n. cond (is_same e.actor who) (n + more) n) (reported_is m past who is)
 
--- it is small where the calls that are due are few
+-- it is small if the calls that are due are few
 pub reported_few : (m : Machine) (past : List Entry) (who : Actor) → IsActor m who → calls_due m who past < 2 ^ 32 → reported_by who (counts_of m past) < 2 ^ 32
 reported_few m past who is few = omega (arith, few, calls_counted m who past, reported_is m past who is)
 

@@ -45,7 +45,7 @@ use Rattle.sleep_laws.proofs.Turning.{never}
 use Rattle.sleep_state.specs.Sleepers.{end_of, sleeps_past, is_stopped}
 use Rattle.sleep_core.proofs.Positioned.{first_positions, positions_len}
 
--- ---- where a script sleeps it stands at an operation that does
+-- ---- a script that sleeps is at an operation by which it sleeps
 
 -- an operation that sleeps
 abbrev IsSleep : Option Op → Type 0
@@ -53,12 +53,12 @@ IsSleep (Some (op.Sleep ms)) = Unit {0}
 IsSleep (Some (op.SleepD ms)) = Unit {0}
 IsSleep _ = ⊥
 
--- a script that stands so has begun to sleep
+-- a script with that position has begun to sleep
 abbrev HasBegun : Option Script → ScriptPosition → Type 0
 HasBegun None position = ⊥
 HasBegun (Some s) position = (position.waits ≡ true) × IsSleep (slice_get (entry_steps s) position.done)
 
--- it has, where it knows until when
+-- it has, if it knows until when
 abbrev SleepsIf : Option Script → ScriptPosition → Type 0
 SleepsIf o position = (until : ℕ) → position.until ≡ Some until → HasBegun o position
 

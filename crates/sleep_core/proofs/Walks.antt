@@ -1,4 +1,4 @@
--- What the phases of devices look at in the core is what stands at its place.
+-- What the phases of devices look at in the core is what the definitions read from its journal.
 use Rattle.std.proofs.Common.{◌≡◌, ◌∙◌, ◌⊎◌, inl, inr, true, false, length, map, sym, ap}
 use Rattle.std.proofs.lemmas.Bool.{false≢true}
 use Rattle.phase_table.specs.declared.phase.Phase.{Phase}

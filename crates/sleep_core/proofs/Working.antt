@@ -1,4 +1,4 @@
--- What is due of the autosleep work, by what is kept of it.
+-- What is due of the autosleep work, by its state.
 use Rattle.std.proofs.Common.{◌≡◌, ℕ, Bool, true, false, List, Option, Some, None, is_none, if◌then◌else◌, refl}
 use Rattle.sleep_model.specs.declared.entry.Actor.{Actor}
 use Rattle.sleep_model.specs.declared.entry.Entry.{Entry}

@@ -43,7 +43,7 @@ use Rattle.wakeup_guard.specs.Guarded.{Guarded}
 abbrev pub guard_of : List Entry → Guarded
 guard_of past = record { force = in_force past; forgotten = forgotten past }
 
--- where the open attempt stands
+-- the state of the open attempt
 abbrev pub path_of : List Entry → PathState
 path_of past = record {
   attempts = attempts past;
@@ -66,7 +66,7 @@ devices_of m past = record {
   disabled_by_late = disabled_by_late past;
 }
 
--- where each device stands
+-- the state of each device
 abbrev pub board_of : Machine → List Entry → BoardState
 board_of m past = record {
   parents = parents_of m.devices;
@@ -77,11 +77,11 @@ board_of m past = record {
   noirq = phase_states (length m.devices) phase.Noirq past;
 }
 
--- where each script stands
+-- the position of each script
 abbrev pub tasks_of : Machine → List Entry → TaskState
 tasks_of m past = record { positions = positions (length m.actors) past; marks = raised (length m.marks) past }
 
--- which of the scripts that stand so have exited
+-- which of the scripts with these positions have exited
 abbrev pub exits : List ScriptPosition → List Bool
 exits positions = map (λ s. s.exited) positions
 
@@ -132,7 +132,7 @@ Changes (kind.LinkAdd supplier consumer r) = r ≡ None
 Changes (kind.LinkState supplier consumer active r) = r ≡ None
 Changes _ = ⊥
 
--- a board after an entry: where links change it begins anew, with no device prepared (device_link_add)
+-- a board after an entry: if links change it begins anew, with no device prepared (device_link_add)
 abbrev pub moved_board : Kind → BoardState → BoardState
 moved_board (kind.LinkAdd supplier consumer None) board =
     first_board board.parents (links_added supplier consumer None board.links) board.asynchronous
@@ -140,7 +140,7 @@ moved_board (kind.LinkState supplier consumer active None) board =
     first_board board.parents (links_set supplier consumer active None board.links) board.asynchronous
 moved_board k board = board_after k board
 
--- no device is prepared where an entry changes links, so that the board begins anew after it
+-- no device is prepared when an entry changes links, so that the board begins anew after it
 abbrev pub Settles : Machine → List Entry → Entry → Type 0
 Settles m past e =
     Changes e.kind → first_board (parents_of m.devices) (links_after e.kind (links_at m past)) (map is_async m.devices) ≡ board_of m (e ∷ past)
@@ -189,7 +189,8 @@ after_made history_seen stamp now who k = after_entry history_seen (record { sta
 
 -- ---- room
 
--- the places that are reserved before an entry that the open attempt, whose maker that is, does not make: a whole attempt's, one, or one beside those that are reserved
+-- the room that is reserved before an entry that the open attempt, whose maker that is, does not make: a whole attempt's, one, or one more
+-- than is reserved
 abbrev pub room_for : Machine → Kind → Option Actor → ℕ → ℕ
 room_for m (kind.Attempt n guarded) maker room = enough m
 room_for m k None room = 1

@@ -7,7 +7,7 @@ use Rattle.sleep_core.specs.Reports.{ReportCounts}
 abbrev pub counts : Inside → ReportCounts
 counts r = record { scripts = r.scripts.items; auto = r.auto; devices = r.devices.items }
 
--- no number is near the end of its range
+-- no number is near the limit of its range
 pub record AreFew (r : Inside) : Type 0 where
   pub scripts : All (λ (n : ℕ). n < 2 ^ 33) r.scripts.items
   pub auto : r.auto < 2 ^ 33

@@ -15,7 +15,8 @@ use Rattle.phase_suspend.specs.declared.down.DownEnv.{DownEnv}
 use Rattle.sleep_state.specs.JournalRooms.{entries}
 use Rattle.sleep_core.specs.Cores.{CoreState}
 
--- it is where devices stand, which ask for direct-complete, which are runtime suspended, which are sources of wakeup, and whether a wakeup is pending
+-- it is the states of devices, which ask for direct-complete, which are runtime suspended, which are sources of wakeup, and whether a
+-- wakeup is pending
 pub record AreSeen (core : CoreState) (now : EventNow) (env : DownEnv) : Type 0 where
   pub board : env.board.now ≡ board_at core.machine (entries core.past)
   pub asks_direct_are : env.asks_direct.now ≡ asks_direct (length core.machine.devices) (entries core.past)

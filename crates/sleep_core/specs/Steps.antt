@@ -19,7 +19,7 @@ use Rattle.sleep_model.specs.Path.{attempts}
 abbrev pub next_attempt : List Entry → Kind
 next_attempt past = kind.Attempt (attempts past + 1) (in_force past)
 
--- how a freeze ends that waits for these tasks, where a wakeup breaks it off (try_to_freeze_tasks)
+-- how a freeze ends that waits for these tasks, if a wakeup breaks it off (try_to_freeze_tasks)
 abbrev pub woken_end : List ℕ → FrozeEnd
 woken_end [] = froze.AllFrozen
 woken_end (x ∷ rest) = froze.Wakeup (length (x ∷ rest)) x
@@ -29,7 +29,7 @@ abbrev pub IsKindOf : Option Script → TaskKind → Type 0
 IsKindOf None k = ⊥
 IsKindOf (Some s) k = k ≡ s.kind
 
--- the end of script i's sleep, where it is pending (own)
+-- the end of script i's sleep, if it is pending (own)
 abbrev pub sleep_end : Machine → List Entry → ℕ → Option ℕ
 sleep_end m past i =
     pending_sleep (sleeps_now past) (freezing m i past) (slice_get m.actors i) (position_at (positions (length m.actors) past) i)

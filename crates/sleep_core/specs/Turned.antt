@@ -13,7 +13,8 @@ use Rattle.sleep_core.specs.declared.turns.CoreTurn.{CoreTurn}
 use Rattle.sleep_core.specs.declared.turns.CoreTurn.TheVariants.{Did, NotYet, Done}
 use Rattle.sleep_core.specs.Cores.{CoreState, next_stamp, made_entry, with_entry}
 
--- a turn of an actor that saw this word makes what is due, or says why not; out of memory comes for no maker of an open attempt, and for no device
+-- a turn of an actor that saw this word makes what is due, or says why not; out of memory comes for no maker of an open attempt, and for no
+-- device
 abbrev pub AfterTurn : CoreState → CoreState → Actor → EventNow → Stamp → Result CoreTurn CoreFault → Type 0
 AfterTurn old new who word floor (Ok (Did stamp kind attempt)) =
     (due old.machine (entries old.past) who word ≡ Makes kind)

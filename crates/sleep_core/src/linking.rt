@@ -20,8 +20,8 @@ impl<'m> Core<'m> {
         self.board().links()
     }
 
-    /// What is answered where a link is to be added: EBUSY while an attempt is open, EINVAL where it stands
-    /// already or would close a cycle.
+    /// The answer when a link is to be added: EBUSY while an attempt is open, EINVAL if it exists already or
+    /// would close a cycle.
     pub(crate) fn link_add_due(&self, supplier: u32, consumer: u32) -> Option<Errno>
         ensures { result ≡ link_add_due self.now.machine (entries self.now.past) supplier consumer }
     {
@@ -35,8 +35,8 @@ impl<'m> Core<'m> {
         }
     }
 
-    /// What is answered where a link's state is to be set: EBUSY while an attempt is open, ENODEV where that
-    /// link does not stand.
+    /// The answer when a link's state is to be set: EBUSY while an attempt is open, ENODEV if there is no
+    /// such link.
     pub(crate) fn link_state_due(&self, supplier: u32, consumer: u32) -> Option<Errno>
         ensures { result ≡ link_state_due self.now.machine (entries self.now.past) supplier consumer }
     {

@@ -23,7 +23,7 @@ use crate::state::Core;
 use sleep_base::Mem;
 use sleep_model::{Actor, Due, EventNow, Journal, Phase, PhaseState, Stamp, pos};
 
-/// Whether a device that stands there was scheduled on the way down, and has not begun.
+/// Whether a device in that state was scheduled on the way down, and has not begun.
 fn is_scheduled(state: PhaseState) -> bool
     ensures { result ≡ is_scheduled state }
 {
@@ -138,7 +138,8 @@ impl<'m> Core<'m> {
         self.history.path().maker().is_some()
     }
 
-    /// Whether each script has exited, or sleeps to a moment that has not come. It may be so where that is not told.
+    /// Whether each script has exited, or sleeps to a moment that has not come. False may also mean that this
+    /// is not known.
     pub fn are_stopped(&self) -> bool
         ensures { OnTrue result (AreStopped (positions (length self.now.machine.actors) (entries self.now.past)) (time_of (entries self.now.past))) }
     {
@@ -153,8 +154,8 @@ impl<'m> Core<'m> {
         position.exited || sleeps_past(position.until, self.now())
     }
 
-    /// The next script after that one, or the first, whose sleep has come to its end, in an order of its own. Where none is
-    /// found after none, no script's has.
+    /// The next script after that one, or the first, whose sleep has come to its end, in an order of its own.
+    /// If the search begins at the first and finds none, no script's has.
     pub fn next_slept(&self, behind: Option<u32>) -> Option<u32>
         ensures found { IfSome result (λ script. HasSlept (positions (length self.now.machine.actors) (entries self.now.past)) script (time_of (entries self.now.past))) }
         ensures none { behind ≡ None → result ≡ None → NoneSlept (positions (length self.now.machine.actors) (entries self.now.past)) (time_of (entries self.now.past)) }
@@ -178,9 +179,9 @@ impl<'m> Core<'m> {
         self.history.board().links().above(device)
     }
 
-    /// Whether an asynchronous device was scheduled in a phase, has not begun, and waits for no other: for none right
-    /// below it on the way down (`dpm_wait_for_subordinate`), for none right above it on the way up
-    /// (`dpm_wait_for_superior`).
+    /// Whether an asynchronous device was scheduled in a phase, has not begun, and waits for no other: for
+    /// none right below it on the way down (`dpm_wait_for_subordinate`), for none right above it on the way
+    /// up (`dpm_wait_for_superior`).
     pub fn is_ready(&self, phase: Phase, device: u32) -> bool
         ensures { result ≡ is_ready_on (board_at self.now.machine (entries self.now.past)) phase device }
     {

@@ -33,7 +33,7 @@ impl<'m> Core<'m> {
         }
     }
 
-    /// The end of the autosleep work's nap, where it is pending.
+    /// The end of the autosleep work's nap, if it is pending.
     fn pending_nap(&self) -> Option<u64>
         ensures { result ≡ pending_nap (entries self.now.past) }
     {
@@ -44,7 +44,7 @@ impl<'m> Core<'m> {
         }
     }
 
-    /// The end of a script's sleep, where it is pending.
+    /// The end of a script's sleep, if it is pending.
     fn pending_sleep(&self, script: u32) -> Option<u64>
         requires { script < length self.now.machine.actors }
         ensures { result ≡ sleep_end self.now.machine (entries self.now.past) script }
@@ -57,7 +57,7 @@ impl<'m> Core<'m> {
         }
     }
 
-    /// The least end of the scripts' sleeps. Where no attempt is open each is pending.
+    /// The least end of the scripts' sleeps. While no attempt is open each is pending.
     fn next_sleep(&self) -> Option<u64>
         ensures { result ≡ next_sleep self.now.machine (entries self.now.past) (length self.now.machine.actors) }
     {

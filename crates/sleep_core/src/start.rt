@@ -29,7 +29,8 @@ impl<'m> Core<'m> {
     ghost use Rattle.sleep_model.specs.Accepted.{IsAccepted};
     ghost use Rattle.sleep_model.specs.Order.{parents_of};
 
-    /// The core of a machine whose plans and links these are, with nothing done yet. `Mem` if there is no memory.
+    /// The core of a machine whose plans and links these are, with nothing done yet. `Mem` if there is no
+    /// memory.
     pub fn new(alloc: Global, plans: &'m MachinePlans<'_>, links: Links) -> Result<Core<'m>, Mem>
         requires accepted { IsAccepted plans.now }
         requires links { links ≡ record { parents = parents_of plans.now.devices; links = reverse plans.now.links } }

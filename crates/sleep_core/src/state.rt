@@ -1,3 +1,4 @@
+//! The core of system sleep for one machine, and what its parts read of it.
 use crate::history::History;
 use crate::reports::Reports;
 use async_board::Board;
@@ -120,14 +121,14 @@ impl<'m> Core<'m> {
         self.history.path().sleep().is_some()
     }
 
-    /// Where each device stands.
+    /// The state of each device.
     pub(crate) fn board(&self) -> &Board
         ensures { result.now ≡ board_at self.now.machine (entries self.now.past) }
     {
         self.history.board()
     }
 
-    /// The error that stands in the open phase.
+    /// The error of the open phase.
     pub(crate) fn phase_failed(&self) -> Option<Errno>
         ensures { result ≡ phase_failed (entries self.now.past) }
     {
@@ -172,7 +173,7 @@ impl<'m> Core<'m> {
         self.history.path().stage()
     }
 
-    /// How a freeze of the group stands that goes on since then.
+    /// What becomes of a freeze of the group that goes on since then.
     #[tactic(auto, using(crate::proofs::Freezing::left_is))]
     pub(crate) fn round(&self, group: Group, since: u64) -> Round
         requires { since ≤ 2 ^ 63 }
@@ -198,7 +199,7 @@ impl<'m> Core<'m> {
         self.machine().alarm_ms
     }
 
-    /// The notifier that is to be told of the attempt.
+    /// The notifier that hears next of the attempt.
     pub(crate) fn next_called(&self) -> Option<u32>
         ensures { result ≡ next_called self.now.machine (entries self.now.past) }
     {

@@ -1,4 +1,4 @@
-//! What a task does next where it sleeps or waits for a mark, and where it freezes.
+//! What a task does next if it sleeps or waits for a mark, and when it freezes.
 
 ghost use Rattle.std.specs.Prelude.{◌≡◌, ◌≤◌, ◌^◌, option_copied};
 ghost use Rattle.sleep_model.specs.Steps.{slept_due, mark_due, sleep_due};
@@ -61,7 +61,7 @@ pub(crate) fn is_line(kind: TaskKind) -> bool
     matches!(kind, TaskKind::Irq)
 }
 
-/// Where a task of user space, or another, that is asked freezes: at its operation, which has begun or
+/// Whether a task of user space, or another, that is asked freezes here: at its operation, which has begun or
 /// not (`try_to_freeze`).
 pub(crate) fn freezes_at(user: bool, begun: bool, op: Option<&Op>) -> bool
     ensures { result ≡ freezes_at user begun (option_copied op.entry) }

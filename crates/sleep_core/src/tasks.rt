@@ -104,7 +104,7 @@ impl<'m> Core<'m> {
         }
     }
 
-    /// A task that is not frozen waits while the machine sleeps, and freezes where it is asked to and may.
+    /// A task that is not frozen waits while the machine sleeps, and freezes if it is asked to and may.
     fn task_due(
         &self,
         now: EventNow,

@@ -109,8 +109,8 @@ impl<'m> Core<'m> {
         self.leaves_attempts(kind) && self.leaves_runs(kind) && self.leaves_marks(kind)
     }
 
-    /// Whether an entry of that actor, which makes the open attempt or not, is of the attempt: its maker's, or a
-    /// device's.
+    /// Whether an entry of that actor, which makes the open attempt or not, is of the attempt: its maker's,
+    /// or a device's.
     fn is_own(&self, makes: bool, who: Actor) -> bool
         requires { makes ≡ is_actor who (maker (entries self.now.past)) }
         ensures { result ≡ (is_actor who (maker (entries self.now.past)) || is_device who) }

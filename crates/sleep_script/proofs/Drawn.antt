@@ -76,7 +76,7 @@ one_device seed devices i bit parents old new d l e b f g h =
     device : Option ℕ → ℕ → Device
     device p x = record { name = codes "d" ++ decimal i; parent = p; flags = record { 0 = x } }
 
--- the machine from its parts, where each drew after the one before
+-- the machine from its parts, each of which drew after the one before
 pub machine_is : (seed count : ℕ) (a b c : Draws) (devices : List Device) (links : List Link) (task irq : Script) (actors : List Script) (x y z : List ℕ) (sources syscore marks : List (List ℕ)) (notifiers : List Notifier) (answers : List Answer) →
     a ≡ draws_at seed 1 → devices ≡ map (drawn_device a.seed count) (range_with_len 0 count) → b ≡ draws_at a.seed (2 * count) → links ≡ drawn_links b.seed count (count / 4) →
     c ≡ draws_at b.seed (after_links count) → task ≡ sleeper → irq ≡ line c.seed c.next → actors ≡ task ∷ irq ∷ [] →

@@ -46,7 +46,7 @@ longer false xs ys zs = omega arith
 after_same : (m m' : Machine) (who who' : Actor) (b : Bool) (t t' : ℕ) → m ≡ m' → who ≡ who' → t ≡ t' → calls_after_turn m who b (t + 1) ≡ calls_after_turn m' who' b (t' + 1)
 after_same m m' who who' b t t' one two three = cc
 
--- after an entry of its own that was due with all calls made, where so many attempts are begun
+-- after an entry of its own that was due with all calls made, when so many attempts are begun
 pub own_entry : (m : Machine) (who : Actor) (e : Entry) (past : List Entry) (made : ℕ) (job : JobState) (stamp : Stamp) (attempt : ℕ)
     → is_same e.actor who ≡ true → attempt ≡ attempts (e ∷ past) → made ≡ calls_due m who past
     → IsJobOf m who past made job → IsJobOf m who (e ∷ past) made (after_turn stamp e.kind attempt job)
@@ -99,7 +99,7 @@ call_made m who journal made job stamp some h = record {
   fits = omega (arith, left_are m who journal made job h);
 }
 
--- where it knows a later stamp
+-- when it knows a later stamp
 pub floor_raised : (m : Machine) (who : Actor) (journal : List Entry) (made : ℕ) (job : JobState) (stamp : Stamp) → IsJobOf m who journal made job → IsJobOf m who journal made (raised stamp job)
 floor_raised m who journal made job stamp h = record {
   machine_is = h.machine_is;
@@ -130,14 +130,14 @@ all_made m who journal made job h = (
   λ (all : made ≡ calls_due m who journal). h.pending_is ∙ drop_all made (calls_of m who journal) (omega arith),
 )
 
--- where it wants a call, that is the next that is due
+-- if it wants a call, that is the next that is due
 pub wanted_source : (m : Machine) (who : Actor) (journal : List Entry) (made : ℕ) (job : JobState) (s : ℕ) (call : SourceCall) → IsJobOf m who journal made job → IsWanted job (want.Source s call)
     → (slice_get (calls_of m who journal) made ≡ Some (note s call)) × (made < calls_due m who journal) × (0 < length job.pending)
 wanted_source m who journal made job s call h wanted =
     let next = sym (next_is m who journal made job h) ∙ wanted in
     (next, slice_get_within (calls_of m who journal) made (note s call) next, slice_get_within job.pending 0 (note s call) wanted)
 
--- where it wants a turn, or nothing more, all that are due were made
+-- if it wants a turn, or nothing more, all that are due were made
 pub wanted_core : (m : Machine) (who : Actor) (journal : List Entry) (made : ℕ) (job : JobState) → IsJobOf m who journal made job → IsWanted job want.Core → made ≡ calls_due m who journal
 wanted_core m who journal made job h wanted = (all_made m who journal made job h).0 wanted.0
 
@@ -151,7 +151,7 @@ one_more_few : (b : Bool) (t n : ℕ) → t ≤ n → one_more b t ≤ n + 1
 one_more_few true t n few = omega arith
 one_more_few false t n few = omega arith
 
--- no more turns were ended than entries stand in the journal
+-- no more turns were ended than the journal has entries
 pub turns_few : (who : Actor) (journal : List Entry) → turns_ended who journal ≤ length journal
 turns_few who [] = omega arith
 turns_few who (e ∷ past) = omega (arith, one_more_few (is_same e.actor who && ends_turn e.kind) (turns_ended who past) (length past) (turns_few who past))

@@ -1,3 +1,4 @@
+-- The lemmas of this crate.
 pub mod Drawn
 pub mod Following
 pub mod Generating

@@ -11,7 +11,7 @@ abbrev pub AreRising : List Link → Type 0
 AreRising [] = Unit {0}
 AreRising (l ∷ ls) = (l.supplier < l.consumer) × AreRising ls
 
--- a child stands after its parent
+-- a child comes after its parent
 child_after : (d n : ℕ) (ps : List (Option ℕ)) → EachAfterParent n ps → (x : ℕ) → is_among (children_from d n ps) x ≡ true → d < x
 child_after d n [] h x m = absurd (false≢true m)
 child_after d n (None ∷ ps) h x m = child_after d (suc n) ps h.1 x m

@@ -15,7 +15,7 @@ first_after zero (x ∷ xs) = refl
 first_after (suc n) [] = refl
 first_after (suc n) (x ∷ xs) = first_after n xs
 
--- where a call is left and no report, one of the own calls is left
+-- if a call is left and no report, one of the own calls is left
 own_left : (own : List Report) (made : ℕ) (xs : List Kind) → map noted own ≡ xs → 0 < length (drop made xs) → made < length own
 own_left own made xs are some = omega (arith, some, length-drop made xs, sym (ap length are) ∙ length-map own noted)
 

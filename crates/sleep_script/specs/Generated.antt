@@ -18,7 +18,7 @@ drawn seed k = (seed % 65521 + 40503 * k + k * k) % 65521
 abbrev pub draw : ℕ → ℕ → ℕ → ℕ
 draw seed k n = drawn seed k % n
 
--- the i-th device's parent: an earlier one, or none where i itself is drawn; the first takes no number (own)
+-- the i-th device's parent: an earlier one, or none if i itself is drawn; the first takes no number (own)
 abbrev pub drawn_parent : ℕ → ℕ → Option ℕ
 drawn_parent seed zero = None
 drawn_parent seed (suc i) = if draw seed (suc i) (suc i + 1) == suc i then None else Some (draw seed (suc i) (suc i + 1))
@@ -32,7 +32,7 @@ abbrev pub with_link : ℕ → ℕ → List Link → List Link
 with_link u v links =
     if nat_lt u v && not (list_any (λ l. l.supplier == u && l.consumer == v) links) then links ++ record { supplier = u; consumer = v; active = true } ∷ [] else links
 
--- the links after n tries; each draws its supplier and its consumer, and gives one where the first is the smaller and they have none (own)
+-- the links after n tries; each draws its supplier and its consumer, and gives one if the first is the smaller and they have none (own)
 abbrev pub drawn_links : ℕ → ℕ → ℕ → List Link
 drawn_links seed devices zero = []
 drawn_links seed devices (suc n) = with_link (draw seed (2 * devices + 2 * n) devices) (draw seed (2 * devices + 2 * n + 1) devices) (drawn_links seed devices n)
@@ -41,7 +41,7 @@ drawn_links seed devices (suc n) = with_link (draw seed (2 * devices + 2 * n) de
 abbrev pub once : Op → Step
 once op = record { op = op; times = 1 }
 
--- a task that sleeps four times where its save was ok (own)
+-- a task that sleeps four times if its save was ok (own)
 abbrev pub sleeper : Script
 sleeper = record { name = codes "sleeper"; kind = User; repeat = 4; steps = once Read ∷ once (Save None) ∷ once (State (codes "mem") true) ∷ [] }
 

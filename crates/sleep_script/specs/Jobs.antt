@@ -87,7 +87,7 @@ pub record TimerState : Type 0 where
 abbrev pub first_timer : ℕ → TimerState
 first_timer source = record { source = source; calls = 0; floor = no_stamp }
 
--- after a call that left it with that stamp; the number of calls stops where 32 bits end (pm_wakeup_timer_fn)
+-- after a call that left it with that stamp; the number of calls stops at the greatest of 32 bits (pm_wakeup_timer_fn)
 abbrev pub after_expiry : Stamp → TimerState → TimerState
 after_expiry stamp timer = record timer { calls = min (timer.calls + 1) 4294967295; floor = stamp }
 
@@ -102,7 +102,7 @@ abbrev pub has_exited : Actor → List Entry → Bool
 has_exited who [] = false
 has_exited who (e ∷ past) = (is_same e.actor who && is_exit e.kind) || has_exited who past
 
--- a job is that of an actor which has made n calls, none that is not due, where that is the journal (own)
+-- a job is that of an actor which has made n calls, none that is not due, with that journal (own)
 pub record IsJobOf (m : Machine) (who : Actor) (journal : List Entry) (made : ℕ) (job : JobState) : Type 0 where
   pub machine_is : job.machine ≡ m
   pub actor_is : job.who ≡ who

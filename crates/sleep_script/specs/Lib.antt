@@ -1,3 +1,4 @@
+-- The definitions of this crate.
 pub mod Generated
 pub mod JobFields
 pub mod Jobs

@@ -1,3 +1,4 @@
+//! A series of numbers drawn from a seed.
 ghost use Rattle.std.specs.Prelude.{◌≡◌, ◌<◌, ◌≤◌, ◌+◌};
 ghost use Rattle.sleep_script.specs.Generated.{draw};
 

@@ -85,14 +85,14 @@ fn draw_devices(alloc: Global, draws: &mut Draws, count: u32) -> Result<Vec<Devi
     Ok(devices)
 }
 
-// Whether a link of that supplier and that consumer is among these.
+/// Whether a link of that supplier and that consumer is among these.
 fn is_linked(links: &[Link], supplier: u32, consumer: u32) -> bool
     ensures { result ≡ list_any (λ l. l.supplier == supplier && l.consumer == consumer) links.now }
 {
     links.iter().any(|link| link.supplier == supplier && link.consumer == consumer)
 }
 
-/// Puts a link from a lesser to a greater device after the others, where it does not stand.
+/// Puts a link from a lesser to a greater device after the others, if these have none.
 fn add_link(links: &mut Vec<Link>, supplier: u32, consumer: u32) -> Result<(), Mem>
     ensures { OnOk result (links.new.items ≡ with_link supplier consumer links.old.items) }
 {
@@ -132,7 +132,7 @@ fn once(op: Op) -> Step
     Step { op, times: 1 }
 }
 
-/// A task that sleeps four times where its save was ok.
+/// A task that sleeps four times if its save was ok.
 fn sleeper(alloc: Global) -> Result<Script, Mem>
     ensures { IfOk result (λ s. s ≡ sleeper) }
 {

@@ -41,10 +41,10 @@ pub(crate) fn later(one: Stamp, other: Stamp) -> Stamp
     }
 }
 
-/// The job of an actor that takes turns of the core: a script, the autosleep work, or an asynchronous device. It knows
-/// the calls on sources of a script's own steps, those round a good write to autosleep among them, and the reports of
-/// the callbacks that its actor runs (`drivers/base/power/main.c`, `async_suspend`; `kernel/power/autosleep.c`,
-/// `try_to_suspend`).
+/// The job of an actor that takes turns of the core: a script, the autosleep work, or an asynchronous device.
+/// It knows the calls on sources of a script's own steps, those round a good write to autosleep among them,
+/// and the reports of the callbacks that its actor runs (`drivers/base/power/main.c`, `async_suspend`;
+/// `kernel/power/autosleep.c`, `try_to_suspend`).
 #[derive(Drop)]
 pub struct ActorJob<'m> {
     plans: &'m MachinePlans<'m>,
@@ -146,7 +146,8 @@ impl<'m> ActorJob<'m> {
         }
     }
 
-    /// What its actor does next: the call on a source that is next, else a turn of the core. `Nothing` once it has exited.
+    /// What its actor does next: the call on a source that is next, else a turn of the core. `Nothing` once
+    /// it has exited.
     #[inline(always)]
     pub fn next(&self) -> Want
         ensures { IsWanted self.now result }
@@ -186,7 +187,8 @@ impl<'m> ActorJob<'m> {
         self.reports = reports;
     }
 
-    /// Its actor has begun a callback of that device: what that reports is due. Most machines answer nothing at all.
+    /// Its actor has begun a callback of that device: what that reports is due. Most machines answer nothing
+    /// at all.
     #[inline(always)]
     fn begin_callback(&mut self, phase: Phase, device: u32, attempt: u32)
         requires { self.old.pending ≡ [] }
@@ -197,8 +199,8 @@ impl<'m> ActorJob<'m> {
         }
     }
 
-    /// Its actor made an entry of the journal, with that stamp, where `attempt` attempts were begun. Most entries
-    /// leave it nothing to do.
+    /// Its actor made an entry of the journal, with that stamp, when `attempt` attempts were begun. Most
+    /// entries leave it nothing to do.
     #[inline(always)]
     pub fn told_core(&mut self, stamp: Stamp, kind: Kind, attempt: u32)
         requires made { self.old.pending ≡ [] }

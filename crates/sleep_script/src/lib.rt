@@ -1,11 +1,11 @@
-//! What each actor does next, call by call and turn by turn: the calls on sources that its steps and its callbacks
-//! make, and the turns of the core between them. Its tests are in `part_cases`.
+//! What each actor does next, call by call and turn by turn: the calls on sources that its steps and its
+//! callbacks make, and the turns of the core between them. Its tests are in `part_cases`.
 //!
-//! Promises: The first call on a source that an actor still has to make before its next entry of the journal, else
-//! a turn, else nothing. After each entry and call a job stays that of its actor, for every journal (`IsJobOf`).
-//! The machine of a seed is the one of the definitions; a file may spell it, and its calls need at most 16 places
-//! on each source. By the clauses of `ActorJob::next`, `told_core`, `told_source`; `TimerJob`; `generate`: `machine`,
-//! `accepted`, `roomy`.
+//! Promises: The first call on a source that an actor still has to make before its next entry of the journal,
+//! else a turn, else nothing. After each entry and call a job stays that of its actor, for every journal
+//! (`IsJobOf`). The machine of a seed is the one of the definitions; a file may spell it, and its calls need
+//! at most 16 places on each source. By the clauses of `ActorJob::next`, `told_core`, `told_source`;
+//! `TimerJob`; `generate`: `machine`, `accepted`, `roomy`.
 //!
 //! Begin reading in `specs/Jobs.antt`, `src/job.rt`; `specs/Generated.antt`, `src/generator.rt`.
 #![tactic(auto)]

@@ -1,8 +1,9 @@
+//! The job of a source's timer.
 use crate::job::later;
 use sleep_model::{SourceCall, Stamp, Want};
 use std::marker::Model;
 
-/// The job of a source's timer, which ends the event in progress where its time is over
+/// The job of a source's timer, which ends the event in progress once its time is over
 /// (`drivers/base/power/wakeup.c`, `pm_wakeup_timer_fn`). It takes no turn of the core.
 #[derive(Drop)]
 pub struct TimerJob {

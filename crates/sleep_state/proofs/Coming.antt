@@ -13,7 +13,7 @@ use Rattle.sleep_state.proofs.Sleeping.{all_later, least_end_is}
 
 -- ---- nodes
 
--- what stands last are the things' own moments
+-- the last nodes are the things' own moments
 pub own_come : (many at : ℕ) (nodes : List (Option ℕ)) (now : ℕ) → many ≤ at → is_later (slice_index_or nodes at None) now ≡ false → is_later (slice_index_or (drop many nodes) (at - many) None) now ≡ false
 own_come many at nodes now l h =
     ap (λ (o : Option ℕ). is_later o now) (get_or-drop many nodes (at - many) None ∙ ap (λ (k : ℕ). slice_index_or nodes k None) (let same : many + (at - many) ≡ at = omega (arith, l) in same)) ∙ h

@@ -80,7 +80,7 @@ read_is (y ∷ ys) (suc i) x l e = read_is ys i x (omega (arith, l)) e
 
 -- ---- a node that stays as it was
 
--- where the one that was left out is joined all are
+-- if the one that was left out is joined all are
 pub joined_here : (many i : ℕ) (nodes : List (Option ℕ)) → AreJoinedBut many i nodes → IsJoined nodes i → AreJoined many nodes
 joined_here many i nodes h here k some l = by_same (k == i) refl
   where

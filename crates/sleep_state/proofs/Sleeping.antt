@@ -11,7 +11,7 @@ use Rattle.sleep_model.specs.Positions.{first_position, position_at, all_exited}
 use Rattle.sleep_state.specs.Sleepers.{is_awake, is_there, count_of, end_of, is_later, sleeps_past, is_stopped, AreStopped}
 use Rattle.sleep_state.specs.Trees.{least_among, least_of}
 
--- ---- how many stand so
+-- ---- how many have such a position
 
 one_at_most : (b : Bool) → one_if b ≤ 1
 one_at_most true = omega arith
@@ -47,11 +47,11 @@ left_shown : (ys : List ScriptPosition) → nat_eq (count_of is_there ys) 0 ≡ 
 left_shown [] = refl
 left_shown (y ∷ ys) = by_exit y.exited ys (left_shown ys)
 
--- all have exited where none is left
+-- all have exited if none is left
 pub none_left : (xs : List ScriptPosition) (n : ℕ) → n ≡ count_of is_there xs → nat_eq n 0 ≡ all_exited xs
 none_left xs n is = ap (λ k. nat_eq k 0) is ∙ left_shown xs
 
--- what was read where there is a script
+-- what was read if there is a script
 pub position_found : (xs : List ScriptPosition) (i : ℕ) (x : ScriptPosition) → i < length xs → x ≡ slice_index_or xs i x → slice_get xs i ≡ Some x
 position_found [] i x l e = absurd (omega (arith, l))
 position_found (y ∷ ys) zero x l e = ap Some (sym e)
@@ -62,7 +62,7 @@ get_position [] i l = absurd (omega (arith, l))
 get_position (y ∷ ys) zero l = refl
 get_position (y ∷ ys) (suc i) l = get_position ys i (omega (arith, l))
 
--- where no script has that number
+-- no script has that number
 pub position_none : (xs : List ScriptPosition) (i : ℕ) → slice_get xs i ≡ None → position_at xs i ≡ first_position
 position_none [] i e = refl
 position_none (y ∷ ys) zero e = absurd (cc)
@@ -112,7 +112,7 @@ still_of position time none later = by_parts position.exited position.until none
 pub still_all : (positions : List ScriptPosition) (time : ℕ) → count_of is_awake positions ≡ 0 → is_later (end_of positions (length positions)) time ≡ true → AreStopped positions time
 still_all positions time none later i l = still_of (position_at positions i) time (omega (arith, count_least is_awake positions i (position_at positions i) (get_position positions i l), none)) (all_later positions (length positions) time later i l)
 
--- what the two tests tell
+-- what the two tests say
 pub stopped_shown : (positions : List ScriptPosition) (time : ℕ) (b : Bool) → (b ≡ true → count_of is_awake positions ≡ 0) → (b ≡ true → is_later (end_of positions (length positions)) time ≡ true) → OnTrue b (AreStopped positions time)
 stopped_shown positions time true none later = still_all positions time (none refl) (later refl)
 stopped_shown positions time false none later = tt

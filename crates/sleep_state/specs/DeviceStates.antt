@@ -8,7 +8,8 @@ use Rattle.sleep_model.specs.declared.progress.Callback.{Callback}
 use Rattle.sleep_model.specs.Devices.{is_device, callback_after, phase_failed_after, own_error_after, asks_direct_after}
 use Rattle.sleep_model.specs.Runtime.{starts_suspended, statuses_after, disabled_by_direct_after, disabled_by_late_after}
 
--- the maker's callback, the errors of the open phase, the devices that may be direct-complete, their runtime statuses, and the spans in which runtime PM is disabled (struct dev_pm_info)
+-- the maker's callback, the errors of the open phase, the devices that may be direct-complete, their runtime statuses, and the spans in
+-- which runtime PM is disabled (struct dev_pm_info)
 pub record DeviceState : Type 0 where
   pub callback : Option Callback
   pub failed : Option Errno

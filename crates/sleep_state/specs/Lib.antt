@@ -1,3 +1,4 @@
+-- The definitions of this crate.
 pub mod DeviceStates
 pub mod MomentFields
 pub mod Paths

@@ -3,7 +3,7 @@ use Rattle.std.specs.Prelude.{◌≡◌, ◌*◌, ℕ, List, Option, drop, lengt
 use Rattle.sleep_state.specs.declared.moments.Moments.TheInside.{Inside}
 use Rattle.sleep_state.specs.Trees.{AreJoined}
 
--- the things' own moments stand last
+-- the things' own moments are the last
 abbrev pub own : Inside → List (Option ℕ)
 own m = drop m.many m.nodes.items
 

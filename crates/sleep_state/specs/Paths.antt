@@ -9,7 +9,7 @@ use Rattle.sleep_model.specs.Attempt.{freeze_since_after, sleep_after, failed_af
 use Rattle.sleep_model.specs.Path.{attempts_after, maker_after}
 use Rattle.sleep_model.specs.Table.{stage_after}
 
--- where the open attempt stands (enter_state)
+-- the state of the open attempt (enter_state)
 pub record PathState : Type 0 where
   pub attempts : ℕ
   pub maker : Option Actor

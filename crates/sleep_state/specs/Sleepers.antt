@@ -5,20 +5,20 @@ use Rattle.sleep_model.specs.Legal.{sooner}
 use Rattle.sleep_model.specs.Places.{one_if}
 use Rattle.sleep_model.specs.Positions.{position_at}
 
--- a script that stands so neither sleeps nor has exited (own)
+-- a script with that position neither sleeps nor has exited (own)
 abbrev pub is_awake : ScriptPosition → Bool
 is_awake position = not position.exited && is_none position.until
 
--- a script that stands so has not exited (own)
+-- a script with that position has not exited (own)
 abbrev pub is_there : ScriptPosition → Bool
 is_there position = not position.exited
 
--- how many of these stand so (own)
+-- how many of these have such a position (own)
 abbrev pub count_of : (ScriptPosition → Bool) → List ScriptPosition → ℕ
 count_of so [] = 0
 count_of so (position ∷ positions) = one_if (so position) + count_of so positions
 
--- the least end of the first n scripts' sleeps, where there is any (own)
+-- the least end of the first n scripts' sleeps, if there is any (own)
 abbrev pub end_of : List ScriptPosition → ℕ → Option ℕ
 end_of positions zero = None
 end_of positions (suc n) = sooner (position_at positions n).until (end_of positions n)
@@ -33,7 +33,7 @@ abbrev pub sleeps_past : Option ℕ → ℕ → Bool
 sleeps_past None time = false
 sleeps_past (Some until) time = nat_lt time until
 
--- a script that stands so has exited, or sleeps on then (own)
+-- a script with that position has exited, or sleeps on then (own)
 abbrev pub is_stopped : ScriptPosition → ℕ → Bool
 is_stopped position time = position.exited || sleeps_past position.until time
 

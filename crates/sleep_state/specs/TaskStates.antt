@@ -8,7 +8,7 @@ use Rattle.sleep_model.specs.declared.progress.ScriptPosition.{ScriptPosition}
 use Rattle.sleep_model.specs.Marks.{mark_at, marks_after}
 use Rattle.sleep_model.specs.Positions.{first_position, position_at, position_effect, positions_after}
 
--- where each script stands, and each mark's number
+-- the position of each script, and each mark's number
 pub record TaskState : Type 0 where
   pub positions : List ScriptPosition
   pub marks : List ℕ

@@ -1,8 +1,8 @@
--- A tree of moments in one list: node k stands above the nodes 2k and 2k + 1.
+-- A tree of moments in one list: node k is above the nodes 2k and 2k + 1.
 use Rattle.std.specs.Prelude.{◌≡◌, ◌≢◌, ◌<◌, ◌+◌, ◌*◌, ℕ, zero, suc, List, length, Option, None, slice_index_or}
 use Rattle.sleep_model.specs.Legal.{sooner}
 
--- the least of the first n of these moments, where there is any (own)
+-- the least of the first n of these moments, if there is any (own)
 abbrev pub least_among : List (Option ℕ) → ℕ → Option ℕ
 least_among moments zero = None
 least_among moments (suc n) = sooner (slice_index_or moments n None) (least_among moments n)

@@ -1,3 +1,4 @@
+//! The state of the devices' phases: callbacks, errors, direct-complete and runtime PM.
 ghost use Rattle.std.specs.Prelude.{◌≡◌, map, IfOk};
 ghost use Rattle.sleep_model.specs.Answers.{error_of_number};
 ghost use Rattle.sleep_model.specs.Devices.{error_in, error_by, is_device};
@@ -11,7 +12,7 @@ use sleep_model::{Actor, Callback, Device, DeviceFlags, Kind, SkipCause};
 use std::alloc::Global;
 use std::marker::Model;
 
-/// What the phases of devices keep beside where each device stands: the callback that the attempt's maker
+/// What the phases of devices know besides the state of each device: the callback that the attempt's maker
 /// runs, the errors of the open phase, which devices may be direct-complete, their runtime statuses, and the
 /// spans in which runtime PM is disabled (`drivers/base/power/main.c`, `drivers/base/power/runtime.c`).
 #[derive(Drop)]
@@ -268,7 +269,7 @@ impl Devices {
         self.callback
     }
 
-    /// The error that stands in the open phase.
+    /// The error of the open phase.
     pub fn failed(&self) -> Option<Errno>
         ensures { result ≡ self.now.failed }
     {

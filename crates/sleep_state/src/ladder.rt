@@ -5,8 +5,8 @@ ghost use Rattle.sleep_model.specs.Table.{next_stage, by_case, failed_at};
 
 use sleep_model::{Group, Phase, PlatDo, PlatUndo, Stage, Thaw};
 
-/// Picks one column of the ladder: each stage, what follows it, and where its failure leads. A stage that does not fail
-/// has what follows it in both.
+/// Picks one column of the table of an attempt: each stage, what follows it, and the stage that its failure
+/// leads to. A stage that does not fail has what follows it in both.
 macro_rules! ladder {
     (@next $from:expr; $($stage:pat => $next:expr, $failed:expr;)*) => {
         match $from { $($stage => $next,)* }

@@ -1,8 +1,8 @@
-//! What the core reads from its journal, kept up to date entry by entry: where the attempt is, the tasks and the
-//! devices. Its tests are in `part_cases`.
+//! What the core reads from its journal, kept up to date entry by entry: where the attempt is, the tasks and
+//! the devices. Its tests are in `part_cases`.
 //!
-//! Promises: After an entry each part stands where the definitions say; the least end of the scripts' sleeps. By
-//! the clauses of `note` of each; `Tasks::position`, `raised`, `all_exited`, `least_end`, `are_stopped`.
+//! Promises: After an entry each part is as the definitions say; the least end of the scripts' sleeps. By the
+//! clauses of `note` of each; `Tasks::position`, `raised`, `all_exited`, `least_end`, `are_stopped`.
 //!
 //! Begin reading in `src/path.rt`, `src/devices.rt`, `src/tasks.rt`.
 #![tactic(auto)]

@@ -10,9 +10,9 @@ use sleep_base::Mem;
 use std::alloc::Global;
 use std::marker::Model;
 
-/// A moment or none for each of some things, and the least of all. The nodes are a tree: node k stands above the
-/// nodes 2k and 2k + 1, and has the lesser of their moments, so that the first has the least. What the things have
-/// stands last.
+/// A moment or none for each of some things, and the least of all. The nodes are a tree: node k is above the
+/// nodes 2k and 2k + 1, and has the lesser of their moments, so that the first has the least. The things' own
+/// moments are the last.
 #[derive(Drop)]
 pub(crate) struct Moments {
     many: usize,
@@ -31,7 +31,7 @@ impl Model for Moments {
     ghost invariant = { moments_invariant };
 }
 
-/// The lesser of two moments, where there are any.
+/// The lesser of two moments, if there are any.
 #[inline(always)]
 pub fn sooner(one: Option<u64>, other: Option<u64>) -> Option<u64>
     ensures { result ≡ sooner one other }
@@ -43,7 +43,7 @@ pub fn sooner(one: Option<u64>, other: Option<u64>) -> Option<u64>
     }
 }
 
-/// The moment of a node, where there is that node.
+/// The moment of a node, if there is that node.
 #[inline(always)]
 fn node(nodes: &[Option<u64>], at: usize) -> Option<u64>
     ensures { result ≡ slice_index_or nodes.now at None }
@@ -99,7 +99,8 @@ fn rise(nodes: &mut [Option<u64>], many: usize, above: usize)
     }
 }
 
-/// The node after this one and all below it, where each node stands before those below it; 0 if there is none.
+/// The node after this one and all below it, in the order in which each node precedes those below it; 0 if
+/// there is none.
 #[inline(always)]
 fn next_node(at: usize) -> usize {
     if at % 2 == 0 {
@@ -124,8 +125,8 @@ pub(crate) fn is_later(moment: Option<u64>, time: u64) -> bool
     }
 }
 
-/// The node of a thing whose moment is not later than now, where the least is not: of each node that stands above others,
-/// one of the two below has its moment.
+/// The node of a thing whose moment is not later than now, if the least is not: of each node that is above
+/// others, one of the two below has its moment.
 #[tactic(auto, using(crate::proofs::Coming::come_other))]
 fn come_below(nodes: &[Option<u64>], many: usize, now: u64) -> usize
     requires size { length nodes.now ≡ 2 * many }
@@ -161,7 +162,7 @@ impl Moments {
         Ok(Moments { many, nodes })
     }
 
-    /// The least moment, where there is one.
+    /// The least moment, if there is one.
     #[tactic(auto, using(crate::proofs::Rising::first_least))]
     pub(crate) fn least(&self) -> Option<u64>
         ensures { result ≡ least_of self.now }
@@ -182,8 +183,8 @@ impl Moments {
         Some(at - self.many)
     }
 
-    /// The first thing from that node on, in the order of the tree, whose moment is not later than now. Which is found is
-    /// no part of what is promised.
+    /// The first thing from that node on, in the order of the tree, whose moment is not later than now. Which
+    /// is found is no part of what is promised.
     #[tactic(auto, using(crate::proofs::Coming::own_come))]
     fn come_from(&self, from: usize, now: u64) -> Option<usize>
         ensures { IfSome result (λ thing. is_later (slice_index_or self.now thing None) now ≡ false) }
@@ -205,8 +206,9 @@ impl Moments {
         None
     }
 
-    /// The next thing after that one, or the first of all, whose moment is not later than now. Things are gone through in
-    /// the order of the tree. Where none is found after none, each moment is later.
+    /// The next thing after that one, or the first of all, whose moment is not later than now. Things are
+    /// gone through in the order of the tree. If the search begins at the first and finds none, each moment
+    /// is later.
     pub(crate) fn next_come(&self, after: Option<usize>, now: u64) -> Option<usize>
         ensures found { IfSome result (λ thing. is_later (slice_index_or self.now thing None) now ≡ false) }
         ensures none { after ≡ None → result ≡ None → is_later (least_of self.now) now ≡ true }

@@ -1,3 +1,4 @@
+//! The path of an attempt through its stages, and the table that it follows.
 ghost use Rattle.std.specs.Prelude.{◌≡◌, ◌<◌, ◌^◌};
 ghost use Rattle.sleep_model.specs.Path.{attempts_after, maker_after};
 ghost use Rattle.sleep_model.specs.Attempt.{freeze_since_after, sleep_after, failed_after, freeze_error, busy_error};
@@ -10,7 +11,7 @@ use sleep_base::Errno;
 use sleep_model::{Actor, FrozeEnd, Kind, Phase, Sleep, Stage};
 use std::marker::Model;
 
-/// Where the open attempt stands: who makes it, its number, the stage under way, its error, since when a
+/// The state of the open attempt: who makes it, its number, the stage under way, its error, since when a
 /// freeze goes on, and whether the machine sleeps (`kernel/power/suspend.c`).
 #[derive(Drop)]
 pub struct Path {
@@ -98,7 +99,7 @@ fn or_else(first: Option<Errno>, other: Option<Errno>) -> Option<Errno>
     }
 }
 
-/// EBUSY where a freeze left tasks.
+/// EBUSY if a freeze left tasks.
 fn freeze_error(end: FrozeEnd) -> Option<Errno>
     ensures { result ≡ freeze_error end }
 {
@@ -108,7 +109,7 @@ fn freeze_error(end: FrozeEnd) -> Option<Errno>
     }
 }
 
-/// EBUSY where a wakeup is pending.
+/// EBUSY if a wakeup is pending.
 pub fn busy_error(busy: bool) -> Option<Errno>
     ensures { result ≡ busy_error busy }
 {

@@ -1,4 +1,4 @@
-//! Where each script of a machine stands, and which of them sleep.
+//! The position of each script of a machine, and which of them sleep.
 
 ghost use Rattle.std.specs.Prelude.{◌≡◌, ◌≤◌, ◌<◌, ◌+◌, ◌^◌, None, length, slice_index_or, slice_set};
 ghost use Rattle.sleep_model.specs.Positions.{first_position, next_step, position_after, position_effect};
@@ -12,12 +12,12 @@ use sleep_model::{Kind, ScriptPosition};
 use std::alloc::Global;
 use std::marker::Model;
 
-/// Where each script stands. The ends of their sleeps are kept beside, and how many of them neither sleep nor have
-/// exited, so that whether all are still is known without a look at each.
+/// The position of each script. The ends of their sleeps are here too, and how many of them neither sleep nor
+/// have exited, so that whether all are stopped is known without a look at each.
 #[derive(Drop)]
 pub(crate) struct ScriptPositions {
     positions: Vec<ScriptPosition>,
-    /// The end of each script's sleep, where it sleeps.
+    /// The end of each script's sleep, if it sleeps.
     ends: Moments,
     /// How many scripts neither sleep nor have exited.
     awake: usize,
@@ -111,14 +111,14 @@ fn move_script(position: &mut ScriptPosition, kind: Kind)
     }
 }
 
-/// Whether a script that stands so neither sleeps nor has exited.
+/// Whether a script with that position neither sleeps nor has exited.
 fn is_awake(position: ScriptPosition) -> bool
     ensures { result ≡ is_awake position }
 {
     !position.exited && position.until.is_none()
 }
 
-/// How many stand so, where one that did or not does or not.
+/// The new count, after one position that was counted or not is replaced by one that is counted or not.
 #[inline(always)]
 fn recount(was: bool, is: bool, many: usize) -> usize
     requires one { one_if was ≤ many }
@@ -132,7 +132,8 @@ fn recount(was: bool, is: bool, many: usize) -> usize
     }
 }
 
-/// The end of a script's sleep, before and after an entry of its own: nearly all entries leave it without one.
+/// The end of a script's sleep, before and after an entry of its own: nearly all entries leave it without
+/// one.
 fn move_end(ends: &mut Moments, script: usize, was: Option<u64>, is: Option<u64>)
     requires within { script < length ends.old }
     requires was { was ≡ slice_index_or ends.old script None }
@@ -172,7 +173,7 @@ impl ScriptPositions {
         self.positions.len()
     }
 
-    /// Where that script stands, if there is one.
+    /// The position of that script, if there is one.
     pub(crate) fn get(&self, script: usize) -> Option<ScriptPosition>
         ensures { result ≡ slice_get self.now script }
     {
@@ -209,8 +210,8 @@ impl ScriptPositions {
         self.awake == 0 && is_later(self.ends.least(), time)
     }
 
-    /// The next script after that one, or the first, whose sleep has come to its end by now. Where none is found after
-    /// none, no script's has.
+    /// The next script after that one, or the first, whose sleep has come to its end by now. If the search
+    /// begins at the first and finds none, no script's has.
     #[tactic(auto, using(crate::proofs::Coming::slept_of, crate::proofs::Coming::none_of))]
     pub(crate) fn next_slept(&self, after: Option<usize>, now: u64) -> Option<usize>
         ensures found { IfSome result (λ script. HasSlept self.now script now) }

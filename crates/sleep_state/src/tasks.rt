@@ -1,3 +1,4 @@
+//! The positions of scripts and their marks, entry by entry.
 ghost use Rattle.std.specs.Prelude.{◌≡◌, ◌<◌, ◌^◌};
 ghost use Rattle.sleep_model.specs.Marks.{marks_after};
 ghost use Rattle.sleep_model.specs.Positions.{position_effect, positions_after};
@@ -9,7 +10,7 @@ use sleep_model::{Actor, Kind, ScriptPosition};
 use std::alloc::Global;
 use std::marker::Model;
 
-/// Where each script of a machine stands, and the marks by which scripts wait for one another.
+/// The position of each script of a machine, and the marks by which scripts wait for one another.
 #[derive(Drop)]
 pub struct Tasks {
     positions: ScriptPositions,
@@ -90,7 +91,7 @@ impl Tasks {
         move_marks(&mut self.marks, kind);
     }
 
-    /// Where that script stands.
+    /// The position of that script.
     #[tactic(auto, using(crate::proofs::Sleeping::position_none))]
     pub fn position(&self, script: u32) -> ScriptPosition
         ensures { result ≡ position_at self.now.positions script }
@@ -125,7 +126,8 @@ impl Tasks {
         self.positions.least_end()
     }
 
-    /// Whether each script has exited, or sleeps to a moment later than that. It may be so where that is not told.
+    /// Whether each script has exited, or sleeps to a moment later than that. False may also mean that this
+    /// is not known.
     pub fn are_stopped(&self, time: u64) -> bool
         ensures { OnTrue result (AreStopped self.now.positions time) }
     {

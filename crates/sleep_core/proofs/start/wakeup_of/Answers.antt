@@ -1,3 +1,4 @@
+-- Proof that the loop of `wakeup_of` keeps its invariant.
 use Rattle.std.proofs.Common.{arith}
 use Rattle.std.proofs.lemmas.Grind.{common_steps}
 use Rattle.sleep_core.proofs.start.wakeup_of.Goals as goal

@@ -1,3 +1,4 @@
+-- The invariant of the loop of `wakeup_of`.
 use Rattle.std.proofs.Common.{◌≡◌, map, take}
 use Rattle.sleep_model.specs.Runtime.{may_wake}
 use Rattle.sleep_core.proofs.start.wakeup_of.Given as goal

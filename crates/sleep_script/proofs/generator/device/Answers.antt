@@ -1,3 +1,4 @@
+-- Proof that `device` meets what `name` requires.
 use Rattle.std.proofs.Common.{◌≤◌, length, decimal, arith}
 use Rattle.std.proofs.lemmas.Fmt.{length-decimal-le}
 use Rattle.sleep_script.proofs.generator.device.Goals as goal

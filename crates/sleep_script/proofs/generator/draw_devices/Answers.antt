@@ -1,3 +1,4 @@
+-- Proof that `draw_devices` meets its contract, and that its loop keeps its invariant, and that it meets what `draw` and `device` require.
 use Rattle.std.proofs.Common.{◌≡◌, ◌<◌, ◌*◌, ◌+◌, ◌∙◌, ◌==◌, cond, length, map, ap, arith}
 use Rattle.std.specs.List.{range_with_len}
 use Rattle.std.proofs.lemmas.List.FromFn.{length-map-range_with_len}

@@ -1,3 +1,4 @@
+-- Proof that `draw_line` meets its contract.
 use Rattle.std.proofs.Common.{arith}
 use Rattle.sleep_script.proofs.Drawn.{line_is}
 use Rattle.sleep_script.proofs.generator.draw_line.Goals as goal

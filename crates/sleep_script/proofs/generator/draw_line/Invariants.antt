@@ -1,3 +1,4 @@
+-- The invariant of the loop of `draw_line`.
 use Rattle.std.proofs.Common.{◌≡◌, ◌+◌, ◌*◌}
 use Rattle.sleep_script.proofs.Drawn.{events}
 use Rattle.sleep_script.proofs.generator.draw_line.Given as goal

@@ -1,3 +1,4 @@
+-- The invariant of the loop of `draw_links`.
 use Rattle.std.proofs.Common.{◌≡◌, ◌+◌, ◌*◌}
 use Rattle.sleep_script.specs.Generated.{drawn_links}
 use Rattle.sleep_script.proofs.generator.draw_links.Given as goal

@@ -1,3 +1,4 @@
+-- The invariant of the loop of `draw_parents`.
 use Rattle.std.proofs.Common.{◌≡◌, map}
 use Rattle.std.specs.List.{range_with_len}
 use Rattle.sleep_script.specs.Generated.{drawn_parent}

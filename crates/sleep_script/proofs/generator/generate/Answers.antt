@@ -1,3 +1,4 @@
+-- Proof that `generate` meets its contract.
 use Rattle.std.proofs.Common.{sym, subst}
 use Rattle.sleep_model.specs.Accepted.{IsAccepted}
 use Rattle.sleep_script.proofs.Drawn.{machine_is}

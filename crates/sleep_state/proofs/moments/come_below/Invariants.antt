@@ -1,3 +1,4 @@
+-- The invariant of the loop of `come_below`, and the measure by which it ends.
 use Rattle.std.proofs.Common.{◌≡◌, ◌<◌, ◌-◌, ◌*◌, false, None, slice_index_or}
 use Rattle.sleep_state.specs.Sleepers.{is_later}
 use Rattle.sleep_state.proofs.moments.come_below.Given as goal

@@ -1,3 +1,4 @@
+-- The invariant of the loop of `rise`, and the measure by which it ends.
 use Rattle.std.proofs.Common.{◌≡◌, ◌<◌, ◌*◌, drop, length}
 use Rattle.sleep_state.specs.Trees.{AreJoinedBut}
 use Rattle.sleep_state.proofs.moments.rise.Given as goal

@@ -1,3 +1,4 @@
+-- Proof that `Core::calls_due` meets its contract.
 use Rattle.std.proofs.Common.{◌≡◌, ◌∙◌, ◌+◌, ap, sym, subst}
 use Rattle.sleep_model.specs.Calls.{calls_due}
 use Rattle.sleep_state.specs.JournalRooms.{entries}

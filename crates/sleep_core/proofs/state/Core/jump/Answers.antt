@@ -1,3 +1,4 @@
+-- Proof that `Core::jump` keeps the invariant of its type.
 use Rattle.std.proofs.Common.{◌≡◌, ◌∙◌, ◌<◌, map, ap, sym, subst, arith}
 use Rattle.sleep_model.specs.declared.machine.Machine.{Machine}
 use Rattle.sleep_model.specs.Numbers.{time_of}

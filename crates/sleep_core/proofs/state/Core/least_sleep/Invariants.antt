@@ -1,3 +1,4 @@
+-- The invariant of the loop of `Core::least_sleep`.
 use Rattle.std.proofs.Common.{◌≡◌}
 use Rattle.sleep_model.specs.Legal.{next_sleep}
 use Rattle.sleep_state.specs.JournalRooms.{entries}

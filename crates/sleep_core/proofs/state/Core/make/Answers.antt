@@ -1,3 +1,5 @@
+-- Proof that `Core::make` meets its contract, and that it keeps the invariant of its type, and that it meets what `append` and `add`
+-- require.
 use Rattle.std.proofs.Common.{◌≡◌, ◌∙◌, ◌<◌, ◌^◌, ◌||◌, List, length, map, ap, ap₂, refl, sym, subst, arith}
 use Rattle.sleep_model.specs.declared.entry.Entry.{Entry}
 use Rattle.sleep_model.specs.declared.entry.JournalEntry.{JournalEntry}

@@ -1,3 +1,4 @@
+-- Proof that `Core::new` keeps the invariant of its type.
 use Rattle.std.proofs.Common.{◌≡◌, ◌∙◌, [], map, length, ap, ap₂, sym, subst}
 use Rattle.sleep_model.specs.declared.machine.Machine.{Machine}
 use Rattle.sleep_model.specs.Runtime.{may_wake}

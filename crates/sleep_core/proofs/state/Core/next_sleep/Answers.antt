@@ -1,3 +1,4 @@
+-- Proof that `Core::next_sleep` meets its contract.
 use Rattle.std.proofs.Common.{◌≡◌, ◌∙◌, false, length, Option, Some, None, is_some, refl, sym, ap, subst}
 use Rattle.std.proofs.lemmas.Bool.{true≢false}
 use Rattle.sleep_model.specs.declared.entry.Actor.{Actor}

@@ -1,3 +1,4 @@
+-- Proof that `Core::next_slept` meets its contract.
 use Rattle.std.proofs.Common.{◌∙◌, ℕ, length, ap, sym, subst, arith}
 use Rattle.sleep_model.specs.Numbers.{time_of}
 use Rattle.sleep_model.specs.Positions.{positions}

@@ -1,3 +1,4 @@
+-- Proof that in `Core::reports_in` the indices and sums stay in range.
 use Rattle.std.proofs.Common.{◌∙◌, ◌≤◌, List, length, ap, sym, subst, arith}
 use Rattle.sleep_model.specs.declared.machine.Answer.{Answer}
 use Rattle.sleep_model.specs.declared.machine.Machine.{Machine}

@@ -1,3 +1,4 @@
+-- Proof that `Core::scheduled_due` meets its contract.
 use Rattle.std.proofs.Common.{◌∙◌, ap, sym}
 use Rattle.sleep_state.specs.JournalRooms.{entries}
 use Rattle.phase_resume.specs.Ups.{scheduled_up_on}

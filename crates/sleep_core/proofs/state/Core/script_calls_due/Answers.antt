@@ -1,3 +1,4 @@
+-- Proof that `Core::script_calls_due` meets its contract.
 use Rattle.std.proofs.Common.{◌≡◌, ◌∙◌, Some, length, slice_get, ap, sym, subst}
 use Rattle.sleep_model.specs.Calls.{pieces_in}
 use Rattle.sleep_model.specs.Positions.{position_at, positions}

@@ -1,3 +1,4 @@
+-- Proof that `Core::stage` meets its contract.
 use Rattle.std.proofs.Common.{◌∙◌, ap}
 use Rattle.sleep_state.specs.Paths.{PathState}
 use Rattle.sleep_core.proofs.Propers.{proper_if}

@@ -1,3 +1,4 @@
+-- Proof that `Core::up_due` meets its contract.
 use Rattle.std.proofs.Common.{◌∙◌, ap, sym}
 use Rattle.sleep_model.specs.Devices.{up_due}
 use Rattle.sleep_state.specs.JournalRooms.{entries}

@@ -1,3 +1,4 @@
+-- Proof that `Core::walk_down` meets its contract.
 use Rattle.std.proofs.Common.{◌∙◌, ap}
 use Rattle.sleep_state.specs.JournalRooms.{entries}
 use Rattle.phase_suspend.specs.Downs.{walk_down_due_on}

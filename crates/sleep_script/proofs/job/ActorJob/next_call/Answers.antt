@@ -1,3 +1,4 @@
+-- Proof that `ActorJob::next_call` meets its contract.
 use Rattle.sleep_model.specs.Calls.{calls_of_turn}
 use Rattle.sleep_script.proofs.Stepped.{own_next}
 use Rattle.sleep_script.proofs.job.ActorJob.next_call.Goals as goal

@@ -1,3 +1,4 @@
+-- Proof that `ActorJob::pass_call` meets its contract.
 use Rattle.std.proofs.Common.{◌≡◌, length, arith}
 use Rattle.std.proofs.lemmas.Bool.Decides.{nat_tests}
 use Rattle.sleep_model.specs.Calls.{calls_of_turn}

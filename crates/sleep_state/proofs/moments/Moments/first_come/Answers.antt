@@ -1,3 +1,4 @@
+-- Proof that `Moments::first_come` meets what `come_below` requires.
 use Rattle.std.proofs.Common.{◌∙◌, ℕ, List, Option, None, slice_index_or, sym, ap}
 use Rattle.sleep_state.specs.Sleepers.{is_later}
 use Rattle.sleep_state.specs.Trees.{least_of}

@@ -1,3 +1,4 @@
+-- Proof that `Moments::set` meets its contract.
 use Rattle.std.proofs.Common.{◌+◌, ◌∙◌, ℕ, List, Option, drop, length, slice_set, ap, arith}
 use Rattle.std.proofs.lemmas.List.{drop-set-add, length-set, with_items_is}
 use Rattle.std.specs.Vec.{with_item}

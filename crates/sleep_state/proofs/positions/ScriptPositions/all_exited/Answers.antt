@@ -1,3 +1,4 @@
+-- Proof that `ScriptPositions::all_exited` meets its contract.
 use Rattle.std.proofs.Common.{◌∙◌, List, ap}
 use Rattle.sleep_model.specs.declared.progress.ScriptPosition.{ScriptPosition}
 use Rattle.sleep_model.specs.Positions.{all_exited}

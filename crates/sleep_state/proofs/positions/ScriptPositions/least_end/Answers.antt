@@ -1,3 +1,4 @@
+-- Proof that `ScriptPositions::least_end` meets its contract.
 use Rattle.std.proofs.Common.{◌∙◌, List, length, ap}
 use Rattle.sleep_model.specs.declared.progress.ScriptPosition.{ScriptPosition}
 use Rattle.sleep_state.specs.Sleepers.{end_of}

@@ -1,3 +1,4 @@
+-- Proof that `ScriptPositions::set` keeps the invariant of its type, and that it meets what `recount` requires.
 use Rattle.std.proofs.Common.{◌<◌, ◌∙◌, ℕ, List, length, Option, slice_set, sym, ap, subst, arith}
 use Rattle.std.proofs.lemmas.List.{map-set}
 use Rattle.sleep_model.specs.declared.progress.ScriptPosition.{ScriptPosition}
