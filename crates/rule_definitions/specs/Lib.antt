@@ -1,13 +1,24 @@
 -- The rules of a log, each by itself: what each of them asks of an entry, by the entries before it and the machine.
 --
--- Numbers    the word and the time that it carries Attempts   the number and the guard of an attempt Reads      reads and saves of the
--- count, and writes to the state and to autosleep Walk       the phases of devices: who is next, what has to wait, what is answered Skip
--- which devices a phase passes over Runtime    requests for a runtime status Owed       undoing only what is owed Freezer    who freezes,
--- and how a freeze ends Path       the table of an attempt Answers    what phases and attempts answer Restored   nothing is owed once an
--- attempt is over Steps      each actor's own steps Enabled    who may go on while the machine sleeps, what wakes it, and when time jumps
--- Source     a wakeup source's own entries Links      links that are added or set All        all of them, of an entry of the journal Entry
--- all of them, of any entry Verdict    the first bad line of a log, and the number of the rule that it breaks Law        that what is due
--- keeps them, and what keeps them is due
+-- Numbers    the word and the time that it carries
+-- Attempts   the number and the guard of an attempt
+-- Reads      reads and saves of the count, and writes to the state and to autosleep
+-- Walk       the phases of devices: who is next, what has to wait, what is answered
+-- Skip       which devices a phase passes over
+-- Runtime    requests for a runtime status
+-- Owed       undoing only what is owed
+-- Freezer    who freezes, and how a freeze ends
+-- Path       the table of an attempt
+-- Answers    what phases and attempts answer
+-- Restored   nothing is owed once an attempt is over
+-- Steps      each actor's own steps
+-- Enabled    who may go on while the machine sleeps, what wakes it, and when time jumps
+-- Source     a wakeup source's own entries
+-- Links      links that are added or set
+-- All        all of them, of an entry of the journal
+-- Entry      all of them, of any entry
+-- Verdict    the first bad line of a log, and the number of the rule that it breaks
+-- Law        that what is due keeps them, and what keeps them is due
 
 pub mod All
 pub mod Answers

@@ -20,7 +20,7 @@ flat_same : (f g : ℕ → List ℕ) (cs : List ℕ) → ((c : ℕ) → is_among
 flat_same f g [] h = refl
 flat_same f g (c ∷ cs) h = ap (λ ys. ys ++ flat_map f cs) (h c (among_first c cs)) ∙ ap (λ ys. g c ++ ys) (flat_same f g cs (λ x m. h x (among_rest c cs x m)))
 
--- what passes is kept
+-- what passes is in the filtered list
 pub preserved_among : (p : ℕ → Bool) (xs : List ℕ) (d : ℕ) → p d ≡ true → is_among xs d ≡ true → is_among (filter p xs) d ≡ true
 preserved_among p [] d h m = absurd (false≢true m)
 preserved_among p (x ∷ xs) d h m = by_place (preserved_among p xs d h) (or_cases (x == d) (is_among xs d) m)
@@ -35,7 +35,7 @@ preserved_among p (x ∷ xs) d h m = by_place (preserved_among p xs d h) (or_cas
         ap (λ b. is_among (cond b (x ∷ filter p xs) (filter p xs)) d) (ap p same ∙ h) ∙ ap (λ b. b || is_among (filter p xs) d) e
     by_place rest (inr e) = later (p x) (rest e)
 
--- what is kept was there
+-- what is in the filtered list was in the list
 pub among_filter : (p : ℕ → Bool) (xs : List ℕ) (d : ℕ) → is_among (filter p xs) d ≡ true → is_among xs d ≡ true
 among_filter p [] d m = m
 among_filter p (x ∷ xs) d m = by_test (among_filter p xs d) (p x) m
@@ -174,7 +174,7 @@ module _ (dependents_of : ℕ → List ℕ) where
     pub last_order : (d : ℕ) → IsOrder dependents_of (last_occurrences (W d))
     last_order d = subst (IsOrder dependents_of) (sym (last_onto (W d))) (walk_order (length (W d)) [] tt d (omega arith))
 
--- an order by what hangs below its devices alone
+-- an order depends only on what hangs below its devices
 same_order : (dependents_of dependents_of' : ℕ → List ℕ) (xs : List ℕ) → IsOrder dependents_of xs → ((d : ℕ) → is_among xs d ≡ true → dependents_of' d ≡ dependents_of d) → IsOrder dependents_of' xs
 same_order dependents_of dependents_of' [] h e = tt
 same_order dependents_of dependents_of' (x ∷ xs) h e = (
@@ -183,7 +183,7 @@ same_order dependents_of dependents_of' (x ∷ xs) h e = (
   same_order dependents_of dependents_of' xs h.2 (λ d m. e d (among_rest x xs d m)),
 )
 
--- what was moved stands after the others
+-- what was moved comes after the others
 moved_order : (dependents_of dependents_of' : ℕ → List ℕ) (M back : List ℕ) → IsOrder dependents_of' back → ((d : ℕ) → is_among back d ≡ is_among M d)
     → ((d y : ℕ) → is_among M d ≡ false → is_among (dependents_of' d) y ≡ true → (is_among M y ≡ true) ⊎ (is_among (dependents_of d) y ≡ true))
     → (xs : List ℕ) → IsOrder dependents_of xs → IsOrder dependents_of' (filter (λ d. not (is_among M d)) xs ++ back)
@@ -333,7 +333,7 @@ module _ (ps : List (Option ℕ)) (after : EachAfterParent 0 ps) where
   pub moved_before : (l : Link) (ls : List Link) → is_among (moved (length ps) (dependents ps ls) l.consumer) l.supplier ≡ false → moved (length ps) (dependents ps (l ∷ ls)) l.consumer ≡ moved (length ps) (dependents ps ls) l.consumer
   moved_before l ls n = same_moved (dependents ps ls) (dependents ps (l ∷ ls)) l.supplier (others_same l ls) (length ps) l.consumer n
 
-  -- each device stands before all that hang right below it
+  -- each device comes before all that hang right below it
   pub order_ranked : (ls : List Link) → AreLinks ps ls → IsOrder (dependents ps ls) (order_by ps ls)
   order_ranked [] h = run_order 0 (length ps) (omega arith)
   order_ranked (l ∷ ls) h = with_link (order_ranked ls h.4)

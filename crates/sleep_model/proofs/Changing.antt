@@ -7,7 +7,7 @@ use Rattle.sleep_model.specs.Order.{is_among, is_link, with_state, active_of, ch
 use Rattle.sleep_model.proofs.FirstOccurrences.{consumers_linked}
 use Rattle.sleep_model.proofs.Dependents.{among_app, among_first, among_rest, within_of, all_of}
 
--- ---- a state alone changes
+-- ---- only a state changes
 
 pub same_supplier : (supplier consumer : ℕ) (active : Bool) (l : Link) → (with_state supplier consumer active l).supplier ≡ l.supplier
 same_supplier supplier consumer active l = by_test (is_link supplier consumer l)
@@ -23,7 +23,7 @@ same_consumer supplier consumer active l = by_test (is_link supplier consumer l)
     by_test true = refl
     by_test false = refl
 
--- what leaves the ends of links alone leaves who hangs below whom, and the order
+-- what changes only the states of links leaves who hangs below whom, and the order
 module _ (f : Link → Link) (s : (l : Link) → (f l).supplier ≡ l.supplier) (c : (l : Link) → (f l).consumer ≡ l.consumer) where
   pub consumers_preserved : (d : ℕ) (ls : List Link) → consumers_of d (map f ls) ≡ consumers_of d ls
   consumers_preserved d [] = refl
@@ -87,7 +87,7 @@ active_dependents ps ls d e m = among_app (children_from d 0 ps) (consumers_of d
     by_place (inl f) = or_left (is_among (children_from d 0 ps) e) (is_among (consumers_of d ls) e) f
     by_place (inr f) = or_right (is_among (children_from d 0 ps) e) (is_among (consumers_of d ls) e) (consumers_linked ls d e ∙ active_linked ls d e (sym (consumers_linked (active_of ls) d e) ∙ f))
 
--- an order stays one where less hangs below its devices
+-- an order stays one if less hangs below its devices
 pub fewer_order : (dependents_of dependents_of' : ℕ → List ℕ) → ((d e : ℕ) → is_among (dependents_of' d) e ≡ true → is_among (dependents_of d) e ≡ true) → (xs : List ℕ) → IsOrder dependents_of xs → IsOrder dependents_of' xs
 fewer_order dependents_of dependents_of' f [] h = tt
 fewer_order dependents_of dependents_of' f (x ∷ xs) h = (h.0, all_of xs (dependents_of' x) (λ y m. within_of xs (dependents_of x) h.1 y (f x y m)), fewer_order dependents_of dependents_of' f xs h.2)

@@ -39,11 +39,11 @@ all_of those (x ∷ xs) h = (h x (among_first x xs), all_of those xs (λ d m. h 
 
 -- ---- last places
 
--- d in front of these, where it is not among them
+-- d before these, if it is not among them
 abbrev pub put : List ℕ → ℕ → List ℕ
 put out d = cond (is_among out d) out (d ∷ out)
 
--- these in front of those, each at its last place alone
+-- these before those, each only at its last position
 abbrev pub onto : List ℕ → List ℕ → List ℕ
 onto [] out = out
 onto (x ∷ xs) out = put (onto xs out) x
@@ -64,7 +64,7 @@ pub among_onto : (xs out : List ℕ) (d : ℕ) → is_among (onto xs out) d ≡ 
 among_onto [] out d = refl
 among_onto (x ∷ xs) out d = among_put (onto xs out) x d ∙ (ap (λ b. (x == d) || b) (among_onto xs out d) ∙ sym (or_assoc (x == d) (is_among xs d) (is_among out d)))
 
--- keeping each last place is putting them in front of nothing
+-- keeping each last place is putting them before nothing
 pub last_onto : (xs : List ℕ) → last_occurrences xs ≡ onto xs []
 last_onto [] = refl
 last_onto (x ∷ xs) = ap (λ o. cond (is_among xs x) o (x ∷ o)) (last_onto xs) ∙ ap (λ b. cond b (onto xs []) (x ∷ onto xs [])) (sym (among_onto xs [] x ∙ or-false (is_among xs x)))
@@ -143,7 +143,7 @@ module _ (dependents_of : ℕ → List ℕ) where
     pub visited : (out : List ℕ) → IsClosed out → (d : ℕ) → is_among out d ≡ true → onto (W d) out ≡ out
     visited out h d m = onto_same (W d) out (all_in (length (W d)) out h d (omega arith) m)
 
-    -- a device that was not walked comes in front of all that hangs below it
+    -- a device that was not walked comes before all that hangs below it
     pub visits : (out : List ℕ) (d : ℕ) → is_among out d ≡ false → onto (W d) out ≡ d ∷ onto (flat_map W (dependents_of d)) out
     visits out d n =
         ap (λ ys. onto ys out) (fix d)

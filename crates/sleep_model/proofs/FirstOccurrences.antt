@@ -1,4 +1,4 @@
--- Lists of devices that stand once, and what one more link adds to them.
+-- Lists of devices without duplicates, and what one more link adds to them.
 use Rattle.std.proofs.Common.{◌≡◌, ◌<◌, ◌+◌, ◌∙◌, ℕ, zero, suc, Bool, true, false, not, ◌==◌, ◌||◌, ◌&&◌, List, [], ◌∷◌, ◌++◌, length, filter, get_or, slice_get, Option, Some, None, refl, sym, ap, cond, arith}
 use Rattle.std.specs.List.{list_any}
 use Rattle.std.proofs.lemmas.List.{append-nil, append_assoc}
@@ -20,7 +20,7 @@ filter_push p (x ∷ xs) c = by_test (filter_push p xs c) (p x)
     by_test rest true = ap (λ ys. x ∷ ys) rest
     by_test rest false = rest
 
--- one more device stands at the end, if it did not stand before
+-- one more device comes at the end, if it was not there before
 pub first_occurrences_push : (xs : List ℕ) (c : ℕ) → first_occurrences (xs ++ c ∷ []) ≡ cond (is_among xs c) (first_occurrences xs) (first_occurrences xs ++ c ∷ [])
 first_occurrences_push [] c = refl
 first_occurrences_push (x ∷ xs) c = ap (λ ys. x ∷ filter (λ y. not (y == x)) ys) (first_occurrences_push xs c) ∙ by_tests (is_among xs c) (x == c) refl
@@ -46,7 +46,7 @@ among_others x d (y ∷ ys) e = by_test (among_others x d ys e) (y == x) refl
     by_test rest true f = rest ∙ sym (ap (λ b. b || is_among ys d) (ap (λ z. z == d) (eqb-true y x f) ∙ e))
     by_test rest false f = ap (λ b. (y == d) || b) rest
 
--- the same devices stand there
+-- the same devices are there
 pub among_first_occurrences : (xs : List ℕ) (d : ℕ) → is_among (first_occurrences xs) d ≡ is_among xs d
 among_first_occurrences [] d = refl
 among_first_occurrences (x ∷ xs) d = by_test (among_first_occurrences xs d) (x == d) refl
@@ -78,7 +78,7 @@ holding_new ps l ls = ap (λ xs. parent_of (slice_get ps l.consumer) ++ xs) (sup
 pub holding_other : (ps : List (Option ℕ)) (l : Link) (ls : List Link) (d : ℕ) → (l.consumer == d) ≡ false → superiors ps (l ∷ ls) d ≡ superiors ps ls d
 holding_other ps l ls d e = ap (λ xs. parent_of (slice_get ps d) ++ xs) (suppliers_other l ls d e)
 
--- ---- what stands already
+-- ---- what is there already
 
 one_link : (a b : Bool) (x y : ℕ) (rest : Bool) → (x == y) ≡ a → (rest || is_among (cond b (x ∷ []) []) y) ≡ ((a && b) || rest)
 one_link a true x y true e = by_first a
@@ -143,18 +143,18 @@ children_different d n (p ∷ ps) = by_test (children_different d (suc n) ps) (i
     by_test rest true = (children_above d (suc n) ps n (omega arith), rest)
     by_test rest false = rest
 
--- children stand once
+-- each child is there once
 pub first_children : (d n : ℕ) (ps : List (Option ℕ)) → first_occurrences (children_from d n ps) ≡ children_from d n ps
 first_children d n ps = first_same (children_from d n ps) (children_different d n ps)
 
--- a parent stands once
+-- a parent is there once
 pub first_parent : (ps : List (Option ℕ)) (d : ℕ) → first_occurrences (parent_of (slice_get ps d)) ≡ parent_of (slice_get ps d)
 first_parent [] d = refl
 first_parent (None ∷ ps) zero = refl
 first_parent (Some p ∷ ps) zero = refl
 first_parent (p ∷ ps) (suc d) = first_parent ps d
 
--- a device is among the children of its parent alone
+-- a device is only among the children of its parent
 pub among_children : (d n : ℕ) (ps : List (Option ℕ)) (k : ℕ) → k < length ps → is_among (children_from d n ps) (n + k) ≡ is_parent d (get_or ps k None)
 among_children d n [] k l = absurd (omega arith)
 among_children d n (p ∷ ps) zero l = by_test (is_parent d p)
@@ -191,7 +191,7 @@ among_parent (None ∷ ps) zero s = refl
 among_parent (Some p ∷ ps) zero s = or-false (p == s)
 among_parent (p ∷ ps) (suc c) s = among_parent ps c s
 
--- and its supplier stands above it already only if it is the parent
+-- and its supplier is above it already only if it is the parent
 pub holds_already : (ps : List (Option ℕ)) (ls : List Link) (s c : ℕ) → is_linked ls s c ≡ false → is_among (superiors ps ls c) s ≡ is_parent s (get_or ps c None)
 holds_already ps ls s c n =
     among_app (parent_of (slice_get ps c)) (suppliers_of c ls) s

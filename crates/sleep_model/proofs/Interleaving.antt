@@ -25,7 +25,7 @@ le_true a b h = grind (arith, nat_tests)
 le_false : (a b : ℕ) → b < a → nat_le a b ≡ false
 le_false a b h = grind (arith, nat_tests)
 
--- one of the others that stands after the whole journal is the last
+-- one of the others that comes after the whole journal is the last
 pub interleaved_other : (n : ℕ) (journal : List JournalEntry) (others : List OtherEntry) (last : OtherEntry) → n + length journal ≤ last.before
     → interleaved n journal (others ++ last ∷ []) ≡ interleaved n journal others ++ last.entry ∷ []
 interleaved_other n [] [] last h = refl
@@ -42,7 +42,7 @@ interleaved_other n (e ∷ js) (o ∷ os) last h = by (nat_le o.before n) (inter
     by true g k = ap (λ xs. o.entry ∷ xs) g
     by false g k = ap (λ xs. e.entry ∷ xs) k
 
--- the last of a journal stands after all, where none of the others stands after it
+-- the last of a journal comes after all, if none of the others comes after it
 pub interleaved_journal : (n : ℕ) (journal : List JournalEntry) (others : List OtherEntry) (last : JournalEntry) → AreWithin (n + length journal) others
     → interleaved n (journal ++ last ∷ []) others ≡ interleaved n journal others ++ last.entry ∷ []
 interleaved_journal n [] [] last h = refl
@@ -64,7 +64,7 @@ interleaved_journal n (e ∷ js) (o ∷ os) last h =
 pub length_all : (past : List JournalEntry) (others : List OtherEntry) → length (interleaved 0 (reverse past) others) ≡ length past + length others
 length_all past others = omega (arith, length_interleaved 0 (reverse past) others, length-reverse past)
 
--- an entry that stands after the whole journal is the last
+-- an entry that comes after the whole journal is the last
 pub put_last : (past : List JournalEntry) (others new : List OtherEntry) (n : ℕ) (e : Entry) → n ≡ length past → new ≡ others ++ record { before = n; entry = e } ∷ []
     → interleaved 0 (reverse past) new ≡ interleaved 0 (reverse past) others ++ e ∷ []
 put_last past others new n e count is =
@@ -81,7 +81,7 @@ read_other n journal others rest first is ahead = ap (interleaved n journal) is 
     by [] h = refl
     by (e ∷ js) h = ap (λ b. if b then first.entry ∷ interleaved n (e ∷ js) rest else e.entry ∷ interleaved (suc n) js (first ∷ rest)) h
 
--- the journal's next is read where none of the others is ahead
+-- the journal's next is read if none of the others is ahead
 pub read_journal : (n : ℕ) (journal rest : List JournalEntry) (others : List OtherEntry) (first : JournalEntry) → journal ≡ first ∷ rest → is_journals_turn n journal others ≡ true
     → interleaved n journal others ≡ first.entry ∷ interleaved (n + 1) rest others
 read_journal n journal rest others first is turn =
@@ -95,7 +95,7 @@ read_journal n journal rest others first is turn =
     by [] h = refl
     by (o ∷ os) h = ap (λ b. if b then o.entry ∷ interleaved n (first ∷ rest) os else first.entry ∷ interleaved (suc n) rest (o ∷ os)) (not_true (nat_le o.before n) h)
 
--- nothing is left where the journal is at its end and it is its turn
+-- nothing is left if the journal is at its end and it is its turn
 pub read_none : (n : ℕ) (journal : List JournalEntry) (others : List OtherEntry) → length journal ≡ 0 → is_journals_turn n journal others ≡ true → interleaved n journal others ≡ []
 read_none n [] [] l h = refl
 read_none n [] (o ∷ os) l h = absurd (cc)

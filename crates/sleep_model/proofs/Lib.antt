@@ -1,3 +1,4 @@
+-- The lemmas of this crate.
 pub mod Acyclic
 pub mod Changing
 pub mod Children

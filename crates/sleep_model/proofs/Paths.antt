@@ -1,4 +1,4 @@
--- What is moved with a device, and where paths from it lead.
+-- What is moved with a device, and what paths from it lead to.
 use Rattle.std.proofs.Common.{◌≡◌, ◌∙◌, ℕ, zero, suc, Bool, true, false, ◌==◌, List, [], ◌∷◌, ◌⊎◌, inl, inr, refl, sym, subst}
 use Rattle.std.specs.List.{flat_map}
 use Rattle.std.proofs.lemmas.Bool.{false≢true, eqb-true, or_cases}
@@ -24,7 +24,7 @@ module _ (dependents_of : ℕ → List ℕ) where
       by_place g (inl s) = none [] (eqb-true d e s)
       by_place g (inr k) = each (dependents_of d) g k
 
-  -- where no path leads from a device to another, that one is not moved with it
+  -- if no path leads from a device to another, that one is not moved with it
   pub no_path_moved : (n from to : ℕ) → ((path : List ℕ) → IsPath dependents_of path from to → ⊥) → is_among (moved n dependents_of from) to ≡ false
   no_path_moved n from to none = by_test (is_among (moved n dependents_of from) to) refl
     where
@@ -32,7 +32,7 @@ module _ (dependents_of : ℕ → List ℕ) where
       by_test false e = refl
       by_test true e = absurd (not_moved n from to (λ xs p. none (from ∷ xs) (refl, p)) e)
 
-  -- where a path leads, there is what hangs below
+  -- if a path leads there, it hangs below
   pub path_below : (W : ℕ → List ℕ) → Descends dependents_of W → (path : List ℕ) (from to : ℕ) → IsPath dependents_of path from to → is_among (W from) to ≡ true
   path_below W fix [] from to p = absurd p
   path_below W fix (x ∷ xs) from to p = subst (λ (y : ℕ). is_among (W y) to ≡ true) p.0 (leads_below dependents_of W fix x xs to p.1)

@@ -35,7 +35,7 @@ last_of_more p a (suc k) n e =
 last_below : (p : ℕ → Bool) (k n : ℕ) → k ≡ n + 1 → last_where p (range_with_len 0 k) ≡ (if p n then Some n else last_where p (range_with_len 0 n))
 last_below p k n e = let is : k ≡ suc n = omega (arith, e) in rw is (last_of_more p 0 n n (omega arith))
 
--- a search from above, where all from k on have failed: what k - 1 makes of it
+-- a search from above, if all from k on have failed: what k - 1 makes of it
 module _ (p : ℕ → Bool) (n k : ℕ) (left : last_where p (range_with_len 0 n) ≡ last_where p (range_with_len 0 k)) (some : 0 < k) where
   left_below : last_where p (range_with_len 0 n) ≡ (if p (k - 1) then Some (k - 1) else last_where p (range_with_len 0 (k - 1)))
   left_below = left ∙ last_below p k (k - 1) (omega arith)

@@ -1,4 +1,4 @@
--- Where a walk stands in an order of different devices, from how many it has passed.
+-- The position of a walk in an order of different devices, from how many it has passed.
 use Rattle.std.proofs.Common.{◌≡◌, ◌<◌, ◌+◌, ◌∙◌, ℕ, zero, suc, Bool, true, false, not, ◌==◌, ◌||◌, List, [], ◌∷◌, length, drop, get_or, Some, None, refl, sym, ap, subst, arith}
 use Rattle.std.specs.List.{range_with_len}
 use Rattle.std.proofs.Math.Bool.{or-true}
@@ -8,7 +8,7 @@ use Rattle.std.proofs.lemmas.Bool.Decides.{nat_tests}
 use Rattle.sleep_model.specs.Walk.{first_where, last_where}
 use Rattle.sleep_model.specs.Order.{is_among}
 
--- no device stands twice
+-- no device is there twice
 abbrev pub AllDifferent : List ℕ → Type 0
 AllDifferent [] = Unit {0}
 AllDifferent (x ∷ xs) = (is_among xs x ≡ false) × AllDifferent xs
@@ -25,7 +25,7 @@ among_drop (x ∷ xs) (suc k) d h = ap (λ b. (x == d) || b) (among_drop xs k d 
 not_among_drop : (xs : List ℕ) (k d : ℕ) → is_among xs d ≡ false → is_among (drop k xs) d ≡ false
 not_among_drop xs k d h = false_from_ne_true _ (λ e. true≢false (sym (among_drop xs k d e) ∙ h))
 
--- no device passes where each fails
+-- no device passes if each fails
 last_none : (p : ℕ → Bool) (xs : List ℕ) → ((d : ℕ) → is_among xs d ≡ true → p d ≡ false) → last_where p xs ≡ None
 last_none p [] h = refl
 last_none p (x ∷ xs) h =

@@ -48,7 +48,7 @@ AreScripts m (s ∷ ss) = (0 < s.repeat) × (s.repeat ≤ 1000) × AreSteps m s.
 
 -- ---- answers
 
--- an answer of 1, which a device's prepare alone may give (device_prepare)
+-- an answer of 1, which only a device's prepare may give (device_prepare)
 abbrev pub is_one_allowed : What → Bool
 is_one_allowed (what.Device d phase.Prepare) = true
 is_one_allowed _ = false

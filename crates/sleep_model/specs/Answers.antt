@@ -38,12 +38,12 @@ answer_for what attempt [] = None
 answer_for what attempt (a ∷ rest) =
     if is_thing a.what what && is_for a.attempt attempt then Some a else answer_for what attempt rest
 
--- an answer of its own stands before the one for any attempt
+-- an answer of its own comes before the one for any attempt
 abbrev pub own_or : Option Answer → Option Answer → Option Answer
 own_or None general = general
 own_or (Some own) general = Some own
 
--- the answer of a thing in attempt n, where the machine gives one
+-- the answer of a thing in attempt n, if the machine gives one
 abbrev pub answer : Machine → What → ℕ → Option Answer
 answer m what n = own_or (answer_for what (Some n) m.answers) (answer_for what None m.answers)
 

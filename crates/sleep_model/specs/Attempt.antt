@@ -50,7 +50,7 @@ freeze_since (e ∷ past) = freeze_since_after e.kind e.time (freeze_since past)
 abbrev pub gives_up_at : ℕ → ℕ
 gives_up_at since = since + 20000
 
--- a freeze ends where no task is left, else where its time is over, else where a wakeup is pending (try_to_freeze_tasks)
+-- a freeze ends if no task is left, else if its time is over, else if a wakeup is pending (try_to_freeze_tasks)
 abbrev pub froze_due : List Entry → EventNow → Group → ℕ → List ℕ → Due
 froze_due past now g since [] = Makes (kind.Froze g froze.AllFrozen)
 froze_due past now g since (x ∷ rest) =
@@ -91,14 +91,14 @@ wakes_due m past now s =
     if nat_lt s.pos (position now) then Makes (kind.Wake true)
     else if nat_le (s.since + m.alarm_ms) (time_of past) then Makes (kind.Wake false) else Waits why.Asleep
 
--- the entering: not where a wakeup is pending (suspend_enter)
+-- the entering: not if a wakeup is pending (suspend_enter)
 abbrev pub enter_due : Machine → List Entry → EventNow → Option Sleep → Due
 enter_due m past now None = Makes (kind.Enter (pending past now))
 enter_due m past now (Some s) = wakes_due m past now s
 
 -- ---- the error
 
--- EBUSY where a wakeup is pending (syscore_suspend)
+-- EBUSY if a wakeup is pending (syscore_suspend)
 abbrev pub busy_error : Bool → Option Errno
 busy_error true = Some EBUSY
 busy_error false = None

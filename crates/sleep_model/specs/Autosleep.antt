@@ -23,7 +23,7 @@ abbrev pub looks_at : Work → Work
 looks_at (Attempting c) = Looking c
 looks_at before = before
 
--- where nothing was registered meanwhile the work naps, that it may not run all the time (try_to_suspend, schedule_timeout_uninterruptible)
+-- if nothing was registered meanwhile the work naps, that it may not run all the time (try_to_suspend, schedule_timeout_uninterruptible)
 abbrev pub naps_at : ℕ → Work → Work
 naps_at seen (Looking c) = if seen == c then Napping None else Closing
 naps_at seen before = before
@@ -33,7 +33,7 @@ abbrev pub after_look : Option ℕ → Work → Work
 after_look None before = Closing
 after_look (Some seen) before = naps_at seen before
 
--- where the work stands after an entry of its own (try_to_suspend)
+-- the state of the work after an entry of its own (try_to_suspend)
 abbrev pub work_step : Kind → Work → Work
 work_step kind.AutoRun before = Reading
 work_step (kind.Read c) before = Saving c
@@ -52,7 +52,7 @@ abbrev pub work_after : Actor → Kind → Work → Work
 work_after actor.Auto kind before = work_step kind before
 work_after _ kind before = before
 
--- where the autosleep work stands (try_to_suspend)
+-- the state of the autosleep work (try_to_suspend)
 abbrev pub work : List Entry → Work
 work [] = Resting
 work (e ∷ past) = work_after e.actor e.kind (work past)
@@ -87,7 +87,7 @@ may_run m past = is_queued past && nat_lt (runs past) m.auto_cycles
 abbrev pub auto_save : EventNow → ℕ → Kind
 auto_save now c = if (visible now == c) && (now.inpr == 0) then kind.AutoSaved c else kind.AutoUnsaved c
 
--- the count that is seen where no event is in progress (pm_get_wakeup_count)
+-- the count that is seen if no event is in progress (pm_get_wakeup_count)
 abbrev pub seen_count : EventNow → Option ℕ
 seen_count now = if now.inpr == 0 then Some (visible now) else None
 
@@ -104,7 +104,8 @@ work_due m past now (Napping (Some until)) =
     if nat_le until (time_of past) then Makes kind.Slept else Waits (why.Until until)
 work_due m past now Closing = if is_on past then Makes kind.AutoAgain else Makes kind.AutoOff
 
--- the work outside its own attempts: nothing while the machine sleeps, and nothing once all tasks have exited and no attempt is open (try_to_suspend; its end is own)
+-- the work outside its own attempts: nothing while the machine sleeps, and nothing once all tasks have exited and no attempt is open
+-- (try_to_suspend; its end is own)
 abbrev pub auto_due : Machine → List Entry → EventNow → Bool → Bool → Due
 auto_due m past now asleep over =
     if asleep then Waits why.Asleep else if over then Waits why.NoWork else work_due m past now (work past)

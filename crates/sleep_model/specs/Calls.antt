@@ -20,7 +20,7 @@ use Rattle.sleep_model.specs.Sources.{owed, caller}
 
 -- ---- the calls of a script's own steps
 
--- the calls that stand right before the turn with number k, from 0, or before the end after the last (own)
+-- the calls that are made right before the turn with number k, from 0, or before the end after the last (own)
 abbrev pub calls_at : List Piece → ℕ → List Kind
 calls_at [] k = []
 calls_at (Calls note ∷ rest) zero = note ∷ calls_at rest zero
@@ -44,7 +44,7 @@ ends_step (Saves ok) = true
 ends_step Steps = true
 ends_step _ = false
 
--- the setting of autosleep, which a step has beside its end (pm_autosleep_set_state)
+-- the setting of autosleep, which a step has besides its end (pm_autosleep_set_state)
 abbrev pub is_setting : Kind → Bool
 is_setting (kind.AutoSet state) = true
 is_setting _ = false
@@ -53,7 +53,7 @@ is_setting _ = false
 abbrev pub ends_turn : Kind → Bool
 ends_turn k = is_setting k || ends_step (position_effect k)
 
--- one more, where it is so (own)
+-- one more, if it is so (own)
 abbrev pub one_more : Bool → ℕ → ℕ
 one_more true before = before + 1
 one_more false before = before
@@ -63,7 +63,7 @@ abbrev pub turns_ended : Actor → List Entry → ℕ
 turns_ended who [] = 0
 turns_ended who (e ∷ past) = one_more (is_same e.actor who && ends_turn e.kind) (turns_ended who past)
 
--- the calls before an actor's turn with that number: a script's alone has some (own)
+-- the calls before an actor's turn with that number: only a script's has some (own)
 abbrev pub calls_of_turn : Machine → Actor → ℕ → List Kind
 calls_of_turn m (actor.Script i) k = calls_at (pieces_in m i) k
 calls_of_turn m who k = []
@@ -82,14 +82,15 @@ note s call.Relax = kind.Relax s
 note s (call.Event ms hard) = kind.Event s ms hard
 note s call.Expire = kind.Expire s
 
--- the notes of the callback that an entry begins, where n attempts were begun (pm_wakeup_event in a callback)
+-- the notes of the callback that an entry begins, when n attempts were begun (pm_wakeup_event in a callback)
 abbrev pub report_calls : Machine → ℕ → Kind → List Kind
 report_calls m n (kind.Begin p d) = map (λ r. note r.source r.call) (answer_reports (answer m (what.Device d p) n))
 report_calls m n _ = []
 
 -- ---- the calls of an actor
 
--- the calls that an actor owes in all before it may append to the journal, in order: those before its first turn, and after each entry of its own the reports of the callback that it begins, and the calls of its steps up to the next turn; the entries are the journal's (own)
+-- the calls that an actor owes in all before it may append to the journal, in order: those before its first turn, and after each entry of
+-- its own the reports of the callback that it begins, and the calls of its steps up to the next turn; the entries are the journal's (own)
 abbrev pub calls_of : Machine → Actor → List Entry → List Kind
 calls_of m who [] = calls_of_turn m who 0
 calls_of m who (e ∷ past) =

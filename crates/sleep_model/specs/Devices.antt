@@ -39,7 +39,7 @@ abbrev pub is_device : Actor → Bool
 is_device (actor.Dev d) = true
 is_device _ = false
 
--- the first where the entry is an asynchronous device's own, else the second (own)
+-- the first if the entry is an asynchronous device's own, else the second (own)
 abbrev pub unless_own : {A : Type 0} → Bool → A → A → A
 unless_own true own other = own
 unless_own false own other = other
@@ -71,7 +71,8 @@ abbrev pub error_by : SkipCause → Option Errno → Option Errno
 error_by skip.Pending before = Some EBUSY
 error_by _ before = before
 
--- the error of the phase, after an entry: a failed prepare's or callback's on the way down, or EBUSY of a wakeup that was found (async_error)
+-- the error of the phase, after an entry: a failed prepare's or callback's on the way down, or EBUSY of a wakeup that was found
+-- (async_error)
 abbrev pub phase_failed_after : Kind → Option Errno → Option Errno
 phase_failed_after (kind.Attempt n guarded) before = None
 phase_failed_after (kind.Done p r) before = None
@@ -80,7 +81,7 @@ phase_failed_after (kind.End p d r) before = error_in p r before
 phase_failed_after (kind.Skip p d cause) before = error_by cause before
 phase_failed_after _ before = before
 
--- the error that stands in the phase that is open (async_error)
+-- the error of the phase that is open (async_error)
 abbrev pub phase_failed : List Entry → Option Errno
 phase_failed [] = None
 phase_failed (e ∷ past) = phase_failed_after e.kind (phase_failed past)
@@ -126,17 +127,19 @@ is_async_device m d = is_so (map is_async m.devices) d
 abbrev pub may_wake_device : Machine → ℕ → Bool
 may_wake_device m d = is_so (map may_wake m.devices) d
 
--- where device d stands in phase p and its mirror (struct dev_pm_info)
+-- the state of device d in phase p and its mirror (struct dev_pm_info)
 abbrev pub state_in : Machine → List Entry → Phase → ℕ → PhaseState
 state_in m past p d = state_at (phase_states (length m.devices) p past) d
 
--- d is direct-complete: it asked for direct-complete, is runtime suspended, may not wake the machine, and all below it are direct-complete (__device_suspend, direct_complete)
+-- d is direct-complete: it asked for direct-complete, is runtime suspended, may not wake the machine, and all below it are direct-complete
+-- (__device_suspend, direct_complete)
 abbrev pub is_direct_now : Machine → List Entry → ℕ → Bool
 is_direct_now m past d =
     is_so (asks_direct (length m.devices) past) d && is_so (statuses m.devices past) d && not (may_wake_device m d)
     && list_all (λ e. is_direct_complete (state_in m past phase.Suspend e)) (below m past d)
 
--- phase p leaves d alone: suspend by what is so now, late and noirq where suspend did (__device_suspend, __device_suspend_late, direct_complete)
+-- phase p skips d as direct-complete: suspend by its state now, late and noirq by what suspend did (__device_suspend,
+-- __device_suspend_late, direct_complete)
 abbrev pub is_direct : Machine → List Entry → Phase → ℕ → Bool
 is_direct m past phase.Suspend d = is_direct_now m past d
 is_direct m past p d = is_direct_complete (state_in m past phase.Suspend d)
@@ -154,11 +157,11 @@ abbrev pub after_device : Option ℕ → Due → Due
 after_device None next = next
 after_device (Some d) next = Waits (why.Device d)
 
--- the first device below d that is not through with phase p (dpm_wait_for_subordinate)
+-- the first device below d that is not done with phase p (dpm_wait_for_subordinate)
 abbrev pub waits_below : Machine → List Entry → Phase → ℕ → Option ℕ
 waits_below m past p d = first_where (λ e. is_not_down (state_in m past p e)) (below m past d)
 
--- the first device that is scheduled and not through with phase p (async_synchronize_full)
+-- the first device that is scheduled and not done with phase p (async_synchronize_full)
 abbrev pub waits_down : Machine → List Entry → Phase → Option ℕ
 waits_down m past p = first_where (λ d. is_going_down (state_in m past p d)) (order m past)
 
@@ -172,11 +175,11 @@ take_down m past now p d =
     if is_async_device m d then Makes (kind.Schedule p d)
     else after_device (waits_below m past p d) (Makes (taken m past now p d))
 
--- the end of a phase on the way down, once all that were scheduled are through (dpm_suspend, async_synchronize_full)
+-- the end of a phase on the way down, once all that were scheduled are done (dpm_suspend, async_synchronize_full)
 abbrev pub close_down : Machine → List Entry → Phase → Due
 close_down m past p = after_device (waits_down m past p) (Makes (kind.Done p (phase_error past)))
 
--- the walk down between callbacks: it ends by an error, or where no device is left (dpm_suspend)
+-- the walk down between callbacks: it ends at an error, or if no device is left (dpm_suspend)
 abbrev pub walk_down : Machine → List Entry → EventNow → Phase → Option Errno → Option ℕ → Due
 walk_down m past now p None (Some d) = take_down m past now p d
 walk_down m past now p error next = close_down m past p
@@ -243,7 +246,7 @@ complete_due (Some d) = Makes (kind.Complete d)
 
 -- ---- an asynchronous device
 
--- the work in phase p or its mirror of a device that stands so there, else the other (async_schedule_dev, dpm_run_callback)
+-- the work in phase p or its mirror of a device in that state, else the other (async_schedule_dev, dpm_run_callback)
 abbrev pub work_in : Phase → PhaseState → AsyncWork → AsyncWork
 work_in p state.Scheduled other = Scheduled p
 work_in p state.Suspending other = Inside p
@@ -251,7 +254,7 @@ work_in p state.Rescheduled other = Scheduled (mirror p)
 work_in p state.Resuming other = Inside (mirror p)
 work_in p _ other = other
 
--- the work of a device by where it stands in the three pairs of phases (async_schedule_dev)
+-- the work of a device by its states in the three pairs of phases (async_schedule_dev)
 abbrev pub work_by : PhaseState → PhaseState → PhaseState → AsyncWork
 work_by suspend late noirq = work_in phase.Suspend suspend (work_in phase.Late late (work_in phase.Noirq noirq Idle))
 
@@ -269,7 +272,7 @@ scheduled_due m past now p d =
     then after_device (waits_below m past p d) (Makes (unless_failed (phase_failed past) p d (taken m past now p d)))
     else after_device (waits_above m past (mirror p) d) (Makes (kind.Begin p d))
 
--- an asynchronous device, by where its work stands (async_suspend, async_resume)
+-- an asynchronous device, by the state of its work (async_suspend, async_resume)
 abbrev pub device_due : Machine → List Entry → EventNow → ℕ → AsyncWork → Due
 device_due m past now d Idle = Waits why.NotScheduled
 device_due m past now d (Scheduled p) = scheduled_due m past now p d

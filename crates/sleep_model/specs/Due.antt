@@ -28,7 +28,7 @@ have_all_exited m past = all_exited (positions (length m.actors) past)
 abbrev pub is_over : Machine → List Entry → Bool
 is_over m past = have_all_exited m past && is_none (maker past)
 
--- an actor that makes no attempt: a script by its steps, autosleep's work, an asynchronous device; timers make source calls alone
+-- an actor that makes no attempt: a script by its steps, autosleep's work, an asynchronous device; timers make only source calls
 abbrev pub own_due : Machine → List Entry → Actor → EventNow → Due
 own_due m past (actor.Script i) now = script_due m past now i
 own_due m past actor.Auto now = auto_due m past now (sleeps_now past) (is_over m past)

@@ -26,7 +26,7 @@ is_word32 n = nat_lt n 4294967296
 abbrev pub is_word64 : ℕ → Bool
 is_word64 n = nat_lt n 18446744073709551616
 
--- such a number, where there is one
+-- such a number, if there is one
 abbrev pub is_word32_if : Option ℕ → Bool
 is_word32_if None = true
 is_word32_if (Some n) = is_word32 n
@@ -112,7 +112,7 @@ abbrev pub fits_script : Machine → Actor → Bool
 fits_script m (actor.Script i) = nat_lt i (length m.actors)
 fits_script m _ = false
 
--- something stands there
+-- the list is not empty
 abbrev pub is_filled : {A : Type 0} → List A → Bool
 is_filled [] = false
 is_filled (x ∷ xs) = true

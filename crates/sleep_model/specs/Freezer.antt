@@ -36,7 +36,8 @@ unasked = record { asked = false; frozen = false }
 abbrev pub freezing_at : List Freezing → ℕ → Freezing
 freezing_at those i = slice_index_or those i unasked
 
--- a freeze of group g by that actor asks a task of the group, script i, unless it makes the freeze itself; who froze before has to freeze anew (freeze_task)
+-- a freeze of group g by that actor asks a task of the group, script i, unless it makes the freeze itself; who froze before has to freeze
+-- anew (freeze_task)
 abbrev pub asked_by : Group → Actor → ℕ → TaskKind → Freezing → Freezing
 asked_by g who i kind before =
     if is_in g kind then record { asked = before.asked || not (is_task i who); frozen = false } else before

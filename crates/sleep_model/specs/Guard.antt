@@ -17,7 +17,8 @@ pub data CountEffect : Type 0 where
   Finds : CountEffect
   Keeps : CountEffect
 
--- a save that succeeds stores; one that fails, and clear, drop; a test that found a wakeup drops what it found changed (pm_save_wakeup_count, pm_wakeup_pending)
+-- a save that succeeds stores; one that fails, and clear, drop; a test that found a wakeup drops what it found changed
+-- (pm_save_wakeup_count, pm_wakeup_pending)
 abbrev pub count_effect : Kind → CountEffect
 count_effect (Saved c) = Stores c
 count_effect (AutoSaved c) = Stores c

@@ -4,12 +4,13 @@ use Rattle.sleep_model.specs.declared.entry.Entry.{Entry}
 use Rattle.sleep_model.specs.declared.entry.JournalEntry.{JournalEntry}
 use Rattle.sleep_model.specs.declared.entry_list.OtherEntry.{OtherEntry}
 
--- where n of a journal are passed, another entry stands before all that is left of it
+-- after n of a journal, another entry comes before all that is left of it
 abbrev pub is_ahead : ℕ → List JournalEntry → OtherEntry → Bool
 is_ahead n [] other = true
 is_ahead n (e ∷ rest) other = nat_le other.before n
 
--- the entries that are left of a journal and of others, where n of the journal are passed: each of the others stands after as many of the journal as it says
+-- the entries that are left of a journal and of others, after n of the journal: each of the others comes after as many of the journal as it
+-- says
 abbrev pub interleaved : ℕ → List JournalEntry → List OtherEntry → List Entry
 interleaved n [] [] = []
 interleaved n [] (other ∷ others) = other.entry ∷ interleaved n [] others
@@ -18,7 +19,7 @@ interleaved n (e ∷ rest) (other ∷ others) =
     if nat_le other.before n then other.entry ∷ interleaved n (e ∷ rest) others
     else e.entry ∷ interleaved (suc n) rest (other ∷ others)
 
--- each of the others stands after at most n entries of a journal
+-- each of the others comes after at most n entries of a journal
 abbrev pub AreWithin : ℕ → List OtherEntry → Type 0
 AreWithin n [] = Unit {0}
 AreWithin n (other ∷ others) = (other.before ≤ n) × AreWithin n others

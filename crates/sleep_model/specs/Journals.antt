@@ -1,4 +1,4 @@
--- A journal as contracts see it, and how its entries are kept (own: Linux keeps no such journal).
+-- A journal as contracts see it, and how its entries are stored (own: Linux keeps no such journal).
 use Rattle.std.specs.Prelude.{◌≡◌, ◌<◌, ◌≤◌, ◌+◌, ◌^◌, ℕ, List, [], ◌∷◌, ◌++◌, get_or, length, map}
 use Rattle.sleep_model.specs.declared.entry.JournalEntry.{JournalEntry}
 use Rattle.sleep_model.specs.declared.journal.Recorded.{Recorded}

@@ -58,7 +58,7 @@ SuppliersFirst m past _ = Unit {0}
 
 -- ---- what is owed
 
--- the devices stand in no phase: none is prepared (dpm_complete)
+-- no device is in a phase: none is prepared (dpm_complete)
 abbrev pub NoneIsInPhase : Machine → Phase → List Entry → Type 0
 NoneIsInPhase m p past = phase_states (length m.devices) p past ≡ replicate (length m.devices) phase_state.Unprepared
 
@@ -78,7 +78,7 @@ pub record NothingOwed (m : Machine) (past : List Entry) : Type 0 where
   pub syscore : stopped (length m.syscore) past ≡ replicate (length m.syscore) false
   pub awake : sleeps_now past ≡ false
 
--- where an attempt is over nothing is owed (suspend_devices_and_enter)
+-- once an attempt is over nothing is owed (suspend_devices_and_enter)
 abbrev pub Restored : Machine → List Entry → Kind → Type 0
 Restored m past (kind.Over n r) = NothingOwed m past
 Restored m past _ = Unit {0}
@@ -108,14 +108,16 @@ is_back_in_all m past d =
     is_back (state_in m past phase.Suspend d) && is_back (state_in m past phase.Late d)
     && is_back (state_in m past phase.Noirq d)
 
--- a step of the platform on the way up is owed: the end, the finish and the wake for the step that they undo (platform_resume_end, platform_resume_finish, platform_resume_noirq)
+-- a step of the platform on the way up is owed: the end, the finish and the wake for the step that they undo (platform_resume_end,
+-- platform_resume_finish, platform_resume_noirq)
 abbrev pub is_owed_by : List Entry → PlatUndo → Bool
 is_owed_by past undo.Recover = true
 is_owed_by past undo.End = owes_platform down.Begin past
 is_owed_by past undo.Finish = owes_platform down.Prepare past
 is_owed_by past undo.Wake = owes_platform down.PrepareLate past
 
--- only what is owed is undone, so each stands once, and a device is completed only if no other is owed to it (dpm_resume, device_resume, device_complete, suspend_finish)
+-- only what is owed is undone, so each is undone once, and a device is completed only if no other is owed to it (dpm_resume, device_resume,
+-- device_complete, suspend_finish)
 abbrev pub Owed : Machine → List Entry → Kind → Type 0
 Owed m past (kind.Schedule p d) = is_up p ≡ true → is_down_in (state_in m past (mirror p) d) ≡ true
 Owed m past (kind.Begin p d) = is_up p ≡ true → may_come_up (state_in m past (mirror p) d) ≡ true
@@ -142,7 +144,8 @@ abbrev pub is_suspending : PhaseState → Bool
 is_suspending phase_state.Suspending = true
 is_suspending _ = false
 
--- a device is prepared once, and each phase on the way down schedules it, begins or skips it, and ends it once, in that order (dpm_prepare, dpm_suspend, __device_suspend)
+-- a device is prepared once, and each phase on the way down schedules it, begins or skips it, and ends it once, in that order (dpm_prepare,
+-- dpm_suspend, __device_suspend)
 abbrev pub TakenOnce : Machine → List Entry → Kind → Type 0
 TakenOnce m past (kind.Prepare d r) = is_unprepared (state_in m past phase.Suspend d) ≡ true
 TakenOnce m past (kind.Schedule p d) = is_down p ≡ true → is_ready (state_in m past p d) ≡ true
@@ -151,7 +154,9 @@ TakenOnce m past (kind.Skip p d cause) = is_down p ≡ true → may_go_down (sta
 TakenOnce m past (kind.End p d r) = is_down p ≡ true → is_suspending (state_in m past p d) ≡ true
 TakenOnce m past _ = Unit {0}
 
--- a notifier, the platform, a processor, interrupts and the core are taken down, and sleep is entered, only if no undo of that is owed already (pm_notifier_call_chain_robust, platform_suspend_begin, freeze_secondary_cpus, arch_suspend_disable_irqs, syscore_suspend, suspend_enter)
+-- a notifier, the platform, a processor, interrupts and the core are taken down, and sleep is entered, only if no undo of that is owed
+-- already (pm_notifier_call_chain_robust, platform_suspend_begin, freeze_secondary_cpus, arch_suspend_disable_irqs, syscore_suspend,
+-- suspend_enter)
 abbrev pub NotOwedAlready : Machine → List Entry → Kind → Type 0
 NotOwedAlready m past (kind.NotifyPrepare x r) = is_so (notified_flags m past) x ≡ false
 NotOwedAlready m past (kind.PlatformDo step r) = owes_platform step past ≡ false
@@ -162,7 +167,7 @@ NotOwedAlready m past (kind.SyscoreSuspend x r) = is_so (stopped (length m.sysco
 NotOwedAlready m past (kind.Enter busy) = sleeps_now past ≡ false
 NotOwedAlready m past _ = Unit {0}
 
--- ---- what is so where the machine enters sleep
+-- ---- what is so when the machine enters sleep
 
 -- d is down in suspend, in late and in noirq (power.is_suspended, power.is_late_suspended, power.is_noirq_suspended)
 abbrev pub is_down_in_all : Machine → List Entry → ℕ → Bool
@@ -196,7 +201,7 @@ pub record AllDown (m : Machine) (past : List Entry) : Type 0 where
   pub irqs : irqs_off past ≡ true
   pub syscore : list_all (is_so (stopped (length m.syscore) past)) (syscore_steps m) ≡ true
 
--- where that is not busy
+-- the claim, if that is not busy
 abbrev pub UnlessBusy : Bool → Type 0 → Type 0
 UnlessBusy true what = Unit {0}
 UnlessBusy false what = what
@@ -215,7 +220,7 @@ pub data TestEffect : Type 0 where
   Fails : TestEffect
   Else : TestEffect
 
--- a test, where that phase has one (__device_suspend)
+-- a test, if that phase has one (__device_suspend)
 abbrev pub test_of : Phase → TestEffect
 test_of p = if tests_wakeup p then Tests else Else
 
@@ -235,7 +240,7 @@ test_by froze.AllFrozen = Else
 test_by (froze.Timeout left first) = Fails
 test_by (froze.Wakeup left first) = Tests
 
--- a device that is skipped by an error makes no test, another does where its phase has one (__device_suspend)
+-- a device that is skipped by an error makes no test, another does if its phase has one (__device_suspend)
 abbrev pub test_unless : SkipCause → Phase → TestEffect
 test_unless skip.Error p = Else
 test_unless cause p = test_of p
@@ -245,7 +250,8 @@ abbrev pub fails_by : ℤ → TestEffect
 fails_by (pos n) = Else
 fails_by (negsuc n) = Fails
 
--- a test stands at the end of a freeze by a wakeup, before each callback of suspend and late, before each processor, at the core's check and at the entering; an error of a callback or of a freeze fails the attempt (pm_wakeup_pending)
+-- a test is made at the end of a freeze by a wakeup, before each callback of suspend and late, before each processor, at the core's check
+-- and at the entering; an error of a callback or of a freeze fails the attempt (pm_wakeup_pending)
 abbrev pub test_effect : Kind → TestEffect
 test_effect (kind.Attempt n guarded) = Opens
 test_effect (kind.NotifyPrepare x r) = fails_with r
@@ -269,7 +275,7 @@ disturbed_after Tests busy before = busy || before
 disturbed_after Fails busy before = true
 disturbed_after Else busy before = before
 
--- a wakeup was pending where a test of the open attempt stands, or a step of it failed
+-- a wakeup was pending at a test of the open attempt, or a step of it failed
 abbrev pub disturbed : List Entry → Bool
 disturbed [] = false
 disturbed (e ∷ past) = disturbed_after (test_effect e.kind) (pending past e.now) (disturbed past)
@@ -295,7 +301,7 @@ abbrev pub AnswersFailure : List Entry → Kind → Type 0
 AnswersFailure past (kind.Over n r) = (r ≡ failed past) × (entered past ≡ is_none r)
 AnswersFailure past _ = Unit {0}
 
--- a test that found a wakeup stands only if one is pending at the word that it saw (pm_wakeup_pending)
+-- a test that found a wakeup is made only if one is pending at the word that it saw (pm_wakeup_pending)
 abbrev pub FoundPending : List Entry → EventNow → CountEffect → Type 0
 FoundPending past now Finds = pending past now ≡ true
 FoundPending past now _ = Unit {0}
@@ -406,11 +412,12 @@ abbrev pub steps_of : Option Script → List Op
 steps_of None = []
 steps_of (Some s) = entry_steps s
 
--- an entry of a script outside its attempts, whose place this is: it has not exited, and the entry is of the operation under way, or says that it freezes (own)
+-- an entry of a script outside its attempts, whose place this is: it has not exited, and the entry is of the operation under way, or says
+-- that it freezes (own)
 abbrev pub is_step_entry : List Op → ScriptPosition → Kind → Bool
 is_step_entry ops position k = not position.exited && (is_of_op (slice_get ops position.done) k || is_frozen_entry k)
 
--- an entry of the autosleep work, where it stands so (try_to_suspend)
+-- an entry of the autosleep work, in that state of it (try_to_suspend)
 abbrev pub is_work_entry : Work → Kind → Bool
 is_work_entry Resting kind.AutoRun = true
 is_work_entry Reading (kind.Read c) = true
@@ -436,7 +443,7 @@ abbrev pub is_of_inside : ℕ → Phase → Kind → Bool
 is_of_inside d p (kind.End q e r) = e == d && is_phase q p
 is_of_inside d p _ = false
 
--- an entry of asynchronous device d, where its work stands so (async_schedule_dev)
+-- an entry of asynchronous device d, in that state of its work (async_schedule_dev)
 abbrev pub is_device_entry : ℕ → AsyncWork → Kind → Bool
 is_device_entry d Idle k = false
 is_device_entry d (Scheduled p) k = is_of_scheduled d p k
@@ -488,7 +495,7 @@ abbrev pub guard_of : List Entry → Option ℕ
 guard_of [] = None
 guard_of (e ∷ past) = guard_after e.kind (guard_of past)
 
--- one more step, where there is one
+-- one more step, if there is one
 abbrev pub with_step : Option WordKind → List WordKind → List WordKind
 with_step None steps = steps
 with_step (Some step) steps = step ∷ steps
@@ -513,7 +520,7 @@ abbrev pub answer_of : Actor → List Entry → Option Answered
 answer_of who [] = None
 answer_of who (e ∷ past) = answer_after e.kind (is_same e.actor who) (answer_of who past)
 
--- the steps since the read that a save of c rests on, where that read answered c; else none, as it rests on itself (pm_save_wakeup_count)
+-- the steps since the read that a save of c rests on, if that read answered c; else none, as it rests on itself (pm_save_wakeup_count)
 abbrev pub steps_since_read : ℕ → Option Answered → List WordKind
 steps_since_read c None = []
 steps_since_read c (Some a) = if a.count == c then a.steps else []
@@ -529,7 +536,7 @@ abbrev pub steps_since : List Entry → List WordKind
 steps_since [] = []
 steps_since (e ∷ past) = steps_after e.kind (answer_of e.actor past) (steps_since past)
 
--- under that count no step of the word stands since it was read, and no event is in progress (pm_wakeup_pending)
+-- under that count no step of the word was made since it was read, and no event is in progress (pm_wakeup_pending)
 abbrev pub SawNothing : List Entry → Option ℕ → Type 0
 SawNothing past None = Unit {0}
 SawNothing past (Some c) = (steps_since past ≡ []) × ((numbers past).inpr ≡ 0)

@@ -1,4 +1,4 @@
--- Legal logs, in three parts: the journal's entries, the sources' entries, and what ties them together.
+-- Legal logs, in three parts: the journal's entries, the sources' entries, and what joins them.
 use Rattle.std.specs.Prelude.{◌≡◌, ◌<◌, ◌+◌, ℕ, zero, suc, Bool, true, false, not, ◌&&◌, ◌||◌, nat_lt, nat_le, List, [], ◌∷◌, length, map, min, reverse, if◌then◌else◌, Option, Some, None, is_none, slice_get}
 use Rattle.std.specs.List.{range_with_len, list_all}
 use Rattle.sleep_model.specs.declared.word.EventNow.{EventNow}
@@ -37,7 +37,7 @@ JournalStep m past e OfJournal = (due m past e.actor e.now ≡ Makes e.kind) × 
 JournalStep m past e OfTime = (e.actor ≡ actor.Time) × (time_of past < e.time)
 JournalStep m past e _ = ⊥
 
--- each of the journal's entries, the newest first, is legal where it stands
+-- each of the journal's entries, the newest first, is legal after the older ones
 abbrev pub JournalPart : Machine → List Entry → Type 0
 JournalPart m [] = Unit {0}
 JournalPart m (e ∷ past) = JournalStep m past e (class_of e.kind) × JournalPart m past
@@ -50,7 +50,7 @@ OwnStep past e (Notes s call) = SourceStep (history s past) e.time e.actor (Note
 OwnStep past e (Moves s step) = SourceStep (history s past) e.time e.actor (Moves s step)
 OwnStep past e _ = Unit {0}
 
--- each source's entries, the newest first, are legal where they stand
+-- each source's entries, the newest first, are legal after the older ones
 abbrev pub SourcePart : List Entry → Type 0
 SourcePart [] = Unit {0}
 SourcePart (e ∷ past) = OwnStep past e (class_of e.kind) × SourcePart past
@@ -65,7 +65,7 @@ is_there m _ = true
 abbrev pub is_short : List Entry → ℕ → Bool
 is_short past s = nat_le (length (history s past)) most_entries
 
--- the machine's sources alone have entries, and each has no more than its history has places for (own)
+-- only the machine's sources have entries, and each has no more than its history has room for (own)
 pub record HistoriesFit (m : Machine) (past : List Entry) : Type 0 where
   pub there : list_all (λ e. is_there m (class_of e.kind)) past ≡ true
   pub short : list_all (is_short past) (range_with_len 0 (length m.sources + 1)) ≡ true
@@ -105,7 +105,7 @@ is_finished m past of now = have_all_exited m past && is_none (maker past) && is
 
 -- ---- pending times
 
--- the lesser of two moments, where there are any
+-- the lesser of two moments, if there are any
 abbrev pub sooner : Option ℕ → Option ℕ → Option ℕ
 sooner None other = other
 sooner (Some at) None = Some at
@@ -126,7 +126,7 @@ abbrev pub deadline_at : Option ℕ → Option ℕ
 deadline_at None = None
 deadline_at (Some since) = Some (gives_up_at since)
 
--- the end of a script's sleep, where it is pending: not that of a frozen task, nor of a task while the machine sleeps (own)
+-- the end of a script's sleep, if it is pending: not that of a frozen task, nor of a task while the machine sleeps (own)
 abbrev pub pending_sleep : Bool → Freezing → Option Script → ScriptPosition → Option ℕ
 pending_sleep asleep f None position = None
 pending_sleep asleep f (Some s) position = if f.frozen || (asleep && not (is_line s.kind)) then None else position.until
@@ -140,11 +140,11 @@ next_sleep m past (suc n) =
     (position_at (positions (length m.actors) past) n))
     (next_sleep m past n)
 
--- the end of the autosleep work's nap, where it is pending (own)
+-- the end of the autosleep work's nap, if it is pending (own)
 abbrev pub pending_nap : List Entry → Option ℕ
 pending_nap past = if sleeps_now past then None else naps_until (work past)
 
--- the least pending time of the journal alone, in ms (own)
+-- the least pending time of only the journal, in ms (own)
 abbrev pub journal_time : Machine → List Entry → Option ℕ
 journal_time m past =
     sooner (alarm_at m (sleep_of past))
@@ -156,13 +156,13 @@ next_time m past of = sooner (journal_time m past) (next_expiry (length m.source
 
 -- ---- the joint part
 
--- time jumps to the least pending time, where nobody can make anything and something is left to do
+-- time jumps to the least pending time, if nobody can make anything and something is left to do
 pub record JumpStep (m : Machine) (past : List Entry) (of : ℕ → List Entry) (now : EventNow) (time : ℕ) : Type 0 where
   pub idle : is_idle m past of now ≡ true
   pub goes_on : is_finished m past of now ≡ false
   pub least : next_time m past of ≡ Some time
 
--- an actor makes an entry of the journal where it has made the calls that come before it, and no more
+-- an actor makes an entry of the journal once it has made the calls that come before it, and no more
 abbrev pub IsOwnTurn : Machine → List Entry → (ℕ → List Entry) → Actor → Type 0
 IsOwnTurn m past of who = made (length m.sources + 1) of who ≡ calls_due m who past
 
@@ -180,7 +180,8 @@ abbrev pub last_is_of : ℕ → Actor → List Entry → Bool
 last_is_of s who [] = false
 last_is_of s who (e ∷ past) = if is_same e.actor who then is_of s (class_of e.kind) else last_is_of s who past
 
--- an entry is the next of its actor: one of the journal and a note stand outside of its calls, a step of the word right after an entry of its source, and a jump where it may
+-- an entry is the next of its actor: one of the journal and a note come outside of its calls, a step of the word right after an entry of
+-- its source, and a jump if it may
 abbrev pub JointStep : Machine → List Entry → Entry → EntryClass → Type 0
 JointStep m past e OfJournal =
     IsOwnTurn m (journal past) (λ s. history s past) e.actor × IsOutside m (λ s. history s past) e.actor

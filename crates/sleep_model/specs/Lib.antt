@@ -1,27 +1,27 @@
--- Every definition of what sleep is. They speak of one list of entries, `past`, the newest first; no code is mentioned.
+-- Every definition of what sleep is. They are about one list of entries, `past`, the newest first; no code is mentioned.
 --
 -- Reading order:
 --   Legal      what a log is, and when it is over
 --   Due        the one entry that an actor may make next
 --   Attempt    what the maker of an attempt makes at each stage
---   Table      which stage follows, and where a failure leads
---   Stands     where a device stands in each pair of phases
+--   Table      which stage follows, and which one a failure leads to
+--   PhaseStates the state of a device in each pair of phases
 --   Devices    what the walks and the devices make
---   Order      who stands below and above a device
+--   Order      which devices are below and above a device
 --   Guard      the saved count, and what is pending
 --   Sources    what a call on a wakeup source makes
 --   Steps      what a task makes
---   Laws       what every legal log keeps
+--   Laws       what holds of every legal log
 --
 -- The same rules a second time, each by itself, are in rule_definitions.
 --
--- One entry, followed down. In the log of a parent p and its child c stands `0 0/0/0 task:w begin suspend p`.
+-- One entry, followed down. The log of a parent p and its child c has the line `0 0/0/0 task:w begin suspend p`.
 --   IsLegalLog asks IsLegal, which asks of each entry of the journal a JournalStep: the entry is `due` of its actor.
 --   due     task w makes the open attempt (`maker`), so what is due is `attempt_due`.
 --   attempt_due   the stage under way is `Downs Suspend`: the last entry of a stage before it was `done prepare 0` (`stage_after`).
 --   stage_due     at `Downs p` what is due is `down_due m past now p`.
---   down_due      no error stands, and the last device of the order that suspend has not taken is p (`next_down`): c has been taken.
---   take_down     p is synchronous, and each device below p, which is c alone, is through with suspend (`waits_below`): `end suspend c 0` stands before.
+--   down_due      there is no error, and the last device of the order that suspend has not taken is p (`next_down`): c has been taken.
+--   take_down     p is synchronous, and each device below p, only c, is done with suspend (`waits_below`): `end suspend c 0` comes before.
 --   taken         no wakeup is pending, and p is not direct-complete: `Begin Suspend p`.
 
 pub mod Accepted

@@ -13,12 +13,12 @@ abbrev pub AllAmong : List ℕ → List ℕ → Type 0
 AllAmong those [] = Unit {0}
 AllAmong those (d ∷ ds) = (is_among those d ≡ true) × AllAmong those ds
 
--- each device stands once, and before all that hang right below it (dpm_list)
+-- each device is there once, and before all that hang right below it (dpm_list)
 abbrev pub IsOrder : (ℕ → List ℕ) → List ℕ → Type 0
 IsOrder dependents_of [] = Unit {0}
 IsOrder dependents_of (d ∷ ds) = (is_among ds d ≡ false) × AllAmong ds (dependents_of d) × IsOrder dependents_of ds
 
--- each device at its first place alone
+-- each device only at its first position
 abbrev pub first_occurrences : List ℕ → List ℕ
 first_occurrences [] = []
 first_occurrences (d ∷ ds) = d ∷ filter (λ x. not (x == d)) (first_occurrences ds)
@@ -33,7 +33,7 @@ abbrev pub IsPath : (ℕ → List ℕ) → List ℕ → ℕ → ℕ → Type 0
 IsPath dependents_of [] from to = ⊥
 IsPath dependents_of (x ∷ xs) from to = (x ≡ from) × LeadsTo dependents_of x xs to
 
--- the link stands among these
+-- the link is among these
 abbrev pub is_linked : List Link → ℕ → ℕ → Bool
 is_linked [] supplier consumer = false
 is_linked (l ∷ ls) supplier consumer = is_link supplier consumer l || is_linked ls supplier consumer
@@ -43,7 +43,8 @@ abbrev pub is_dependent : List (Option ℕ) → List Link → ℕ → ℕ → Bo
 is_dependent parents links consumer supplier =
     is_among (moved (length parents) (dependents parents links) consumer) supplier
 
--- links, the newest first, as they may be added in turn: between registered devices, none twice, and none whose supplier hangs below its consumer (device_link_add)
+-- links, the newest first, as they may be added in turn: between registered devices, none twice, and none whose supplier hangs below its
+-- consumer (device_link_add)
 abbrev pub AreLinks : List (Option ℕ) → List Link → Type 0
 AreLinks parents [] = Unit {0}
 AreLinks parents (l ∷ earlier) =
@@ -52,22 +53,22 @@ AreLinks parents (l ∷ earlier) =
 
 -- ---- what a task that changes links is answered
 
--- a link is refused while an attempt is open, else where it stands already or would close a cycle (device_link_add; EBUSY is own)
+-- a link is refused while an attempt is open, else if it exists already or would close a cycle (device_link_add; EBUSY is own)
 abbrev pub add_answer : Bool → Bool → Bool → Option Errno
 add_answer underway linked dependent =
     if underway then Some EBUSY else if linked || dependent then Some EINVAL else None
 
--- what is answered at a place where a link is to be added (device_link_add)
+-- the answer at a point of the log to a link that is to be added (device_link_add)
 abbrev pub link_add_due : Machine → List Entry → ℕ → ℕ → Option Errno
 link_add_due m past supplier consumer =
     add_answer (is_some (maker past)) (is_linked (links_at m past) supplier consumer)
     (is_dependent (parents_of m.devices) (links_at m past) consumer supplier)
 
--- a link's state is refused while an attempt is open, else where that link does not stand (device_links_driver_bound; the errors are own)
+-- a link's state is refused while an attempt is open, else if there is no such link (device_links_driver_bound; the errors are own)
 abbrev pub state_answer : Bool → Bool → Option Errno
 state_answer underway linked = if underway then Some EBUSY else if linked then None else Some ENODEV
 
--- what is answered at a place where a link's state is to be set (device_links_driver_bound)
+-- the answer at a point of the log to a link's state that is to be set (device_links_driver_bound)
 abbrev pub link_state_due : Machine → List Entry → ℕ → ℕ → Option Errno
 link_state_due m past supplier consumer =
     state_answer (is_some (maker past)) (is_linked (links_at m past) supplier consumer)

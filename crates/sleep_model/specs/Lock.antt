@@ -12,7 +12,8 @@ use Rattle.sleep_model.specs.Path.{is_actor}
 abbrev pub let_go_by : Actor → Option Actor → Option Actor
 let_go_by who before = if is_actor who before then None else before
 
--- who holds the lock after an entry: the maker of an attempt, who sets autosleep, and the work from its save on (pm_autosleep_lock, pm_autosleep_unlock)
+-- who holds the lock after an entry: the maker of an attempt, who sets autosleep, and the work from its save on (pm_autosleep_lock,
+-- pm_autosleep_unlock)
 abbrev pub holder_after : Kind → Actor → Option Actor → Option Actor
 holder_after (Attempt n guarded) who before = Some who
 holder_after (Over n r) who before = let_go_by who before

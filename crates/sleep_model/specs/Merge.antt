@@ -39,7 +39,7 @@ of_source e = record { stamp = e.stamp; entry = e.entry }
 abbrev pub is_word_step : JournalEntry → Bool
 is_word_step e = is_some (word_step e.entry.kind)
 
--- one number, then another where the first are equal
+-- one number, then another if the first are equal
 abbrev pub before_or : ℕ → ℕ → Bool → Bool
 before_or a b rest = nat_lt a b || ((a == b) && rest)
 
@@ -51,13 +51,13 @@ step_number e = if is_word_step e then 1 else 0
 abbrev pub is_actor_before : Actor → Actor → Bool
 is_actor_before a b = before_or (actor_rank a) (actor_rank b) (nat_lt (actor_number a) (actor_number b))
 
--- x stands before y: by position, steps on the word after the others, then by tick, then by actor (own)
+-- x comes before y: by position, steps on the word after the others, then by tick, then by actor (own)
 abbrev pub precedes : JournalEntry → JournalEntry → Bool
 precedes x y =
     before_or x.stamp.pos y.stamp.pos (before_or (step_number x) (step_number y)
     (before_or x.stamp.tick y.stamp.tick (is_actor_before x.entry.actor y.entry.actor)))
 
--- an entry put before the first that does not stand before it
+-- an entry put before the first that does not come before it
 abbrev pub put_in_order : JournalEntry → List JournalEntry → List JournalEntry
 put_in_order x [] = x ∷ []
 put_in_order x (y ∷ ys) = if precedes y x then y ∷ put_in_order x ys else x ∷ y ∷ ys
@@ -120,7 +120,8 @@ abbrev pub is_jump : EntryClass → Bool
 is_jump OfTime = true
 is_jump _ = false
 
--- an entry that is no jump has the present time, and a tick after the last jump's; a jump raises the time, and stands after all ticks before it
+-- an entry that is no jump has the present time, and a tick after the last jump's; a jump raises the time, and comes after all ticks before
+-- it
 abbrev pub fits_time : ℕ → ℕ → ℕ → JournalEntry → Bool
 fits_time time jumped last e =
     if is_jump (class_of e.entry.kind) then nat_lt time e.entry.time && nat_lt last e.stamp.tick

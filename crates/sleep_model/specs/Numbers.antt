@@ -14,7 +14,8 @@ word_step (Finish s) = Some step.Finish
 word_step (Hard s) = Some step.Hard
 word_step _ = None
 
--- the word after a step: a start begins an event, a finish registers it, a hard step counts a hard one (wakeup_source_activate, wakeup_source_deactivate)
+-- the word after a step: a start begins an event, a finish registers it, a hard step counts a hard one (wakeup_source_activate,
+-- wakeup_source_deactivate)
 abbrev pub after_step : Option word.WordKind → EventNow → EventNow
 after_step None now = now
 after_step (Some step.Start) now = record now { inpr = now.inpr + 1 }

@@ -20,7 +20,7 @@ is_among (x ∷ xs) d = (x == d) || is_among xs d
 abbrev pub is_link : ℕ → ℕ → Link → Bool
 is_link supplier consumer l = (l.supplier == supplier) && (l.consumer == consumer)
 
--- a link, which that state is set for where it is between these two (struct device_link, status)
+-- a link, whose state that becomes if it is between these two (struct device_link, status)
 abbrev pub with_state : ℕ → ℕ → Bool → Link → Link
 with_state supplier consumer active l = if is_link supplier consumer l then record l { active = active } else l
 
@@ -60,22 +60,22 @@ is_parent d (Some p) = p == d
 abbrev pub parents_of : List Device → List (Option ℕ)
 parents_of devices = map (λ x. x.parent) devices
 
--- each device is registered after its parent; n devices stand before these (device_add)
+-- each device is registered after its parent; n devices come before these (device_add)
 abbrev pub EachAfterParent : ℕ → List (Option ℕ) → Type 0
 EachAfterParent n [] = Unit {0}
 EachAfterParent n (p ∷ ps) = IfSome p (λ q. q < n) × EachAfterParent (suc n) ps
 
--- the numbers, from n on, of the devices whose parent is d, where these are the parents (device_for_each_child)
+-- the numbers, from n on, of the devices whose parent is d, if these are the parents (device_for_each_child)
 abbrev pub children_from : ℕ → ℕ → List (Option ℕ) → List ℕ
 children_from d n [] = []
 children_from d n (p ∷ ps) = if is_parent d p then n ∷ children_from d (suc n) ps else children_from d (suc n) ps
 
--- the consumers of d in the order of their links, of which the newest stands first (struct device_link, consumer)
+-- the consumers of d in the order of their links, of which the newest comes first (struct device_link, consumer)
 abbrev pub consumers_of : ℕ → List Link → List ℕ
 consumers_of d [] = []
 consumers_of d (l ∷ earlier) = consumers_of d earlier ++ (if l.supplier == d then l.consumer ∷ [] else [])
 
--- the suppliers of d in the order of their links, of which the newest stands first (struct device_link, supplier)
+-- the suppliers of d in the order of their links, of which the newest comes first (struct device_link, supplier)
 abbrev pub suppliers_of : ℕ → List Link → List ℕ
 suppliers_of d [] = []
 suppliers_of d (l ∷ earlier) = suppliers_of d earlier ++ (if l.consumer == d then l.supplier ∷ [] else [])
@@ -103,12 +103,13 @@ above m past d = superiors (parents_of m.devices) (active_of (links_at m past)) 
 
 -- ---- the order
 
--- d, then all that hangs below it, each with its own, down to some level, where `dependents_of` gives what hangs right below a device (device_reorder_to_tail)
+-- d, then all that hangs below it, each with its own, down to some level; `dependents_of` gives what hangs right below a device
+-- (device_reorder_to_tail)
 abbrev pub moved : ℕ → (ℕ → List ℕ) → ℕ → List ℕ
 moved zero dependents_of d = d ∷ []
 moved (suc levels) dependents_of d = d ∷ flat_map (moved levels dependents_of) (dependents_of d)
 
--- each device at its last place alone
+-- each device only at its last position
 abbrev pub last_occurrences : List ℕ → List ℕ
 last_occurrences [] = []
 last_occurrences (x ∷ xs) = if is_among xs x then last_occurrences xs else x ∷ last_occurrences xs
@@ -117,7 +118,8 @@ last_occurrences (x ∷ xs) = if is_among xs x then last_occurrences xs else x �
 abbrev pub moved_last : List ℕ → List ℕ → List ℕ
 moved_last devices order = filter (λ d. not (is_among devices d)) order ++ last_occurrences devices
 
--- the order after these links, the newest first: each moved its consumer, and all that hangs below it by the links up to this one, to the end (device_link_add)
+-- the order after these links, the newest first: each moved its consumer, and all that hangs below it by the links up to this one, to the
+-- end (device_link_add)
 abbrev pub order_by : List (Option ℕ) → List Link → List ℕ
 order_by parents [] = range_with_len 0 (length parents)
 order_by parents (l ∷ earlier) =

@@ -1,4 +1,4 @@
--- Where devices stand, one state a device for each pair of phases (include/linux/pm.h, struct dev_pm_info).
+-- The states of devices, one a device for each pair of phases (include/linux/pm.h, struct dev_pm_info).
 use Rattle.std.specs.Prelude.{ℕ, Bool, true, false, List, [], ◌∷◌, ℤ, pos, negsuc, Option, Some, None, if◌then◌else◌, replicate, slice_set, slice_index_or}
 use Rattle.sleep_base.specs.declared.errno.Errno.{Errno}
 use Rattle.sleep_model.specs.declared.entry.Entry.{Entry}
@@ -32,7 +32,7 @@ skipped_for _ = state.Failed
 abbrev pub by_phase : Phase → Phase → PhaseState → PhaseState → PhaseState → PhaseState
 by_phase p q down up other = if is_phase q p then down else if is_phase q (mirror p) then up else other
 
--- where the device of an entry stands after it, for phase p and its mirror (device_prepare, __device_suspend, device_resume)
+-- the state of the device of an entry after it, for phase p and its mirror (device_prepare, __device_suspend, device_resume)
 abbrev pub phase_state_after : Phase → Kind → PhaseState → PhaseState
 phase_state_after p (kind.Prepare d r) before = prepared_by r before
 phase_state_after p (kind.Complete d) before = state.Unprepared
@@ -52,16 +52,16 @@ device_of (kind.End q d r) = Some d
 device_of (kind.Skip q d cause) = Some d
 device_of _ = None
 
--- where a device stands among others (struct dev_pm_info)
+-- the state of a device among others (struct dev_pm_info)
 abbrev pub state_at : List PhaseState → ℕ → PhaseState
 state_at phase_states d = slice_index_or phase_states d state.Unprepared
 
--- an entry moves its own device alone (dpm_run_callback)
+-- an entry moves only its own device (dpm_run_callback)
 abbrev pub phase_states_after : Phase → Kind → Option ℕ → List PhaseState → List PhaseState
 phase_states_after p k None before = before
 phase_states_after p k (Some d) before = slice_set before d (phase_state_after p k (state_at before d))
 
--- where each of n devices stands in phase p and its mirror (struct dev_pm_info)
+-- the state of each of n devices in phase p and its mirror (struct dev_pm_info)
 abbrev pub phase_states : ℕ → Phase → List Entry → List PhaseState
 phase_states n p [] = replicate n state.Unprepared
 phase_states n p (e ∷ past) = phase_states_after p e.kind (device_of e.kind) (phase_states n p past)
@@ -83,7 +83,7 @@ abbrev pub is_ready : PhaseState → Bool
 is_ready state.Prepared = true
 is_ready _ = false
 
--- not through with the phase on the way down (power.completion)
+-- not done with the phase on the way down (power.completion)
 abbrev pub is_not_down : PhaseState → Bool
 is_not_down state.Unprepared = true
 is_not_down state.Prepared = true
@@ -91,7 +91,7 @@ is_not_down state.Scheduled = true
 is_not_down state.Suspending = true
 is_not_down _ = false
 
--- scheduled on the way down, and not through (async_schedule_dev)
+-- scheduled on the way down, and not done (async_schedule_dev)
 abbrev pub is_going_down : PhaseState → Bool
 is_going_down state.Scheduled = true
 is_going_down state.Suspending = true

@@ -10,7 +10,7 @@ use Rattle.sleep_model.specs.declared.machine.SourceCall.TheVariants as call
 use Rattle.sleep_model.specs.Answers.{answer_for}
 use Rattle.sleep_model.specs.Scripts.{operations}
 
--- one where it is so
+-- one if it is so, else none
 abbrev pub one_if : Bool → ℕ
 one_if true = 1
 one_if false = 0
@@ -26,7 +26,7 @@ call_places call.Expire = 0
 abbrev pub places_if : ℕ → ℕ → ℕ → ℕ
 places_if s source places = if source == s then places else 0
 
--- the places on source s of an operation, where autosleep has the source with number n (own)
+-- the room on source s for an operation, if autosleep has the source with number n (own)
 abbrev pub op_places : ℕ → ℕ → Op → ℕ
 op_places n s (Awake source) = places_if s source (call_places call.Awake)
 op_places n s (Relax source) = places_if s source (call_places call.Relax)
@@ -57,7 +57,7 @@ is_link_step _ = false
 abbrev pub link_steps : List Script → ℕ
 link_steps scripts = count_by is_link_step (all_operations scripts)
 
--- how many attempts may be begun: one a write to the state, and one a run of the autosleep work where autosleep is written (own)
+-- how many attempts may be begun: one a write to the state, and one a run of the autosleep work if autosleep is written (own)
 abbrev pub most_attempts : Machine → ℕ
 most_attempts m =
     count_by is_state (all_operations m.actors)
@@ -72,7 +72,7 @@ abbrev pub general_in : Answer → List Answer → ℕ → ℕ
 general_in a answers zero = 0
 general_in a answers (suc n) = one_if (is_none (answer_for a.what (Some (suc n)) answers)) + general_in a answers n
 
--- in how many of the first n attempts an answer stands (own)
+-- in how many of the first n attempts an answer applies (own)
 abbrev pub attempts_with : Answer → List Answer → ℕ → Option ℕ → ℕ
 attempts_with a answers n None = general_in a answers n
 attempts_with a answers n (Some k) = one_if (nat_le 1 k && nat_le k n)

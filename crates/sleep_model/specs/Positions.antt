@@ -1,4 +1,4 @@
--- Where each script stands: what its own entries made of its steps.
+-- The position of each script: what its own entries made of its steps.
 use Rattle.std.specs.List.{list_all}
 use Rattle.std.specs.Prelude.{ℕ, ◌+◌, Bool, true, false, List, [], ◌∷◌, slice_set, slice_index_or, replicate, Some, None}
 use Rattle.sleep_model.specs.declared.entry.Actor.{Actor}

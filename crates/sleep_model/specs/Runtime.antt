@@ -20,7 +20,7 @@ use Rattle.sleep_model.specs.PhaseStates.{phase_states, state_at, is_prepared, i
 abbrev pub has_bit : ℕ → DeviceFlags → Bool
 has_bit bit flags = (flags.0 / bit) % 2 == 1
 
--- its callbacks may run beside others (power.async_suspend)
+-- its callbacks may run at the same time as others (power.async_suspend)
 abbrev pub is_async : Device → Bool
 is_async d = has_bit 1 d.flags
 
@@ -61,13 +61,13 @@ abbrev pub direct_disables_until : Phase → Bool → Bool
 direct_disables_until phase.Resume before = false
 direct_disables_until p before = before
 
--- suspend has left a device alone, and resume is not done since, after an entry (__device_suspend, device_resume)
+-- suspend has skipped a device as direct-complete, and resume is not done since, after an entry (__device_suspend, device_resume)
 abbrev pub disabled_by_direct_after : Kind → Bool → Bool
 disabled_by_direct_after (Skip p d cause) before = direct_disables p cause before
 disabled_by_direct_after (Done p r) before = direct_disables_until p before
 disabled_by_direct_after _ before = before
 
--- suspend has left a device alone, and resume is not done since (__device_suspend, device_resume)
+-- suspend has skipped a device as direct-complete, and resume is not done since (__device_suspend, device_resume)
 abbrev pub disabled_by_direct : List Entry → Bool
 disabled_by_direct [] = false
 disabled_by_direct (e ∷ past) = disabled_by_direct_after e.kind (disabled_by_direct past)
@@ -108,7 +108,8 @@ is_prepared_device m d past = is_prepared (state_at (phase_states (length m.devi
 
 -- ---- requests
 
--- what a request for a runtime status is answered: EACCES where it is disabled, EAGAIN where a prepared device is to be suspended (__pm_runtime_set_status, rpm_check_suspend_allowed)
+-- the answer to a request for a runtime status: EACCES if it is disabled, EAGAIN if a prepared device is to be suspended
+-- (__pm_runtime_set_status, rpm_check_suspend_allowed)
 abbrev pub runtime_answer : Bool → Bool → Bool → Option Errno
 runtime_answer disabled prepared to_suspended =
     if disabled then Some EACCES else if prepared && to_suspended then Some EAGAIN else None

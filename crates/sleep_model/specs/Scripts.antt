@@ -16,7 +16,7 @@ times_over (suc n) xs = times_over n xs ++ xs
 abbrev pub operations : Script → List Op
 operations s = times_over s.repeat (flat_map (λ step. replicate step.times step.op) s.steps)
 
--- the note that an operation makes, where it is a call on a source
+-- the note that an operation makes, if it is a call on a source
 abbrev pub note_of : Op → Option Kind
 note_of (Awake s) = Some (kind.Awake s)
 note_of (Relax s) = Some (kind.Relax s)
@@ -48,7 +48,7 @@ abbrev pub call_or_turn : Option Kind → List Piece
 call_or_turn None = Turns ∷ []
 call_or_turn (Some note) = Calls note ∷ []
 
--- the pieces of an operation, where autosleep has that source (autosleep_store)
+-- the pieces of an operation, if autosleep has that source (autosleep_store)
 abbrev pub pieces_of : ℕ → Op → List Piece
 pieces_of source (Autosleep text) = autosleep_pieces source (is_mem text || is_off text)
 pieces_of source op = call_or_turn (note_of op)

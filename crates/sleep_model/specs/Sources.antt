@@ -27,12 +27,13 @@ most_entries = 60000
 
 -- ---- its expiry
 
--- the later of a moment and one that may stand
+-- the later of a moment and another, if there is another
 abbrev pub later : ℕ → Option ℕ → Option ℕ
 later time None = Some time
 later time (Some states) = Some (max time states)
 
--- when the event in progress ends by itself, after an entry: an event with a length sets it, unless a later one stands; staying awake and a finish cancel it (pm_wakeup_ws_event, __pm_stay_awake, wakeup_source_deactivate)
+-- when the event in progress ends by itself, after an entry: an event with a length sets it, unless it is set later; staying awake and a
+-- finish cancel it (pm_wakeup_ws_event, __pm_stay_awake, wakeup_source_deactivate)
 abbrev pub expiry_after : EntryClass → ℕ → Option ℕ → Option ℕ
 expiry_after (Notes s call.Awake) time before = None
 expiry_after (Notes s (call.Event ms hard)) time before = if ms == 0 then before else later (time + ms) before
@@ -62,17 +63,18 @@ abbrev pub since : List Entry → Option ℕ
 since [] = None
 since (e ∷ own) = since_after (class_of e.kind) e.time (since own)
 
--- a start, where none is in progress (wakeup_source_report_event)
+-- a start, if none is in progress (wakeup_source_report_event)
 abbrev pub starting : Option ℕ → List WordKind
 starting None = step.Start ∷ []
 starting (Some since) = []
 
--- a finish, where one is in progress (wakeup_source_deactivate)
+-- a finish, if one is in progress (wakeup_source_deactivate)
 abbrev pub finishing : Option ℕ → List WordKind
 finishing None = []
 finishing (Some since) = step.Finish ∷ []
 
--- the steps on the word that a call makes, by whether an event is in progress: an event without length ends at once (__pm_stay_awake, __pm_relax, pm_wakeup_ws_event)
+-- the steps on the word that a call makes, by whether an event is in progress: an event without length ends at once (__pm_stay_awake,
+-- __pm_relax, pm_wakeup_ws_event)
 abbrev pub makes : SourceCall → Option ℕ → List WordKind
 makes call.Awake since = starting since
 makes call.Relax since = finishing since
@@ -111,7 +113,8 @@ abbrev pub IsNext : WordKind → List WordKind → Type 0
 IsNext step [] = ⊥
 IsNext step (next ∷ rest) = next ≡ step
 
--- a call begins where the last one owes nothing, an expiry only if its moment has come, and its caller makes each step as it is owed (wakeup_source_report_event, pm_wakeup_timer_fn)
+-- a call begins if the last one owes nothing, an expiry only if its moment has come, and its caller makes each step as it is owed
+-- (wakeup_source_report_event, pm_wakeup_timer_fn)
 abbrev pub SourceStep : List Entry → ℕ → Actor → EntryClass → Type 0
 SourceStep own time who OfJournal = Unit {0}
 SourceStep own time who (Notes s call.Expire) = (owed own ≡ []) × (has_expired (expiry own) time ≡ true)

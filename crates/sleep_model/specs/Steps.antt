@@ -28,7 +28,8 @@ use Rattle.sleep_model.specs.Tasks.{is_mem, is_off, is_line, is_user, freezes_at
 use Rattle.sleep_model.specs.Path.{attempts}
 use Rattle.sleep_model.specs.Scripts.{entry_steps}
 
--- a read answers the count where no event is in progress, else it says once that it waits, and gives up where it is asked to freeze (pm_get_wakeup_count)
+-- a read answers the count if no event is in progress, else it says once that it waits, and gives up if it is asked to freeze
+-- (pm_get_wakeup_count)
 abbrev pub read_due : EventNow → Bool → Bool → Due
 read_due now waits asked =
     if now.inpr == 0 then Makes (kind.Read (visible now))
@@ -38,7 +39,7 @@ read_due now waits asked =
 abbrev pub save_due : EventNow → ℕ → Due
 save_due now c = if (visible now == c) && (now.inpr == 0) then Makes (kind.Saved c) else Makes (kind.SaveErr c EINVAL)
 
--- where another holds the autosleep lock a write says once that it waits, and gives up where it is asked to freeze (pm_autosleep_lock)
+-- if another holds the autosleep lock a write says once that it waits, and gives up if it is asked to freeze (pm_autosleep_lock)
 abbrev pub lock_due : Bool → Bool → Due → Due → Due
 lock_due waits asked says gives_up = if waits then (if asked then gives_up else Waits why.LockHeld) else says
 
@@ -62,7 +63,7 @@ autosleep_due held begun mem off =
     else (if held then Waits why.LockHeld else Makes (kind.AutoSet (if mem then Mem else Off))))
     else Makes kind.AutoBad
 
--- a sleep up to that time ends where it has come (schedule_timeout)
+-- a sleep up to that time ends once it has come (schedule_timeout)
 abbrev pub slept_due : Option ℕ → ℕ → Due
 slept_due None time = Exited
 slept_due (Some until) time = if nat_le until time then Makes kind.Slept else Waits (why.Until until)
@@ -76,7 +77,7 @@ abbrev pub saved_number : Option ℕ → Option ℕ → ℕ
 saved_number None last_read = unwrap_or last_read 0
 saved_number (Some c) last_read = c
 
--- a write to the state whose step is cut short where the last save was not ok (own)
+-- a write to the state whose step is cut short if the last save was not ok (own)
 abbrev pub unless_unsaved : Bool → Bool → Due → Due
 unless_unsaved if_saved saved due = if if_saved && not saved then Makes kind.StateUnsaved else due
 
@@ -84,7 +85,8 @@ unless_unsaved if_saved saved due = if if_saved && not saved then Makes kind.Sta
 abbrev pub sleep_due : (ℕ → Kind) → ℕ → ScriptPosition → ℕ → Due
 sleep_due begins ms position time = if position.waits then slept_due position.until time else Makes (begins (time + ms))
 
--- the next entry of a script at an operation, or its exit; a call on a source makes none (kernel/power/main.c, state_store, wakeup_count_store, autosleep_store)
+-- the next entry of a script at an operation, or its exit; a call on a source makes none (kernel/power/main.c, state_store,
+-- wakeup_count_store, autosleep_store)
 abbrev pub step_due : Machine → List Entry → EventNow → ScriptPosition → Bool → Option Op → Due
 step_due m past now position asked None = Makes kind.Exit
 step_due m past now position asked (Some op.Read) = read_due now position.waits asked
@@ -109,7 +111,7 @@ step_due m past now position asked (Some (op.LinkState supplier consumer active)
     Makes (kind.LinkState supplier consumer active (link_state_due m past supplier consumer))
 step_due m past now position asked (Some _) = Exited
 
--- a frozen task waits, and so does a task while the machine sleeps; one that is asked to freeze does so where it may (try_to_freeze)
+-- a frozen task waits, and so does a task while the machine sleeps; one that is asked to freeze does so if it may (try_to_freeze)
 abbrev pub task_due : Machine → List Entry → EventNow → Freezing → TaskKind → ScriptPosition → Option Op → Due
 task_due m past now f kind' position op =
     if f.frozen then Waits why.Frozen

@@ -1,4 +1,4 @@
--- The table of an attempt: the stage under way, and where a failure leads (kernel/power/suspend.c).
+-- The table of an attempt: the stage under way, what follows it, and what a failure leads to (kernel/power/suspend.c).
 use Rattle.std.specs.Prelude.{Bool, true, false, if◌then◌else◌, List, [], ◌∷◌, Option, Some, None}
 use Rattle.sleep_base.specs.declared.errno.Errno.{Errno}
 use Rattle.sleep_model.specs.declared.entry.Entry.{Entry}
@@ -22,7 +22,7 @@ use Rattle.phase_table.specs.Phases.{is_down}
 
 -- ---- the table of an attempt
 
--- where a stage leads: what follows it, and where a failure of it leads
+-- what a stage leads to: what follows it, and what a failure of it leads to
 pub record Row : Type 0 where
   pub next : Stage
   pub failed : Stage
@@ -35,7 +35,7 @@ to next failed = record { next = next; failed = failed }
 abbrev pub on : Stage → Row
 on next = record { next = next; failed = next }
 
--- the table: a stage, what follows, where a failure leads (enter_state, suspend_devices_and_enter, suspend_enter)
+-- the table: a stage, what follows, what a failure leads to (enter_state, suspend_devices_and_enter, suspend_enter)
 abbrev pub row : Stage → Row
 row stage.Notifies = to (stage.Freezes group.User) stage.Posts
 row (stage.Freezes group.User) = to (stage.Freezes group.Kernel) (stage.Thaws thaw.All)
@@ -72,7 +72,7 @@ row (stage.Downs _) = to (stage.PlatformDown down.PrepareLate) (stage.PlatformUp
 
 -- ---- its columns, by what a stage is of
 
--- the stage after a stage, where nothing fails (enter_state, suspend_devices_and_enter, suspend_enter)
+-- the stage after a stage, if nothing fails (enter_state, suspend_devices_and_enter, suspend_enter)
 abbrev pub next_stage : Stage → Stage
 next_stage s = (row s).next
 
@@ -112,23 +112,23 @@ failed_platform_down step = (row (stage.PlatformDown step)).failed
 abbrev pub failed_freeze : Group → Stage
 failed_freeze g = (row (stage.Freezes g)).failed
 
--- after a phase that failed: a failed prepare or suspend tells the platform first (suspend_devices_and_enter, Recover_platform)
+-- after a phase that failed: after a failed prepare or suspend the platform recovers first (suspend_devices_and_enter, Recover_platform)
 abbrev pub failed_phase : Phase → Stage
 failed_phase p = (row (stage.Downs p)).failed
 
 -- ---- the stage after an entry
 
--- the first where there is no error, else the second
+-- the first if there is no error, else the second
 abbrev pub by_error : Option Errno → Stage → Stage → Stage
 by_error None good failed = good
 by_error (Some r) good failed = failed
 
--- the first where a freeze left none, else the second
+-- the first if a freeze left none, else the second
 abbrev pub by_froze : FrozeEnd → Stage → Stage → Stage
 by_froze AllFrozen good failed = good
 by_froze _ good failed = failed
 
--- the first where it is so, else the second
+-- the first if it is so, else the second
 abbrev pub by_case : Bool → Stage → Stage → Stage
 by_case true here there = here
 by_case false here there = there

@@ -20,7 +20,7 @@ is_mem text = bytes_eq (first_line text) (codes "mem")
 abbrev pub is_off : List ℕ → Bool
 is_off text = bytes_eq text (codes "off") || bytes_eq text (codes "off\n")
 
--- ---- where a task stands
+-- ---- the position of a task
 
 -- an interrupt line, which goes on while the machine sleeps (own)
 abbrev pub is_line : TaskKind → Bool
@@ -32,7 +32,8 @@ abbrev pub is_user : TaskKind → Bool
 is_user User = true
 is_user _ = false
 
--- where a task that is asked freezes: in a sleep that was begun, where it waits for a mark, and at a freeze point; a user's task at the beginning of each operation but an exit and a good write to autosleep (try_to_freeze, get_signal)
+-- a task that is asked freezes here: in a sleep that was begun, while it waits for a mark, and at a freeze point; a user's task at the
+-- beginning of each operation but an exit and a good write to autosleep (try_to_freeze, get_signal)
 abbrev pub freezes_at : Bool → Bool → Option Op → Bool
 freezes_at user begun None = false
 freezes_at user begun (Some (op.Wait mark)) = true

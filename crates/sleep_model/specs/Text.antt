@@ -179,7 +179,7 @@ up_word up.Wake = codes "wake"
 up_word up.Finish = codes "finish"
 up_word up.End = codes "end"
 
--- the name of the error with that number, and EINVAL's where no error has it
+-- the name of the error with that number, and EINVAL's if no error has it
 abbrev pub error_text : ℕ → List ℕ
 error_text n = name_of (unwrap_or (errno_with n errors) EINVAL)
 

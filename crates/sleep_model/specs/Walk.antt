@@ -1,4 +1,4 @@
--- Flags by number, and searches among devices in the order in which they stand (drivers/base/power/main.c, dpm_list).
+-- Flags by number, and searches among devices in their order (drivers/base/power/main.c, dpm_list).
 use Rattle.std.specs.Prelude.{ℕ, Bool, false, List, [], ◌∷◌, if◌then◌else◌, Option, Some, None, slice_index_or}
 
 -- the flag at that number

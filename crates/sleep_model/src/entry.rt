@@ -1,10 +1,11 @@
+//! The entries of a log: who makes them, what they say, and their stamps.
 use crate::list::ListOf;
 use crate::machine::{PlatDo, PlatUndo};
 use crate::word::{EventNow, Stamp};
 use phase_table::Phase;
 use sleep_base::Errno;
 
-/// Who makes an entry. Ties go by kind, in the order of these variants, then by
+/// Who makes an entry. Entries of one tick are ordered by kind, in the order of these variants, then by
 /// number.
 #[derive(Clone, Copy, Debug, PartialEq, Eq)]
 pub enum Actor {

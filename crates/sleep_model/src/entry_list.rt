@@ -1,19 +1,19 @@
-//! The entries of a log, where most are kept as they stand in a journal.
+//! The entries of a log, most of which are stored as they are in a journal.
 
 use crate::entry::{Entry, JournalEntry};
 use crate::journal::{Journal, Moment, Recorded, entry_at};
 use std::alloc::{AllocError, Global};
 use std::marker::Model;
 
-/// An entry that is not the journal's, and how many of the journal stand before it.
+/// An entry that is not the journal's, and how many of the journal come before it.
 #[derive(Clone, Copy)]
 pub struct OtherEntry {
     pub before: usize,
     pub entry: Entry,
 }
 
-/// Entries in the order of a log. Contracts see the plain list; a journal's are kept as they are, so that
-/// a log needs no second copy of them.
+/// Entries in the order of a log. Contracts see the plain list; a journal's are stored as they are, so that a
+/// log needs no second copy of them.
 #[derive(Drop)]
 pub struct EntryList {
     journal: Journal,
@@ -110,7 +110,7 @@ impl<'a> EntryReader<'a> {
     ghost use Rattle.std.specs.Prelude.{◌≡◌, ◌∷◌, [], true, MatchOption};
     ghost use Rattle.sleep_model.specs.Interleaved.{unread, is_ahead, is_journals_turn};
 
-    /// Whether that one of the others stands before all that is left of the journal.
+    /// Whether that one of the others comes before all that is left of the journal.
     #[inline(always)]
     fn is_ahead(&self, other: &OtherEntry) -> bool
         ensures { result ≡ is_ahead self.now.passed self.now.journal other.now }
@@ -118,7 +118,7 @@ impl<'a> EntryReader<'a> {
         self.made.is_empty() || other.before <= self.passed
     }
 
-    /// The next entry, where it is the journal's. `None` at the end.
+    /// The next entry, if it is the journal's. `None` at the end.
     #[inline(always)]
     #[tactic(auto, using(crate::proofs::Interleaving::read_journal, crate::proofs::Interleaving::read_none))]
     fn next_of_journal(&mut self) -> Option<Entry>

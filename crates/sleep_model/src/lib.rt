@@ -1,15 +1,15 @@
-//! Plain data of a machine and of its sleep log, every definition of what sleep is, which all contracts cite, the
-//! words of a log, and a journal that is kept short. Its tests are in `part_cases`; trials of laws try the
+//! Plain data of a machine and of its sleep log, every definition of what sleep is, which all contracts cite,
+//! the words of a log, and a journal in few bytes. Its tests are in `part_cases`; trials of laws try the
 //! definitions on worked logs.
 //!
-//! Promises: A name has its 1 to 32 bytes, a list its items. A journal has just the entries that were put into it;
-//! a refused reservation changes nothing. A log's entries are the journal's with each other entry after as many of
-//! them as it says. Words of a log and names by number are exact. The definitions stand here: they are no code. By
-//! the clauses of `Name`, `ListOf`, `pos`; `Journal::..`; `EntryList::..`, `EntryReader::next`; `Group::name`,
-//! `of_bytes` and their like; `Machine::device_name` and its like.
+//! Promises: A name has its 1 to 32 bytes, a list its items. A journal has just the entries that were put
+//! into it; a refused reservation changes nothing. A log's entries are the journal's with each other entry
+//! after as many of them as it says. Words of a log and names by number are exact. The definitions are here:
+//! they are no code. By the clauses of `Name`, `ListOf`, `pos`; `Journal::..`; `EntryList::..`,
+//! `EntryReader::next`; `Group::name`, `of_bytes` and their like; `Machine::device_name` and its like.
 //!
-//! Begin reading in `specs/Legal.antt`, `specs/Due.antt`, `specs/Table.antt`, `specs/Laws.antt`; `src/words.rt`,
-//! `src/journal.rt`.
+//! Begin reading in `specs/Legal.antt`, `specs/Due.antt`, `specs/Table.antt`, `specs/Laws.antt`;
+//! `src/words.rt`, `src/journal.rt`.
 #![tactic(auto)]
 
 mod entry;

@@ -1,3 +1,4 @@
+//! A list that contracts see as its plain items.
 use std::marker::Model;
 
 /// A list of `T` that contracts see as the plain list of its items.

@@ -1,3 +1,4 @@
+//! A log and its end, the statistics of a source, and what an actor waits for or wants.
 use crate::entry::Actor;
 use crate::entry_list::EntryList;
 use crate::list::ListOf;

@@ -1,3 +1,4 @@
+//! A machine: its devices, links, notifiers and scripts, and what its callbacks answer.
 ghost use Rattle.std.specs.Prelude.{◌≡◌, IfOk};
 ghost use Rattle.sleep_model.specs.Order.{parents_of};
 

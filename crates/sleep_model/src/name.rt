@@ -1,3 +1,4 @@
+//! The names of things: 1 to 32 bytes.
 ghost use Rattle.std.specs.Prelude.{◌≡◌};
 ghost use Rattle.std.specs.List.{list_all};
 ghost use Rattle.sleep_model.specs.NameBytes.{is_name, is_name_byte};
@@ -31,7 +32,7 @@ pub fn is_name(bytes: &[u8]) -> bool
     1 <= bytes.len() && bytes.len() <= NAME_BYTES && are_name_bytes(bytes)
 }
 
-/// The name of a thing: 1 to 32 bytes, kept in place, that contracts see as their list.
+/// The name of a thing: 1 to 32 bytes, stored in the value, that contracts see as their list.
 #[derive(Clone, Copy, Debug, PartialEq, Eq, PartialOrd, Ord, Hash)]
 pub struct Name {
     bytes: [u8; 32],

@@ -1,9 +1,10 @@
+//! How far an attempt, its devices and its scripts have come, and what is due.
 use crate::entry::{Group, Kind, Thaw};
 use crate::log::Why;
 use crate::machine::{PlatDo, PlatUndo};
 use phase_table::Phase;
 
-/// Where a script stands: how many of its steps that make entries are made, and what it knows.
+/// The position of a script: how many of its steps that make entries are made, and what it knows.
 #[derive(Clone, Copy)]
 pub struct ScriptPosition {
     pub done: usize,
@@ -27,7 +28,7 @@ pub struct Freezing {
     pub frozen: bool,
 }
 
-/// Where a device stands in a pair of phases, the one on the way down and its mirror on the way up
+/// The state of a device in a pair of phases, the one on the way down and its mirror on the way up
 /// (`include/linux/pm.h`, `struct dev_pm_info`).
 #[derive(Clone, Copy, PartialEq, Eq)]
 pub enum PhaseState {
@@ -39,7 +40,7 @@ pub enum PhaseState {
     Scheduled,
     /// Inside its callback on the way down (`dpm_run_callback`).
     Suspending,
-    /// Its callback failed, or it was skipped by an error or a wakeup (`power.completion` alone is done).
+    /// Its callback failed, or it was skipped by an error or a wakeup (only `power.completion` is done).
     Failed,
     /// Direct-complete (`power.direct_complete`).
     Direct,
@@ -116,8 +117,8 @@ pub struct Callback {
     pub device: u32,
 }
 
-/// Where an asynchronous device's own work stands (`drivers/base/power/main.c`,
-/// `async_schedule_dev`): it has none, it is scheduled, or it is inside its callback.
+/// The state of an asynchronous device's own work (`drivers/base/power/main.c`, `async_schedule_dev`): it has
+/// none, it is scheduled, or it is inside its callback.
 #[derive(Clone, Copy)]
 pub enum AsyncWork {
     Idle,
@@ -125,7 +126,7 @@ pub enum AsyncWork {
     Inside(Phase),
 }
 
-/// Where the autosleep work stands (`kernel/power/autosleep.c`, `try_to_suspend`).
+/// The state of the autosleep work (`kernel/power/autosleep.c`, `try_to_suspend`).
 #[derive(Clone, Copy)]
 pub enum Work {
     /// It is not at work.

@@ -1,3 +1,4 @@
+//! The event word taken apart, its steps, and the stamps of entries.
 ghost use Rattle.std.specs.Prelude.{◌≡◌};
 ghost use Rattle.sleep_model.specs.Word.{position, visible};
 

@@ -1,3 +1,4 @@
+-- Proof that `found` meets its contract.
 use Rattle.std.proofs.Common.{◌≡◌, ℕ, List, [], ◌∷◌, ◌++◌, length, refl, sym, subst, arith}
 use Rattle.sleep_model.specs.declared.journal.Moment.{Moment}
 use Rattle.sleep_model.specs.Journals.{IsFound}

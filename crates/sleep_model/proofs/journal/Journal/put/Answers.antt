@@ -1,3 +1,4 @@
+-- Proof that `Journal::put` keeps the invariant of its type.
 use Rattle.std.proofs.Common.{◌≡◌, ◌++◌, ◌<◌, ◌^◌, List, [], ◌∷◌, refl, sym, subst, arith}
 use Rattle.sleep_model.specs.declared.journal.Recorded.{Recorded}
 use Rattle.sleep_model.specs.Journals.{JournalRoom, AreOf}

@@ -1,3 +1,4 @@
+-- Proof that `Name::of_bytes` keeps the invariant of its type.
 use Rattle.std.proofs.Common.{◌≤◌, ◌++◌, ℕ, List, length, drop, replicate, sym, subst, arith}
 use Rattle.std.proofs.lemmas.Bool.Decides.{nat_tests}
 use Rattle.sleep_model.specs.NameBytes.{IsPadded}
