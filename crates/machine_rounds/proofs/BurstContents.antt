@@ -99,7 +99,7 @@ fills m xs s x are l is more =
     ∙ ap (λ (y : SourceState). map of_source y.past) (index_mapped (λ (s : SeatedSourceState). s.source) xs s x ∙ ap (λ (y : SeatedSourceState). y.source) (sym is)) in
     (omega (arith, l, count), omega (arith, more, ap (λ (es : List JournalEntry). length es) there, length-map x.source.past of_source))
 
--- the same of a run, where its history is that long
+-- the same of a run, if its history is that long
 pub fills_run : (r : Inside) (s : RunState) → state r ≡ s → RunFieldsInvariant r → (place : ℕ) (x : SeatedSourceState) (past : List SourceEntry) → place < length r.sources.items → x ≡ slice_index_or r.sources.items place x → reverse past ≡ x.source.past → (b : Bool)
     → b ≡ nat_lt 60000 (length past + 4) → OnTrue b ((place ≤ length s.machine.sources) × (most_entries < length (of_sources s.sources place) + 4))
 fills_run r s same k place x past l is history false test = tt

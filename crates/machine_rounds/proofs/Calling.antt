@@ -86,7 +86,7 @@ module _ (r : Inside) (k : RunFieldsInvariant r) (s : ℕ) (there : s ≤ length
       subst (λ (xs : List SeatedSourceState). IsRefused (record { machine = r.machine.now; journal = r.seated.core.past; sources = sources_of xs; seat = r.seated.seat; floor = r.floor }) given)
       (sym (ap (slice_set r.sources.items s) same ∙ put_back r.sources.items s one is)) h
 
-  -- out of memory is told of no source that is full
+  -- out of memory is not reported of a source that is full
   pub wanted : (why : SourceFault) (given : RunFault) → given ≡ run_fault why s → (most_entries < length one.source.past + 4 → why ≡ source.Full) → given ≡ fault.Mem → length (of_sources sources s) + 4 ≤ most_entries
   wanted source.Full given so full want = absurd (let no : fault.SourceFull s ≡ fault.Mem = sym so ∙ want in cc)
   wanted source.Mem given so full want = by (nat_lt most_entries (length one.source.past + 4)) refl

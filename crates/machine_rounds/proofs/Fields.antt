@@ -1,4 +1,4 @@
--- What a run keeps, as its value tells it.
+-- The invariant of a run, by the fields of its value.
 use Rattle.std.proofs.Common.{◌≡◌, subst}
 use Rattle.machine_rounds.specs.declared.run.Run.TheInside.{Inside}
 use Rattle.running_laws.specs.Running.{IsRunning}

@@ -24,7 +24,7 @@ use Rattle.machine_rounds.proofs.Numbered.{from_more}
 
 -- ---- lists
 
--- what stands at a place of two lists, one after the other
+-- what is at an index of two lists, one after the other
 pub get_contents : {A : Type 0} (xs ys : List A) (k : ℕ) (t : A) → slice_get (xs ++ ys) k ≡ Some t
     → ((k < length xs) × (slice_get xs k ≡ Some t)) ⊎ ((j : ℕ) × (k ≡ length xs + j) × (slice_get ys j ≡ Some t))
 get_contents [] ys k t e = inr (k, omega arith, e)
@@ -36,7 +36,7 @@ get_contents {A} (x ∷ xs) ys (suc k) t e = more (get_contents xs ys k t e)
     more (inl h) = inl (omega (arith, h.0), h.1)
     more (inr h) = inr (h.0, omega (arith, h.1), h.2)
 
--- what stands in the front, and after it
+-- what is in the first list, and what is after it
 pub get_front : {A : Type 0} (xs ys : List A) (k : ℕ) (t : A) → slice_get xs k ≡ Some t → slice_get (xs ++ ys) k ≡ Some t
 get_front [] ys k t e = absurd (let bad : None ≡ Some t = e in cc)
 get_front (x ∷ xs) ys zero t e = e
@@ -47,7 +47,7 @@ get_after [] ys j t e = subst (λ (n : ℕ). slice_get ys n ≡ Some t) (let is 
 get_after (x ∷ xs) ys j t e =
     subst (λ (n : ℕ). slice_get (x ∷ xs ++ ys) n ≡ Some t) (let is : suc (length xs + j) ≡ length (x ∷ xs) + j = omega arith in is) (get_after xs ys j t e)
 
--- what stands in a mapped list is the image of what stands in the list
+-- what is in a mapped list is the image of what is in the list
 pub get_image : {A B : Type 0} (f : A → B) (xs : List A) (k : ℕ) (d : A) (t : B) → slice_get (map f xs) k ≡ Some t → (k < length xs) × (t ≡ f (slice_index_or xs k d))
 get_image f [] k d t e = absurd (let bad : None ≡ Some t = e in cc)
 get_image f (x ∷ xs) zero d t e = (omega arith, (let same : Some t ≡ Some (f x) = sym e in cc))
@@ -140,7 +140,7 @@ pub record IsBelow (one other : Stamp) : Type 0 where
 pub below_later : (one other : Stamp) → IsBelow one (later one other)
 below_later one other = record { tick = omega arith; pos = omega arith }
 
--- where no task is the actor's it knows that stamp
+-- if no task is the actor's it knows that stamp
 pub known_else : (floor : Stamp) (tasks : List Task) (who : Actor) → has_task tasks who ≡ false → known_among floor tasks who ≡ floor
 known_else floor [] who h = refl
 known_else floor (t ∷ tasks) who h = by (is_same (actor_of t) who) refl h (λ g. known_else floor tasks who g)
@@ -150,7 +150,7 @@ known_else floor (t ∷ tasks) who h = by (is_same (actor_of t) who) refl h (λ 
     by true is g after_idle_round = absurd (let bad : true ≡ false = ap (λ (b : Bool). b || has_task tasks who) (sym is) ∙ g in cc)
     by false is g after_idle_round = ap (λ (b : Bool). cond b (known_by t) (known_among floor tasks who)) is ∙ after_idle_round (ap (λ (b : Bool). b || has_task tasks who) (sym is) ∙ g)
 
--- where it is some task's, it knows what that task knows
+-- if it is some task's, it knows what that task knows
 pub known_some : (floor : Stamp) (tasks : List Task) (who : Actor) → has_task tasks who ≡ true
     → (k : ℕ) × (t : Task) × (slice_get tasks k ≡ Some t) × (is_same (actor_of t) who ≡ true) × (known_among floor tasks who ≡ known_by t)
 known_some floor [] who h = absurd (let bad : false ≡ true = h in cc)
@@ -253,7 +253,7 @@ module _ (m : Machine) (floor : Stamp) (jobs : JobsState) (all : AreAllJobs m jo
           let some = known_some floor these who h in
           subst (IsBelow floor) (sym some.4) (knows_at_least some.0 some.1 (is_at floor many jobs some.0 some.1 some.2))
 
-  -- no tick is above that number where neither that stamp's is nor a job's
+  -- no tick is above that number if neither that stamp's is nor a job's
   module _ (n : ℕ) (low : floor.tick ≤ n) (jobs_low : (who : Actor) → IsActor m who → (job_at jobs who).floor.tick ≤ n) where
     pub ready_low : (who : Actor) → IsActor m who → (ready_jobs who).floor.tick ≤ n
     ready_low who a = omega (arith, low, jobs_low who a)
@@ -273,7 +273,7 @@ module _ (m : Machine) (floor : Stamp) (jobs : JobsState) (all : AreAllJobs m jo
             let some = known_some floor these who h in
             subst (λ (s : Stamp). s.tick ≤ n) (sym some.4) (task_low some.0 some.1 (is_at floor many jobs some.0 some.1 some.2))
 
--- ---- where the burst begins
+-- ---- at the beginning of the burst
 
 module _ (m : Machine) (journal : List JournalEntry) (sources : List SourceState) (jobs : JobsState) (floor : Stamp) (all : AreAllJobs m jobs)
     (r : IsRunning m journal sources (job_at jobs) floor) where

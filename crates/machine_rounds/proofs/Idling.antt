@@ -1,4 +1,4 @@
--- Where a run rests, and how it ends.
+-- When a run is idle, and how it ends.
 use Rattle.std.proofs.Common.{◌≡◌, ◌≤◌, ◌<◌, ◌+◌, ◌++◌, ◌∙◌, ◌⊎◌, inl, inr, ℕ, zero, suc, Bool, true, false, not, ◌&&◌, ◌||◌, List, [], ◌∷◌, length, reverse, drop, Option, Some, None, is_none, slice_get, Result, Ok, Err, refl, sym, ap, ap₂, subst, cond, append_assoc, arith}
 use Rattle.std.specs.List.{list_all}
 use Rattle.std.proofs.lemmas.List.{length-reverse, length-set, length-replicate, drop_all}
@@ -49,7 +49,7 @@ use Rattle.machine_rounds.specs.Runs.{AfterStretches, AfterTry, EndsSo, Fails, I
 
 -- ---- tries
 
--- where nothing was made there are as many entries
+-- if nothing was made there are as many entries
 pub made_same : (old new : RunState) → IsSame old new → entries_made new ≡ entries_made old
 made_same old new h = ap₂ entry_count h.journal h.sources
 
@@ -61,7 +61,7 @@ same_then first second third h g = record {
   floor = g.floor ∙ h.floor;
 }
 
--- what stretches came to, where none fewer entries were made before them
+-- what stretches came to, if no fewer entries were made before them
 pub stretched : (first second third : RunState) (n : ℕ) (came : Result (Option AfterIdleRound) RunFault) → entries_made first ≤ entries_made second → AfterStretches n second third came → AfterStretches n first third came
 stretched first second third n (Ok None) more h = omega (arith, more, h)
 stretched first second third n (Ok (Some after_idle_round)) more h = h
@@ -87,14 +87,14 @@ exited_false true None h e = h
 exited_false false o h e = refl
 exited_false true (Some w) h e = absurd (cc)
 
--- nobody goes on where the run is not over
+-- nobody goes on if the run is not over
 pub halted_of : (run : RunState) (word : EventNow) → (have_all_exited run.machine (entries run.journal) && is_none (maker (entries run.journal))) ≡ false → maker (entries run.journal) ≡ None → nobody_enabled run word ≡ true
     → next_time run.machine (entries run.journal) (histories run.sources) ≡ None → IsHalted run word
 halted_of run word going closed rests none = record { left = exited_false (have_all_exited run.machine (entries run.journal)) (maker (entries run.journal)) going closed; idle = rests; timeless = none }
 
 -- ---- the log
 
--- a legal log that is over, whose fields were told
+-- a legal log that is over, whose fields were checked
 run_of : (m : Machine) (log : Log) → IsAccepted m → IsLegalLog m log → (IsFinishedLog m log) ⊎ (IsStuckLog m log) → list_all (is_ranged_entry m) (reverse log.entries) ≡ true → list_all fits_stats log.stats ≡ true → IsRun m log
 run_of m log acc legal over shown ranged = record {
   legal = legal;
@@ -149,7 +149,7 @@ put_by true i (Waits why) after_idle_round h = absurd (let no : Waits why ≡ Ex
 put_by true i Exited after_idle_round h = refl
 put_by true i (Makes k) after_idle_round h = refl
 
--- nothing is due of a script that has exited, where no attempt is open
+-- nothing is due of a script that has exited, while no attempt is open
 exited_done : (m : Machine) (past : List Entry) (now : EventNow) (i : ℕ) → maker past ≡ None → (position_at (positions (length m.actors) past) i).exited ≡ true → due m past (actor.Script i) now ≡ Exited
 exited_done m past now i closed exited =
     ap (λ o. cond (is_actor (actor.Script i) o) (attempt_due m past now) (own_due m past (actor.Script i) now)) closed ∙ by_script (slice_get m.actors i)
@@ -184,7 +184,7 @@ waits_more m past now i closed l =
     ∙ (ap (λ k. put_waiting seat.exited i (due m past (actor.Script i) now) (waiting_from m past now k (drop k (positions (length m.actors) past)))) further
     ∙ put_by seat.exited i (due m past (actor.Script i) now) (waiting_from m past now (i + 1) (drop (i + 1) (positions (length m.actors) past))) (exited_done m past now i closed))
 
--- nobody stands after the last
+-- nobody comes after the last
 pub waits_none : (m : Machine) (past : List Entry) (now : EventNow) (i : ℕ) → length m.actors ≤ i → waiting_from m past now i (drop i (positions (length m.actors) past)) ≡ []
 waits_none m past now i l = ap (waiting_from m past now i) (drop_all i (positions (length m.actors) past) (omega (arith, l, seats_len (length m.actors) past)))
 

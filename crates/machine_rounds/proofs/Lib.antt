@@ -1,3 +1,4 @@
+-- The lemmas of this crate.
 mod Quiescent
 mod Owing
 pub mod DuringBurst

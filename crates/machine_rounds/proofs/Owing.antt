@@ -52,7 +52,7 @@ owing_at [] i none l e = absurd (omega (arith, l))
 owing_at (y ∷ ys) zero none l e = omega (arith, e)
 owing_at (y ∷ ys) (suc i) none l e = owing_at ys i none (omega (arith, l)) (omega (arith, e))
 
--- where nobody is counted nobody has one
+-- if nobody is counted nobody has one
 pub none_owing : (jobs : JobsState) → owing jobs ≡ 0 → OweNone jobs
 none_owing jobs e (actor.Script i) h = nothing_left (slice_index_or jobs.scripts i jobs.auto).pending (owing_at jobs.scripts i jobs.auto h (omega (arith, e)))
 none_owing jobs e actor.Auto h = nothing_left jobs.auto.pending (omega (arith, e))
@@ -146,7 +146,7 @@ owing_least [] i none l = absurd (omega (arith, l))
 owing_least (y ∷ ys) zero none l = omega arith
 owing_least (y ∷ ys) (suc i) none l = omega (arith, owing_least ys i none (omega (arith, l)))
 
--- where one has a call to make somebody is counted
+-- if one has a call to make somebody is counted
 pub some_owing : (jobs : JobsState) (who : Actor) (n : ℕ) → HasJob jobs who → 0 < length (job_at jobs who).pending → n ≡ owing jobs → 0 < n
 some_owing jobs (actor.Script i) n h some is = omega (arith, owing_least jobs.scripts i jobs.auto h, owes_some (slice_index_or jobs.scripts i jobs.auto) some, is)
 some_owing jobs actor.Auto n h some is = omega (arith, owes_some jobs.auto some, is)
@@ -154,7 +154,7 @@ some_owing jobs (actor.Dev d) n h some is = omega (arith, owing_least jobs.devic
 some_owing jobs (actor.Timer s) n h some is = absurd h
 some_owing jobs actor.Time n h some is = absurd h
 
--- what a test of none tells
+-- what a test of none says
 pub none_told : (jobs : JobsState) (n : ℕ) (b : Bool) → n ≡ owing jobs → (b ≡ true → n ≡ 0) → OnTrue b (OweNone jobs)
 none_told jobs n true is h = none_owing jobs (omega (arith, is, h refl))
 none_told jobs n false is h = tt

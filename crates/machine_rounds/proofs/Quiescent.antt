@@ -1,4 +1,4 @@
--- Who can make nothing if all is calm.
+-- Who can make nothing if the run is quiescent.
 use Rattle.std.proofs.Common.{◌≡◌, ◌≤◌, ◌<◌, ◌∙◌, ℕ, zero, suc, Bool, true, false, not, ◌&&◌, ◌||◌, nat_lt, length, is_some, Option, Some, None, refl, sym, ap₂, arith}
 use Rattle.std.proofs.lemmas.Bool.{true≢false}
 use Rattle.std.proofs.lemmas.Bool.Decides.{nat_tests}
@@ -29,7 +29,7 @@ none_there : (o : Option Actor) → is_some o ≡ false → o ≡ None
 none_there None e = refl
 none_there (Some w) e = absurd (true≢false e)
 
--- where no job has a call to make, and no attempt is open, all is calm
+-- if no job has a call to make, and no attempt is open, the run is quiescent
 pub quiescent_is : (run : RunState) (jobs : JobsState) → IsRunning run.machine run.journal run.sources (job_at jobs) run.floor → AreAllJobs run.machine jobs → OweNone jobs → is_some (maker (entries run.journal)) ≡ false → IsQuiescent run
 quiescent_is run jobs r all none shut = record {
   closed = none_there (maker (entries run.journal)) shut;
@@ -57,7 +57,7 @@ module _ (run : RunState) (on : IsGoingOn run) where
   scripts_rest quiescent now still (suc n) l =
       ap₂ (λ (x y : Bool). not x && y) (script_rests quiescent now n (omega (arith, l)) (still n (omega (arith, l, seats_len (length m.actors) (entries run.journal))))) (scripts_rest quiescent now still n (omega (arith, l)))
 
-  -- no script is, where all are still
+  -- no script is, if all are stopped
   pub no_script : IsQuiescent run → (now : EventNow) → AreStopped (positions (length m.actors) (entries run.journal)) (time_of (entries run.journal))
       → none_enabled m (entries run.journal) (histories run.sources) now actor.Script (length m.actors) ≡ true
   no_script quiescent now still = scripts_rest quiescent now still (length m.actors) (omega arith)

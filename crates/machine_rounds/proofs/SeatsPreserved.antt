@@ -29,7 +29,7 @@ elem_at [] i d l = absurd (omega arith)
 elem_at (y ∷ ys) zero d l = refl
 elem_at (y ∷ ys) (suc i) d l = elem_at ys i d (omega (arith, l))
 
--- what is at a place where one of a list is another: that one, or what was there
+-- what is at an index if one of a list is replaced: the new one, or what was there
 elem_set : {A : Type 0} (xs : List A) (i k : ℕ) (x t : A) → get_elem? (slice_set xs i x) k ≡ some t → ((k ≡ i) × (t ≡ x)) ⊎ (get_elem? xs k ≡ some t)
 elem_set [] i k x t e = inr e
 elem_set (y ∷ ys) zero zero x t e = inl (refl, (let same : some x ≡ some t = e in cc))
@@ -104,7 +104,7 @@ uncalled_at xs new s none l = by xs s (omega (arith, l, length-map xs (λ (x : S
 
 -- ---- at the end
 
--- the histories that are kept are the sources'
+-- the histories of the sources with their seats are those of the sources
 pub histories_preserved : (xs : List SeatedSourceState) → histories_of xs ≡ journal_histories (fields.sources_of xs)
 histories_preserved [] = refl
 histories_preserved (x ∷ xs) = ap (λ (hs : List (List SourceEntry)). reverse x.source.past ∷ hs) (histories_preserved xs)

@@ -25,7 +25,7 @@ use Rattle.machine_rounds.specs.RunFields as fields
 use Rattle.machine_rounds.proofs.SeatsPreserved.{seats_same}
 
 module _ (r : Inside) (k : RunFieldsInvariant r) where
-  -- a look keeps the run where the core is the same
+  -- a look preserves the run if the core is the same
   pub looked_machine : (new : SeatedCoreState) → new.core ≡ r.seated.core → new.core.machine ≡ r.machine.now
   looked_machine new e = ap (λ (x : CoreState). x.machine) e ∙ k.machine_is
 

@@ -1,3 +1,4 @@
+-- The definitions of this crate.
 pub mod BurstsOf
 pub mod JobsFields
 pub mod JobsOf

@@ -22,7 +22,7 @@ state r = record {
   floor = r.floor;
 }
 
--- what holds of a run between turns: it goes on, each actor has its job, and all seats are at the table
+-- the invariant of a run between turns: it goes on, each actor has its job, and all seats are at the table
 pub record RunFieldsInvariant (r : Inside) : Type 0 where
   pub machine_is : r.seated.core.machine ≡ r.machine.now
   pub running : IsRunning r.machine.now r.seated.core.past (sources_of r.sources.items) (job_at r.jobs) r.floor

@@ -35,7 +35,8 @@ use Rattle.machine_rounds.specs.declared.after_idle_round.AfterIdleRound.TheVari
 use Rattle.machine_rounds.specs.declared.run.RunFault.{RunFault}
 use Rattle.machine_rounds.specs.declared.run.RunFault.TheVariants as fault
 
--- the machine of a run, its journal and its sources so far, the seat by which it looks at the event word, and the last stamp that anybody made
+-- the machine of a run, its journal and its sources so far, the seat by which it looks at the event word, and the last stamp that anybody
+-- made
 pub record RunState : Type 0 where
   pub machine : Machine
   pub journal : List JournalEntry
@@ -65,7 +66,8 @@ pub record IsSeen (run : RunState) (word : EventNow) : Type 0 where
   pub newest : position word ≡ floor_of run.seat
   pub high : run.floor.pos ≤ position word
 
--- the calls of a machine may fill a source: its history, which has `most_entries` places, may come to where fewer than four are left for a call and its expiry (own)
+-- the calls of a machine may fill a source: its history, which has room for `most_entries`, may come to have room for fewer than four,
+-- which a call and its expiry need (own)
 abbrev pub IsFull : Machine → ℕ → Type 0
 IsFull m s = (s ≤ length m.sources) × (most_entries < places m s + 4)
 
@@ -117,7 +119,7 @@ pub record IsHalted (run : RunState) (word : EventNow) : Type 0 where
   pub idle : nobody_enabled run word ≡ true
   pub timeless : next_time run.machine (entries run.journal) (histories run.sources) ≡ None
 
--- all is calm: no attempt is open, and each actor has made the calls on sources that are due
+-- the run is quiescent: no attempt is open, and each actor has made the calls on sources that are due
 pub record IsQuiescent (run : RunState) : Type 0 where
   pub closed : maker (entries run.journal) ≡ None
   pub made : (who : Actor) → IsActor run.machine who
@@ -155,7 +157,9 @@ EndsSo run end.Finished = (word : EventNow) × IsSeen run word × (is_over run w
 EndsSo run (end.Stuck those) =
     (word : EventNow) × IsSeen run word × IsHalted run word × (those ≡ waiting run.machine (entries run.journal) word)
 
--- the log of a whole run: it is legal, and over, and so the laws hold of it, and no attempt is open; it has at most 37,585,025 entries; an event wakes a sleeping machine before time passes, time goes forward, and each attempt ends; it fits the machine, so that its text tells it, and if it is stuck names somebody
+-- the log of a whole run: it is legal, and over, and so the laws hold of it, and no attempt is open; it has at most 37,585,025 entries; an
+-- event wakes a sleeping machine before time passes, time goes forward, and each attempt ends; it fits the machine, so that its text is
+-- exact, and if it is stuck names somebody
 pub record IsRun (m : Machine) (log : Log) : Type 0 where
   pub legal : IsLegalLog m log
   pub over : (IsFinishedLog m log) ⊎ (IsStuckLog m log)

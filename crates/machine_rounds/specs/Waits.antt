@@ -8,7 +8,7 @@ use Rattle.sleep_model.specs.declared.progress.Due.TheVariants.{Waits}
 use Rattle.sleep_model.specs.Sources.{stats_at}
 use Rattle.wakeup_source.specs.SourceStates.{SourceState, unstamped}
 
--- that the script waits, where that is what is due of it
+-- that the script waits, if that is what is due of it
 abbrev pub waits_of : ℕ → Due → List Waiting
 waits_of i (Waits why) = record { actor = Script i; why = why } ∷ []
 waits_of i _ = []

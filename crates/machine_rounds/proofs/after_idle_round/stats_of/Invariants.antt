@@ -1,3 +1,4 @@
+-- The invariant of the loop of `stats_of`.
 use Rattle.std.proofs.Common.{◌≡◌, true, take}
 use Rattle.std.specs.List.{list_all}
 use Rattle.sleep_model.specs.Fits.{fits_stats}

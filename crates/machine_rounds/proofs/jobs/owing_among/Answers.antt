@@ -1,3 +1,4 @@
+-- Proof that the loop of `owing_among` keeps its invariant, and that it meets what `more_owing` requires.
 use Rattle.std.proofs.Common.{ap, arith}
 use Rattle.sleep_model.specs.Places.{one_if}
 use Rattle.machine_rounds.proofs.Owing.{owing_more, few_of}

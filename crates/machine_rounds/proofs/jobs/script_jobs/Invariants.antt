@@ -1,3 +1,4 @@
+-- The invariant of the loop of `script_jobs`.
 use Rattle.std.proofs.Common.{◌≡◌}
 use Rattle.sleep_model.specs.declared.entry.Actor.TheVariants.{Script}
 use Rattle.machine_rounds.specs.JobsOf.{first_jobs_of}

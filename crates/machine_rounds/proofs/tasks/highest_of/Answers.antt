@@ -1,3 +1,4 @@
+-- Proof that the loop of `highest_of` keeps its invariant.
 use Rattle.std.proofs.Common.{◌∙◌, ap, sym}
 use Rattle.sleep_model.specs.declared.word.Stamp.{Stamp}
 use Rattle.sleep_script.specs.Jobs.{later}

@@ -1,3 +1,4 @@
+-- The invariant of the loop of `highest_of`.
 use Rattle.std.proofs.Common.{◌≡◌, take}
 use Rattle.machine_rounds.specs.TasksOf.{highest}
 use Rattle.machine_rounds.proofs.tasks.highest_of.Given as goal

@@ -1,3 +1,4 @@
+-- Proof that the loop of `jobs_among` keeps its invariant.
 use Rattle.std.proofs.Common.{◌∙◌, ◌++◌, List, [], ◌∷◌, ap, sym}
 use Rattle.sleep_script.specs.Jobs.{JobState}
 use Rattle.run_world.specs.declared.task.Task.{Task}

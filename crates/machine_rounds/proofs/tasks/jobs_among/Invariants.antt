@@ -1,3 +1,4 @@
+-- The invariant of the loop of `jobs_among`.
 use Rattle.std.proofs.Common.{◌≡◌}
 use Rattle.machine_rounds.specs.TasksOf.{jobs_in}
 use Rattle.machine_rounds.proofs.tasks.jobs_among.Given as goal

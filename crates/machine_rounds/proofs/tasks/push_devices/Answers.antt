@@ -1,3 +1,4 @@
+-- Proof that the loop of `push_devices` keeps its invariant.
 use Rattle.sleep_model.specs.declared.entry.Actor.TheVariants as actor
 use Rattle.machine_rounds.proofs.Numbered.{one_more}
 use Rattle.machine_rounds.proofs.tasks.push_devices.Goals as goal

@@ -1,3 +1,4 @@
+-- The invariant of the loop of `push_jobs`.
 use Rattle.std.proofs.Common.{◌≡◌, ◌++◌, map}
 use Rattle.machine_rounds.specs.TasksOf.{acts}
 use Rattle.machine_rounds.proofs.tasks.push_jobs.Given as goal

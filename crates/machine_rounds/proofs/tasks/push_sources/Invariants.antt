@@ -1,3 +1,4 @@
+-- The invariant of the loop of `push_sources`.
 use Rattle.std.proofs.Common.{◌≡◌, ◌++◌}
 use Rattle.sleep_model.specs.declared.entry.Actor.TheVariants as actor
 use Rattle.machine_rounds.specs.TasksOf.{numbered}

@@ -1,3 +1,4 @@
+-- The invariant of the loop of `push_timers`.
 use Rattle.std.proofs.Common.{◌≡◌, ◌++◌}
 use Rattle.machine_rounds.specs.TasksOf.{timers}
 use Rattle.machine_rounds.proofs.tasks.push_timers.Given as goal

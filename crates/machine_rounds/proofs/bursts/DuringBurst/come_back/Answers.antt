@@ -1,3 +1,4 @@
+-- Proof that `DuringBurst::come_back` meets what `of_tasks` and `joined` require.
 use Rattle.std.proofs.Common.{◌<◌, ◌∙◌, ℕ, length, sym, ap, subst}
 use Rattle.machine_rounds.specs.TasksOf.{AreJobsOf, highest, jobs_in}
 use Rattle.machine_rounds.proofs.DuringBurst.{back_few, back_jobs, back_running, back_there}

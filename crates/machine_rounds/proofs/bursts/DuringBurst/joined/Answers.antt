@@ -1,3 +1,4 @@
+-- Proof that `DuringBurst::joined` keeps the invariant of its type.
 use Rattle.machine_rounds.proofs.bursts.DuringBurst.joined.Goals as goal
 
 pub invariant_of-result : goal.invariant_of-result

@@ -1,3 +1,4 @@
+-- Proof that `DuringBurst::make` meets its contract, and that it meets what `make_burst` requires.
 use Rattle.std.proofs.Common.{◌+◌, ◌∙◌, ℕ, length, sym, ap, arith}
 use Rattle.machine_rounds.specs.TasksOf.{all_actors}
 use Rattle.machine_rounds.proofs.DuringBurst.{during_actors, during_few, during_ready, during_some, during_timely, during_turns, grown_of, is_back_of}

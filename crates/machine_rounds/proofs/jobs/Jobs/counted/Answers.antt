@@ -1,3 +1,4 @@
+-- Proof that `Jobs::counted` meets what `more_owing` requires, and that its indices and sums stay in range.
 use Rattle.std.proofs.Common.{List, length, ap, arith}
 use Rattle.sleep_script.specs.Jobs.{JobState}
 use Rattle.machine_rounds.proofs.Owing.{owing_few}

@@ -1,3 +1,4 @@
+-- Proof that `Jobs::new` meets what `of_components` requires.
 use Rattle.std.proofs.Common.{◌∙◌, List, length, ap, arith}
 use Rattle.sleep_model.specs.declared.entry.Actor.TheVariants.{Script, Dev}
 use Rattle.sleep_model.specs.Places.{one_if}

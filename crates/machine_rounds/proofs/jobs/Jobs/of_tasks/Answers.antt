@@ -1,3 +1,4 @@
+-- Proof that `Jobs::of_tasks` meets its contract.
 use Rattle.std.proofs.Common.{◌<◌, length, List, sym, subst}
 use Rattle.sleep_script.specs.Jobs.{JobState}
 use Rattle.machine_rounds.specs.TasksOf.{AreJobsOf, jobs_in}

@@ -1,3 +1,4 @@
+-- Proof that `Jobs::owe_none` meets its contract.
 use Rattle.std.proofs.Common.{nat_eq, subst, arith}
 use Rattle.std.proofs.lemmas.Bool.Decides.{nat_tests}
 use Rattle.std.specs.Bool.{OnTrue}

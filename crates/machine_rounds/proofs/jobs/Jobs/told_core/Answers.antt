@@ -1,3 +1,4 @@
+-- Proof that `Jobs::told_core` keeps the invariant of its type, and that it meets what `more_owing` requires.
 use Rattle.std.proofs.Common.{◌≡◌, [], sym, subst}
 use Rattle.sleep_script.specs.Jobs.{after_turn}
 use Rattle.machine_rounds.specs.JobsOf.{JobsState, job_at, HasJob}

@@ -1,3 +1,4 @@
+-- Proof that `Jobs::told_source` keeps the invariant of its type, and that it meets what `left_owing` requires.
 use Rattle.std.proofs.Common.{◌<◌, length, sym, subst}
 use Rattle.sleep_script.specs.Jobs.{after_call}
 use Rattle.machine_rounds.specs.JobsOf.{JobsState, job_at, HasJob}

@@ -1,3 +1,4 @@
+-- Proof that `Run::act_by` meets what `next`, `call` and `turn_by` require.
 use Rattle.std.proofs.Common.{◌≡◌, ◌⊎◌, inl, inr, ◌||◌, Bool, true, false, nat_lt, subst, ◌∙◌, refl, arith}
 use Rattle.std.proofs.lemmas.Bool.Decides.{nat_tests}
 use Rattle.sleep_model.specs.declared.log.Want.TheVariants.{Core, Nothing}

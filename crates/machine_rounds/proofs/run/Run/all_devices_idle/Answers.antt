@@ -1,3 +1,4 @@
+-- Proof that `Run::all_devices_idle` meets its contract, and that its loop keeps its invariant.
 use Rattle.std.proofs.Common.{◌≡◌, ◌+◌, ◌∙◌, length, ap, subst, arith}
 use Rattle.sleep_model.specs.declared.entry.Actor.TheVariants as actor
 use Rattle.sleep_model.specs.Legal.{none_enabled}

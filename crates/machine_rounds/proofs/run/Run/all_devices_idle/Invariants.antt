@@ -1,3 +1,4 @@
+-- The invariant of the loop of `Run::all_devices_idle`.
 use Rattle.std.proofs.Common.{◌≡◌}
 use Rattle.sleep_model.specs.declared.entry.Actor.TheVariants.{Dev}
 use Rattle.sleep_model.specs.Legal.{none_enabled}

@@ -1,3 +1,4 @@
+-- The invariant of the loop of `Run::alone`.
 use Rattle.std.proofs.Common.{◌≡◌, ◌≤◌, ◌+◌}
 use Rattle.machine_rounds.specs.Runs.{entries_made}
 use Rattle.machine_rounds.proofs.run.Run.alone.Given as goal

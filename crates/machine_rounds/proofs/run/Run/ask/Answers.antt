@@ -1,3 +1,4 @@
+-- Proof that `Run::ask` meets what `next`, `call` and `turn` require.
 use Rattle.std.proofs.Common.{subst}
 use Rattle.sleep_state.specs.JournalRooms.{entries}
 use Rattle.sleep_script.specs.Jobs.{IsWanted}

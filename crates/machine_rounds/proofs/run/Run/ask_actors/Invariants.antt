@@ -1,3 +1,4 @@
+-- The invariant of the loop of `Run::ask_actors`.
 use Rattle.std.proofs.Common.{◌≡◌, IfSome, Ok}
 use Rattle.sleep_core.specs.Cores.{IsActor}
 use Rattle.machine_rounds.specs.Runs.{AfterTry}

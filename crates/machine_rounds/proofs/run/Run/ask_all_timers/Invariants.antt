@@ -1,3 +1,4 @@
+-- The invariant of the loop of `Run::ask_all_timers`.
 use Rattle.std.proofs.Common.{◌≡◌, Ok}
 use Rattle.machine_rounds.specs.Runs.{AfterTry}
 use Rattle.machine_rounds.proofs.run.Run.ask_all_timers.Given as goal

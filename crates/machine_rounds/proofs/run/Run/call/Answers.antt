@@ -1,3 +1,5 @@
+-- Proof that `Run::call` meets its contract, and that it keeps the invariant of its type, and that it meets what `index_mut`, `call` and
+-- `told_source` require.
 use Rattle.std.proofs.Common.{◌≡◌, ◌≤◌, ◌<◌, ◌+◌, ◌^◌, ◌∙◌, ℕ, List, length, slice_set, refl, sym, ap, subst, arith, Err}
 use Rattle.std.proofs.lemmas.List.{length-map}
 use Rattle.sleep_model.specs.declared.entry.Actor.{Actor}

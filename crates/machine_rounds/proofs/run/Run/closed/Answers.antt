@@ -1,3 +1,4 @@
+-- Proof that `Run::closed` meets its contract.
 use Rattle.std.proofs.Common.{◌≡◌, ◌∙◌, List, reverse, ap, subst}
 use Rattle.sleep_model.specs.declared.entry.SourceEntry.{SourceEntry}
 use Rattle.event_word.specs.Seats.{looked_of}

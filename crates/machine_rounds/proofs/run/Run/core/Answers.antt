@@ -1,3 +1,4 @@
+-- Proof that `Run::core` meets its contract.
 use Rattle.machine_rounds.specs.JobsOf.{job_at}
 use Rattle.machine_rounds.proofs.Fields.{goes_on}
 use Rattle.machine_rounds.proofs.run.Run.core.Goals as goal

@@ -1,3 +1,4 @@
+-- Proof that `Run::devices_idle` meets its contract.
 use Rattle.std.proofs.Common.{◌∙◌, Bool, sym, subst}
 use Rattle.std.specs.Bool.{OnTrue}
 use Rattle.machine_rounds.specs.JobsOf.{job_at}

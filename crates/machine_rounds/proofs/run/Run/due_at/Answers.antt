@@ -1,3 +1,4 @@
+-- Proof that `Run::due_at` meets its contract.
 use Rattle.std.proofs.Common.{◌≤◌, ◌∙◌, length, sym, ap, subst}
 use Rattle.sleep_model.specs.Sources.{expiry}
 use Rattle.wakeup_source.specs.SourceStates.{SourceState, unstamped}

@@ -1,3 +1,4 @@
+-- The invariant of the loop of `Run::enabled_device`.
 use Rattle.std.proofs.Common.{◌≡◌, true}
 use Rattle.sleep_model.specs.declared.entry.Actor.TheVariants.{Dev}
 use Rattle.sleep_model.specs.Legal.{none_enabled}

@@ -1,3 +1,4 @@
+-- The invariant of the loop of `Run::enabled_script`.
 use Rattle.std.proofs.Common.{◌≡◌, true}
 use Rattle.sleep_model.specs.declared.entry.Actor.TheVariants.{Script}
 use Rattle.sleep_model.specs.Legal.{none_enabled}

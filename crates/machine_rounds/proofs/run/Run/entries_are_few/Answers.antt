@@ -1,3 +1,4 @@
+-- Proof that `Run::entries_are_few` meets its contract.
 use Rattle.running_laws.proofs.Few.{run_few}
 use Rattle.machine_rounds.specs.JobsOf.{job_at}
 use Rattle.machine_rounds.proofs.Fields.{goes_on}

@@ -1,3 +1,5 @@
+-- Proof that `Run::expire` meets its contract, and that it keeps the invariant of its type, and that it meets what `index_mut` and `call`
+-- require.
 use Rattle.std.proofs.Common.{◌≡◌, ◌≤◌, ◌+◌, ◌∙◌, ℕ, List, true, nat_le, length, refl, sym, ap, subst, arith, Err}
 use Rattle.std.proofs.lemmas.Bool.Decides.{nat_tests}
 use Rattle.std.proofs.lemmas.List.{length-map}

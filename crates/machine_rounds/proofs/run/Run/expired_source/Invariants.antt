@@ -1,3 +1,4 @@
+-- The invariant of the loop of `Run::expired_source`.
 use Rattle.std.proofs.Common.{◌≡◌, true}
 use Rattle.sleep_model.specs.Legal.{none_expires}
 use Rattle.sleep_model.specs.Numbers.{time_of}

@@ -1,3 +1,4 @@
+-- Proof that `Run::into_fault` meets its contract.
 use Rattle.machine_rounds.proofs.Idling.{fault_is}
 use Rattle.machine_rounds.proofs.run.Run.into_fault.Goals as goal
 

@@ -1,3 +1,4 @@
+-- Proof that `Run::is_enabled` meets its contract.
 use Rattle.std.proofs.Common.{◌∙◌, ◌||◌, nat_lt, ap}
 use Rattle.sleep_model.specs.Calls.{calls_due}
 use Rattle.sleep_model.specs.Due.{due}

@@ -1,3 +1,4 @@
+-- Proof that `Run::is_full` meets its contract.
 use Rattle.std.proofs.Common.{◌≡◌, ◌<◌, ◌∙◌, List, length, slice_index_or, refl, ap, subst, arith}
 use Rattle.std.proofs.lemmas.Bool.Decides.{nat_tests}
 use Rattle.wakeup_source.specs.SourceStates.{SourceState}

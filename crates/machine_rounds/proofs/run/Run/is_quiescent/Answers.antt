@@ -1,3 +1,4 @@
+-- Proof that `Run::is_quiescent` meets its contract.
 use Rattle.std.proofs.Common.{◌≡◌, ◌∙◌, Bool, true, false, not, is_some, sym, ap, subst, refl}
 use Rattle.std.specs.Bool.{OnTrue}
 use Rattle.sleep_model.specs.Path.{maker}

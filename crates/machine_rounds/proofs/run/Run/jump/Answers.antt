@@ -1,3 +1,4 @@
+-- Proof that `Run::jump` keeps the invariant of its type, and that it meets what `jump` requires.
 use Rattle.std.proofs.Common.{◌≡◌, ◌∙◌, List, ◌∷◌, sym, ap, subst, arith}
 use Rattle.sleep_model.specs.declared.entry.Actor.TheVariants as actor
 use Rattle.sleep_model.specs.declared.entry.JournalEntry.{JournalEntry}

@@ -1,3 +1,4 @@
+-- Proof that `Run::leave` meets its contract.
 use Rattle.std.proofs.Common.{◌≡◌, ◌+◌, ◌∙◌, ℕ, length, sym, ap, arith}
 use Rattle.std.proofs.lemmas.List.{length-map}
 use Rattle.run_objects.specs.Objects.{SeatedSourceState}

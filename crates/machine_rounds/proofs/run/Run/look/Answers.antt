@@ -1,3 +1,4 @@
+-- Proof that `Run::look` keeps the invariant of its type.
 use Rattle.machine_rounds.proofs.Turning.{looked_machine, looked_running, looked_seats, looked_table}
 use Rattle.machine_rounds.proofs.run.Run.look.Goals as goal
 

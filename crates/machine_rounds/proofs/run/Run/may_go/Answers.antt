@@ -1,3 +1,4 @@
+-- Proof that `Run::may_go` meets its contract.
 use Rattle.std.proofs.Common.{◌∙◌, Bool, length, sym, ap, subst}
 use Rattle.std.specs.Bool.{OnTrue}
 use Rattle.sleep_model.specs.Numbers.{time_of}

@@ -1,3 +1,4 @@
+-- Proof that `Run::merged` meets its contract, and that it meets what `new` requires.
 use Rattle.std.proofs.Common.{◌∙◌, List, map, reverse, ap, ap₂}
 use Rattle.std.specs.List.{list_all}
 use Rattle.sleep_model.specs.declared.entry.JournalEntry.{JournalEntry}

@@ -1,3 +1,4 @@
+-- The invariant of the loop of `Run::next_expiry`.
 use Rattle.std.proofs.Common.{◌≡◌}
 use Rattle.sleep_model.specs.Legal.{next_expiry}
 use Rattle.running_laws.specs.Running.{histories}

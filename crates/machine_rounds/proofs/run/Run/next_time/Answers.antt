@@ -1,3 +1,4 @@
+-- Proof that `Run::next_time` meets its contract.
 use Rattle.std.proofs.Common.{◌<◌, ◌∙◌, IfSome, Option, ℕ, sym, ap, subst}
 use Rattle.sleep_model.specs.Legal.{JournalPart, journal_time, sooner}
 use Rattle.sleep_model.specs.Numbers.{time_of}

@@ -1,3 +1,4 @@
+-- Proof that `Run::of_components` keeps the invariant of its type.
 use Rattle.std.proofs.Common.{◌∙◌, List, sym, ap, subst, arith}
 use Rattle.std.proofs.lemmas.List.{length-map}
 use Rattle.sleep_model.specs.declared.entry.JournalEntry.{JournalEntry}

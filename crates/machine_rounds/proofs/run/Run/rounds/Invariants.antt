@@ -1,3 +1,4 @@
+-- The invariant of the loop of `Run::rounds`.
 use Rattle.std.proofs.Common.{◌≡◌, Ok}
 use Rattle.machine_rounds.specs.Runs.{AfterRounds}
 use Rattle.machine_rounds.proofs.run.Run.rounds.Given as goal

@@ -1,3 +1,4 @@
+-- Proof that `Run::stats` meets what `stats_of` requires.
 use Rattle.std.proofs.Common.{◌≡◌, ◌<◌, ◌∙◌, List, length, slice_index_or, sym, ap, arith}
 use Rattle.std.proofs.lemmas.List.{length-map}
 use Rattle.sleep_model.specs.Numbers.{time_of}

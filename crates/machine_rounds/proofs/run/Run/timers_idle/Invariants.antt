@@ -1,3 +1,4 @@
+-- The invariant of the loop of `Run::timers_idle`.
 use Rattle.std.proofs.Common.{◌≡◌}
 use Rattle.sleep_model.specs.Legal.{none_expires}
 use Rattle.sleep_model.specs.Numbers.{time_of}

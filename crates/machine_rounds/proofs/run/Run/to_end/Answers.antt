@@ -1,3 +1,4 @@
+-- Proof that `Run::to_end` meets its contract.
 use Rattle.std.proofs.Common.{◌∙◌, subst}
 use Rattle.sleep_model.specs.declared.machine.Machine.{Machine}
 use Rattle.machine_rounds.specs.Runs.{IsRun}

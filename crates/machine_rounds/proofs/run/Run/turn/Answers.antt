@@ -1,3 +1,4 @@
+-- Proof that `Run::turn` keeps the invariant of its type, and that it meets what `told_core` requires.
 use Rattle.std.proofs.Common.{◌≡◌, ◌∙◌, List, ◌∷◌, length, true, Ok, sym, ap, subst, arith}
 use Rattle.sleep_model.specs.declared.entry.Actor.{Actor}
 use Rattle.sleep_model.specs.declared.entry.JournalEntry.{JournalEntry}

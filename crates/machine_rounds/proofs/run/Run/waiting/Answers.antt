@@ -1,3 +1,4 @@
+-- Proof that `Run::waiting` meets its contract, and that its loop keeps its invariant.
 use Rattle.std.proofs.Common.{◌≡◌, ◌+◌, ◌++◌, ◌∙◌, None, length, refl, sym, ap, subst, arith}
 use Rattle.std.proofs.lemmas.List.{append-nil}
 use Rattle.sleep_model.specs.declared.entry.Actor.TheVariants as actor

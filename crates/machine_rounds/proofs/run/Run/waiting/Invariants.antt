@@ -1,3 +1,4 @@
+-- The invariant of the loop of `Run::waiting`.
 use Rattle.std.proofs.Common.{◌≡◌, ◌++◌, length, drop}
 use Rattle.sleep_model.specs.Legal.{waiting, waiting_from}
 use Rattle.sleep_model.specs.Positions.{positions}
