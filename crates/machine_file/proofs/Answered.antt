@@ -1,4 +1,4 @@
--- Answers beside those before.
+-- Answers that have to differ from the earlier ones.
 use Rattle.std.proofs.Common.{◌≡◌, ◌∙◌, ◌&&◌, ℕ, Bool, true, false, not, nat_eq, List, [], map, bytes_eq, Option, Some, None, refl, sym, ap}
 use Rattle.std.specs.List.{list_any}
 use Rattle.std.specs.Option.{option_eq}
@@ -30,7 +30,7 @@ given_eq a b =
     ap (λ t. bytes_eq a.what.now b.what.now && (bytes_eq a.name.now b.name.now && (bytes_eq a.phase.now b.phase.now && t))) (attempts a.attempt b.attempt)
     ∙ grouped (bytes_eq a.what.now b.what.now) (bytes_eq a.name.now b.name.now) (bytes_eq a.phase.now b.phase.now) (is_for a.attempt b.attempt)
 
--- the first answer again, by what is kept of each
+-- the first answer again, by what is compared of each
 pub answers_again : (given : List Given) (ds : List Data) → map answer_seen given ≡ map answer_written ds →
     first_not_after (λ before a. not (list_any (λ b. same_answer (answer_seen a) (answer_seen b)) before)) [] 0 given
     ≡ first_not_after (λ before a. not (list_any (is_same_answer a) before)) [] 0 ds

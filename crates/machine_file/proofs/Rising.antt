@@ -1,4 +1,4 @@
--- The members of operations and reports stand in the order of their names.
+-- The members of operations and reports are in the order of their names.
 use Rattle.std.proofs.Common.{◌≡◌, ℕ, List, true, refl}
 use Rattle.sleep_model.specs.declared.machine.Machine.{Machine}
 use Rattle.sleep_model.specs.declared.machine.Op.{Op}

@@ -14,11 +14,11 @@ use Rattle.machine_file.specs.Writing.{Sheet, added, with_item, with_member, wit
 
 -- ---- rows in the order of their names
 
--- the name stands before those of the rows
+-- the name comes before those of the rows
 abbrev pub is_before : List ℕ → List (Named (Option Data)) → Bool
 is_before name rows = list_all (λ r. is_lt (slice_cmp nat_cmp name r.name)) rows
 
--- each name stands before those after it
+-- each name comes before those after it
 abbrev pub are_rising : List (Named (Option Data)) → Bool
 are_rising [] = true
 are_rising (r ∷ rows) = is_before r.name rows && are_rising rows
@@ -28,7 +28,7 @@ less Less a b c e = refl
 less Equal a b c e = absurd (false≢true e)
 less Greater a b c e = absurd (false≢true e)
 
--- what is put before all others stands at the front
+-- what is put before all others is the first
 pub put_first : (k : List ℕ) (d : Data) (rows : List (Named (Option Data))) → is_before k rows ≡ true → are_rising rows ≡ true →
     put k d (as_members rows) ≡ member k d (as_members rows)
 put_first k d [] a b = refl
@@ -87,7 +87,7 @@ items_written s (d ∷ ds) = items_written (with_item s d) ds ∙ regroup_items 
 in_brackets : (t c q m : List ℕ) → ((t ++ (c ++ (q ++ 58 ∷ []))) ++ 91 ∷ []) ++ m ≡ t ++ (c ++ (q ++ 58 ∷ 91 ∷ m))
 in_brackets t c q m = simp append_assoc
 
--- a list at a member, where it is not empty
+-- a list at a member, if it is not empty
 pub list_written : (s : Sheet) (name : List ℕ) (ds : List Data) → 0 < length ds →
     added (93 ∷ []) true (fold with_item (added (91 ∷ []) false (added (comma_if s.later ++ (quoted name ++ 58 ∷ [])) false s)) ds) ≡ with_row s (list_if name ds)
 list_written s name [] h = absurd (omega arith)
@@ -113,7 +113,7 @@ pub object_chained : {T E : Type 0} (result : Result T E) (start opened before n
 object_chained result start opened before new rows rising e c =
     on_ok_weaker result (λ last. last ∙ ap object_ended (chained opened rows before c ∙ ap (λ s. fold with_row s rows) e) ∙ object_written start rows rising)
 
--- the same, where the rows are known as a whole
+-- the same, if the rows are known as a whole
 pub object_whole : {T E : Type 0} (result : Result T E) (start opened before new : Sheet) (rows : List (Named (Option Data))) → are_rising rows ≡ true →
     opened ≡ with_object start → before ≡ fold with_row opened rows → OnOk result (new ≡ object_ended before) → OnOk result (new ≡ with_item start (object_of rows))
 object_whole result start opened before new rows rising e c =

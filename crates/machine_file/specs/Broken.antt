@@ -30,7 +30,7 @@ place_text (place.Member m) = member_name m
 place_text (place.Item m n) = item_place (member_name m) n
 place_text (place.Operation actor n) = operation_place actor n
 
--- a place, where there is one
+-- a place, if there is one
 abbrev pub place_of : Option Place → Option (List ℕ)
 place_of p = option_map place_text p
 

@@ -18,7 +18,7 @@ pub record IsFresh (parents : List (Option ℕ)) (before : List Link) (l : Link)
 abbrev pub no_link : Link
 no_link = record { supplier = 0; consumer = 0; active = false }
 
--- each is fresh beside those before it, and they are at most 4,000
+-- each differs from those before it, and they are at most 4,000
 pub record AreFresh (parents : List (Option ℕ)) (links : List Link) : Type 0 where
   pub few : length links ≤ 4000
   pub each : (i : ℕ) → i < length links → IsFresh parents (reverse (take i links)) (slice_index_or links i no_link)

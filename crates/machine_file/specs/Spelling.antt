@@ -37,12 +37,12 @@ abbrev pub as_items : List Data → Items
 as_items [] = no_items
 as_items (d ∷ ds) = item d (as_items ds)
 
--- the member, where something stands at it
+-- the member, if it has a value
 abbrev pub put_if : List ℕ → Option Data → Members → Members
 put_if name None members = members
 put_if name (Some d) members = put name d members
 
--- the members of these rows at which something stands; each table below has its rows in the order of their names
+-- the members of these rows that have a value; each table below has its rows in the order of their names
 abbrev pub as_members : List (Named (Option Data)) → Members
 as_members [] = no_members
 as_members (r ∷ rows) = put_if r.name r.is (as_members rows)

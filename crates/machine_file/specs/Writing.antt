@@ -5,7 +5,7 @@ use Rattle.serde_json.specs.Data.{Data}
 use Rattle.serde_json.specs.Written.{comma_if, compact_text}
 use Rattle.machine_file.specs.Form.{Named}
 
--- what was written; later, where a value or a member was the last, so that a comma stands before the next
+-- what was written; later, if a value or a member was the last, so that a comma comes before the next
 pub record Sheet : Type 0 where
   pub text : List ℕ
   pub later : Bool
@@ -22,7 +22,7 @@ added text later s = record { text = s.text ++ text; later = later }
 abbrev pub with_item : Sheet → Data → Sheet
 with_item s d = added (comma_if s.later ++ compact_text d) true s
 
--- a member, where something stands at it
+-- a member, if it has a value
 abbrev pub with_member : List ℕ → Option Data → Sheet → Sheet
 with_member name None s = s
 with_member name (Some d) s = added (comma_if s.later ++ (quoted name ++ 58 ∷ compact_text d)) true s

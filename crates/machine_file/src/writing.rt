@@ -1,3 +1,4 @@
+//! A machine is written as a machine file.
 pub(crate) mod answering;
 pub(crate) mod quoted;
 pub(crate) mod spelling;
@@ -12,8 +13,8 @@ use sleep_base::Mem;
 use sleep_model::Machine;
 use std::alloc::Global;
 
-/// The machine file of a machine: one line of JSON without spaces. Members stand in the order of
-/// their names; what has its default and empty lists are left out.
+/// The machine file of a machine: one line of JSON without spaces. Members are in the order of their names;
+/// what has its default and empty lists are left out.
 ///
 /// `Mem`: memory ran out.
 pub fn write_machine(alloc: Global, machine: &Machine) -> Result<Vec<u8>, Mem>
@@ -26,6 +27,7 @@ pub fn write_machine(alloc: Global, machine: &Machine) -> Result<Vec<u8>, Mem>
     Ok(bytes)
 }
 
+/// Writes the machine's object, member by member.
 fn put_machine(out: &mut JsonWriter, machine: &Machine) -> Result<(), Mem>
     ensures { OnOk result (out.new ≡ with_item out.old (machine_value machine.now)) }
 {

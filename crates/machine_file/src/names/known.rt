@@ -1,4 +1,4 @@
-//! The names of the things of a file, and the rules that tell them apart.
+//! The names of the things of a file, and the rules by which they differ.
 
 ghost use Rattle.std.specs.Prelude.{◌≡◌, ◌≤◌, ◌-◌, ◌∷◌, [], not, map, take, bytes_eq, codes, length, ◌<◌, IfOk, IfSome, position, option_map};
 ghost use Rattle.borrowed_json.specs.View.{view};
@@ -31,7 +31,7 @@ pub(crate) struct Known<'v> {
     pub(crate) marks: KeyIndex<&'v str>,
 }
 
-// The names of a list of objects, each with its place.
+/// The names of a list of objects, each with its place.
 fn named_in<'v>(alloc: Global, tree: &Value<'v>, list: Member) -> Result<KeyIndex<&'v str>, Mem>
     ensures { IfOk result (λ p. texts p ≡ names_in (member_name list) (view tree.now)) }
 {
@@ -39,7 +39,7 @@ fn named_in<'v>(alloc: Global, tree: &Value<'v>, list: Member) -> Result<KeyInde
     KeyIndex::new(alloc, names)
 }
 
-// The names of a list of names, each with its place.
+/// The names of a list of names, each with its place.
 fn listed_names<'v>(alloc: Global, tree: &Value<'v>, list: Member) -> Result<KeyIndex<&'v str>, Mem>
     ensures { IfOk result (λ p. texts p ≡ texts_in (member_name list) (view tree.now)) }
 {
@@ -47,7 +47,7 @@ fn listed_names<'v>(alloc: Global, tree: &Value<'v>, list: Member) -> Result<Key
     KeyIndex::new(alloc, names)
 }
 
-// The marks of scripts, each with its place.
+/// The marks of scripts, each with its place.
 fn marked_in<'v>(alloc: Global, tree: &Value<'v>) -> Result<KeyIndex<&'v str>, Mem>
     ensures { IfOk result (λ p. texts p ≡ whole_marks (view tree.now)) }
 {
@@ -85,7 +85,7 @@ pub(crate) fn known_in<'v>(
     })
 }
 
-/// The place of an item of that number, where there is one.
+/// The place of an item of that number, if there is one.
 pub(crate) fn item(list: Member, number: Option<usize>) -> Option<Place>
     ensures { place_of result ≡ option_map (item_place (member_name list)) number }
 {
@@ -115,7 +115,7 @@ pub(crate) fn repeated_source(alloc: Global, tree: &Value<'_>) -> Result<Option<
     Ok(item(Member::Sources, number))
 }
 
-/// The first name that stands before, or that is reserved.
+/// The first name that comes before, or that is reserved.
 fn first_reserved<'x>(
     alloc: Global,
     reserved: &'x str,

@@ -1,4 +1,4 @@
-//! Keys that stand before others.
+//! Keys that come before others.
 
 ghost use Rattle.std.specs.Prelude.{◌≡◌, [], not, take};
 ghost use Rattle.std.specs.List.{list_any};
@@ -7,7 +7,7 @@ ghost use Rattle.machine_file.specs.Places.{first_not_after};
 use key_index::KeyIndex;
 use std::hash::Hash;
 
-/// Whether a key stands among the first `count`.
+/// Whether a key is among the first `count`.
 pub(crate) fn is_before<K: Hash + Eq + Copy>(keys: &KeyIndex<K>, key: &K, count: usize) -> bool
     ensures { result ≡ list_any (K.eq key.now) (take count keys.now) }
 {
@@ -17,7 +17,7 @@ pub(crate) fn is_before<K: Hash + Eq + Copy>(keys: &KeyIndex<K>, key: &K, count:
     }
 }
 
-/// The number of the first key that stands before.
+/// The number of the first key that comes before.
 pub(crate) fn first_repeated<K: Hash + Eq + Copy>(keys: &KeyIndex<K>) -> Option<usize>
     ensures { result ≡ first_not_after (λ before k. not (list_any (K.eq k) before)) [] 0 keys.now }
 {

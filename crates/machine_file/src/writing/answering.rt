@@ -11,6 +11,7 @@ use crate::writing::writer::{JsonWriter, Written};
 use sleep_base::{Errno, Mem};
 use sleep_model::{Answer, Machine, What};
 
+/// The word of a thing's kind.
 fn thing_word(what: What) -> &'static str
     ensures { result.now ≡ thing_word what }
 {
@@ -22,6 +23,7 @@ fn thing_word(what: What) -> &'static str
     }
 }
 
+/// The name of a thing.
 fn thing_name(machine: &Machine, what: What) -> &[u8]
     ensures { result.now ≡ thing_name machine.now what }
 {
@@ -33,7 +35,7 @@ fn thing_name(machine: &Machine, what: What) -> &[u8]
     }
 }
 
-// The phase in which a device answers.
+/// The phase in which a device answers.
 fn put_phase(out: &mut JsonWriter, what: What) -> Result<(), Mem>
     ensures { OnOk result (out.new ≡ with_row out.old (row (codes "phase") (thing_phase what))) }
 {
@@ -43,7 +45,7 @@ fn put_phase(out: &mut JsonWriter, what: What) -> Result<(), Mem>
     }
 }
 
-// What is answered, unless it is 0.
+/// What is answered, unless it is 0.
 fn put_ret(out: &mut JsonWriter, ret: i32) -> Result<(), Mem>
     ensures { OnOk result (out.new ≡ with_row out.old (row (codes "ret") (error_or (error_of_number ret) ret))) }
 {
@@ -63,6 +65,7 @@ fn put_answered(out: &mut JsonWriter, answer: &Answer) -> Result<(), Mem>
 impl Written for Answer {
     ghost value = { answer_value };
 
+    /// Writes the object of an answer.
     fn write_to(&self, machine: &Machine, out: &mut JsonWriter) -> Result<(), Mem> {
         out.open_object()?;
         out.number_if("attempt", self.attempt)?;

@@ -25,7 +25,8 @@ fn push_escaped(out: &mut Vec<u8>, text: &[u8]) -> Result<(), Mem>
     Ok(())
 }
 
-// A quote, a backslash and a control character are written by an escape.
+/// Writes a byte of a text, escaped if need be.
+/// A quote, a backslash and a control character are written by an escape.
 #[tactic(auto, unfolding(json::specs::Print::escape_byte))]
 fn push_byte(out: &mut Vec<u8>, byte: u8) -> Result<(), Mem>
     ensures { OnOk result (out.new.items ≡ out.old.items ++ escape_byte byte) }
@@ -41,7 +42,8 @@ fn push_byte(out: &mut Vec<u8>, byte: u8) -> Result<(), Mem>
     Ok(())
 }
 
-// The letter of a byte's escape, or 0 if it has none.
+/// The letter of a byte that is escaped by one, else 0.
+/// The letter of a byte's escape, or 0 if it has none.
 fn letter_of(byte: u8) -> u8
     ensures { result ≡ escape_letter byte }
 {

@@ -1,5 +1,5 @@
-//! The JSON of a machine's parts. What has its default is left out, and members stand in the order
-//! of their names.
+//! The JSON of a machine's parts. What has its default is left out, and members are in the order of their
+//! names.
 
 ghost use Rattle.std.specs.Prelude.{◌≡◌, ◌∷◌, [], codes, fold, option_map, Some, None, if◌then◌else◌, OnOk};
 ghost use Rattle.serde_json.specs.Data.{string};
@@ -31,6 +31,7 @@ impl Written for Name {
 impl Written for Device {
     ghost value = { device_value };
 
+    /// Writes the object of a device.
     fn write_to(&self, machine: &Machine, out: &mut JsonWriter) -> Result<(), Mem> {
         out.open_object()?;
         out.true_if("async", self.flags.has(DeviceFlags::ASYNC))?;
@@ -51,7 +52,7 @@ fn put_parent(out: &mut JsonWriter, machine: &Machine, parent: Option<u32>) -> R
     }
 }
 
-// The status with which a device begins, unless it is active.
+/// The status with which a device begins, unless it is active.
 fn put_status(out: &mut JsonWriter, flags: DeviceFlags) -> Result<(), Mem>
     ensures { OnOk result (out.new ≡ with_row out.old (row (codes "runtime") (if has_bit 4 flags then Some (string (codes "suspended")) else None))) }
 {
@@ -73,7 +74,7 @@ impl Written for Link {
     }
 }
 
-// The state of a link, unless it is active.
+/// The state of a link, unless it is active.
 fn put_state(out: &mut JsonWriter, active: bool) -> Result<(), Mem>
     ensures { OnOk result (out.new ≡ with_row out.old (row (codes "state") (if active then None else Some (string (codes "dormant"))))) }
 {
@@ -86,6 +87,7 @@ fn put_state(out: &mut JsonWriter, active: bool) -> Result<(), Mem>
 impl Written for Notifier {
     ghost value = { λ m x. notifier_value x };
 
+    /// Writes the object of a notifier.
     fn write_to(&self, machine: &Machine, out: &mut JsonWriter) -> Result<(), Mem> {
         // A notifier names nothing else of the machine.
         let _ = machine;
@@ -113,7 +115,7 @@ impl Written for Step {
     }
 }
 
-// An operation's word, and how often it is made.
+/// An operation's word, and how often it is made.
 fn put_word(out: &mut JsonWriter, word: &str, times: u32) -> Result<(), Mem>
     ensures { OnOk result (out.new ≡ fold with_row out.old (op_member word.now ∷ times_row times ∷ [])) }
 {
@@ -121,14 +123,14 @@ fn put_word(out: &mut JsonWriter, word: &str, times: u32) -> Result<(), Mem>
     out.number_unless("times", 1, u64::from(times))
 }
 
-// The members of an operation that is made so often.
+/// The members of an operation that is made so often.
 fn put_op(out: &mut JsonWriter, machine: &Machine, times: u32, op: &Op) -> Result<(), Mem>
     ensures { OnOk result (out.new ≡ fold with_row out.old (op_rows machine.now times op.now)) }
 {
     by_operation!(written of op, out, machine, times)
 }
 
-// A link's ends, and the word of what is made of it.
+/// A link's ends, and the word of what is made of it.
 fn put_link(
     out: &mut JsonWriter,
     machine: &Machine,
@@ -145,7 +147,7 @@ fn put_link(
     out.number_unless("times", 1, u64::from(times))
 }
 
-// A write of a text.
+/// A write of a text.
 fn put_text(out: &mut JsonWriter, word: &str, text: &[u8], times: u32) -> Result<(), Mem>
     ensures { OnOk result (out.new ≡ fold with_row out.old (op_member word.now ∷ text_row (codes "text") text.now ∷ times_row times ∷ [])) }
 {
@@ -168,7 +170,7 @@ fn put_mark(out: &mut JsonWriter, word: &str, mark: &[u8], times: u32) -> Result
     put_word(out, word, times)
 }
 
-// A call of a source.
+/// A call of a source.
 fn put_source(out: &mut JsonWriter, word: &str, source: &[u8], times: u32) -> Result<(), Mem>
     ensures { OnOk result (out.new ≡ fold with_row out.old (op_member word.now ∷ text_row (codes "source") source.now ∷ times_row times ∷ [])) }
 {
@@ -180,6 +182,7 @@ fn put_source(out: &mut JsonWriter, word: &str, source: &[u8], times: u32) -> Re
 impl Written for Script {
     ghost value = { script_value };
 
+    /// Writes the object of a script.
     fn write_to(&self, machine: &Machine, out: &mut JsonWriter) -> Result<(), Mem> {
         out.open_object()?;
         out.text("kind", self.kind.name().as_bytes())?;
@@ -200,7 +203,8 @@ impl Written for Report {
     }
 }
 
-// The members of a report of that source.
+/// Writes the object of a report.
+/// The members of a report of that source.
 fn put_report(out: &mut JsonWriter, source: &[u8], call: SourceCall) -> Result<(), Mem>
     ensures { OnOk result (out.new ≡ fold with_row out.old (report_rows source.now call)) }
 {

@@ -1,4 +1,4 @@
-//! Writes JSON into bytes: no space, and a comma where a value stands before.
+//! Writes JSON into bytes: no space, and a comma if a value comes before.
 
 use crate::writing::quoted::push_quoted;
 use itoa::Buffer;
@@ -11,7 +11,7 @@ use std::marker::Model;
 #[derive(Drop)]
 pub(crate) struct JsonWriter {
     bytes: Vec<u8>,
-    /// A value or a member was the last, so that a comma stands before the next.
+    /// A value or a member was the last, so that a comma comes before the next.
     later: bool,
 }
 
@@ -23,7 +23,7 @@ impl Model for JsonWriter {
     ghost view = { λ w. record { text = w.bytes.items; later = w.later } };
 }
 
-/// What has a JSON value beside its machine.
+/// What a machine writes as a JSON value.
 pub(crate) trait Written {
     ghost use Rattle.std.specs.Prelude.{◌≡◌, OnOk};
     ghost use Rattle.serde_json.specs.Data.{Data};
@@ -64,7 +64,7 @@ impl JsonWriter {
         bytes
     }
 
-    // Writes these bytes; a comma stands before what follows them, or not.
+    /// Writes these bytes; a comma comes before what follows them, or not.
     fn add(&mut self, bytes: &[u8], later: bool) -> Result<(), Mem>
         ensures { OnOk result (self.new ≡ added bytes.now later self.old) }
     {
@@ -73,7 +73,7 @@ impl JsonWriter {
         Ok(())
     }
 
-    // Writes a comma, where a value stands before.
+    /// Writes a comma, if a value comes before.
     fn comma(&mut self) -> Result<(), Mem>
         ensures { OnOk result (self.new ≡ added (comma_if self.old.later) false self.old) }
     {
@@ -84,7 +84,7 @@ impl JsonWriter {
         }
     }
 
-    // Writes a text in quotes.
+    /// Writes a text in quotes.
     fn quote(&mut self, text: &[u8]) -> Result<(), Mem>
         ensures { OnOk result (self.new ≡ added (quoted text.now) true self.old) }
     {
@@ -93,7 +93,7 @@ impl JsonWriter {
         Ok(())
     }
 
-    // Writes a member's name.
+    /// Writes a member's name.
     fn name(&mut self, name: &str) -> Result<(), Mem>
         ensures { OnOk result (self.new ≡ added (comma_if self.old.later ++ (quoted name.now ++ 58 ∷ [])) false self.old) }
     {
@@ -174,7 +174,7 @@ impl JsonWriter {
         self.add(digits.format(number).as_bytes(), true)
     }
 
-    /// Writes `true` at a member, where it holds.
+    /// Writes `true` at a member, if it holds.
     pub(crate) fn true_if(&mut self, name: &str, holds: bool) -> Result<(), Mem>
         ensures { OnOk result (self.new ≡ with_row self.old (true_if name.now holds)) }
     {
@@ -203,7 +203,7 @@ impl JsonWriter {
         self.add(b"]", true)
     }
 
-    // Writes the items of a list.
+    /// Writes the items of a list.
     fn items<T: Written>(&mut self, machine: &Machine, items: &[T]) -> Result<(), Mem>
         ensures { OnOk result (self.new ≡ fold with_item self.old (map (T.value machine.now) items.now)) }
     {

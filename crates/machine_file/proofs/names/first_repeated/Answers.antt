@@ -1,3 +1,4 @@
+-- Proof that `first_repeated` meets its contract.
 use Rattle.std.proofs.Common.{◌∙◌, [], bytes_eq}
 use Rattle.machine_file.proofs.Placing.{repeated_map}
 use Rattle.machine_file.proofs.names.first_repeated.Goals as goal

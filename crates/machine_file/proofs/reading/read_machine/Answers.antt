@@ -1,3 +1,4 @@
+-- Proof that `read_machine` meets its contract.
 use Rattle.std.proofs.Common.{◌≡◌, subst, Option, Some, IfSome}
 use Rattle.borrowed_json.specs.View.{Value, view}
 use Rattle.machine_file.specs.Tree.{tree}

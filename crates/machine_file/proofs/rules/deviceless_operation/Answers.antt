@@ -1,3 +1,4 @@
+-- Proof that `deviceless_operation` meets its contract.
 use Rattle.std.proofs.Common.{◌∙◌, List, ℕ, ap}
 use Rattle.borrowed_json.specs.View.{view}
 use Rattle.serde_json.specs.Data.{Data}

@@ -1,3 +1,4 @@
+-- Proof that `form_broken` meets its contract.
 use Rattle.std.proofs.Common.{◌∙◌, ap}
 use Rattle.std.specs.Option.{option_map}
 use Rattle.machine_file.specs.Whole.{broken_at}

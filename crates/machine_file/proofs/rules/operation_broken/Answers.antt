@@ -1,3 +1,4 @@
+-- Proof that `operation_broken` meets its contract.
 use Rattle.std.proofs.Common.{◌≡◌, ◌∙◌, Bool, List, ℕ, sym, ap}
 use Rattle.std.specs.Option.{option_map}
 use Rattle.borrowed_json.specs.View.{view}

@@ -1,3 +1,4 @@
+-- Proof that `unformed_operation` meets its contract.
 use Rattle.std.proofs.Common.{◌∙◌, Bool, ap}
 use Rattle.borrowed_json.specs.View.{view}
 use Rattle.machine_file.specs.Places.{first_operation}

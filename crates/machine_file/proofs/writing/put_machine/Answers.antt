@@ -1,3 +1,4 @@
+-- Proof that `put_machine` meets its contract.
 use Rattle.std.proofs.Common.{◌∙◌, codes, map, refl, ap}
 use Rattle.serde_json.specs.Data.{string}
 use Rattle.machine_file.specs.Spelling.{list_if, count_unless, script_value, answer_value, device_value, link_value, notifier_value, machine_rows}

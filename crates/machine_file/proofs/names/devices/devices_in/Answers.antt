@@ -1,3 +1,4 @@
+-- Proof that `devices_in` meets its contract, and that it meets what `register_all` requires.
 use Rattle.std.proofs.Common.{List, length, sym, ap, subst, arith}
 use Rattle.std.specs.List.{All}
 use Rattle.std.proofs.lemmas.List.{length-map}

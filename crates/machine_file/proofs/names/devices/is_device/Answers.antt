@@ -1,3 +1,4 @@
+-- Proof that `is_device` meets its contract.
 use Rattle.std.proofs.Common.{◌∙◌, ap, bytes_eq, is_some}
 use Rattle.machine_file.specs.Knows.{names}
 use Rattle.machine_file.proofs.Placing.{some_position}

@@ -1,3 +1,4 @@
+-- Proof that `register_all` meets its contract, and that its loop keeps its invariant, and that it meets what `device_of` requires.
 use Rattle.std.proofs.Common.{◌<◌, ◌≤◌, ◌+◌, ◌∙◌, ◌++◌, ◌∷◌, [], ℕ, length, map, Ok, Err, sym, ap, subst, arith}
 use Rattle.std.proofs.lemmas.List.{length-map}
 use Rattle.borrowed_json.specs.View.{view}

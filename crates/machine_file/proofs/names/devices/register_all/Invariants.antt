@@ -1,3 +1,4 @@
+-- The invariant of the loop of `register_all`.
 use Rattle.std.proofs.Common.{map}
 use Rattle.borrowed_json.specs.View.{view}
 use Rattle.machine_file.proofs.Registering.{Registering}

@@ -1,3 +1,4 @@
+-- Proof that `first_reserved` meets its contract.
 use Rattle.std.proofs.Common.{◌≡◌, ◌∙◌, ◌∷◌, ◌-◌, [], ap, sym, not, bytes_eq}
 use Rattle.std.specs.Option.{option_map}
 use Rattle.machine_file.specs.Knows.{texts}

@@ -1,3 +1,4 @@
+-- Proof that `index_of_name` meets its contract.
 use Rattle.std.proofs.Common.{◌∙◌, List, ℕ, Bor, bytes_eq}
 use Rattle.machine_file.proofs.Placing.{position_map}
 use Rattle.machine_file.proofs.names.known.index_of_name.Goals as goal

@@ -1,3 +1,4 @@
+-- Proof that the loop of `add_marks` keeps its invariant.
 use Rattle.std.proofs.Common.{◌∙◌, ℕ, List, Bor, Vec, Global, sym, ap}
 use Rattle.std.specs.Option.{option_copied}
 use Rattle.machine_file.specs.Knows.{texts}

@@ -1,3 +1,4 @@
+-- Proof that the loop of `first_occurrences` keeps its invariant.
 use Rattle.std.proofs.Common.{◌∙◌, ℕ, List, Bor, Vec, Global, sym, ap}
 use Rattle.machine_file.specs.Knows.{texts}
 use Rattle.machine_file.proofs.Marked.{first_again, first_new}

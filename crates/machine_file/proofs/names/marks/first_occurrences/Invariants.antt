@@ -1,3 +1,4 @@
+-- The invariant of the loop of `first_occurrences`.
 use Rattle.std.proofs.Common.{◌≡◌, [], take}
 use Rattle.machine_file.specs.Operations.{first_occurrences}
 use Rattle.machine_file.specs.Knows.{texts}

@@ -1,3 +1,4 @@
+-- The invariant of the loop of `marks_of`.
 use Rattle.std.proofs.Common.{◌≡◌, map, take, flat_map}
 use Rattle.borrowed_json.specs.View.{view}
 use Rattle.machine_file.specs.Knows.{texts}

@@ -1,3 +1,4 @@
+-- Proof that `first_repeated` meets its contract, and that its loop keeps its invariant.
 use Rattle.std.proofs.Common.{◌≡◌, ◌∙◌, List, take, arith, sym, ap}
 use Rattle.std.specs.List.{list_any}
 use Rattle.machine_file.proofs.Placing.{repeated_here, repeated_later, repeated_none, repeated_from}

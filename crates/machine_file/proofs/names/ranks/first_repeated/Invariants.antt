@@ -1,3 +1,4 @@
+-- The invariant of the loop of `first_repeated`.
 use Rattle.std.proofs.Common.{◌≡◌}
 use Rattle.machine_file.proofs.Placing.{repeated_from}
 use Rattle.machine_file.proofs.names.ranks.first_repeated.Given as goal

@@ -1,3 +1,4 @@
+-- Proof that the loop of `names_of_texts` keeps its invariant, and that it meets what `name_of_text` requires.
 use Rattle.std.proofs.Common.{arith}
 use Rattle.std.proofs.lemmas.Grind.{common_steps}
 use Rattle.machine_file.specs.Fitting.{IsShort}

@@ -1,3 +1,4 @@
+-- Proof that `answers_in` meets its contract.
 use Rattle.std.proofs.Common.{◌∙◌, ap, map}
 use Rattle.borrowed_json.specs.View.{view}
 use Rattle.machine_file.specs.Answering.{whole_answer}

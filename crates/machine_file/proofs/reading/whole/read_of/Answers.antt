@@ -1,3 +1,4 @@
+-- Proof that `read_of` meets what `machine_of` requires.
 use Rattle.std.proofs.Common.{◌∙◌, sym}
 use Rattle.borrowed_json.specs.View.{view}
 use Rattle.machine_file.proofs.Grouping.{in_order}

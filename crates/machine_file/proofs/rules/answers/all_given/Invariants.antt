@@ -1,3 +1,4 @@
+-- The invariant of the loop of `all_given`.
 use Rattle.std.proofs.Common.{◌≡◌, map, take}
 use Rattle.borrowed_json.specs.View.{view}
 use Rattle.machine_file.specs.Seen.{answer_seen, answer_written}

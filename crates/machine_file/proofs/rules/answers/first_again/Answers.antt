@@ -1,3 +1,4 @@
+-- Proof that `first_again` meets its contract.
 use Rattle.std.proofs.Common.{◌∙◌, [], not}
 use Rattle.std.specs.List.{list_any}
 use Rattle.machine_file.specs.Places.{first_not_after}

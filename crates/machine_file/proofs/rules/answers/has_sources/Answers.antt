@@ -1,3 +1,4 @@
+-- Proof that `has_sources` meets its contract.
 use Rattle.std.proofs.Common.{◌∙◌, sym, ap}
 use Rattle.std.specs.List.{list_all}
 use Rattle.machine_file.specs.Knows.{texts}

@@ -1,3 +1,4 @@
+-- Proof that `repeated_answer` meets its contract.
 use Rattle.std.proofs.Common.{◌∙◌, ap, map, codes}
 use Rattle.std.specs.Option.{option_map}
 use Rattle.machine_file.specs.Places.{item_place}

@@ -1,3 +1,4 @@
+-- Proof that `add_links` meets its contract, and that its loop keeps its invariant.
 use Rattle.std.proofs.Common.{◌<◌, length, get_or, refl, subst, Err, Option, arith}
 use Rattle.device_links.specs.Adds.{Adds}
 use Rattle.device_links.specs.Linked.{Linked}

@@ -1,3 +1,4 @@
+-- The invariant of the loop of `add_links`.
 use Rattle.machine_file.proofs.Cycling.{Adding}
 use Rattle.machine_file.proofs.rules.cycles.add_links.Given as goal
 

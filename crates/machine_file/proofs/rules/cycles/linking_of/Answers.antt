@@ -1,3 +1,4 @@
+-- Proof that `linking_of` meets its contract, and that it meets what `add_links` requires.
 use Rattle.std.proofs.Common.{◌≡◌, ◌∙◌, [], List, ℕ, Option, reverse, sym, ap, subst}
 use Rattle.borrowed_json.specs.View.{view}
 use Rattle.sleep_model.specs.declared.machine.Link.{Link}

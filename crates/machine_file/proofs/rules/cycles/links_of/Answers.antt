@@ -1,3 +1,4 @@
+-- Proof that the loop of `links_of` keeps its invariant.
 use Rattle.std.proofs.Common.{◌<◌, ◌∙◌, ◌++◌, ◌∷◌, [], List, length, get_or, map, take, None, ap, arith}
 use Rattle.borrowed_json.specs.View.{view}
 use Rattle.std.proofs.lemmas.List.{get_or_default}

@@ -1,3 +1,4 @@
+-- Proof that `first_failing` meets its contract.
 use Rattle.std.proofs.Common.{◌∙◌, sym, ap, not}
 use Rattle.machine_file.specs.Places.{first_not}
 use Rattle.machine_file.specs.Tests.{item_test}

@@ -1,3 +1,4 @@
+-- Proof that `misspelled_item` meets its contract.
 use Rattle.std.proofs.Common.{◌∙◌}
 use Rattle.machine_file.specs.Broken.{place_text}
 use Rattle.machine_file.proofs.Alternatives.{first_of_seven, last}

@@ -1,3 +1,4 @@
+-- Proof that `actor_steps` meets its contract.
 use Rattle.std.proofs.Common.{◌∙◌, ℕ, List, ap}
 use Rattle.serde_json.specs.Data.{Data}
 use Rattle.borrowed_json.specs.View.{view}

@@ -1,3 +1,4 @@
+-- The invariant of the loop of `script_steps`.
 use Rattle.std.proofs.Common.{◌≡◌, map, take}
 use Rattle.borrowed_json.specs.View.{view}
 use Rattle.machine_file.specs.Counted.{steps_of_script}

@@ -1,3 +1,4 @@
+-- Proof that `first_in_script` meets its contract.
 use Rattle.std.proofs.Common.{◌∙◌, sym, ap, not}
 use Rattle.borrowed_json.specs.View.{view}
 use Rattle.machine_file.specs.Places.{first_not}

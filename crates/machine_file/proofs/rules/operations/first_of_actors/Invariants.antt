@@ -1,3 +1,4 @@
+-- The invariant of the loop of `first_of_actors`.
 use Rattle.std.proofs.Common.{◌≡◌, map, drop}
 use Rattle.borrowed_json.specs.View.{view}
 use Rattle.machine_file.specs.Places.{first_operation_of}

@@ -1,3 +1,4 @@
+-- Proof that `first_operation` meets its contract.
 use Rattle.std.proofs.Common.{◌∙◌, ap}
 use Rattle.machine_file.specs.Places.{first_operation_of}
 use Rattle.machine_file.specs.OperationRows.{operation_test}

@@ -1,3 +1,4 @@
+-- Proof that `word_of` meets its contract.
 use Rattle.std.proofs.Common.{◌∙◌, option_and_then, option_map, sym, ap}
 use Rattle.std.specs.Option.{option_copied}
 use Rattle.borrowed_json.specs.View.{view}

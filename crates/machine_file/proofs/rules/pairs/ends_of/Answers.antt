@@ -1,3 +1,4 @@
+-- Proof that the loop of `ends_of` keeps its invariant.
 use Rattle.std.proofs.Common.{arith}
 use Rattle.std.proofs.lemmas.Grind.{common_steps}
 use Rattle.machine_file.proofs.rules.pairs.ends_of.Goals as goal

@@ -1,3 +1,4 @@
+-- Proof that `first_again` meets its contract, and that its loop keeps its invariant.
 use Rattle.std.proofs.Common.{◌<◌, ◌∙◌, ◌&&◌, Bool, [], List, ap, sym, not, is_some, length, get_or, arith}
 use Rattle.std.specs.List.{list_any}
 use Rattle.std.proofs.lemmas.List.{get_or_default}

@@ -1,3 +1,4 @@
+-- The invariant of the loop of `first_again`.
 use Rattle.std.proofs.Common.{◌≡◌, ◌&&◌, not, take, is_some}
 use Rattle.std.specs.List.{list_any}
 use Rattle.indexmap.specs.IndexMap.{get}

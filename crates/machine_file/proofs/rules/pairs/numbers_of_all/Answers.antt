@@ -1,3 +1,4 @@
+-- Proof that the loop of `numbers_of_all` keeps its invariant.
 use Rattle.std.proofs.Common.{◌<◌, [], length, get_or, arith}
 use Rattle.std.proofs.lemmas.List.{get_or_default}
 use Rattle.machine_file.specs.declared.rules.pairs.LinkEnds.{LinkEnds}

@@ -1,3 +1,4 @@
+-- The invariant of the loop of `numbers_of_all`.
 use Rattle.std.proofs.Common.{◌≡◌, map, take}
 use Rattle.machine_file.specs.Seen.{ends_seen, end_numbers}
 use Rattle.machine_file.specs.Knows.{names}

@@ -1,3 +1,4 @@
+-- Proof that `repeated_link` meets its contract.
 use Rattle.std.proofs.Common.{◌∙◌, ap, codes}
 use Rattle.std.specs.Option.{option_map}
 use Rattle.machine_file.specs.Places.{item_place}

@@ -1,3 +1,4 @@
+-- Proof that `tree_of` meets its contract.
 use Rattle.machine_file.proofs.Trees.{tree-read, tree-unread}
 use Rattle.machine_file.proofs.value.tree.tree_of.Goals as goal
 

@@ -1,3 +1,4 @@
+-- Proof that `error_in` meets its contract.
 use Rattle.std.proofs.Common.{◌∙◌, List, ℕ, Bor, sym, ap}
 use Rattle.std.specs.Option.{option_map}
 use Rattle.sleep_base.specs.Errno.{name_of, errors}

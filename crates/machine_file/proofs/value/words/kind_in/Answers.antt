@@ -1,3 +1,4 @@
+-- Proof that `kind_in` meets its contract.
 use Rattle.std.proofs.Common.{◌∙◌, List, ℕ, Bor, find, bytes_eq, sym, ap}
 use Rattle.std.specs.Option.{option_map}
 use Rattle.sleep_model.specs.Text.{kind_word}

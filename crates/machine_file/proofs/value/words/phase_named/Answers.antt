@@ -1,3 +1,4 @@
+-- Proof that `phase_named` meets its contract.
 use Rattle.std.proofs.Common.{sym}
 use Rattle.phase_table.specs.Phases.{phase_name}
 use Rattle.machine_file.specs.Answering.{answering_phases}

@@ -1,3 +1,4 @@
+-- Proof that `step_in` meets its contract.
 use Rattle.std.proofs.Common.{◌∙◌, List, ℕ, Bor, sym, ap}
 use Rattle.std.specs.Option.{option_map}
 use Rattle.borrowed_json.specs.View.{view}

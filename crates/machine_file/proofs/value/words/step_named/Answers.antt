@@ -1,3 +1,4 @@
+-- Proof that `step_named` meets its contract.
 use Rattle.std.proofs.Common.{◌∙◌, List, ℕ, find, bytes_eq, ap}
 use Rattle.sleep_model.specs.Text.{down_word}
 use Rattle.machine_file.specs.Answering.{platform_steps}

@@ -1,3 +1,4 @@
+-- The invariant of the loop of `push_escaped`.
 use Rattle.std.proofs.Common.{◌≡◌, ◌++◌, take, flat_map}
 use Rattle.json.specs.Print.{escape_byte}
 use Rattle.machine_file.proofs.writing.quoted.push_escaped.Given as goal

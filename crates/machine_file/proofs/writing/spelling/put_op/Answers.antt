@@ -1,3 +1,4 @@
+-- Proof that `put_op` meets its contract.
 use Rattle.std.proofs.Common.{◌∙◌, fold, sym, ap}
 use Rattle.std.proofs.lemmas.Result.{on_ok_weaker}
 use Rattle.machine_file.specs.Spelling.{op_rows}

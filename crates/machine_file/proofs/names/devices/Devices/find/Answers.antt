@@ -1,3 +1,4 @@
+-- Proof that `Devices::find` meets its contract.
 use Rattle.std.proofs.Common.{◌∙◌, ◌<◌, ◌≤◌, List, ℕ, length, ap, subst, bytes_eq, position}
 use Rattle.machine_file.specs.Knows.{names}
 use Rattle.machine_file.proofs.Registering.{nowhere}

@@ -1,3 +1,4 @@
+-- Proof that `AnswerWritten::write_to` meets its contract.
 use Rattle.std.proofs.Common.{◌∙◌, codes, map, refl, ap}
 use Rattle.machine_file.specs.Spelling.{text_row, list_if, report_value, answer_rows}
 use Rattle.machine_file.specs.Writing.{with_row}

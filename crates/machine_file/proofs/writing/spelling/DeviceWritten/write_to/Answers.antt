@@ -1,3 +1,4 @@
+-- Proof that `DeviceWritten::write_to` meets its contract.
 use Rattle.std.proofs.Common.{◌∙◌, codes, refl, ap}
 use Rattle.machine_file.specs.Spelling.{text_row, true_if, device_rows}
 use Rattle.machine_file.specs.Writing.{with_row}

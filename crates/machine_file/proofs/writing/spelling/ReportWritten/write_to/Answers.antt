@@ -1,3 +1,4 @@
+-- Proof that `ReportWritten::write_to` meets its contract.
 use Rattle.std.proofs.Common.{◌∙◌, fold, ap}
 use Rattle.sleep_model.specs.Text.{source}
 use Rattle.machine_file.specs.Spelling.{report_rows}

@@ -1,3 +1,4 @@
+-- Proof that `ScriptWritten::write_to` meets its contract.
 use Rattle.std.proofs.Common.{◌∙◌, codes, map, refl, ap}
 use Rattle.machine_file.specs.Spelling.{text_row, count_unless, list_if, step_value, script_rows}
 use Rattle.machine_file.specs.Writing.{with_row}

@@ -1,3 +1,4 @@
+-- Proof that `StepWritten::write_to` meets its contract.
 use Rattle.machine_file.specs.Spelling.{op_rows}
 use Rattle.machine_file.proofs.Sheets.{object_whole}
 use Rattle.machine_file.proofs.Rising.{op_rising}

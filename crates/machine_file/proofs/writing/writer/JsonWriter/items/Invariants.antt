@@ -1,3 +1,4 @@
+-- The invariant of the loop of `JsonWriter::items`.
 use Rattle.std.proofs.Common.{◌≡◌, fold, map, take}
 use Rattle.machine_file.specs.Writing.{with_item}
 use Rattle.machine_file.proofs.writing.writer.JsonWriter.items.Given as goal

@@ -1,3 +1,4 @@
+-- Proof that `JsonWriter::list` meets its contract.
 use Rattle.std.proofs.Common.{◌<◌, length, map, arith, subst, sym}
 use Rattle.std.proofs.lemmas.Grind.{common_steps}
 use Rattle.std.proofs.lemmas.List.{length-map}
