@@ -43,7 +43,7 @@ abbrev pub IsIndexedFrom : List Answer → ℕ → (Key → Option ℕ) → Type
 IsIndexedFrom answers i at = (thing : What) (attempt : Option ℕ) →
     option_and_then (slice_get answers) (at (key_for thing attempt)) ≡ answer_for thing attempt (drop i answers)
 
--- one answer more at the front, whose key is put over what was found
+-- one answer more at the head of the list, whose key is put over what was found
 module _ (answers : List Answer) (i : ℕ) (a : Answer) (within : i < length answers) (is : a ≡ get_or answers i a) where
   found : (b : Bool) (o : Option ℕ) (rest : Option Answer) → option_and_then (slice_get answers) o ≡ rest →
       option_and_then (slice_get answers) (cond b (Some i) o) ≡ (if b then Some a else rest)

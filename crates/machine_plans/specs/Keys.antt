@@ -11,7 +11,7 @@ use Rattle.machine_plans.specs.declared.key.Key.{Key}
 use Rattle.machine_plans.specs.declared.key.Thing.{Thing}
 use Rattle.machine_plans.specs.declared.key.Thing.TheVariants as thing
 
--- the place of a step of the platform in an undisturbed attempt (struct platform_suspend_ops)
+-- the rank of a step of the platform in an undisturbed attempt (struct platform_suspend_ops)
 abbrev pub step_rank : PlatDo → ℕ
 step_rank down.Begin = 0
 step_rank down.Prepare = 1

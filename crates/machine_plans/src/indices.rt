@@ -10,7 +10,7 @@ use sleep_base::Mem;
 use sleep_model::Answer;
 use std::alloc::Global;
 
-/// The place of the first answer of each thing and attempt, from the last answer on.
+/// The index of the first answer of each thing and attempt, from the last answer on.
 pub(crate) fn first_indices(alloc: Global, answers: &[Answer]) -> Result<IndexMap<Key, u32>, Mem>
     requires { length answers.now < 2 ^ 32 }
     ensures { IfOk result (λ indices. IsIndexed answers.now (get ⟦<Key as PartialEq>⟧.eq indices)) }

@@ -6,7 +6,7 @@ ghost use Rattle.machine_plans.specs.Keys.{step_rank, thing_of};
 
 use sleep_model::{Phase, PlatDo, What};
 
-/// A thing that answers, with a phase or a step of the platform by its place in an attempt.
+/// A thing that answers, with a phase or a step of the platform by its rank in an attempt.
 #[derive(Clone, Copy, PartialEq, Eq, Hash)]
 pub(crate) enum Thing {
     Device { device: u32, phase: u8 },
@@ -40,7 +40,7 @@ pub(crate) fn key_of(what: What, attempt: Option<u32>) -> Key
     Key { thing, attempt }
 }
 
-/// The place of a phase in an undisturbed attempt.
+/// The rank of a phase in an undisturbed attempt.
 fn phase_rank(phase: Phase) -> u8
     ensures { result ≡ phase_rank phase }
 {
@@ -58,7 +58,7 @@ fn phase_rank(phase: Phase) -> u8
     }
 }
 
-/// The place of a step of the platform in an undisturbed attempt.
+/// The rank of a step of the platform in an undisturbed attempt.
 fn step_rank(step: PlatDo) -> u8
     ensures { result ≡ step_rank step }
 {

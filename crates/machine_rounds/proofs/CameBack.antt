@@ -172,7 +172,7 @@ came_back floor n jobs news h = second first.last first.are first.rests
 
 -- ---- the jobs that are made of them
 
--- a list is split at a place in one way
+-- a list is split at an index in one way
 one_way : (xs ys : List JobState) (x y : JobState) (us vs : List JobState) → length xs ≡ length ys → xs ++ (x ∷ us) ≡ ys ++ (y ∷ vs) → (xs ≡ ys) × (x ≡ y) × (us ≡ vs)
 one_way [] [] x y us vs l e = (refl, cc, cc)
 one_way [] (q ∷ ys) x y us vs l e = absurd (omega (arith, l))

@@ -81,7 +81,7 @@ get_timer floor (suc n) k t e = by (λ f. get_timer floor n k t f) (get_contents
     by before (inl h) = let g = before h.1 in (omega (arith, g.0), g.1)
     by before (inr h) = last h.0 h.1 h.2
 
--- a task at its place, by the jobs and the number of sources
+-- a task at its index, by the jobs and the number of sources
 pub data IsTaskAt (floor : Stamp) (n : ℕ) (jobs : JobsState) : ℕ → Task → Type 0 where
   OfScript : (i : ℕ) → i < length jobs.scripts → IsTaskAt floor n jobs i (acts floor (slice_index_or jobs.scripts i jobs.auto))
   OfWork : IsTaskAt floor n jobs (length jobs.scripts) (acts floor jobs.auto)
@@ -187,7 +187,7 @@ module _ (m : Machine) (floor : Stamp) (jobs : JobsState) (all : AreAllJobs m jo
   abbrev these : List Task
   these = tasks_of floor many jobs
 
-  -- the place of an actor's task
+  -- the index of an actor's task
   place_of : Actor → ℕ
   place_of (actor.Script i) = i
   place_of actor.Auto = length jobs.scripts

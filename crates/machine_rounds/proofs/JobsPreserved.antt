@@ -77,7 +77,7 @@ devices_len jobs (actor.Dev d) x = length-set jobs.devices d x
 devices_len jobs (actor.Timer s) x = refl
 devices_len jobs actor.Time x = refl
 
--- another in its place leaves the others'
+-- another at its index leaves the others'
 pub jobs_with : (m : Machine) (jobs : JobsState) (who : Actor) (x : JobState) → AreAllJobs m jobs → IsActor m who → IsWith m (job_at jobs) (job_at (with_job jobs who x)) who x
 jobs_with m jobs who x h a = record {
   same = job_same jobs who x (has_job m jobs who h a);

@@ -26,7 +26,7 @@ owing_set [] i x none l = absurd (omega (arith, l))
 owing_set (y ∷ ys) zero x none l = omega arith
 owing_set (y ∷ ys) (suc i) x none l = omega (arith, owing_set ys i x none (omega (arith, l)))
 
--- another job in an actor's place
+-- another job at an actor's index
 pub owing_with : (jobs : JobsState) (who : Actor) (x : JobState) → HasJob jobs who → owing (with_job jobs who x) + one_if (owes (job_at jobs who)) ≡ owing jobs + one_if (owes x)
 owing_with jobs (actor.Script i) x h = omega (arith, owing_set jobs.scripts i x jobs.auto h)
 owing_with jobs actor.Auto x h = omega arith

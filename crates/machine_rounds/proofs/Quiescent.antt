@@ -46,7 +46,7 @@ module _ (run : RunState) (on : IsGoingOn run) where
       sym (enabled_is m run.journal run.sources on.jobs on.running now who (calls_made m run.sources who) refl)
       ∙ ap₂ (λ (x y : Bool). x || y) (let all = quiescent.made who a in let no : nat_lt (calls_made m run.sources who) (calls_due m who (entries run.journal)) ≡ false = grind (arith, nat_tests) in no) none
 
-  -- a script that is still is not
+  -- a script that is stopped is not
   pub script_rests : IsQuiescent run → (now : EventNow) (i : ℕ) → i < length m.actors → is_stopped (position_at (positions (length m.actors) (entries run.journal)) i) (time_of (entries run.journal)) ≡ true
       → is_enabled m (entries run.journal) (histories run.sources) now (actor.Script i) ≡ false
   script_rests quiescent now i l still = rests quiescent now (actor.Script i) l (still_rests m (entries run.journal) now i (legal_journal m run.journal run.sources on.jobs on.running) quiescent.closed still)

@@ -76,7 +76,7 @@ abbrev pub Fails : Machine → RunFault → Type 0
 Fails m (fault.SourceFull s) = IsFull m s
 Fails m fault.Mem = Unit {0}
 
--- the table of the event word was closed, and lays all steps of the run
+-- the table of the event word was closed, and has all steps of the run
 pub record IsClosed (run : RunState) : Type 0 where
   pub on : IsGoingOn run
   pub closed_over : IsClosedTable (looked_of run.seat) (reverse run.journal) (journal_histories run.sources)

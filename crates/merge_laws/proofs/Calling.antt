@@ -27,7 +27,7 @@ same_actor (actor.Dev d) = same_number d
 same_actor (actor.Timer s) = same_number s
 same_actor actor.Time = refl
 
--- filters change places
+-- filters may be exchanged
 pub filter_twice : {A : Type 0} (p q : A → Bool) (xs : List A) → filter p (filter q xs) ≡ filter q (filter p xs)
 filter_twice p q [] = refl
 filter_twice {A} p q (x ∷ xs) = by (p x) refl (q x) refl (filter_twice p q xs)
@@ -184,7 +184,7 @@ calls_preserved m whole e past h who k l = by (is_in_journal (class_of e.kind)) 
         let same : journal (e ∷ past) ≡ journal past = ap (λ (b : Bool). cond b (e ∷ journal past) (journal past)) is in
         h who k (subst (λ (j : List Entry). k ≤ length (own_of who j)) (sym same) l) ∙ ap (calls_after m who k) same
 
--- the calls that are due at a place, by an actor's own entries before it
+-- the calls that are due at a point, by an actor's own entries before it
 pub calls_own : (m : Machine) (whole past : List Entry) (who : Actor) → CallsPreserved m whole past → calls_after m who (length (journal (own_of who past))) whole ≡ calls_of m who (journal past)
 calls_own m whole past who h =
     let same : length (journal (own_of who past)) ≡ length (own_of who (journal past)) = ap length (filter_twice (λ (e : Entry). is_in_journal (class_of e.kind)) (λ e. is_same e.actor who) past) in
@@ -269,7 +269,7 @@ pub same_calling : (n : ℕ) (of other : ℕ → List Entry) (who : Actor) → (
 same_calling zero of other who h = refl
 same_calling (suc n) of other who h = ap₂ (λ (a b : Bool). a || b) (h n) (same_calling n of other who h)
 
--- whether an actor is inside a call at a place, by its own entries before it
+-- whether an actor is inside a call at a point, by its own entries before it
 pub inside_own : (n : ℕ) (whole past : List Entry) (who : Actor) → InsidePreserved whole past → is_inside n (λ s. history s whole) who (own_of who past) ≡ is_calling n (λ s. history s past) who
 inside_own n whole past who h =
     same_calling n (λ s. history_after who (length (history s (own_of who past))) (history s whole)) (λ s. history s past) who (λ s. at s)

@@ -45,7 +45,7 @@ no_later e (r ∷ rest) n l c h =
     let first : e.stamp.pos ≤ r.stamp.pos = not_before r.stamp.pos (step_number r) e.stamp.pos (step_number e) (before_or r.stamp.tick e.stamp.tick (is_actor_before r.entry.actor e.entry.actor)) l.0 in
     omega (arith, first, at)
 
--- what is known at a place: the steps that are left, and the word there
+-- what is known at a point: the steps that are left, and the word there
 record At (steps rest : List JournalEntry) (n : ℕ) (word : EventNow) : Type 0 where
   counted : are_counted n (filter is_word_step rest) ≡ true
   chained : is_chained word (filter is_word_step rest) ≡ true
@@ -98,7 +98,7 @@ after_a_look steps e rest n word a look =
       up = a.up.1;
     })
 
--- a look carries the word of its place
+-- a look carries the word of its point
 look_word : (steps : List JournalEntry) (e : JournalEntry) (rest : List JournalEntry) (n : ℕ) (word : EventNow) → At steps (e ∷ rest) n word → is_word_step e ≡ false
     → is_word e.entry.now word && (e.stamp.pos == position word) ≡ true
 look_word steps e rest n word a look =

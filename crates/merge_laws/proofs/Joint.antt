@@ -19,7 +19,7 @@ use Rattle.merge_laws.proofs.Lists.{all_more, all_tail, filter_all}
 use Rattle.merge_laws.proofs.Calling.{CallsPreserved, InsidePreserved, after_own, calls_preserved, calls_own, filter_twice, inside_preserved, inside_own, made_own, same_actor}
 use Rattle.merge_laws.proofs.Placing.{Clocked, IsClock, Numbered, clock_rises, clock_time}
 
--- ---- the time of a place
+-- ---- the time of a point
 
 pub less : (a b : ℕ) → a < b → nat_lt a b ≡ true
 less a b h = grind (arith, nat_tests)
@@ -27,7 +27,7 @@ less a b h = grind (arith, nat_tests)
 no_less : (a b : ℕ) → b ≤ a → nat_lt a b ≡ false
 no_less a b h = grind (arith, nat_tests)
 
--- no entry is later than its place
+-- no entry is later than the time at its point
 all_before : (past : List Entry) (time : ℕ) → Clocked past → time_of past < time → list_all (λ e. nat_lt e.time time) past ≡ true
 all_before [] time c l = refl
 all_before (e ∷ past) time c l =
@@ -35,7 +35,7 @@ all_before (e ∷ past) time c l =
     let rise : time_of past ≤ e.time = clock_rises e past c.0 in
     all_more (λ e. nat_lt e.time time) e past (less e.time time (omega arith)) (all_before past time c.1 (omega arith))
 
--- what is earlier than a moment is so among all entries as among those before a place of that moment
+-- what is earlier than a moment is so among all entries as among those before a point of that moment
 abbrev TimesPreserved : List Entry → List Entry → Type 0
 TimesPreserved whole past = (time : ℕ) → time ≤ time_of past → before time whole ≡ before time past
 
@@ -55,7 +55,7 @@ before_jump whole e past c h l =
 
 -- ---- one entry
 
--- what is known at a place, of all entries and of those before it
+-- what is known at a point, of all entries and of those before it
 record Walk (m : Machine) (whole past : List Entry) : Type 0 where
   actors : (who : Actor) → IsActor who (λ k. calls_after m who k (journal whole)) (is_inside (length m.sources + 1) (λ s. history s whole) who) (own_of who past)
   calls : CallsPreserved m (journal whole) past

@@ -1,4 +1,4 @@
--- Each merged entry carries the word and the time of its place.
+-- Each merged entry carries the word and the time of its point.
 use Rattle.std.proofs.Common.{◌≡◌, ◌∙◌, ◌≤◌, ◌<◌, ◌==◌, ℕ, nat_lt, max, Bool, true, false, ◌&&◌, List, [], ◌∷◌, map, if◌then◌else◌, refl, sym, ap, subst, arith}
 use Rattle.std.proofs.lemmas.Bool.Decides.{nat_tests}
 use mathlib.Core.List.{reverse_aux}
@@ -17,7 +17,7 @@ use Rattle.merge_laws.specs.Apart.{past_of}
 
 -- ---- words
 
--- each entry carries the word of its place
+-- each entry carries the word of its point
 abbrev pub Numbered : List Entry → Type 0
 Numbered [] = Unit {0}
 Numbered (e ∷ past) = (e.now ≡ numbers past) × Numbered past

@@ -134,7 +134,7 @@ abbrev pub AnyJump : ℕ → List JournalEntry → Type 0
 AnyJump time [] = ⊥
 AnyJump time (e ∷ rest) = ((jumps e ≡ true) × (e.entry.time ≡ time)) ⊎ AnyJump time rest
 
--- what is known at a place, after that time, the last jump's tick and the greatest so far
+-- what is known at a point, after that time, the last jump's tick and the greatest so far
 record At (rest : List JournalEntry) (time jumped last : ℕ) : Type 0 where
   past_jump : Each (λ x. jumps x ≡ false → (jumped < x.stamp.tick) × (time ≤ x.entry.time)) rest
   to_jump : Each (λ x. jumps x ≡ true → last < x.stamp.tick) rest

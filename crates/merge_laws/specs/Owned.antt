@@ -1,4 +1,4 @@
--- A list that an actor keeps of its own entries (own).
+-- A list that an actor has of its own entries (own).
 use Rattle.std.specs.Prelude.{◌≡◌, ◌+◌, ℕ, true, List, [], length, map, filter, slice_index_or}
 use Rattle.std.specs.List.{list_all}
 use Rattle.sleep_model.specs.declared.entry.Actor.{Actor}

@@ -6,21 +6,21 @@ ghost use Rattle.merge_laws.specs.Merging.{MergesToFinished, MergesToLegal, Merg
 ghost use Rattle.merge_laws.specs.Owned.{OwnListsAreOwnEntries};
 
 /// If the lists of journal, histories and actors fit, the journal and each source are legal by themselves,
-/// each actor's entries are its steps, and at each jump nobody was enabled on the journal, the histories and
-/// the word that its maker held, the merge is a legal log. If the run is over by the journal, the histories
-/// and the last word, it is a finished or a stuck one.
+/// and each actor's entries are its steps, the merge is a legal log. At each jump nobody may be enabled on
+/// the journal, the histories and the word that its maker held. If the run is over by the journal, the
+/// histories and the last word, it is a finished or a stuck one.
 pub fn lists_merge_to_a_legal_log()
     ensures { ListsMerge }
 {}
 
 /// Lists fit together if each shows it by itself: each has only its own entries and rises, and so does what
-/// each actor made; the steps of the word have positions without a gap and chain, each look saw a word
+/// each actor made. The steps of the word have positions without a gap and chain. Each look saw a word
 /// between two of them, and each entry has its tick and its time to each jump.
 pub fn lists_fit_together()
     ensures { FitsTogether }
 {}
 
-/// What an actor keeps of its entries, in the order of its ticks, is what the journal and the histories
+/// What an actor has of its entries, in the order of its ticks, is what the journal and the histories
 /// have of it, in the order of their stamps.
 pub fn own_lists_are_own_entries()
     ensures { OwnListsAreOwnEntries }

@@ -127,7 +127,7 @@ impl Words {
         self.words.get(place).copied().unwrap_or(ReplyWord::Nothing)
     }
 
-    /// The number at a place.
+    /// The number at an index.
     fn wide(&self, place: usize) -> Option<i128> {
         match self.word(place) {
             ReplyWord::Number(number) => Some(number),
@@ -135,37 +135,37 @@ impl Words {
         }
     }
 
-    /// The number at a place; none if there is no number.
+    /// The number at an index; none if there is no number.
     pub fn maybe(&self, place: usize) -> Option<u32> {
         u32::try_from(self.wide(place)?).ok()
     }
 
-    /// The number at a place, else 0.
+    /// The number at an index, else 0.
     pub fn number(&self, place: usize) -> u32 {
         self.maybe(place).unwrap_or(0)
     }
 
-    /// The long number at a place; none if there is no number.
+    /// The long number at an index; none if there is no number.
     pub fn maybe_long(&self, place: usize) -> Option<u64> {
         u64::try_from(self.wide(place)?).ok()
     }
 
-    /// The long number at a place, else 0.
+    /// The long number at an index, else 0.
     pub fn long(&self, place: usize) -> u64 {
         self.maybe_long(place).unwrap_or(0)
     }
 
-    /// The number at a place, which may be negative, else 0.
+    /// The number at an index, which may be negative, else 0.
     pub fn signed(&self, place: usize) -> i32 {
         i32::try_from(self.wide(place).unwrap_or(0)).unwrap_or(0)
     }
 
-    /// Whether the word at a place says yes.
+    /// Whether the word at an index says yes.
     pub fn flag(&self, place: usize) -> bool {
         matches!(self.word(place), ReplyWord::Flag(true))
     }
 
-    /// The phase at a place, else prepare.
+    /// The phase at an index, else prepare.
     pub fn phase(&self, place: usize) -> Phase {
         match self.word(place) {
             ReplyWord::Phase(phase) => phase,
@@ -173,7 +173,7 @@ impl Words {
         }
     }
 
-    /// The event word at a place, else that of the beginning.
+    /// The event word at an index, else that of the beginning.
     pub fn now(&self, place: usize) -> EventNow {
         match self.word(place) {
             ReplyWord::Now(now) => now,
@@ -185,7 +185,7 @@ impl Words {
         }
     }
 
-    /// The error at a place; none if there is none.
+    /// The error at an index; none if there is none.
     pub fn error(&self, place: usize) -> Option<Errno> {
         match self.word(place) {
             ReplyWord::Error(error) => Some(error),

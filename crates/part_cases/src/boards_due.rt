@@ -24,9 +24,9 @@ const FAILED: Down = Down {
     own: Some(Errno::EIO),
 };
 
-/// What is asked: prepare with a phase's error, complete, the walk down if devices ask for direct-complete
-/// and a wakeup is pending, a device there, both if there are errors and a wakeup is pending, the walk up and
-/// a device there.
+/// What is asked: prepare with a phase's error, complete, the walk down and a device there, the walk up and a
+/// device there. On the way down devices ask for direct-complete, and a wakeup is pending; then there are
+/// errors, too.
 #[derive(Clone, Copy)]
 enum Asked {
     Prepare,

@@ -166,8 +166,8 @@ fn last_reply(last: Option<LastDev>) -> CaseReply {
 }
 
 /// Says what a log counts: successes, failures, failed freezes, then failures of prepare, suspend, late,
-/// noirq, resume, early and resume_noirq; the errors of the last two attempts that failed; the last two
-/// devices that failed.
+/// noirq, resume, early and resume_noirq. After these come the errors of the last two attempts that failed,
+/// and the last two devices.
 fn say_counts(counts: &Counts, out: &mut Out) {
     out.list(&[counts.success, counts.fail, counts.failed_freeze]);
     out.list(&[

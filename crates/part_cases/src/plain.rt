@@ -78,7 +78,7 @@ fn flags_reply(flags: DeviceFlags) -> CaseReply {
     )
 }
 
-/// Says the place of each key, the first words, among the others after a bar; `-` for one that is not there.
+/// Says the index of each key, the first words, among the others after a bar; `-` for one that is not there.
 fn say_places(alloc: Global, text: &str, out: &mut Out) -> Result<(), Mem> {
     let (asked, keys) = cut(text, '|');
     let index = KeyIndex::new(alloc, numbers_in(alloc, keys)?)?;

@@ -42,7 +42,7 @@ fn text_reply(alloc: Global, text: &str) -> Result<CaseReply, Mem> {
 }
 
 /// What is due of a write, or of a read: whether another holds the lock, whether autosleep is on, whether the
-/// actor has said that it waits, whether it is asked to freeze, and then the word and the number that is
+/// actor has said that it waits, whether it is asked to freeze. Then come the word and the number that is
 /// written, or whether the text is that of a state. Of a write to autosleep: whether another holds the lock,
 /// whether the writer does, and whether the text is `mem` or `off`. Of a read: the word, whether it has said
 /// that it waits, and whether it is asked to freeze.

@@ -68,8 +68,8 @@ pub fn trees(alloc: Global, lines: &str, out: &mut Out) {
     out.say(one(ReplyWord::Number(devices.len() as i128)));
 }
 
-/// The answer to a request, and the state of the device then: whether it is suspended, whether it is
-/// prepared, and whether runtime PM is disabled by direct-complete and by late.
+/// The answer to a request, and the state of the device then: suspended or not, prepared or not, its runtime
+/// PM disabled by direct-complete and by late or not.
 fn requested(words: Words) -> CaseReply {
     let to_suspended = words.flag(3);
     let mut kept = Runtime {

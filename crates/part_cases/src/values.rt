@@ -128,7 +128,7 @@ fn say_value(value: &Value<'_>, asks: ValueQuestion, out: &mut Out) {
     }
 }
 
-/// The item of a list at a place.
+/// The item of a list at an index.
 fn item<'v, 'a>(value: &'v Value<'a>, place: u32) -> Option<&'v Value<'a>> {
     as_array(value)?.get(place as usize)
 }
@@ -144,7 +144,7 @@ fn below<'v, 'a>(value: &'v Value<'a>, step: &str) -> Option<&'v Value<'a>> {
     }
 }
 
-/// The value at a path of three names and places at most.
+/// The value at a path of three names and indices at most.
 fn at<'v, 'a>(value: &'v Value<'a>, path: &str) -> Option<&'v Value<'a>> {
     let (first, rest) = cut(path, ' ');
     let (second, third) = cut(rest, ' ');

@@ -1,4 +1,4 @@
--- Prepare and complete at a place of a machine's log.
+-- Prepare and complete at a point of a machine's log.
 use Rattle.std.specs.Prelude.{◌≡◌, ℕ, ℤ, List, IfSome}
 use Rattle.phase_table.specs.declared.phase.Phase.TheVariants as phase
 use Rattle.sleep_model.specs.declared.entry.Entry.{Entry}

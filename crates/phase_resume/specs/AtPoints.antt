@@ -1,4 +1,4 @@
--- The way up at a place of a machine's log.
+-- The way up at a point of a machine's log.
 use Rattle.std.specs.Prelude.{◌≡◌, ℕ, true, List, None}
 use Rattle.phase_table.specs.declared.phase.Phase.{Phase}
 use Rattle.phase_table.specs.Phases.{is_up}

@@ -7,9 +7,9 @@ use sleep_model::{Due, Kind, Phase, Why};
 
 /// What the walk of a phase on the way up does next while it is inside no callback
 /// (`dpm_noirq_resume_devices`, `dpm_resume_early`, `dpm_resume`). First it schedules each asynchronous
-/// device that the mirror phase suspended, then it takes the synchronous ones from the first to the last,
-/// each once all above it are up, and it ends once all are up. It brings up no device that the mirror phase
-/// did not suspend.
+/// device that the mirror phase suspended. Then it takes the synchronous ones from the first to the last,
+/// each once all above it are up. It ends once all are up. It brings up no device that the mirror phase did
+/// not suspend.
 pub fn walk_due(board: &Board, p: Phase) -> Due
     ensures { result ≡ walk_up_due_on board.now p }
 {

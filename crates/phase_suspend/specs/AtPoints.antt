@@ -1,4 +1,4 @@
--- The way down at a place of a machine's log.
+-- The way down at a point of a machine's log.
 use Rattle.std.specs.Prelude.{◌≡◌, ℕ, Bool, true, List, length, map, None}
 use Rattle.phase_table.specs.declared.phase.Phase.{Phase}
 use Rattle.phase_table.specs.Phases.{is_down}

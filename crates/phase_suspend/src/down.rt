@@ -89,8 +89,8 @@ impl Down {
         }
     }
 
-    /// What a device does next that a phase on the way down has scheduled (`__device_suspend`): it
-    /// waits for all below it, and is then skipped by an error or a wakeup, direct-complete, or begins.
+    /// What a device does next that a phase on the way down has scheduled (`__device_suspend`): it waits for
+    /// all below it. Then it is skipped by an error or a wakeup, is direct-complete, or begins.
     pub fn device_due(&self, env: &DownEnv<'_>, p: Phase, device: u32) -> Due
         ensures { result ≡ scheduled_down_on (down_state self.now env.now) p device }
     {

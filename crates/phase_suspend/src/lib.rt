@@ -1,6 +1,6 @@
 //! What the walks of the three phases on the way down do next (`drivers/base/power/main.c`, `dpm_suspend`),
-//! what a device does that they gave out, and what a request for a runtime status is answered meanwhile. Its
-//! tests are in `part_cases`.
+//! and the devices that they scheduled. What the core answers to a request for a runtime status meanwhile.
+//! Its tests are in `part_cases`.
 //!
 //! Promises: What each walk down, and each scheduled device, does next, exactly. A request for a runtime
 //! status inside an attempt is answered EACCES, EAGAIN or 0, exactly. By the clauses of `Down::walk_due`,

@@ -8,12 +8,13 @@ use async_board::{Board, is_direct_complete, is_prepared, is_taken};
 use sleep_base::Errno;
 use sleep_model::Phase;
 
-/// What a request is answered that a device be runtime suspended, or active: `EACCES` exactly if its runtime
-/// PM is disabled, else `EAGAIN` exactly if it is prepared and is to be suspended, else 0
+/// The answer to a request that a device be runtime suspended, or active. It is `EACCES` exactly if its
+/// runtime PM is disabled, else `EAGAIN` exactly if it is prepared and is to be suspended, else 0
 /// (`__pm_runtime_set_status`, `rpm_check_suspend_allowed`).
 ///
-/// Runtime PM is disabled for a device that is direct-complete, if `disabled_by_direct` says that resume is
-/// not done since, and for one that late has taken, if `disabled_by_late` says that early is not done since.
+/// Runtime PM of a device that is direct-complete is disabled if `disabled_by_direct` says that resume is not
+/// done since. That of one that late has taken is disabled if `disabled_by_late` says that early is not done
+/// since.
 pub fn runtime_due(
     board: &Board,
     disabled_by_direct: bool,

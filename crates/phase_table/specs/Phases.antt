@@ -4,7 +4,7 @@ use Rattle.phase_table.specs.declared.phase.Phase.{Phase}
 use Rattle.phase_table.specs.declared.table.PhaseRow.{PhaseRow}
 use Rattle.phase_table.specs.declared.phase.Phase.TheVariants.{Prepare, Suspend, Late, Noirq, Syscore, SyscoreResume, ResumeNoirq, Early, Resume, Complete}
 
--- the place of a phase in an undisturbed attempt (dpm_prepare, dpm_suspend, dpm_suspend_late, dpm_suspend_noirq, syscore_suspend and their
+-- the rank of a phase in an undisturbed attempt (dpm_prepare, dpm_suspend, dpm_suspend_late, dpm_suspend_noirq, syscore_suspend and their
 -- ways back)
 abbrev pub phase_rank : Phase → ℕ
 phase_rank Prepare = 0

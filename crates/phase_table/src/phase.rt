@@ -20,8 +20,8 @@ pub enum Phase {
     Complete,
 }
 
-/// Picks one column of the table of phases: each phase has its mirror, whether it walks forward,
-/// whether devices go down or come up in it, whether it tests for a wakeup, and its name.
+/// Picks one column of the table of phases: each phase with its mirror, its direction in the order of
+/// devices, whether devices go down or come up in it, whether it tests for a wakeup, and its name.
 macro_rules! by_phase {
     (@mirror $from:expr; $($phase:ident $mirror:ident $ways:tt $name:literal;)*) => {
         match $from { $(Phase::$phase => Phase::$mirror,)* }

@@ -4,8 +4,8 @@ ghost use Rattle.phase_table.specs.Phases.{is_phase, row_with};
 
 use crate::Phase;
 
-/// What a table says of a phase: the phase that undoes it, whether it walks forward through the
-/// order of devices, whether devices go down in it, whether it tests for a wakeup.
+/// What a table says of a phase: the phase that undoes it, its direction in the order of devices, whether
+/// devices go down in it, and whether it tests for a wakeup.
 #[derive(Clone, Copy, Debug, PartialEq, Eq)]
 pub struct PhaseRow {
     pub phase: Phase,

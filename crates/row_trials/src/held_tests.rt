@@ -22,8 +22,8 @@ const READER: &str =
 const SETTER: &str =
     r#"{"version":1,"actors":[{"name":"w","kind":"user","script":[{"op":"autosleep","text":"mem"},{"op":"wait","mark":"never"}]}]}"#;
 
-/// The job of the reader, of the timer after the first source's, and the passes of a first burst: three
-/// rounds of the scripts, of which the last makes nothing, and one of the timers.
+/// The job of the reader, that of the timer after the first source's, and the passes of a first burst. These
+/// are three rounds of the scripts, of which the last makes nothing, and one of the timers.
 const READER_JOB: u32 = 1;
 
 const LATER_TIMER: u32 = 5;

@@ -54,8 +54,8 @@ fn a_source_with_room_is_not_full(rt: HostRuntime) {
 const EVENTS: &str =
     r#"{"version": 1, "sources": ["a", "b", "c", "d"], "actors": [{"name": "w", "kind": "user", "script": [{"op": "read"}, {"op": "save"}, {"op": "event", "source": "a", "times": 16384}, {"op": "event", "source": "b", "times": 16384}, {"op": "event", "source": "c", "times": 16384}, {"op": "event", "source": "d", "times": 16384}, "#;
 
-/// The last operation, and the lines that it makes: an attempt under the count that was saved before the
-/// events, which is given up, and a save of their number, which is answered.
+/// The last operation, and the lines that it makes. They are an attempt under the count that was saved before
+/// the events, which is given up, and a save of their number, which is answered.
 const LAST: [(&str, &str); 2] = [
     (
         r#"{"op": "state", "text": "mem"}"#,

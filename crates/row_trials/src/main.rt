@@ -6,14 +6,15 @@
 //! - `words N`, and N lines: the words of the command line, the program's name first.
 //! - `input N`, and N bytes with a newline after them: the next piece of the input. `repeat N` before it: the
 //!   piece N times.
-//! - `chunk N`: a read or a write takes N bytes at most. `write room N`: standard output takes N bytes in all.
-//! - `read fails N`, `write fails N`, `error fails N`: the N-th call on the input, standard output or standard
-//!   error fails.
+//! - `chunk N`: a read or a write takes N bytes at most. `write room N`: standard output takes N bytes in
+//!   all.
+//! - `read fails N`, `write fails N`, `error fails N`: the N-th call on the input, standard output or
+//!   standard error fails.
 //! - `row N`: the row is whole, and N is its number. The program runs.
 //! - `asks N`: the row is whole, and N is its number. The words are read only.
 //!
-//! Of each row standard output says its number, the status, how many bytes of the input were left and how
-//! long both texts are, in one line, and then the two texts. Of words that are read only it says what they
+//! Standard output has a line for each row: its number, the status, how many bytes of the input were left and
+//! how long both texts are. After the line come the two texts. Of words that are read only it says what they
 //! ask for. `tools/dev worked` writes the rows with what they must give. What no row can say is in tests:
 //! workers that meet, and logs too long for a file.
 //!

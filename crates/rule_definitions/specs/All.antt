@@ -19,7 +19,7 @@ use Rattle.rule_definitions.specs.Skip.{KeepsSkip}
 use Rattle.rule_definitions.specs.Steps.{KeepsSteps}
 use Rattle.rule_definitions.specs.Walk.{KeepsWalk}
 
--- what an actor that sees this word makes after the journal's entries keeps each rule but two (kernel/power/suspend.c, kernel/power/main.c)
+-- what an actor that sees this word makes after the journal's entries obeys each rule but two (kernel/power/suspend.c, kernel/power/main.c)
 pub record KeepsMost (m : Machine) (past : List Entry) (now : EventNow) (who : Actor) (k : Kind) : Type 0 where
   pub links : KeepsLinks m past k
   pub attempts : KeepsAttempts past k

@@ -44,7 +44,7 @@ pub data Rule : Type 0 where
   Enabled : Rule
   Source : Rule
 
--- an entry of that part after these keeps that rule (kernel/power/suspend.c, kernel/power/main.c, drivers/base/power/main.c,
+-- an entry of that part after these obeys that rule (kernel/power/suspend.c, kernel/power/main.c, drivers/base/power/main.c,
 -- drivers/base/power/wakeup.c)
 abbrev pub KeepsRule : Machine → List Entry → Entry → EntryClass → Rule → Type 0
 KeepsRule m past e part Links = OnJournal part (KeepsLinks m (journal past) e.kind)
@@ -63,7 +63,7 @@ KeepsRule m past e part Steps = StepsEntry m past e part
 KeepsRule m past e part Enabled = EnabledEntry m past e part
 KeepsRule m past e part Source = SourceEntry m past e part
 
--- an entry of that part after these keeps each rule (kernel/power/suspend.c, kernel/power/main.c, drivers/base/power/main.c,
+-- an entry of that part after these obeys each rule (kernel/power/suspend.c, kernel/power/main.c, drivers/base/power/main.c,
 -- drivers/base/power/wakeup.c)
 pub record KeepsPart (m : Machine) (past : List Entry) (e : Entry) (part : EntryClass) : Type 0 where
   pub links : KeepsRule m past e part Links
@@ -82,27 +82,27 @@ pub record KeepsPart (m : Machine) (past : List Entry) (e : Entry) (part : Entry
   pub enabled : KeepsRule m past e part Enabled
   pub source : KeepsRule m past e part Source
 
--- an entry after these keeps each rule (kernel/power/suspend.c, kernel/power/main.c, drivers/base/power/main.c,
+-- an entry after these obeys each rule (kernel/power/suspend.c, kernel/power/main.c, drivers/base/power/main.c,
 -- drivers/base/power/wakeup.c)
 abbrev pub KeepsEntry : Machine → List Entry → Entry → Type 0
 KeepsEntry m past e = KeepsPart m past e (class_of e.kind)
 
--- after legal entries one more is legal exactly if it keeps each rule (kernel/power/suspend.c, kernel/power/main.c)
+-- after legal entries one more is legal exactly if it obeys each rule (kernel/power/suspend.c, kernel/power/main.c)
 pub record LegalKeepsRules (m : Machine) (past : List Entry) (e : Entry) : Type 0 where
   pub keeps : IsLegal m (e ∷ past) → KeepsEntry m past e
   pub legal : KeepsEntry m past e → IsLegal m (e ∷ past)
 
--- so after each legal list of entries, of whatever machine: what is legal is what keeps the rules (kernel/power/suspend.c,
+-- so after each legal list of entries, of whatever machine: what is legal is what obeys the rules (kernel/power/suspend.c,
 -- kernel/power/main.c)
 abbrev pub OneForEntries : Type 0
 OneForEntries = (m : Machine) (past : List Entry) (e : Entry) → IsLegal m past → LegalKeepsRules m past e
 
--- each entry, the newest first, keeps each rule after the older ones
+-- each entry, the newest first, obeys each rule after the older ones
 abbrev pub KeepsEach : Machine → List Entry → Type 0
 KeepsEach m [] = Unit {0}
 KeepsEach m (e ∷ past) = KeepsEntry m past e × KeepsEach m past
 
--- a list of entries is legal exactly if each of them keeps each rule (kernel/power/suspend.c, kernel/power/main.c)
+-- a list of entries is legal exactly if each of them obeys each rule (kernel/power/suspend.c, kernel/power/main.c)
 pub record LegalLogKeepsRules (m : Machine) (past : List Entry) : Type 0 where
   pub keeps : IsLegal m past → KeepsEach m past
   pub legal : KeepsEach m past → IsLegal m past

@@ -1,4 +1,4 @@
--- The law: an entry of the journal is due of its actor exactly if it keeps all rules.
+-- The law: an entry of the journal is due of its actor exactly if it obeys all rules.
 use Rattle.std.specs.Prelude.{◌≡◌, ℕ, true, false, List}
 use Rattle.sleep_model.specs.declared.entry.Actor.{Actor}
 use Rattle.sleep_model.specs.declared.entry.Actor.TheVariants as actor
@@ -18,7 +18,7 @@ use Rattle.rule_definitions.specs.Restored.{KeepsRestored}
 abbrev pub IsDue : Machine → List Entry → EventNow → Actor → Kind → Type 0
 IsDue m past now who k = due m past who now ≡ Makes k
 
--- after a legal journal what is due keeps all rules, and, after any entries, what keeps most of them is due (kernel/power/suspend.c,
+-- after a legal journal what is due obeys all rules, and, after any entries, what obeys most of them is due (kernel/power/suspend.c,
 -- kernel/power/main.c)
 pub record AreOne (m : Machine) (past : List Entry) (now : EventNow) (who : Actor) (k : Kind) : Type 0 where
   pub keeps : JournalPart m past → IsDue m past now who k → KeepsAll m past now who k
@@ -48,12 +48,12 @@ OneForMakers =
     (m : Machine) (past : List Entry) (now : EventNow) (who : Actor) (k : Kind) → is_maker past who ≡ true
     → AreOne m past now who k
 
--- so for every actor: for each machine, after each legal journal, an entry of the journal is due exactly if it keeps all rules
+-- so for every actor: for each machine, after each legal journal, an entry of the journal is due exactly if it obeys all rules
 -- (kernel/power/suspend.c, kernel/power/main.c)
 abbrev pub OneForAll : Type 0
 OneForAll = (m : Machine) (past : List Entry) (now : EventNow) (who : Actor) (k : Kind) → AreOne m past now who k
 
--- after a legal journal what keeps most rules undoes only what is owed, and ends an attempt only if nothing is (suspend_devices_and_enter,
+-- after a legal journal what obeys most rules undoes only what is owed, and ends an attempt only if nothing is (suspend_devices_and_enter,
 -- suspend_finish)
 abbrev pub OwedFollows : Type 0
 OwedFollows =

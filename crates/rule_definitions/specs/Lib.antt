@@ -18,7 +18,7 @@
 -- All        all of them, of an entry of the journal
 -- Entry      all of them, of any entry
 -- Verdict    the first bad line of a log, and the number of the rule that it breaks
--- Law        that what is due keeps them, and what keeps them is due
+-- Law        that what is due obeys them, and what obeys them is due
 
 pub mod All
 pub mod Answers

@@ -1,4 +1,4 @@
--- The numbers and the time of a place.
+-- The numbers and the time of a point of the log.
 use Rattle.std.specs.Prelude.{◌≡◌, List}
 use Rattle.sleep_model.specs.declared.entry.Entry.{Entry}
 use Rattle.sleep_model.specs.Legal.{IsOnTime}

@@ -76,7 +76,7 @@ abbrev pub PathOf : Machine → List Entry → EventNow → Bool → Kind → Ty
 PathOf m past now true k = IsOfRowIf m past now (row_now m past) k
 PathOf m past now false k = Unit {0}
 
--- inside an attempt its maker keeps to the table (enter_state, suspend_devices_and_enter, suspend_enter)
+-- inside an attempt its maker follows the table (enter_state, suspend_devices_and_enter, suspend_enter)
 abbrev pub KeepsPath : Machine → List Entry → EventNow → Actor → Kind → Type 0
 KeepsPath m past now who k = PathOf m past now (is_maker past who) k
 
@@ -87,7 +87,7 @@ abbrev pub ReportsOf : List Entry → Bool → Type 0
 ReportsOf past true = is_some (callback past) ≡ true
 ReportsOf past false = Unit {0}
 
--- inside an attempt its maker keeps to the table, and calls on sources only from callbacks (enter_state, dpm_run_callback)
+-- inside an attempt its maker follows the table, and calls on sources only from callbacks (enter_state, dpm_run_callback)
 abbrev pub PathEntry : Machine → List Entry → Entry → EntryClass → Type 0
 PathEntry m past e (Notes s call) = ReportsOf (journal past) (is_maker (journal past) e.actor)
 PathEntry m past e (Moves s step) = Unit {0}

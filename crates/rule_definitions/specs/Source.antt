@@ -14,6 +14,6 @@ CallEntry past e (Moves s step) = IsNext step (owed (history s past))
 CallEntry past e (Notes s call) = SourceStep (history s past) (time_of past) e.actor (Notes s call)
 CallEntry past e _ = Unit {0}
 
--- and the source is there, and its history has a place for it (own)
+-- and the source is there, and its history has room for it (own)
 abbrev pub SourceEntry : Machine → List Entry → Entry → EntryClass → Type 0
 SourceEntry m past e part = CallEntry past e part × HistoriesFit m (e ∷ past)

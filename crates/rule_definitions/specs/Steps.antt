@@ -177,8 +177,8 @@ is_inside own who = is_left (owed own) && is_actor who (caller own)
 abbrev pub IsOfCall : List Entry → Actor → ℕ → WordKind → Type 0
 IsOfCall past who s step = (is_inside (history s past) who ≡ true) × IsNext step (owed (history s past))
 
--- an entry of the journal is its actor's next step, once the calls before it are made whole; a note is its actor's next call; a step of the
--- word is owed by its actor; time makes the jumps (own)
+-- an entry of the journal is its actor's next step, once the calls before it are made; a note is its actor's next call; its actor owes a
+-- step of the word; time makes the jumps (own)
 abbrev pub StepsEntry : Machine → List Entry → Entry → EntryClass → Type 0
 StepsEntry m past e OfJournal =
     KeepsSteps m (journal past) (numbers past) e.actor e.kind × IsOwnTurn m (journal past) (λ s. history s past) e.actor

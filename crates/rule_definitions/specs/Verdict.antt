@@ -25,7 +25,7 @@ number_of Steps = 17
 number_of Enabled = 18
 number_of Source = 22
 
--- an entry breaks that rule, and keeps each that has a lesser number (own)
+-- an entry breaks that rule, and obeys each that has a lesser number (own)
 pub record BreaksFirst (m : Machine) (past : List Entry) (e : Entry) (rule : Rule) : Type 0 where
   pub breaks : KeepsRule m past e (class_of e.kind) rule → ⊥
   pub lesser : (other : Rule) → number_of other < number_of rule → KeepsRule m past e (class_of e.kind) other

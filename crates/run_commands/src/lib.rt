@@ -1,4 +1,4 @@
-//! The commands that run a machine: `run` reads it from a file, `gen` writes the file of one that is made of
+//! The commands that run a machine. `run` reads it from a file. `gen` writes the file of one that is made of
 //! a seed, and `soak` runs such a machine and writes the numbers of its log.
 //!
 //! Its tests are those of the whole program, `row_trials`.

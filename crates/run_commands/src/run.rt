@@ -47,8 +47,8 @@ pub struct Ran {
 }
 
 /// The machine that the bytes spell with the log of its run by this number of workers, or how the program
-/// ends without one: `Broken` if they break a rule and so spell none, `SourceFull` if a source's history has
-/// no place for a call, `NoMemory` if there is no memory.
+/// ends without one. It is `Broken` if they break a rule and so spell none, `SourceFull` if a source's
+/// history has no room for a call, `NoMemory` if there is no memory.
 #[tactic(auto, using(crate::proofs::Filling::ended_fault))]
 fn run_of_bytes<R: Threads + Wait + Sync, G: Gate + Sync>(
     rt: &R,

@@ -77,7 +77,7 @@ each_of i (x ∷ hs) h =
     on : (k : ℕ) → i + suc k ≡ suc i + k
     on k = omega arith
 
--- tests of each by each change places
+-- tests of each by each may be exchanged
 all_swap : (r : JournalEntry → JournalEntry → Bool) (xs ys : List JournalEntry) → list_all (λ y. list_all (λ x. r x y) xs) ys ≡ true → list_all (λ x. list_all (r x) ys) xs ≡ true
 all_swap r [] ys h = refl
 all_swap r (x ∷ xs) ys h =

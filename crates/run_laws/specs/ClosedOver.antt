@@ -43,7 +43,7 @@ pub record IsInLine (answer : EventNow) (journal : List JournalEntry) (histories
   pub looks : list_all (is_look (apart.steps_of journal histories)) (all_entries journal histories) ≡ true
   pub last : last_word journal histories ≡ answer
 
--- the word's closed table lays the steps of all histories
+-- the word's closed table has the steps of all histories
 abbrev pub TableCovers : Type 0
 TableCovers =
     (made : List (List MadeStep)) (looked : List (List EventNow)) (answer : EventNow)

@@ -73,7 +73,7 @@ pub record AreSeated
   pub seated : (s : ℕ) → s < length histories
       → IsSeated (slice_index_or made s []) (slice_index_or looked (seat s) []) (reverse (slice_index_or histories s []))
 
--- so the table lays all steps
+-- so the table has all steps
 abbrev pub SeatsCoverTable : Type 0
 SeatsCoverTable =
     (made : List (List MadeStep)) (looked : List (List EventNow)) (answer : EventNow)

@@ -9,15 +9,15 @@ ghost use Rattle.run_laws.specs.Passes.{LogSaysWho};
 ghost use Rattle.run_laws.specs.Seated.{SeatAgreesAfterCalls, SeatsCoverTable, WatchAgrees};
 ghost use Rattle.run_laws.specs.Turned.{LeapGrows, TurnGrows};
 
-/// If the table of the word is closed, each source's seat made the steps of its history, and each look was
-/// one of a seat, all steps have positions without a gap and chain, each look saw a word between two of them,
-/// and the closing answers the last word.
+/// The table of the word is closed, each source's seat made the steps of its history, and each look was one
+/// of a seat. Then all steps have positions without a gap and chain, each look saw a word between two of
+/// them, and the closing answers the last word.
 pub fn closed_table_covers_the_word()
     ensures { TableCovers }
 {}
 
-/// One more entry, by the journal, the sources' histories and its actor's own entries its actor's next,
-/// leaves each entry of each actor its step: what others add changes nothing of it.
+/// One more entry, which is its actor's next, leaves each entry of each actor its step. What others add
+/// changes nothing of it.
 pub fn acts_are_steps()
     ensures { ActsAreSteps }
 {}
@@ -27,7 +27,7 @@ pub fn invariant_begins()
     ensures { InvariantBegins }
 {}
 
-/// What is known of all that was made is known again after each entry that may be made: what is known of
+/// What is known of all that was made is known again after each entry that may be made. What is known of
 /// jumps is preserved, each entry stays on its side of each jump, and each list falls on.
 pub fn invariant_grows()
     ensures { InvariantGrows }
@@ -44,8 +44,8 @@ pub fn last_look_saw_the_last_word()
     ensures { LooksLast }
 {}
 
-/// What is known at the end makes the merge a legal log; if the run is over, or nobody goes on, by all that
-/// was made and the last word that was seen, it is a finished or a stuck one.
+/// What is known at the end makes the merge a legal log. It is finished if the run is over by all that was
+/// made and the last word that was seen, and stuck if nobody goes on.
 pub fn invariant_ends()
     ensures { InvariantEnds }
 {}
@@ -66,8 +66,8 @@ pub fn settled_sources_free_all()
     ensures { SettledIsFree }
 {}
 
-/// A whole call on a source, which is its caller's next and knows its own newest entry and each jump, leaves
-/// all known again: its note, and each step after it.
+/// A whole call on a source leaves all known again: its note, and each step after it. It is its caller's
+/// next, and knows its own newest entry and each jump.
 pub fn calls_keep_all_known()
     ensures { CallGrows }
 {}
@@ -100,8 +100,8 @@ pub fn seats_cover_the_table()
     ensures { SeatsCoverTable }
 {}
 
-/// If the table of locks is closed, and each pass made entries of one actor only, a journal has gained of
-/// each actor what its pass made, each entry with the journal before it.
+/// If the table of locks is closed, and each pass made entries of one actor only, a journal has gained what
+/// the passes made. Of each actor it has what its pass made, each entry with the journal before it.
 pub fn log_says_who<V, R>()
     ensures { LogSaysWho V R }
 {}

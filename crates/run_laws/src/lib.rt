@@ -2,14 +2,14 @@
 //! Linux keeps no such log). `law_trials` tries them on worked logs.
 //!
 //! Promises: What is known of all that was made (each actor's steps, each source, each jump, stamps, times)
-//! is known again after each entry that may be made, so after a turn of the machine, a whole call on a source
-//! and a jump of time. What each source and the machine have besides their seats gives the closed table of
-//! the word: steps without a gap, looks between them; and a look that no source's floor exceeds saw the last
-//! word. With that table, what is known at the end makes the merge a legal log, finished or stuck if the run
-//! is. A job follows each entry, and says what its actor makes next. If each pass of the locks made entries
-//! of one actor, the journal has of each actor what its pass made. By the clauses of `invariant_grows`,
-//! `turns_keep_all_known`, `calls_keep_all_known`, `jumps_keep_all_known`, `seats_cover_the_table`,
-//! `invariant_ends`, `log_says_who` and the other laws.
+//! is known again after each entry that may be made. So it is after a turn of the machine, a whole call on a
+//! source and a jump of time. What each source and the machine have besides their seats gives the closed
+//! table of the word: steps without a gap, looks between them. A look that no source's floor exceeds saw the
+//! last word. With that table, what is known at the end makes the merge a legal log, finished or stuck if the
+//! run is. A job follows each entry, and says what its actor makes next. If each pass of the locks made
+//! entries of one actor, the journal has of each actor what its pass made. By the clauses of
+//! `invariant_grows`, `turns_keep_all_known`, `calls_keep_all_known`, `jumps_keep_all_known`,
+//! `seats_cover_the_table`, `invariant_ends`, `log_says_who` and the other laws.
 //!
 //! Begin reading in `src/laws.rt`, `specs/Invariant.antt`, `specs/Acts.antt`, `specs/ClosedOver.antt`.
 #![tactic(auto)]

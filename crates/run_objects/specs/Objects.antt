@@ -43,7 +43,7 @@ viewed_source_of s = viewed_source None (Some (made_of s.seat)) (Some (looked_of
 abbrev pub seats_of : List SeatedSourceState → List Token
 seats_of sources = map (λ s. s.seat) sources
 
--- each source was never called, and has the number of its place (wakeup_source_create)
+-- each source was never called, and has the number of its index (wakeup_source_create)
 abbrev pub AreUncalled : List SeatedSourceState → Type 0
 AreUncalled sources = (k : ℕ) (s : SeatedSourceState) → get_elem? sources k ≡ some s → s.source ≡ new_source k
 

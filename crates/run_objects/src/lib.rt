@@ -4,12 +4,12 @@
 //! own. At the end the seats come back to their table, and what they did gives the word. Its tests are in
 //! `core_trials`.
 //!
-//! Promises: A wakeup source with its seat makes a whole call by the steps of that seat: its history gains
+//! Promises: A wakeup source with its seat makes a whole call by the steps of that seat. Its history gains
 //! the call's note and each step of it, and `Full` comes exactly if fewer than four places are left. The
 //! machine with its seat makes a turn by a word that the seat looks at, no older than what the actor and the
-//! journal knew, and a turn or a jump of time by the word that it looked at last. Between calls a seat's
-//! steps are those of its source's history, and each other word there, or in the journal, is one that the
-//! seat looked at. The closed table has the steps of all histories, and the journal and each history are
+//! journal knew. It also makes a turn or a jump of time by the word that it looked at last. Between calls a
+//! seat's steps are those of its source's history, and each other word there, or in the journal, is one that
+//! the seat looked at. The closed table has the steps of all histories, and the journal and each history are
 //! answered as they are. By the clauses of `SeatedSource::call`: `calls`, `full`, `err`; `SeatedCore::look`,
 //! `turn`, `turn_by`, `jump`; `source`, `core`: `kept`; `seated_sources`; `close_table`: `closed_over`,
 //! `journal`, `histories`.

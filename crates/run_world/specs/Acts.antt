@@ -38,7 +38,7 @@ Wants (task.Acts job) w = IsWanted job w
 Wants (task.Fires timer) w = w ≡ want.Source timer.source calls.Expire
 
 -- an act in a world of n sources, at that moment, which adds these entries: nothing; the turn of the machine, or the call on a source, that
--- a job wants, of which the job hears then; or an expiry (pm_wakeup_timer_fn)
+-- a job wants and then notes; or an expiry (pm_wakeup_timer_fn)
 pub data Does (sources moment : ℕ) : Task → List (Made Noted) → Task → Type 0 where
   Nothing : (t : Task) → Does sources moment t [] t
   Turns : (job : JobState) (stamp : Stamp) (k : Kind) (attempt : ℕ) (gains : List (Made Noted))

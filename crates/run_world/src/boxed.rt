@@ -15,7 +15,7 @@ use std::alloc::Global;
 use std::marker::Model;
 use std::sync::Wait;
 
-/// The machine under its lock in a burst, boxed on the heap: who takes a lock moves what the lock guards, and
+/// The machine under its lock in a burst, boxed on the heap. Who takes a lock moves what the lock guards, and
 /// a source is moved for each of its calls, so an object of the world has to be small. Contracts see the
 /// machine.
 #[derive(Drop)]
@@ -69,7 +69,7 @@ fn turn_of<R: Wait>(
 }
 
 impl<'m> BoxedCore<'m> {
-    /// The machine in a place of its own. `Mem` if there is no memory.
+    /// The machine in a box. `Mem` if there is no memory.
     pub(crate) fn of(alloc: Global, core: SeatedCore<'m>) -> Result<Self, Mem>
         ensures { IfOk result (λ placed. placed ≡ core.entry) }
     {
@@ -89,7 +89,7 @@ impl<'m> BoxedCore<'m> {
         core
     }
 
-    /// A turn of the machine at the time `now` by an actor that has made `calls` calls on sources; `Stale` if
+    /// A turn of the machine at the time `now` by an actor that has made `calls` calls on sources. `Stale` if
     /// those are not all that are due, or that is not the time.
     pub(crate) fn turn<R: Wait>(
         &mut self,

@@ -5,7 +5,7 @@ use sleep_model::Actor;
 /// What sees the turns in a burst (own: Linux has its scheduler). A test waits in it, to bring turns into an
 /// order; each clause holds for every gate.
 pub trait Gate {
-    /// The job at that place has its turn next. Its worker holds no lock.
+    /// The job at that index has its turn next. Its worker holds no lock.
     fn pass(&self, job: u32);
 
     /// The actor has taken the machine's lock, and has looked at nothing yet.

@@ -69,7 +69,7 @@ impl<'m> WorldObject<'m> {
     }
 
     /// A turn of the machine that it is, at the time `now` by an actor that has made `calls` calls on
-    /// sources; `Stale` if those are not all that are due, or that is not the time.
+    /// sources. `Stale` if those are not all that are due, or that is not the time.
     pub(crate) fn turn<R: Wait>(
         &mut self,
         rt: &R,

@@ -53,7 +53,7 @@ pub struct Reply<'m, A> {
 impl<'w, 'm, R: Wait, G: Gate> World<'w, 'm, R, G> {
     /// A whole call on a source, under only its lock (`__pm_stay_awake`, `__pm_relax`, `pm_wakeup_ws_event`,
     /// `pm_wakeup_timer_fn`). Answers as `SeatedSource::call`, and None exactly for an expiry whose moment
-    /// has not come; what the pass then made is what it had made, and the call's entries, which are at the
+    /// has not come. What the pass then made is what it had made, and the call's entries, which are at the
     /// end of the source's history. Any other answer than a stamp adds nothing.
     pub fn report(
         &self,

@@ -1,4 +1,4 @@
--- With the closed table of the event word, what a run keeps is the one log.
+-- With the closed table of the event word, a run's lists are the one log.
 use Rattle.std.proofs.Common.{◌≡◌, ◌≤◌, ◌<◌, ◌+◌, ◌∙◌, ℕ, zero, suc, Bool, true, false, ◌&&◌, nat_le, List, [], ◌∷◌, ◌++◌, length, map, reverse, None, slice_index_or, refl, sym, ap, ap₂, subst, arith}
 use Rattle.std.specs.List.{list_all, range_with_len}
 use Rattle.std.proofs.lemmas.Bool.Decides.{nat_tests}
@@ -146,7 +146,7 @@ module _ (m : Machine) (journal : List JournalEntry) (sources : List SourceState
           }),
         )
 
-    -- a source's entries keep to the places of the machine's calls
+    -- a source has no more entries than the machine's calls have room for
     pub running_keeps : (s : ℕ) → length (of_sources sources s) ≤ places m s
     running_keeps s =
         let log : Log = record { entries = merge (reverse journal) (journal_histories sources); stats = stats_apart m (reverse journal) (journal_histories sources); end = Finished } in

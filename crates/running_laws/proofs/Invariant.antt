@@ -71,7 +71,7 @@ module _ (m : Machine) (journal : List JournalEntry) (sources : List SourceState
   unstamped_count [] = refl
   unstamped_count (e ∷ p) = ap suc (unstamped_count p)
 
-  -- each has its places
+  -- each has its room
   pub short : (s : ℕ) → length (histories sources s) ≤ 60000
   short s = by_place (λ (own : List Entry). length own ≤ 60000) (omega arith)
       (λ s none l. omega (arith, unstamped_count (slice_index_or sources s none).past, (r.sources_are.each s none l).settled.short)) s

@@ -1,4 +1,4 @@
--- Turns and jumps keep what a run keeps.
+-- Turns and jumps preserve the invariant of a run.
 use Rattle.std.proofs.Common.{◌≡◌, ◌≤◌, ◌+◌, ◌∙◌, ℕ, Option, Bool, true, false, List, [], ◌∷◌, refl, sym, ap, subst, arith, ap₂, cond}
 use Rattle.std.specs.List.{list_all}
 use Rattle.sleep_model.specs.declared.entry.Actor.{Actor}

@@ -3,8 +3,8 @@
 //!
 //! Promises: The run's invariant: each turn of an actor, each whole call on a source, each expiry and each
 //! jump of time preserves it. A run has made at most as many entries as a log has. With the closed table of
-//! the event word it is the one log: legal, finished or stuck as the run is, its fields in their ranges, and
-//! no source with more entries than the machine's calls have room for. By the lemmas `running_turn`,
+//! the event word it is the one log: legal, finished or stuck as the run is, its fields in their ranges. No
+//! source has more entries than the machine's calls have room for. By the lemmas `running_turn`,
 //! `running_call`, `running_expire`, `running_jump`, `running_ends`, `running_keeps`, `run_few` (and no
 //! function's clause).
 //!

@@ -50,7 +50,7 @@ filter_map p f (x ∷ xs) = by_case (filter_map p f xs) (p (f x))
 pub entry_steps_are : (s : Script) → entry_steps s ≡ map (op_at s.steps) (entry_indices s.steps (expanded s))
 entry_steps_are s = ap (filter makes_entry) (sym (ops_are s)) ∙ filter_map makes_entry (op_at s.steps) (expanded s)
 
--- ---- the places
+-- ---- the indices
 
 times_within : (P : ℕ → Type 0) (n : ℕ) (xs : List ℕ) → All P xs → All P (times_over n xs)
 times_within P zero xs all = All-nil P
@@ -61,7 +61,7 @@ round_within at n [] fits = All-nil (λ (k : ℕ). k < n)
 round_within at n (s ∷ ss) fits =
     All-append (λ (k : ℕ). k < n) (replicate s.times at) (round_from (suc at) ss) (All-replicate (λ (k : ℕ). k < n) s.times at (omega arith)) (round_within (suc at) n ss (omega arith))
 
--- each place is one of the script's list
+-- each index is one of the script's list
 pub places_within : (s : Script) → All (λ (k : ℕ). k < length s.steps) (expanded s)
 places_within s = times_within (λ (k : ℕ). k < length s.steps) s.repeat (round_from 0 s.steps) (round_within 0 (length s.steps) s.steps (omega arith))
 
@@ -108,7 +108,7 @@ some_at xs ys k v same within read = ap (λ zs. slice_get zs k) (sym same) ∙ (
 none_at : {A : Type 0} (xs ys : List A) (k : ℕ) → ys ≡ xs → length ys ≤ k → slice_get xs k ≡ None
 none_at xs ys k same past = ap (λ zs. slice_get zs k) (sym same) ∙ slice_get_past ys k past
 
--- the operation at a place that is read
+-- the operation at an index that is read
 pub operation_at : (s : Script) (ys : List ℕ) (k at : ℕ) → ys ≡ entry_indices s.steps (expanded s) → k < length ys → at ≡ slice_index_or ys k at → slice_get (entry_steps s) k ≡ Some (op_at s.steps at)
 operation_at s ys k at same within read =
     ap (λ zs. slice_get zs k) (entry_steps_are s) ∙ (slice_get-map (op_at s.steps) (entry_indices s.steps (expanded s)) k ∙ ap (option_map (op_at s.steps)) (some_at (entry_indices s.steps (expanded s)) ys k at same within read))

@@ -1,4 +1,4 @@
--- A script's steps by their places, and the calls before each of its turns.
+-- A script's steps by their indices, and the calls before each of its turns.
 use Rattle.std.specs.Prelude.{ℕ, zero, suc, ◌+◌, Bool, true, false, ◌||◌, List, [], ◌∷◌, ◌++◌, map, filter, replicate, Option, Some, None, slice_get}
 use Rattle.sleep_model.specs.declared.machine.Op.{Op}
 use Rattle.sleep_model.specs.declared.machine.Op.TheVariants as op
@@ -7,14 +7,14 @@ use Rattle.sleep_model.specs.declared.machine.Step.{Step}
 use Rattle.sleep_model.specs.Scripts.{times_over, makes_entry, Piece, Calls, Turns}
 use Rattle.sleep_model.specs.Tasks.{is_mem, is_off}
 
--- ---- places
+-- ---- indices
 
--- the place of each step of a list that begins at that place, each as often as it is made
+-- the index of each step of a list that begins at that index, each as often as it is made
 abbrev pub round_from : ℕ → List Step → List ℕ
 round_from at [] = []
 round_from at (s ∷ ss) = replicate s.times at ++ round_from (suc at) ss
 
--- the place of each step of a script, as often as it makes them
+-- the index of each step of a script, as often as it makes them
 abbrev pub expanded : Script → List ℕ
 expanded s = times_over s.repeat (round_from 0 s.steps)
 
@@ -23,11 +23,11 @@ abbrev pub op_or_read : Option Step → Op
 op_or_read None = op.Read
 op_or_read (Some s) = s.op
 
--- the operation at a place
+-- the operation at an index
 abbrev pub op_at : List Step → ℕ → Op
 op_at steps at = op_or_read (slice_get steps at)
 
--- the places whose operations make entries of the journal
+-- the indices whose operations make entries of the journal
 abbrev pub entry_indices : List Step → List ℕ → List ℕ
 entry_indices steps places = filter (λ at. makes_entry (op_at steps at)) places
 
@@ -82,6 +82,6 @@ calls_before (Calls note ∷ rest) k = calls_before rest k + 1
 calls_before (Turns ∷ rest) zero = 0
 calls_before (Turns ∷ rest) (suc k) = calls_before rest k
 
--- the operations at these places
+-- the operations at these indices
 abbrev pub ops_of : List Step → List ℕ → List Op
 ops_of steps places = map (op_at steps) places

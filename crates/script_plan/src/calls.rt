@@ -38,7 +38,7 @@ fn push_calls(calls: &mut Vec<Report>, autosleep: u32, op: &Op) -> Result<(), Me
     Ok(())
 }
 
-/// The calls of the operations at these places.
+/// The calls of the operations at these indices.
 pub(crate) fn calls_of(
     alloc: Global,
     autosleep: u32,

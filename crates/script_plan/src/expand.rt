@@ -1,4 +1,4 @@
-//! The steps of a script, one after the other, each by the place of its operation in the script's list.
+//! The steps of a script, one after the other, each by the index of its operation in the script's list.
 
 ghost use Rattle.std.specs.Prelude.{◌≡◌, ◌≤◌, ◌<◌, ◌+◌, ◌^◌, ◌++◌, length, replicate, OnOk, IfOk};
 ghost use Rattle.sleep_model.specs.Scripts.{times_over};
@@ -8,7 +8,7 @@ use sleep_base::Mem;
 use sleep_model::{Script, Step};
 use std::alloc::Global;
 
-/// The same place so often more.
+/// The same index so often more.
 fn add_times(places: &mut Vec<usize>, at: usize, times: u32) -> Result<(), Mem>
     ensures { OnOk result (places.new.items ≡ places.old.items ++ replicate times at) }
 {

@@ -1,6 +1,7 @@
-//! What a script's operations are: its steps, taken as often as the file says and counted once, so that each
-//! turn finds its own at once, and the texts that it writes. The core and the checker both use it, since this
-//! is a fact of the machine and no rule of sleep. Its tests are in `part_cases`, and `row_trials` runs it.
+//! What a script's operations are: its steps, as often as the file says, and the texts that it writes. They
+//! are counted once, so that each turn finds its own at once. The core and the checker both use it, since
+//! this is a fact of the machine and no rule of sleep. Its tests are in `part_cases`, and `row_trials` runs
+//! it.
 //!
 //! Promises: The operation of each turn, how many calls are made before it, and which right before it; which
 //! text is `mem`, which is `off`. By the clauses of `Plan::operation`, `calls_before`, `calls_at`; `is_mem`,

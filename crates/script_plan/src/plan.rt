@@ -20,7 +20,7 @@ fn makes_entry(op: &Op) -> bool
     !matches!(op, Op::Awake { .. } | Op::Relax { .. } | Op::Event { .. })
 }
 
-/// The operation at that place.
+/// The operation at that index.
 pub(crate) fn op_at(steps: &[Step], at: usize) -> &Op
     requires { at < length steps.now }
     ensures { result.now ≡ op_at steps.now at }
@@ -28,7 +28,7 @@ pub(crate) fn op_at(steps: &[Step], at: usize) -> &Op
     &steps[at].op
 }
 
-/// The places whose operations make entries.
+/// The indices whose operations make entries.
 fn entry_indices(alloc: Global, steps: &[Step], places: &[usize]) -> Result<Vec<usize>, Mem>
     requires { All (λ at. at < length steps.now) places.now }
     ensures { IfOk result (λ v. v.items ≡ entry_indices steps.now places.now) }
@@ -92,7 +92,7 @@ impl CallCounts {
     }
 }
 
-/// The calls before each turn of the operations at these places.
+/// The calls before each turn of the operations at these indices.
 pub(crate) fn count_calls(
     alloc: Global,
     steps: &[Step],

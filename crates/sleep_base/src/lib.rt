@@ -1,5 +1,5 @@
-//! What every crate uses and that is nothing of sleep: bytes in and out with counted faults, out of memory,
-//! the error numbers of the kernel, decimal digits, and a wait for ever. Its tests are in `part_cases` and
+//! What every crate uses and is not about sleep: bytes in and out with counted faults, out of memory, the
+//! kernel's error numbers, decimal digits, and a wait for ever. Its tests are in `part_cases` and
 //! `row_trials`.
 //! Promises: Each error has its number and its name, and no other text names it. A whole read took all bytes
 //! up to the end, or says why not. A whole write wrote all bytes, or a prefix of them and the sink counted a

@@ -47,7 +47,7 @@ pub trait ByteSource {
     /// How many reads have failed.
     ghost faults: { Self → ℕ };
 
-    /// Fills the front of `buf` and answers how many bytes: 0 only at the end. `Failed` if the read failed:
+    /// Fills a prefix of `buf` and answers how many bytes: 0 only at the end. `Failed` if the read failed:
     /// it took no byte, and the count of faults rose.
     fn read(&mut self, buf: &mut [u8]) -> Result<usize, Failed>
         requires { 0 < length buf.old }
@@ -64,7 +64,7 @@ pub trait ByteSink {
     /// How many writes have failed.
     ghost faults: { Self → ℕ };
 
-    /// Writes the front of `piece` and answers how many bytes: at least 1. `Failed` if the write failed: it
+    /// Writes a prefix of `piece` and answers how many bytes: at least 1. `Failed` if the write failed: it
     /// wrote no byte, and the count of faults rose.
     fn write(&mut self, piece: &[u8]) -> Result<usize, Failed>
         requires { 0 < length piece.now }

@@ -82,7 +82,7 @@ fn do_words<R: Threads + Wait + Sync, S: ByteSource, K: ByteSink, G: Gate + Sync
 /// The whole program. The first word is its name, and those after it say what it does:
 ///
 /// - `run`, or `run --workers N`, also in one word as `--workers=N`: reads a machine file from `input`, runs
-///   the machine by N workers, 1 to 64 and else 4, and writes its log to `out`; `gate` sees the workers'
+///   the machine by N workers, 1 to 64 and else 4, and writes its log to `out`. The `gate` sees the workers'
 ///   turns.
 /// - `gen SEED DEVICES`: writes the file of the generated machine of a seed of 64 bits with 1 to 1,000
 ///   devices.
@@ -106,18 +106,18 @@ fn do_words<R: Threads + Wait + Sync, S: ByteSource, K: ByteSink, G: Gate + Sync
 /// - 2: the words are others; nothing is read or written. Other words may give 8 instead, and nothing else.
 /// - 3: the input is longer than 16,777,216 bytes, or it breaks a rule of the format; `err` has the first
 ///   rule with its place. To `locks` a line is of no form, and `err` has its number. To `check` the machine
-///   is such. To `stats` the machine or the log is such, and `err` says which, or with `log: links` or `log:
-///   cycle` that a link of the log is refused. Such an input may give 4 or 8 instead, and nothing else.
+///   is such. To `stats` the machine or the log is such, and `err` says which, or with `log: links` or
+///   `log: cycle` that a link of the log is refused. Such an input may give 4 or 8 instead, and nothing else.
 /// - 4: a read failed. 5: a write failed, after a prefix of the text.
 /// - 7: the history of a wakeup source has no place left for a call, in a run or by a line of `locks`.
 /// - 8: there was no memory.
 ///
 /// At 2, 3, 4, 7 and 8 nothing is written to `out`. If no fault is counted, an input that spells a machine
-/// none of whose sources can be filled gives 0, 6 or 8, `gen` and `idle` give 0 or 8, `soak` 0, 6 or 8,
-/// `check` 0 or 8 of a machine and the text of a log that is legal and finished, and 1 or 8 of a machine and
-/// any other text, `locks` 0 or 8 of lines that are of a form and fill no source, and `stats` 0 or 8 of a
-/// machine and a log that fits it, no link of which is refused. `gen`, `soak` and `idle` leave `input`
-/// unread.
+/// none of whose sources can be filled gives 0, 6 or 8. Then `gen` and `idle` give 0 or 8, and `soak` 0, 6 or
+/// 8. `check` gives 0 or 8 of a machine and the text of a log that is legal and finished, and 1 or 8 of a
+/// machine and any other text. `locks` gives 0 or 8 of lines that are of a form and fill no source, and
+/// `stats` of a machine and a log that fits it, no link of which is refused. `gen`, `soak` and `idle` leave
+/// `input` unread.
 pub fn run_words<R: Threads + Wait + Sync, S: ByteSource, K: ByteSink, G: Gate + Sync>(
     rt: &R,
     alloc: Global,

@@ -20,7 +20,7 @@ use Rattle.sleep_core.specs.Reports.{reported_by, counts_of}
 use Rattle.sleep_core.proofs.Reporting.{reported_is}
 use Rattle.sleep_core.proofs.Positioned.{positions_len, first_positions}
 
--- ---- a script's place counts the turns that it has ended
+-- ---- a script's position counts the turns that it has ended
 
 kind_turns : (k : Kind) (s : ScriptPosition) → (position_after (position_effect k) s).turns ≡ one_more (ends_turn k) s.turns
 kind_turns kind.ReadWait s = refl
@@ -76,7 +76,7 @@ entry_turns : (i : ℕ) (who : Actor) (k : Kind) (ss : List ScriptPosition) → 
 entry_turns i (actor.Script j) k ss l = script_turns i j k ss l (j == i) refl
 entry_turns i _ k ss l = refl
 
--- a script's place has the number of turns that it has ended
+-- a script's position has the number of turns that it has ended
 turns_are : (n i : ℕ) (past : List Entry) → i < n → (position_at (positions n past) i).turns ≡ turns_ended (actor.Script i) past
 turns_are n i [] l = ap (λ (s : ScriptPosition). s.turns) (first_positions n i)
 turns_are n i (e ∷ past) l =

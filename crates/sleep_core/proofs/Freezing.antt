@@ -1,4 +1,4 @@
--- Who has exited, and whom a freeze waits for, as the freezer keeps it and as the definitions read it.
+-- Who has exited, and whom a freeze waits for, as the freezer knows it and as the definitions read it.
 use Rattle.std.proofs.Common.{◌≡◌, ℕ, zero, suc, true, false, List, [], ◌∷◌, length, map, replicate, cond, slice_set, refl, sym, ap}
 use Rattle.sleep_model.specs.declared.entry.Actor.{Actor}
 use Rattle.sleep_model.specs.declared.entry.Actor.TheVariants as actor
@@ -18,7 +18,7 @@ use Rattle.sleep_core.specs.Histories.{exits, freezer_of}
 
 -- ---- who has exited
 
--- a place of a script that goes on from there, but has neither exited nor come back
+-- a position of a script that goes on from there, but has neither exited nor come back
 preserved_at : (ps : List ScriptPosition) (i : ℕ) (p : ScriptPosition) → p.exited ≡ (position_at ps i).exited → exits (slice_set ps i p) ≡ exits ps
 preserved_at [] i p same = refl
 preserved_at (x ∷ ps) zero p same = ap (λ b. b ∷ exits ps) same

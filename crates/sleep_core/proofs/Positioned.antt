@@ -1,4 +1,4 @@
--- There is a place for each script.
+-- There is a position for each script.
 use Rattle.std.proofs.Common.{◌≡◌, ◌≤◌, ◌<◌, ◌^◌, ◌⊎◌, inl, inr, ℕ, zero, suc, List, [], ◌∷◌, length, replicate, slice_set, refl, sym, subst, arith}
 use Rattle.std.proofs.lemmas.List.{length-set, length-replicate}
 use Rattle.sleep_model.specs.declared.entry.Actor.{Actor}
@@ -33,7 +33,7 @@ first_positions zero i = refl
 first_positions (suc n) zero = refl
 first_positions (suc n) (suc i) = first_positions n i
 
--- a place has at most so many steps and turns after it
+-- a position has at most so many steps and turns after it
 abbrev FewOf : ℕ → ScriptPosition → Type 0
 FewOf n s = (s.done ≤ n) × (s.turns ≤ n)
 

@@ -77,7 +77,7 @@ maker_sleeps : (m : Machine) (past : List Entry) (now : EventNow) (there : Stage
 maker_sleeps m past now _ _ Made.Ends o position h u e = absurd (none≢some u e)
 maker_sleeps m past now _ _ _ o position h u e = h u e
 
--- what is read after a write: the new place at its own number, else the old one
+-- what is read after a write: the new position at its own number, else the old one
 set_at : (ss : List ScriptPosition) (i j : ℕ) (v : ScriptPosition) → ((i ≡ j) × (position_at (slice_set ss i v) j ≡ v)) ⊎ (position_at (slice_set ss i v) j ≡ position_at ss j)
 set_at [] i j v = inr refl
 set_at (x ∷ xs) zero zero v = inl (refl, refl)

@@ -1,4 +1,4 @@
--- What the core keeps: a legal journal, with room for what its open attempt needs.
+-- The invariant of the core: a legal journal, with room for what its open attempt needs.
 use Rattle.std.specs.Prelude.{◌≡◌, ◌≤◌, ◌<◌, ◌+◌, ◌^◌, ℕ, map, Option, Some, None}
 use Rattle.sleep_model.specs.declared.progress.Sleep.{Sleep}
 use Rattle.sleep_model.specs.Accepted.{IsAccepted}
@@ -38,7 +38,7 @@ pub record IsCore (h : HistoryState) : Type 0 where
 abbrev pub seen_core : Inside → CoreState
 seen_core c = record { machine = c.history.machine; past = c.history.past }
 
--- what holds of a core between calls: the plans are its machine's, it keeps its history, and counts the reports of callbacks
+-- what holds of a core between calls: the plans are its machine's, its history is right, and it counts the reports of callbacks
 pub record IsWhole (c : Inside) : Type 0 where
   pub core : IsCore c.history
   pub plans_are : c.plans.now ≡ c.history.machine

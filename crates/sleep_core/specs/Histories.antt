@@ -54,7 +54,7 @@ path_of past = record {
   sleep = sleep_of past;
 }
 
--- what the phases of devices keep
+-- the state of the devices' phases
 abbrev pub devices_of : Machine → List Entry → DeviceState
 devices_of m past = record {
   callback = callback past;
@@ -107,7 +107,7 @@ syscore_of m past = record { n = length m.syscore; flags = stopped (length m.sys
 
 -- ---- the history
 
--- the machine, the entries so far, the newest first, and how many more have a place
+-- the machine, the entries so far, the newest first, and how many more have room
 pub record HistoryState : Type 0 where
   pub machine : Machine
   pub past : List JournalEntry
@@ -118,7 +118,7 @@ abbrev pub last_stamp : List JournalEntry → Stamp
 last_stamp [] = record { pos = 0; tick = 0 }
 last_stamp (j ∷ past) = j.stamp
 
--- an entry may be appended: it has a place, and no number runs over
+-- an entry may be appended: it has room, and no number overflows
 pub record Admits (history_seen : HistoryState) (e : Entry) : Type 0 where
   pub room : 0 < history_seen.room
   pub attempts : attempts_after e.kind (attempts (entries history_seen.past)) < 2 ^ 32

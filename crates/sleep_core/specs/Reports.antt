@@ -24,7 +24,7 @@ reported_by actor.Auto counts = counts.auto
 reported_by (actor.Dev d) counts = slice_index counts.devices d
 reported_by _ counts = 0
 
--- the number at a place grows by that much
+-- the number at an index grows by that much
 abbrev pub grown_at : List ℕ → ℕ → ℕ → List ℕ
 grown_at numbers at more = slice_set numbers at (slice_index numbers at + more)
 

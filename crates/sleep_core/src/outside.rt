@@ -179,9 +179,9 @@ impl<'m> Core<'m> {
         self.history.board().links().above(device)
     }
 
-    /// Whether an asynchronous device was scheduled in a phase, has not begun, and waits for no other: for
-    /// none right below it on the way down (`dpm_wait_for_subordinate`), for none right above it on the way
-    /// up (`dpm_wait_for_superior`).
+    /// Whether an asynchronous device was scheduled in a phase, has not begun, and waits for no other. On the
+    /// way down it would wait for those right below it (`dpm_wait_for_subordinate`), on the way up for those
+    /// right above it (`dpm_wait_for_superior`).
     pub fn is_ready(&self, phase: Phase, device: u32) -> bool
         ensures { result ≡ is_ready_on (board_at self.now.machine (entries self.now.past)) phase device }
     {

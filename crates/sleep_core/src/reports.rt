@@ -29,7 +29,7 @@ impl Model for Reports {
     ghost invariant = { AreFew };
 }
 
-/// The number at a place grows.
+/// The number at an index grows.
 fn grow_at(numbers: &mut Vec<u64>, at: u32, more: u32)
     requires { slice_index numbers.old.items at < 2 ^ 32 }
     ensures { numbers.new.items ≡ grown_at numbers.old.items at more }

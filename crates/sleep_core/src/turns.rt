@@ -205,11 +205,11 @@ impl<'m> Core<'m> {
         }
     }
 
-    /// One turn of an actor: looks at the word until it is at least the floor's, decides, and makes
-    /// at most one entry. `calls` counts the actor's calls on sources so far, `now` is the
-    /// time in ms. `NotYet` exactly if the actor waits, `Done` exactly if nothing is due of it.
-    /// `Mem` if there is no memory, or no number for one more attempt, run or mark; never for the maker of
-    /// the open attempt, nor for a device; nothing has changed then.
+    /// One turn of an actor: looks at the word until it is at least the floor's, decides, and makes at most
+    /// one entry. `calls` counts the actor's calls on sources so far, `now` is the time in ms. `NotYet`
+    /// exactly if the actor waits, `Done` exactly if nothing is due of it. `Mem` if there is no memory, or no
+    /// number for one more attempt, run or mark; nothing has changed then. It never comes for the maker of
+    /// the open attempt, nor for a device.
     pub fn turn<R: Wait, E: Events>(
         &mut self,
         rt: &R,

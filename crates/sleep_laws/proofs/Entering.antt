@@ -85,7 +85,7 @@ rests_from g o n (s ∷ ss) (x ∷ fs) (y ∷ places) F P f p lf lp e a =
     by_test rest true h = both ((F n).frozen || (P n).exited) (list_all (λ i. (F i).frozen || (P i).exited) (others_of g o (suc n) ss)) (here h) rest
     by_test rest false h = rest
 
--- each script has its place
+-- each script has its position
 positions_length : (n : ℕ) (past : List Entry) → length (positions n past) ≡ n
 positions_length n [] = length-replicate n first_position
 positions_length n (e ∷ past) = by_actor e.actor (positions_length n past)

@@ -106,6 +106,6 @@ few_entries m sources past fit =
 pub few_moves : (m : Machine) → length m.sources ≤ 255 → (past : List Entry) → HistoriesFit m past → (numbers past).inpr + (numbers past).count + (numbers past).hard ≤ 15360000
 few_moves m sources past fit = omega (arith, moves_placed m past fit.there, few_entries m sources past fit)
 
--- the visible count tells all registered events apart
+-- the visible count is another after each registered event
 pub few_registered : (m : Machine) → length m.sources ≤ 255 → (past : List Entry) → IsLegal m past → (numbers past).count < 16777216
 few_registered m sources past legal = omega (arith, few_moves m sources past legal.histories)

@@ -173,7 +173,7 @@ maker_guards m past now here there k h at come x =
     (λ (s : Option Stage). InForceIf s (phase_failed_after k (phase_failed past)) (guard_after k (guard_of past)) (force_after (count_effect k) now (in_force past)))
     at come x (in_force_comes m past here there (phase_failed past) (guard_of past) (in_force past) come) (λ b. in_force_made m past now there k b x) h
 
--- ---- so at each place
+-- ---- so at each point
 
 entry_guards : (m : Machine) (past : List Entry) (now : EventNow) (who : Actor) (k : Kind) → JournalPart m past → InForceIf (stage_of past) (phase_failed past) (guard_of past) (in_force past) → EntryMade m past now who k → GuardedAfter past now k
 entry_guards m past now who k l h (ByMaker _ here there _ own at come x) = maker_guards m past now here there k h at come x
@@ -183,7 +183,7 @@ entry_guards m past now _ k l h (ByWork w _ other awake over at x) = work_guards
 entry_guards m past now _ k l h (ByDevice d _ other x) = device_guards m past now d k (λ p i e. scheduled_stage m past l p d i e) h x
 entry_guards m past now _ _ l h ByTime = h
 
--- the guard at each place of a legal journal
+-- the guard at each point of a legal journal
 pub in_force_at : (m : Machine) (past : List Entry) → JournalPart m past → InForceIf (stage_of past) (phase_failed past) (guard_of past) (in_force past)
 in_force_at m [] h = tt
 in_force_at m (e ∷ past) h = entry_guards m past e.now e.actor e.kind h.1 (in_force_at m past h.1) (entry_made m past e h)

@@ -30,7 +30,7 @@ pub record Shows (now : EventNow) (c : ℕ) : Type 0 where
   pub seen : visible now ≡ c
   pub quiet : now.inpr ≡ 0
 
--- the count that guards the attempt is in force still, and has not changed
+-- the count that guards the attempt is in force, and has not changed
 pub record StillGuards (past : List Entry) (now : EventNow) : Type 0 where
   pub held : in_force past ≡ guard_of past
   pub quiescent : count_pending (in_force past) now ≡ false
@@ -72,7 +72,7 @@ guard_journal (e ∷ past) = by_kind e.time e.now e.actor e.kind (guard_journal 
     by_kind time now a (kind.Attempt n guarded) same = refl
     by_kind time now a k same = same
 
--- ---- what is so at each place
+-- ---- what is so at each point
 
 -- the events in progress of each source
 abbrev pub since_of : List Entry → ℕ → Option ℕ
@@ -261,7 +261,7 @@ SaysIf past now k OfJournal = Says past now k
 SaysIf past now k OfTime = Says past now k
 SaysIf past now k _ = Unit {0}
 
--- so at each place, from what the journal's entries say
+-- so at each point, from what the journal's entries say
 guarded_step : (past : List Entry) → IsGuarded past → (time : ℕ) (now : EventNow) (a : Actor) (k : Kind) → now ≡ numbers past → OwnStep past (record { time = time; now = now; actor = a; kind = k }) (class_of k) → SaysIf (journal past) now k (class_of k) → IsGuarded (record { time = time; now = now; actor = a; kind = k } ∷ past)
 guarded_step past h time now a (kind.Awake s) word own says = note_preserved past h time now a (kind.Awake s) tt own
 guarded_step past h time now a (kind.Relax s) word own says = note_preserved past h time now a (kind.Relax s) tt own

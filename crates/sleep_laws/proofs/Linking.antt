@@ -1,4 +1,4 @@
--- The links at each place of a legal journal are such as may be added in turn.
+-- The links at each point of a legal journal are such as may be added in turn.
 use Rattle.std.proofs.Common.{◌≡◌, ◌<◌, ◌∙◌, ℕ, Bool, true, false, List, [], ◌∷◌, length, reverse, Option, Some, None, refl, sym, subst}
 use Rattle.std.proofs.lemmas.List.{length-map}
 use Rattle.sleep_base.specs.declared.errno.Errno.{Errno}
@@ -76,7 +76,7 @@ module _ (m : Machine) (past : List Entry) (h : AreLinks (parents_of m.devices) 
   entry_links scripts now _ k (ByDevice d _ a x) = subst (AreLinks (parents_of m.devices)) (sym (own_links m past now d k x (links_at m past))) h
   entry_links scripts now _ _ ByTime = h
 
--- the links at each place of a legal journal may be added in turn
+-- the links at each point of a legal journal may be added in turn
 pub links_stand : (m : Machine) → AreScripts m m.actors → AreLinks (parents_of m.devices) (reverse m.links) → (past : List Entry) → JournalPart m past → AreLinks (parents_of m.devices) (links_at m past)
 links_stand m scripts first [] h = first
 links_stand m scripts first (e ∷ past) h = entry_links m past (links_stand m scripts first past h.1) scripts e.now e.actor e.kind (entry_made m past e h)

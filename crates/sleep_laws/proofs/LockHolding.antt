@@ -269,7 +269,7 @@ pub record IsMaker (past : List Entry) (who : Actor) : Type 0 where
   pub no_device : is_device who ≡ false
   pub makes : is_actor who (maker past) ≡ true
 
--- what an entry is to the attempt: it begins one, where none is open; its maker makes it; it touches none; or a device makes it
+-- what an entry is to the attempt: it begins one, while none is open; its maker makes it; it touches none; or a device makes it
 pub data Moved (m : Machine) (past : List Entry) (now : EventNow) : Actor → Kind → Type 0 where
   Opens : (who : Actor) (n : ℕ) (guarded : Option ℕ) → maker past ≡ None → stage_of past ≡ None → Moved m past now who (kind.Attempt n guarded)
   Makes : (who : Actor) (here there : Stage) (k : Kind) → IsMaker past who → stage_of past ≡ Some here → Comes m past here there → Made m past now there k → Moved m past now who k

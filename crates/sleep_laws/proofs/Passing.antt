@@ -270,7 +270,7 @@ module _ (m : Machine) (past : List Entry) (time : ℕ) (now : EventNow) (who : 
   maker_stands _ _ (Made.Completed n) h = completed n h
   maker_stands _ _ _ h = h
 
--- ---- at each place
+-- ---- at each point
 
 -- at the beginning no device is prepared
 starts_unprepared : (n d : ℕ) → state_at (replicate n state.Unprepared) d ≡ state.Unprepared

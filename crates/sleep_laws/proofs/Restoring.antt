@@ -112,7 +112,7 @@ length_unasked : (ss : List Script) → length (map (λ s. unasked) ss) ≡ leng
 length_unasked [] = refl
 length_unasked (s ∷ ss) = ap suc (length_unasked ss)
 
--- each task has its place among the freezings
+-- each task has its own among the freezings
 pub freezings_length : (ss : List Script) (past : List Entry) → length (freezings ss past) ≡ length ss
 freezings_length ss [] = length_unasked ss
 freezings_length ss (e ∷ past) = length_after ss e.actor e.kind (freezings ss past) (freezings_length ss past)

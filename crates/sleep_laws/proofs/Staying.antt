@@ -1,4 +1,4 @@
--- Links stay while an attempt is open, and the order holds at each place.
+-- Links stay while an attempt is open, and the order holds at each point.
 use Rattle.std.proofs.Common.{◌≡◌, ◌∙◌, ℕ, Bool, true, List, ◌∷◌, is_some, Option, Some, None, refl, sym, ap}
 use Rattle.std.proofs.lemmas.Bool.{false≢true}
 use Rattle.sleep_base.specs.declared.errno.Errno.{Errno}

@@ -316,7 +316,7 @@ device_walks m past time now d k st (DeviceMade.OwnEnds p r i a x s) w =
 device_walks m past time now d k st (DeviceMade.OwnRose p r u a x s) w =
     own_walks m past (record { time = time; now = now; actor = actor.Dev d; kind = k }) d refl refl a (mirror p) state.Resuming state.Resumed (at_is m past (mirror p) d (mirror_down p u) ∙ s) refl refl (λ q j. turned_up p q state.Resumed (ended_by r) (three m past d) u j) st w
 
--- ---- at each place
+-- ---- at each point
 
 -- the states of devices, and how their walk goes on
 abbrev pub Underway : Machine → Option Stage → List Entry → Type 0
@@ -354,6 +354,6 @@ underway_invariant m =
       owns = λ past time now d k st x h. (s.owns past time now d k st x h.0, device_walks m past time now d k st x h.1);
     }
 
--- so at each place of a legal journal
+-- so at each point of a legal journal
 pub underway : (m : Machine) (past : List Entry) → JournalPart m past → Underway m (stage_of past) past
 underway m past h = at_stage m (Underway m) (underway_invariant m) past h

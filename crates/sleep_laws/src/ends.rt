@@ -3,7 +3,7 @@
 ghost use Rattle.sleep_laws.specs.Ends.{IdleMeansClosed, AllEndClosed};
 
 /// If nobody can make anything and no moment is pending no attempt is open, on each machine whose devices are
-/// registered after their parents and whose links may be added in turn: each walk over devices goes on until
+/// registered after their parents and whose links may be added in turn. Each walk over devices goes on until
 /// it is done (`drivers/base/power/main.c`, `dpm_wait_for_subordinate`, `dpm_wait_for_superior`).
 #[tactic(auto, using(crate::proofs::Closing::closed_if_idle))]
 pub fn idle_means_closed()

@@ -5,8 +5,8 @@ ghost use Rattle.sleep_model.specs.Laws.{GuardedSleep};
 ghost use Rattle.sleep_laws.specs.Laws.{HoldsOfAll};
 
 /// An attempt under a saved count enters only if no step of the word was made since that count was read, and
-/// no event is in progress, on each machine of at most 255 sources: 255 sources register too few events for
-/// the count which user space sees to come round (`drivers/base/power/wakeup.c`, `pm_save_wakeup_count`,
+/// no event is in progress, on each machine of at most 255 sources. So many sources register too few events
+/// for the count which user space sees to come round (`drivers/base/power/wakeup.c`, `pm_save_wakeup_count`,
 /// `pm_wakeup_pending`).
 #[tactic(auto, using(crate::proofs::GuardInForce::guarded_sleeps))]
 pub fn guarded_sleep()

@@ -22,7 +22,7 @@ pub fn suppliers_first()
     ensures { HoldsAtEntries (λ m past e. SuppliersFirst m past e.kind) }
 {}
 
-/// Once an attempt is over, entered or failed at whatever step, nothing is owed: no notifier, task, device,
+/// Once an attempt is over, entered or failed at whatever step, nothing is owed. No notifier, task, device,
 /// processor, interrupt, part of the core nor step of the platform is left as the attempt put it, and the
 /// machine is awake (`kernel/power/suspend.c`, `suspend_devices_and_enter`, `suspend_finish`).
 #[tactic(auto, using(crate::proofs::DeviceLaws::all_restored))]
@@ -30,11 +30,11 @@ pub fn restored()
     ensures { HoldsAtEntries (λ m past e. Restored m past e.kind) }
 {}
 
-/// Only what is owed is undone, so that each is made once: on the way up a device is scheduled only if it is
-/// down, begins only if it is down or was scheduled, and ends only inside its callback; it is completed only
-/// if it is prepared and, in each of the three pairs of phases, neither down nor on its way; a notifier is
-/// posted to only if it was notified; a processor, a part of the core, interrupts and a step of the platform
-/// are undone only if they were done; the machine wakes only if it sleeps (`drivers/base/power/main.c`,
+/// Only what is owed is undone, so that each is made once. On the way up a device is scheduled only if it is
+/// down, begins only if it is down or was scheduled, and ends only inside its callback. It is completed only
+/// if it is prepared and, in each of the three pairs of phases, neither down nor on its way. A notifier is
+/// posted to only if it was notified. A processor, a part of the core, interrupts and a step of the platform
+/// are undone only if they were done. The machine wakes only if it sleeps (`drivers/base/power/main.c`,
 /// `dpm_resume`, `device_resume`, `device_complete`; `kernel/power/suspend.c`, `suspend_enter`,
 /// `suspend_finish`).
 #[tactic(auto, using(crate::proofs::DeviceLaws::all_owed))]
@@ -42,28 +42,28 @@ pub fn undo_only_what_is_owed()
     ensures { HoldsAtEntries (λ m past e. Owed m past e.kind) }
 {}
 
-/// A device is prepared only if it is not, and each phase on the way down schedules it only if it has not
-/// taken it, begins or skips it only if it is prepared or was scheduled there, and ends it only inside
-/// its callback (`drivers/base/power/main.c`, `dpm_prepare`, `dpm_suspend`, `__device_suspend`).
+/// A device is prepared only if it is not. Each phase on the way down schedules it only if it has not taken
+/// it, begins or skips it only if it is prepared or was scheduled there, and ends it only inside its callback
+/// (`drivers/base/power/main.c`, `dpm_prepare`, `dpm_suspend`, `__device_suspend`).
 #[tactic(auto, using(crate::proofs::Once::taken_once))]
 pub fn devices_are_taken_once()
     ensures { HoldsAtEntries (λ m past e. TakenOnce m past e.kind) }
 {}
 
-/// No undo is owed already when a notifier hears of an attempt, a step of the platform is asked, a processor
-/// is stopped or found busy, interrupts are turned off, a part of the core is suspended, or the machine is to
-/// enter sleep (`kernel/power/suspend.c`, `platform_suspend_begin`, `suspend_enter`; `kernel/cpu.c`,
+/// Nothing is done whose undo is owed already: the call of a notifier, a step of the platform, the stop of a
+/// processor, interrupts turned off, the suspend of a part of the core, the entering of sleep
+/// (`kernel/power/suspend.c`, `platform_suspend_begin`, `suspend_enter`; `kernel/cpu.c`,
 /// `freeze_secondary_cpus`; `drivers/base/syscore.c`, `syscore_suspend`).
 #[tactic(auto, using(crate::proofs::Once::not_owed_already))]
 pub fn nothing_is_owed_twice()
     ensures { HoldsAtEntries (λ m past e. NotOwedAlready m past e.kind) }
 {}
 
-/// The machine enters sleep only if all is down that sleep wants down: each device down in suspend, in late
-/// and in noirq, or direct-complete; each user task and each kernel thread, but who makes the attempt, frozen
-/// or exited; the platform's three steps done; the other processors and interrupts off, each part of the core
-/// suspended (`kernel/power/suspend.c`, `suspend_enter`; `kernel/power/process.c`, `freeze_processes`,
-/// `freeze_kernel_threads`).
+/// The machine enters sleep only if all is down that sleep wants down. Each device is down in suspend, in
+/// late and in noirq, or direct-complete. Each user task and each kernel thread, but who makes the attempt,
+/// is frozen or has exited. The platform's three steps are done, the other processors and interrupts are off,
+/// and each part of the core is suspended (`kernel/power/suspend.c`, `suspend_enter`;
+/// `kernel/power/process.c`, `freeze_processes`, `freeze_kernel_threads`).
 #[tactic(auto, using(crate::proofs::DeviceLaws::all_down))]
 pub fn enters_only_with_all_down()
     ensures { HoldsAtEntries (λ m past e. EntersDown m past e.kind) }
@@ -90,9 +90,9 @@ pub fn found_tests_are_true()
     ensures { HoldsAtEntries (λ m past e. FoundPending past e.now (count_effect e.kind)) }
 {}
 
-/// Each actor's entries outside attempts of its own are its own steps, once and in order: a script's
-/// are of its operation under way and none comes after its exit, the autosleep work's follow its
-/// course, an asynchronous device's are of the phase that it was scheduled in (`kernel/power/main.c`,
+/// Each actor's entries outside attempts of its own are its own steps, once and in order. A script's are of
+/// its operation under way, and none comes after its exit. The autosleep work's follow its course. An
+/// asynchronous device's are of the phase that it was scheduled in (`kernel/power/main.c`,
 /// `kernel/power/autosleep.c`, `drivers/base/power/main.c`, `dpm_async_fn`); jumps are made by time.
 #[tactic(auto, using(crate::proofs::Stepping::in_order))]
 pub fn steps_once_and_in_order()

@@ -1,4 +1,4 @@
--- A walk over all that hangs below a device, and the places that it leaves.
+-- A walk over all that hangs below a device, and the positions that it leaves.
 use Rattle.std.proofs.Common.{◌≡◌, ◌≤◌, ◌+◌, ◌∙◌, ℕ, zero, suc, Bool, true, false, ◌==◌, ◌||◌, List, [], ◌∷◌, ◌++◌, ◌⊎◌, inl, inr, length, refl, sym, ap, subst, cond, arith, length-append}
 use Rattle.std.specs.List.{flat_map}
 use Rattle.std.proofs.lemmas.Bool.{false≢true, eqb-true, or_cases, or_right, false_from_ne_true}
@@ -37,7 +37,7 @@ pub all_of : (those xs : List ℕ) → Within xs those → AllAmong those xs
 all_of those [] h = tt
 all_of those (x ∷ xs) h = (h x (among_first x xs), all_of those xs (λ d m. h d (among_rest x xs d m)))
 
--- ---- last places
+-- ---- last positions
 
 -- d before these, if it is not among them
 abbrev pub put : List ℕ → ℕ → List ℕ
@@ -64,7 +64,7 @@ pub among_onto : (xs out : List ℕ) (d : ℕ) → is_among (onto xs out) d ≡ 
 among_onto [] out d = refl
 among_onto (x ∷ xs) out d = among_put (onto xs out) x d ∙ (ap (λ b. (x == d) || b) (among_onto xs out d) ∙ sym (or_assoc (x == d) (is_among xs d) (is_among out d)))
 
--- keeping each last place is putting them before nothing
+-- taking each last position is putting them before nothing
 pub last_onto : (xs : List ℕ) → last_occurrences xs ≡ onto xs []
 last_onto [] = refl
 last_onto (x ∷ xs) = ap (λ o. cond (is_among xs x) o (x ∷ o)) (last_onto xs) ∙ ap (λ b. cond b (onto xs []) (x ∷ onto xs [])) (sym (among_onto xs [] x ∙ or-false (is_among xs x)))

@@ -10,7 +10,7 @@ use Rattle.sleep_model.specs.Links.{first_occurrences, is_linked}
 use Rattle.sleep_model.proofs.Walks.{AllDifferent, same_eq}
 use Rattle.sleep_model.proofs.Dependents.{among_app}
 
--- ---- first places
+-- ---- first positions
 
 filter_push : (p : ℕ → Bool) (xs : List ℕ) (c : ℕ) → filter p (xs ++ c ∷ []) ≡ filter p xs ++ cond (p c) (c ∷ []) []
 filter_push p [] c = refl
@@ -124,7 +124,7 @@ children_above d n (p ∷ ps) x l = by_test (children_above d (suc n) ps x (omeg
     by_test rest true = ap (λ b. b || is_among (children_from d (suc n) ps) x) (ne_eqb n x (λ e. omega arith)) ∙ rest
     by_test rest false = rest
 
--- different devices are all at their first places
+-- different devices are all at their first positions
 first_same : (xs : List ℕ) → AllDifferent xs → first_occurrences xs ≡ xs
 first_same [] h = refl
 first_same (x ∷ xs) h = ap (λ ys. x ∷ filter (λ y. not (y == x)) ys) (first_same xs h.1) ∙ ap (λ ys. x ∷ ys) (all_others xs h.0)

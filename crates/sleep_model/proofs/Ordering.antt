@@ -37,7 +37,7 @@ preserved_passes p (x ∷ xs) d h = by_test (preserved_passes p xs d h) (p x) re
     by_test rest true e false f = ap (λ y. y || is_among (filter p xs) d) f ∙ rest
     by_test rest false e b f = rest
 
--- the last places have the same devices
+-- the last positions have the same devices
 pub last_among : (xs : List ℕ) (d : ℕ) → is_among xs d ≡ false → is_among (last_occurrences xs) d ≡ false
 last_among [] d h = refl
 last_among (x ∷ xs) d h = by_test (x == d) (is_among xs d) refl refl h (last_among xs d) (is_among xs x)

@@ -37,7 +37,7 @@ pieces_if source (Some s) = pieces source s
 abbrev pub pieces_in : Machine → ℕ → List Piece
 pieces_in m i = pieces_if (length m.sources) (slice_get m.actors i)
 
--- an entry with this effect on a script's place ends a step (own)
+-- an entry with this effect on a script's position ends a step (own)
 abbrev pub ends_step : PositionEffect → Bool
 ends_step (Reads c) = true
 ends_step (Saves ok) = true

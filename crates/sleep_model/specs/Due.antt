@@ -1,4 +1,4 @@
--- What is due of an actor at a place, given the word that it sees: at most one entry is legal there.
+-- What is due of an actor at a point of the log, given the word that it sees: at most one entry is legal there.
 use Rattle.std.specs.Prelude.{ℕ, Bool, ◌&&◌, List, length, if◌then◌else◌, is_none, slice_get}
 use Rattle.sleep_model.specs.declared.word.EventNow.{EventNow}
 use Rattle.sleep_model.specs.declared.entry.Actor.{Actor}

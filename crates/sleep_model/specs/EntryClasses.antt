@@ -27,12 +27,12 @@ class_of (Hard s) = Moves s step.Hard
 class_of Jump = OfTime
 class_of _ = OfJournal
 
--- the journal keeps its own entries and the jumps of time
+-- the journal has its own entries and the jumps of time
 abbrev pub is_in_journal : EntryClass → Bool
 is_in_journal OfJournal = true
 is_in_journal OfTime = true
 is_in_journal _ = false
 
--- the journal among all entries: the sources keep their own
+-- the journal among all entries: the sources have their own
 abbrev pub journal : List Entry → List Entry
 journal past = filter (λ e. is_in_journal (class_of e.kind)) past

@@ -75,7 +75,7 @@ abbrev pub freezings : List Script → List Entry → List Freezing
 freezings scripts [] = map (λ s. unasked) scripts
 freezings scripts (e ∷ past) = freezings_after scripts e.actor e.kind (freezings scripts past)
 
--- a task keeps the freeze of its group waiting: it is asked, not frozen, and there still (try_to_freeze_tasks)
+-- a task keeps the freeze of its group waiting: it is asked, not frozen, and has not exited (try_to_freeze_tasks)
 abbrev pub keeps_waiting : Group → TaskKind → Freezing → ScriptPosition → Bool
 keeps_waiting g kind f position = is_in g kind && f.asked && not f.frozen && not position.exited
 

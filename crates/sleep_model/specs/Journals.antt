@@ -4,7 +4,7 @@ use Rattle.sleep_model.specs.declared.entry.JournalEntry.{JournalEntry}
 use Rattle.sleep_model.specs.declared.journal.Recorded.{Recorded}
 use Rattle.sleep_model.specs.declared.journal.Moment.{Moment}
 
--- the entries so far, the newest first, and how many more have a reserved place
+-- the entries so far, the newest first, and how many more have reserved room
 pub record JournalRoom : Type 0 where
   pub past : List JournalEntry
   pub room : ℕ

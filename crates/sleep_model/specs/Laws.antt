@@ -412,8 +412,8 @@ abbrev pub steps_of : Option Script → List Op
 steps_of None = []
 steps_of (Some s) = entry_steps s
 
--- an entry of a script outside its attempts, whose place this is: it has not exited, and the entry is of the operation under way, or says
--- that it freezes (own)
+-- an entry of a script outside its attempts, whose position this is: it has not exited, and the entry is of the operation under way, or
+-- says that it freezes (own)
 abbrev pub is_step_entry : List Op → ScriptPosition → Kind → Bool
 is_step_entry ops position k = not position.exited && (is_of_op (slice_get ops position.done) k || is_frozen_entry k)
 

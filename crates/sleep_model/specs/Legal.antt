@@ -61,7 +61,7 @@ is_there m (Notes s call) = nat_le s (length m.sources)
 is_there m (Moves s step) = nat_le s (length m.sources)
 is_there m _ = true
 
--- the history of a source has its places (own)
+-- the history of a source has its room (own)
 abbrev pub is_short : List Entry → ℕ → Bool
 is_short past s = nat_le (length (history s past)) most_entries
 
@@ -195,12 +195,12 @@ abbrev pub JointPart : Machine → List Entry → Type 0
 JointPart m [] = Unit {0}
 JointPart m (e ∷ past) = JointStep m past e (class_of e.kind) × JointPart m past
 
--- an entry carries the time of its place, unless it is a jump
+-- an entry carries the time of its point, unless it is a jump
 abbrev pub IsOnTime : List Entry → ℕ → EntryClass → Type 0
 IsOnTime past time OfTime = Unit {0}
 IsOnTime past time _ = time ≡ time_of past
 
--- each entry carries the numbers and the time of its place
+-- each entry carries the numbers and the time of its point
 abbrev pub AreNumbered : List Entry → Type 0
 AreNumbered [] = Unit {0}
 AreNumbered (e ∷ past) = (e.now ≡ numbers past) × IsOnTime past e.time (class_of e.kind) × AreNumbered past

@@ -1,4 +1,4 @@
--- Links that are added in turn, paths below, and orders that keep to both (drivers/base/core.c, device_link_add).
+-- Links that are added in turn, paths below, and orders that agree with both (drivers/base/core.c, device_link_add).
 use Rattle.std.specs.Prelude.{◌≡◌, ◌<◌, ℕ, Bool, true, false, not, ◌==◌, ◌||◌, List, [], ◌∷◌, length, filter, Option, Some, None, is_some, if◌then◌else◌}
 use Rattle.sleep_base.specs.declared.errno.Errno.{Errno}
 use Rattle.sleep_base.specs.declared.errno.Errno.TheVariants.{EBUSY, ENODEV, EINVAL}

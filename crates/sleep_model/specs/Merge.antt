@@ -15,7 +15,7 @@ use Rattle.sleep_model.specs.Word.{position}
 
 -- ---- the order
 
--- an actor's place among the kinds of actors: scripts, the autosleep work, devices, timers, time (own)
+-- an actor's rank among the kinds of actors: scripts, the autosleep work, devices, timers, time (own)
 abbrev pub actor_rank : Actor → ℕ
 actor_rank (actor.Script i) = 0
 actor_rank actor.Auto = 1
@@ -108,7 +108,7 @@ each_rises actors entries = list_all (λ who. rises (entries_of who entries)) ac
 abbrev pub is_word : EventNow → EventNow → Bool
 is_word a b = (a.inpr == b.inpr) && (a.count == b.count) && (a.hard == b.hard)
 
--- each entry carries the word of its place, which its stamp counts, and each step moves it
+-- each entry carries the word of its point, which its stamp counts, and each step moves it
 abbrev pub is_chained : EventNow → List JournalEntry → Bool
 is_chained word [] = true
 is_chained word (e ∷ rest) =

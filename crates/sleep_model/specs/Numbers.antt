@@ -1,4 +1,4 @@
--- The numbers at a place of a log, from the entries before it, the newest first.
+-- The numbers at a point of a log, from the entries before it, the newest first.
 use Rattle.std.specs.Prelude.{ℕ, ◌+◌, ◌-◌, List, [], ◌∷◌, Option, Some, None}
 use Rattle.sleep_model.specs.declared.word.EventNow.{EventNow}
 use Rattle.sleep_model.specs.declared.word.WordKind as word

@@ -1,4 +1,5 @@
--- The order of devices at a place, and which must go first (drivers/base/power/main.c, dpm_list; drivers/base/core.c, device_link_add).
+-- The order of devices at a point of the log, and which must go first (drivers/base/power/main.c, dpm_list; drivers/base/core.c,
+-- device_link_add).
 use Rattle.std.specs.Prelude.{◌<◌, ℕ, zero, suc, Bool, true, false, not, ◌==◌, ◌&&◌, ◌||◌, List, [], ◌∷◌, ◌++◌, length, map, reverse, filter, flat_map, if◌then◌else◌, Option, Some, None, IfSome, option_to_list, slice_get}
 use Rattle.std.specs.List.{range_with_len}
 use Rattle.sleep_base.specs.declared.errno.Errno.{Errno}
@@ -88,7 +89,7 @@ dependents parents links d = children_from d 0 parents ++ consumers_of d links
 abbrev pub below : Machine → List Entry → ℕ → List ℕ
 below m past d = dependents (parents_of m.devices) (active_of (links_at m past)) d
 
--- the parent at a place of the list, if there is one (struct device, parent)
+-- the parent at an index of the list, if there is one (struct device, parent)
 abbrev pub parent_of : Option (Option ℕ) → List ℕ
 parent_of None = []
 parent_of (Some p) = option_to_list p

@@ -1,4 +1,4 @@
--- How many entries a source's history may need: the places of its calls (own).
+-- How many entries a source's history may need: the room of its calls (own).
 use Rattle.std.specs.Prelude.{ℕ, zero, suc, ◌+◌, ◌*◌, Bool, true, false, ◌==◌, ◌&&◌, nat_le, List, length, map, sum, count_by, if◌then◌else◌, Option, Some, None, is_none, flat_map}
 use Rattle.sleep_model.specs.declared.machine.Answer.{Answer}
 use Rattle.sleep_model.specs.declared.machine.Machine.{Machine}
@@ -15,7 +15,7 @@ abbrev pub one_if : Bool → ℕ
 one_if true = 1
 one_if false = 0
 
--- the places of a call: its note, and the steps that it and its expiry may make (own)
+-- the room of a call: its note, and the steps that it and its expiry may make (own)
 abbrev pub call_places : SourceCall → ℕ
 call_places call.Awake = 2
 call_places call.Relax = 2
@@ -63,7 +63,7 @@ most_attempts m =
     count_by is_state (all_operations m.actors)
     + (if count_by is_autosleep (all_operations m.actors) == 0 then 0 else m.auto_cycles)
 
--- the places on source s of an answer's reports (own)
+-- the room on source s for an answer's reports (own)
 abbrev pub report_places : ℕ → Answer → ℕ
 report_places s a = sum (map (λ r. places_if s r.source (call_places r.call)) a.reports)
 
@@ -77,7 +77,7 @@ abbrev pub attempts_with : Answer → List Answer → ℕ → Option ℕ → ℕ
 attempts_with a answers n None = general_in a answers n
 attempts_with a answers n (Some k) = one_if (nat_le 1 k && nat_le k n)
 
--- the places on source s that a machine's calls may need (own)
+-- the room on source s that a machine's calls may need (own)
 abbrev pub places : Machine → ℕ → ℕ
 places m s =
     sum (map (op_places (length m.sources) s) (all_operations m.actors))

@@ -8,7 +8,7 @@ use Rattle.sleep_model.specs.declared.entry.Kind.{Kind}
 use Rattle.sleep_model.specs.declared.entry.Kind.TheVariants as kind
 use Rattle.sleep_model.specs.declared.progress.ScriptPosition.{ScriptPosition}
 
--- what an entry of a script does to its place
+-- what an entry of a script does to its position
 pub data PositionEffect : Type 0 where
   Waits : PositionEffect
   Sets : PositionEffect
@@ -62,7 +62,7 @@ first_position = record {
 abbrev pub next_step : ScriptPosition → ScriptPosition
 next_step s = record s { done = s.done + 1; turns = s.turns + 1; waits = false; until = None }
 
--- the place after that
+-- the position after that
 abbrev pub position_after : PositionEffect → ScriptPosition → ScriptPosition
 position_after Waits s = record s { waits = true }
 position_after Sets s = record s { turns = s.turns + 1; waits = true }
@@ -73,7 +73,7 @@ position_after Steps s = next_step s
 position_after Exits s = record s { exited = true }
 position_after Stays s = s
 
--- a script's place among others
+-- a script's position among others
 abbrev pub position_at : List ScriptPosition → ℕ → ScriptPosition
 position_at positions i = slice_index_or positions i first_position
 
@@ -82,7 +82,7 @@ abbrev pub positions_after : Actor → PositionEffect → List ScriptPosition �
 positions_after (Script i) part positions = slice_set positions i (position_after part (position_at positions i))
 positions_after _ part positions = positions
 
--- the places of n scripts
+-- the positions of n scripts
 abbrev pub positions : ℕ → List Entry → List ScriptPosition
 positions n [] = replicate n first_position
 positions n (e ∷ past) = positions_after e.actor (position_effect e.kind) (positions n past)

@@ -114,7 +114,7 @@ abbrev pub runtime_answer : Bool → Bool → Bool → Option Errno
 runtime_answer disabled prepared to_suspended =
     if disabled then Some EACCES else if prepared && to_suspended then Some EAGAIN else None
 
--- what is answered for d at a place
+-- the answer for d at a point of the log
 abbrev pub runtime_due : Machine → ℕ → Bool → List Entry → Option Errno
 runtime_due m d to_suspended past =
     runtime_answer (is_disabled_direct m d past || is_disabled_late m d past) (is_prepared_device m d past) to_suspended

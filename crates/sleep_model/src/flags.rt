@@ -4,7 +4,7 @@ ghost use Rattle.std.specs.Prelude.{⊤, [], ◌∷◌, codes};
 use bitflags::{Flag, Flags, bitflag_items};
 
 /// What a device's driver says of it (`include/linux/pm.h`, `dev_pm_info`): whether its callbacks may run at
-/// the same time as others, whether it may wake the machine, whether it is runtime suspended at first.
+/// the same time as others, whether it may wake the machine, and its first runtime status.
 #[derive(Clone, Copy, PartialEq, Eq, Debug)]
 pub struct DeviceFlags(u8);
 

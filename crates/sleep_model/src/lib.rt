@@ -1,6 +1,6 @@
-//! Plain data of a machine and of its sleep log, every definition of what sleep is, which all contracts cite,
-//! the words of a log, and a journal in few bytes. Its tests are in `part_cases`; trials of laws try the
-//! definitions on worked logs.
+//! Plain data of a machine and of its sleep log, the words of a log, and a journal in few bytes. Every
+//! definition of what sleep is, which all contracts cite. Its tests are in `part_cases`; trials of laws try
+//! the definitions on worked logs.
 //!
 //! Promises: A name has its 1 to 32 bytes, a list its items. A journal has just the entries that were put
 //! into it; a refused reservation changes nothing. A log's entries are the journal's with each other entry

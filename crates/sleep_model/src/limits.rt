@@ -1,4 +1,4 @@
-//! Numbers of the kernel and of a machine that several parts keep to.
+//! Numbers of the kernel and of a machine that several parts need.
 
 /// How many entries the history of a machine's source has at most.
 pub const MOST_ENTRIES: usize = 60_000;

@@ -13,7 +13,7 @@ use std::alloc::Global;
 pub type Text = ListOf<u8>;
 
 /// A machine: what it has, what its tasks and interrupt lines do, and how its callbacks answer.
-/// Things are named by their place in these lists.
+/// Things are named by their index in these lists.
 #[derive(Drop)]
 pub struct Machine {
     /// How long a sleep lasts that no event ends, in ms, 1 to 86,400,000.

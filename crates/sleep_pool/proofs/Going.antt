@@ -81,7 +81,7 @@ module _ {J : Type 0} where
   as_many R (a ∷ olds) [] n h = absurd h
   as_many R (a ∷ olds) (b ∷ bs) n (xs, i, r, hs, e) = ap suc (as_many R olds bs i hs)
 
-  -- the first of two runs that are not empty is the first of the front one
+  -- the first of two runs that are not empty is the first of the first one
   pub first_beside : (left : J → ℕ) (olds bs cs ds : List J) → 0 < length olds → FirstWent left olds bs → FirstWent left (olds ++ cs) (bs ++ ds)
   first_beside left [] bs cs ds some h = absurd (omega (arith, some))
   first_beside left (a ∷ olds) [] cs ds some h = absurd h
@@ -95,7 +95,7 @@ module _ {J : Type 0} where
   first_later made left stop most (a ∷ olds) (b ∷ bs) [] n h k = absurd k
   first_later made left stop most (a ∷ olds) (b ∷ bs) (c ∷ cs) n h (xs, i, r, ks, e) = omega (arith, h, r.1)
 
-  -- a round that a Stop cuts short in its front half
+  -- a round that a Stop cuts short in its first half
   pub cut_front : (made : J → List Turn → J → Type 0) (left : J → ℕ) (rounds : ℕ) (olds bs cs ds : List J) (m : ℕ)
       → CutShort made left rounds olds bs → AllWent (WentOn made left rounds) cs ds m → CutShort made left rounds (olds ++ cs) (bs ++ ds)
   cut_front made left rounds [] bs cs ds m h k = absurd h
@@ -201,13 +201,13 @@ module _ {J : Type 0} (made : J → List Turn → J → Type 0) (left : J → �
   pub all_still : (stop : Bool) (most : ℕ) (olds : List J) → AllWent (Went made left stop most) olds olds 0
   all_still stop most = still (Went made left stop most) (went_none stop most)
 
-  -- a round that ended with its front half
+  -- a round that ended with its first half
   pub half_went : (stop : Bool) (most : ℕ) (olds bs cs : List J) (n : ℕ) → AllWent (Went made left stop most) olds bs n
       → AllWent (Went made left stop most) (olds ++ cs) (bs ++ cs) n
   half_went stop most olds bs cs n h =
       subst (AllWent (Went made left stop most) (olds ++ cs) (bs ++ cs)) (omega arith) (beside (Went made left stop most) olds bs cs cs n 0 h (all_still stop most cs))
 
-  -- a round whose front half had no Stop
+  -- a round whose first half had no Stop
   pub halves_went : (stop : Bool) (most : ℕ) (olds bs cs ds : List J) (n m : ℕ) → AllWent (Went made left false most) olds bs n
       → AllWent (Went made left stop most) cs ds m → AllWent (Went made left stop most) (olds ++ cs) (bs ++ ds) (n + m)
   halves_went stop most olds bs cs ds n m h k = beside (Went made left stop most) olds bs cs ds n m (weaker _ _ (went_weaker stop most) olds bs n h) k
@@ -249,7 +249,7 @@ module _ {J : Type 0} (made : J → List Turn → J → Type 0) (left : J → �
   pub on_none : (olds : List J) → AllWent (WentOn made left 0) olds olds 0
   on_none olds = still (WentOn made left 0) (λ a. (went_none false 0 a, refl)) olds
 
-  -- a round that ended with its front half
+  -- a round that ended with its first half
   pub half_cut : (olds bs cs : List J) → CutShort made left 0 olds bs → CutShort made left 0 (olds ++ cs) (bs ++ cs)
   half_cut olds bs cs h = cut_front made left 0 olds bs cs cs 0 h (on_none cs)
 

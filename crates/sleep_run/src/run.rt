@@ -23,7 +23,7 @@ pub struct RunEnd {
 }
 
 /// Runs a machine to its end by 1 to 64 workers: with one, rounds on the caller's thread; with more, bursts
-/// on threads with rounds of the caller's own between them, and `gate` sees the workers' turns. `SourceFull`
+/// on threads and rounds of the caller's own between them. The `gate` sees the workers' turns. `SourceFull`
 /// if the history of a source, which has 60,000 places, has fewer than four left for a call: only if the
 /// machine's calls may need that many places. `Mem` if there is no memory.
 pub fn run_machine<R: Threads + Wait + Sync, G: Gate + Sync>(

@@ -1,4 +1,4 @@
--- A generated machine is one that a file may spell, and its calls need few places.
+-- A generated machine is one that a file may spell, and its calls need little room.
 use Rattle.std.proofs.Common.{◌≡◌, ◌<◌, ◌≤◌, ◌+◌, ◌*◌, ◌/◌, ◌%◌, ◌==◌, ◌||◌, ◌&&◌, not, ◌∙◌, cond, ℕ, zero, suc, Bool, true, false, nat_lt, List, [], ◌∷◌, ◌++◌, length, map, reverse, Option, Some, None, IfSome, refl, sym, ap, subst, arith, length-append}
 use Rattle.std.specs.List.{list_any, range_with_len}
 use Rattle.std.proofs.lemmas.Bool.{eqb-false, ltb-true, and_parts, not-true}
@@ -146,7 +146,7 @@ accepted seed devices some few =
       attempts = subst (λ (n : ℕ). n * (length (generated seed devices).devices + 50) ≤ 100000) (sym attempts) (omega (arith, count));
     }
 
--- ---- places
+-- ---- room
 
 event_places : (s source ms : ℕ) → op_places 3 s (Event source ms false) ≤ 4
 event_places s source ms = by_test (source == s) (ms == 0)

@@ -186,9 +186,9 @@ fn draw_line(alloc: Global, draws: &mut Draws) -> Result<Script, Mem>
     })
 }
 
-/// The machine of a seed with 1 to 1,000 devices: each depends on an earlier one or none,
-/// some are async, and a few links go from lesser to greater ones. A task sleeps four times, and an
-/// interrupt line makes four events on three sources. `Mem` if there is no memory for it.
+/// The machine of a seed with 1 to 1,000 devices. Each depends on an earlier one or none, some are async, and
+/// a few links go from lesser to greater ones. A task sleeps four times, and an interrupt line makes four
+/// events on three sources. `Mem` if there is no memory for it.
 #[tactic(auto, using(crate::proofs::Generating::accepted, crate::proofs::Generating::few_places))]
 pub fn generate(alloc: Global, seed: u64, devices: u32) -> Result<Machine, Mem>
     requires some { 1 ≤ devices }

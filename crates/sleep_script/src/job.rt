@@ -42,8 +42,8 @@ pub(crate) fn later(one: Stamp, other: Stamp) -> Stamp
 }
 
 /// The job of an actor that takes turns of the core: a script, the autosleep work, or an asynchronous device.
-/// It knows the calls on sources of a script's own steps, those round a good write to autosleep among them,
-/// and the reports of the callbacks that its actor runs (`drivers/base/power/main.c`, `async_suspend`;
+/// It knows the calls on sources of a script's own steps, also those round a good write to autosleep, and the
+/// reports of its actor's callbacks (`drivers/base/power/main.c`, `async_suspend`;
 /// `kernel/power/autosleep.c`, `try_to_suspend`).
 #[derive(Drop)]
 pub struct ActorJob<'m> {

@@ -1,5 +1,5 @@
-//! What each actor does next, call by call and turn by turn: the calls on sources that its steps and its
-//! callbacks make, and the turns of the core between them. Its tests are in `part_cases`.
+//! What each actor does next, call by call and turn by turn. Its steps and its callbacks make calls on
+//! sources, with turns of the core between them. Its tests are in `part_cases`.
 //!
 //! Promises: The first call on a source that an actor still has to make before its next entry of the journal,
 //! else a turn, else nothing. After each entry and call a job stays that of its actor, for every journal

@@ -1,4 +1,4 @@
--- What the phases of devices keep, as one value, and what an entry does to it.
+-- The state of the devices' phases as one value, and what an entry does to it.
 use Rattle.std.specs.Prelude.{Bool, false, List, length, map, replicate, Option, None}
 use Rattle.sleep_base.specs.declared.errno.Errno.{Errno}
 use Rattle.sleep_model.specs.declared.entry.Actor.{Actor}

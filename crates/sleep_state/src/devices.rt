@@ -12,9 +12,10 @@ use sleep_model::{Actor, Callback, Device, DeviceFlags, Kind, SkipCause};
 use std::alloc::Global;
 use std::marker::Model;
 
-/// What the phases of devices know besides the state of each device: the callback that the attempt's maker
-/// runs, the errors of the open phase, which devices may be direct-complete, their runtime statuses, and the
-/// spans in which runtime PM is disabled (`drivers/base/power/main.c`, `drivers/base/power/runtime.c`).
+/// What the phases of devices know besides the state of each device. It is the callback that the attempt's
+/// maker runs, the errors of the open phase, which devices may be direct-complete, their runtime statuses,
+/// and the spans in which runtime PM is disabled (`drivers/base/power/main.c`,
+/// `drivers/base/power/runtime.c`).
 #[derive(Drop)]
 pub struct Devices {
     callback: Option<Callback>,

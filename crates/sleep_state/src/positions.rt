@@ -13,7 +13,7 @@ use std::alloc::Global;
 use std::marker::Model;
 
 /// The position of each script. The ends of their sleeps are here too, and how many of them neither sleep nor
-/// have exited, so that whether all are stopped is known without a look at each.
+/// have exited. So it is known without a look at each whether all are stopped.
 #[derive(Drop)]
 pub(crate) struct ScriptPositions {
     positions: Vec<ScriptPosition>,

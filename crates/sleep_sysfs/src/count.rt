@@ -6,7 +6,7 @@ ghost use Rattle.sleep_model.specs.Steps.{read_due, save_due, lock_due, count_du
 use sleep_base::Errno;
 use sleep_model::{Due, EventNow, Kind, Why, visible};
 
-/// A read of the count by a task that waits for it already or not, and is asked to freeze or not: it answers
+/// A read of the count by a task that waits for it already or not, and is asked to freeze or not. It answers
 /// if no event is in progress (`pm_get_wakeup_count`).
 pub fn read_count(now: EventNow, waits: bool, asked: bool) -> Due
     ensures { result ≡ read_due now waits asked }
@@ -47,8 +47,8 @@ pub(crate) fn wait_for_lock(waits: bool, asked: bool, says: Due, gives_up: Due) 
     }
 }
 
-/// A write of that number to the count, with the lock held by another or not, autosleep on or not, by a task
-/// that waits already or not, and is asked to freeze or not (`wakeup_count_store`).
+/// A write of that number to the count. Another holds the lock or not, autosleep is on or not, and the task
+/// waits already or not, and is asked to freeze or not (`wakeup_count_store`).
 pub fn write_count(held: bool, on: bool, waits: bool, asked: bool, now: EventNow, count: u32) -> Due
     ensures { result ≡ count_due held on waits asked now count }
 {

@@ -7,8 +7,8 @@ use crate::count::wait_for_lock;
 use sleep_base::Errno;
 use sleep_model::{Due, Kind, State, Why};
 
-/// A write to the state, whose text is `mem` or not, and whose attempt would be that; with the lock held by
-/// another or not, autosleep on or not, by a task that waits already or not, and is asked to freeze or not
+/// A write to the state, whose text is `mem` or not, and whose attempt would be that. Another holds the lock
+/// or not, autosleep is on or not, and the task waits already or not, and is asked to freeze or not
 /// (`state_store`).
 pub fn write_state(held: bool, on: bool, waits: bool, asked: bool, mem: bool, attempt: Kind) -> Due
     ensures { result ≡ state_due held on waits asked mem attempt }

@@ -67,7 +67,7 @@ all_both [] qs = refl
 all_both (Calls n ∷ ps) qs = ap (λ xs. n ∷ xs) (all_both ps qs)
 all_both (Turns ∷ ps) qs = all_both ps qs
 
--- an operation's calls keep to its places
+-- an operation's calls need no more than its room
 op_within : (n s : ℕ) (o : Op) → weigh s (all_calls (pieces_of n o)) ≤ op_places n s o
 op_within n s (op.Awake x) = omega arith
 op_within n s (op.Relax x) = omega arith
@@ -94,7 +94,7 @@ script_within n s (Some x) = ops_within n s (operations x)
 
 -- ---- an actor's calls
 
--- the places on source s of the reports of all callbacks that an actor began
+-- the room on source s for the reports of all callbacks that an actor began
 abbrev pub reported_by : Machine → ℕ → Actor → List Entry → ℕ
 reported_by m s who [] = 0
 reported_by m s who (e ∷ past) = when (is_same e.actor who) (weigh s (report_calls m (attempts past) e.kind)) + reported_by m s who past
@@ -104,7 +104,7 @@ abbrev pub reported : Machine → ℕ → List Entry → ℕ
 reported m s [] = 0
 reported m s (e ∷ past) = weigh s (report_calls m (attempts past) e.kind) + reported m s past
 
--- the places of the calls of its own steps
+-- the room for the calls of its own steps
 abbrev own_calls : Machine → ℕ → Actor → ℕ → ℕ
 own_calls m s who k = weigh s (until (calls_of_turn m who) k)
 
@@ -137,7 +137,7 @@ calls_are m s who (e ∷ past) = by_same (is_same e.actor who) (ends_turn e.kind
 
 -- ---- all actors
 
--- the calls of all scripts keep to the places of all operations
+-- the calls of all scripts need no more than the room of all operations
 own_within : (m : Machine) (s n : ℕ) (turns : Actor → ℕ) → over_all n (λ a. own_calls m s a (turns a)) ≤ sum (map (op_places (length m.sources) s) (all_operations m.actors))
 own_within m s n turns =
     omega (
@@ -166,7 +166,7 @@ reported_within m s n (e ∷ past) =
       reported_within m s n past,
     )
 
--- all calls keep to the places of all operations, and those of the reports
+-- all calls need no more than the room of all operations and of the reports
 pub calls_within : (m : Machine) (s n : ℕ) (past : List Entry) → over_all n (λ a. weigh s (calls_of m a past)) ≤ sum (map (op_places (length m.sources) s) (all_operations m.actors)) + reported m s past
 calls_within m s n past =
     omega (

@@ -332,7 +332,7 @@ module _ (m : Machine) (past : List Entry) (time : ℕ) (now : EventNow) (d : �
   device_fresh j k (DeviceMade.OwnBegins p i g f t a) = begins_own p (Goes p i) (ap rank_if (scheduled_stage m past j p d i g.states)) (stood_down m past p d i state.Scheduled g.states refl)
   device_fresh j k (DeviceMade.OwnRises p u a w s n) = begins_own p (Comes p u) (ap rank_if (risen_stage m past j p d u s)) (stood_up m past p d u state.Rescheduled s refl)
 
--- ---- at each place
+-- ---- at each point
 
 still_low : (p : Phase) → Six p → (r : ℕ) (s : PhaseState) → Still p r s → r ≤ 23
 still_low p i r s (Before b) = let high = (six_rank p i).1 in omega arith

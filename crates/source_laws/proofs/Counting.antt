@@ -1,4 +1,4 @@
--- Each actor's notes are the front of its calls, so that all notes together weigh no more than the calls of all actors.
+-- Each actor's notes are a prefix of its calls, so that all notes together weigh no more than the calls of all actors.
 use Rattle.std.proofs.Common.{◌≡◌, ◌≢◌, ◌≤◌, ◌<◌, ◌+◌, ◌++◌, ◌∙◌, ℕ, zero, suc, Bool, true, false, ◌==◌, ◌&&◌, nat_le, List, [], ◌∷◌, length, Some, slice_get, cond, refl, sym, ap, ap₂, subst, length-append, arith}
 use Rattle.std.specs.List.{list_all}
 use Rattle.std.proofs.lemmas.Bool.{true≢false}
@@ -78,12 +78,12 @@ noted_one m e past who t call part there =
 
 -- ---- one actor
 
--- the places on source s of an actor's notes
+-- the room on source s for an actor's notes
 abbrev pub noted_by : ℕ → Actor → List Entry → ℕ
 noted_by s who [] = 0
 noted_by s who (e ∷ past) = when (is_same e.actor who) (kind_places s e.kind) + noted_by s who past
 
--- an actor has made so many of its calls, whose places are those
+-- an actor has made so many of its calls, whose room is that
 pub record Follows (s : ℕ) (made : ℕ) (calls : List Kind) (places : ℕ) : Type 0 where
   pub within : made ≤ length calls
   pub are : places ≡ front s made calls
@@ -202,7 +202,7 @@ notes_within m s past who n h there =
 
 -- ---- all actors
 
--- a timer's notes are expiries, which have places already
+-- a timer's notes are expiries, which have room already
 timer_free : (m : Machine) (s : ℕ) (e : Entry) (past : List Entry) (part : EntryClass) → class_of e.kind ≡ part → is_timer e.actor ≡ true → JointStep m past e part → kind_places s e.kind ≡ 0
 timer_free m s e past (Moves t step) p i h = ap (part_places s) p
 timer_free m s e past OfJournal p i h = ap (part_places s) p

@@ -1,4 +1,4 @@
--- The law: a history keeps to its places.
+-- The law: a history has room for its entries.
 use Rattle.std.proofs.Common.{◌≤◌, ◌+◌, ℕ, List, length, map, sum, arith}
 use Rattle.sleep_model.specs.declared.entry.Actor.TheVariants as actor
 use Rattle.sleep_model.specs.declared.entry.Entry.{Entry}
@@ -29,7 +29,7 @@ noted_within m s n past h there =
       notes_within m s past actor.Time refl h there,
     )
 
--- a history has at most as many entries as the operations of all scripts, and the reports of the callbacks that were begun, have places
+-- a history has at most as many entries as the operations of all scripts, and the reports of the callbacks that were begun, have room
 pub keeps_to_calls : (m : Machine) (past : List Entry) → IsLegal m past → (s : ℕ) → length (history s past) ≤ sum (map (op_places (length m.sources) s) (all_operations m.actors)) + reported m s (journal past)
 keeps_to_calls m past h s =
     let n : ℕ = above_all past in

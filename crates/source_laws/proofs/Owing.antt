@@ -122,7 +122,7 @@ notes_keep made places s time (call.Event ms hard) o x z h =
 
 -- ---- an entry
 
--- a source's history keeps to the places of its notes
+-- a source's history needs no more than the room of its notes
 abbrev KeepsTo : List Entry → ℕ → Type 0
 KeepsTo own places = Keeps (length own) (is_some (expiry own)) (is_some (since own)) (owed own) places
 
@@ -165,7 +165,7 @@ step_in s past e (Moves t step) o h = let same : t ≡ s = grind (arith, nat_tes
 step_in s past e OfJournal o h = tt
 step_in s past e OfTime o h = tt
 
--- an entry of another takes no place
+-- an entry of another takes no room
 no_places : (s : ℕ) (part : EntryClass) → is_of s part ≡ false → part_places s part ≡ 0
 no_places s (Notes t call) o = ap (λ b. cond b (call_places call) 0) o
 no_places s (Moves t step) o = refl
@@ -180,6 +180,6 @@ keeps s (e ∷ past) h = by_source (is_of s (class_of e.kind)) refl (keeps s pas
     by_source true o k = own_keeps (history s past) s e.time (noted s past) e.actor (class_of e.kind) o (step_in s past e (class_of e.kind) o h.0) k
     by_source false o k = let none : noted s past ≡ kind_places s e.kind + noted s past = omega (arith, no_places s (class_of e.kind) o) in subst (λ (n : ℕ). KeepsTo (history s past) n) none k
 
--- a history has no more entries than its notes have places
+-- a history has no more entries than its notes have room for
 pub history_keeps : (s : ℕ) (past : List Entry) → SourcePart past → length (history s past) ≤ noted s past
 history_keeps s past h = omega (arith, (keeps s past h).within)

@@ -24,7 +24,7 @@ use Rattle.source_laws.proofs.Summing.{total, sum_is, total_plus, total_most, if
 use Rattle.source_laws.proofs.Things.{and_parts, same_thing}
 use Rattle.source_laws.proofs.Weighing.{weigh, kind_places, when}
 
--- ---- the places of reports
+-- ---- the room for reports
 
 note_places : (s t : ℕ) (made : SourceCall) → kind_places s (note t made) ≡ places_if s t (call_places made)
 note_places s t call.Awake = refl
@@ -170,7 +170,7 @@ stands_within a answers n (Some k) = own_passes k n
 
 -- ---- all reports
 
--- the places of an answer's reports, in all callbacks that give it
+-- the room for an answer's reports, in all callbacks that give it
 abbrev given : ℕ → List Answer → List Entry → Answer → ℕ
 given s answers past a = counted a.what (stands_at answers a) past * report_places s a
 

@@ -15,7 +15,7 @@ use Rattle.phase_table.specs.declared.phase.Phase.TheVariants as phase
 use Rattle.sleep_model.specs.Table.{stage_after}
 use Rattle.sleep_laws.proofs.Made.{Down, InSuspend, InLate, InNoirq, Up, InResume, InEarly, InResumeNoirq, Made, Comes as ComesTo, AtOnce, PastNotifiers, PastCpus, PastParts, PastPartsUp, PastCpusUp, PastPosts}
 
--- the place of a phase with callbacks among the stages
+-- the rank of a phase with callbacks among the stages
 abbrev pub phase_rank : Phase → ℕ
 phase_rank phase.Suspend = 6
 phase_rank phase.Late = 8
@@ -25,7 +25,7 @@ phase_rank phase.Early = 21
 phase_rank phase.Resume = 23
 phase_rank _ = 0
 
--- the place of a stage
+-- the rank of a stage
 abbrev pub rank : Stage → ℕ
 rank stage.Notifies = 1
 rank (stage.Freezes group.User) = 2

@@ -1,4 +1,4 @@
--- The places that notes take, and sums over actors.
+-- The room that notes take, and sums over actors.
 use Rattle.std.proofs.Common.{◌≡◌, ◌≤◌, ◌<◌, ◌+◌, ◌++◌, ◌∙◌, ℕ, zero, suc, Bool, true, false, ◌==◌, List, [], ◌∷◌, length, Some, slice_get, refl, ap, arith}
 use Rattle.std.proofs.lemmas.Bool.Decides.{nat_tests}
 use Rattle.sleep_model.specs.declared.entry.Actor.{Actor}
@@ -11,12 +11,12 @@ use Rattle.sleep_model.specs.Places.{call_places, places_if}
 
 -- ---- what notes weigh
 
--- the places on source s of an entry with that part: those of the call that it notes
+-- the room on source s for an entry of that class: that of the call that it notes
 abbrev pub part_places : ℕ → EntryClass → ℕ
 part_places s (Notes t made) = places_if s t (call_places made)
 part_places s _ = 0
 
--- the places on source s of an entry of that kind
+-- the room on source s for an entry of that kind
 abbrev pub kind_places : ℕ → Kind → ℕ
 kind_places s k = part_places s (class_of k)
 
@@ -52,7 +52,7 @@ front_same s zero xs ys l = refl
 front_same s (suc k) [] ys l = absurd (omega arith)
 front_same s (suc k) (x ∷ xs) ys l = ap (λ n. kind_places s x + n) (front_same s k xs ys (omega arith))
 
--- the places on source s of all entries
+-- the room on source s for all entries
 abbrev pub noted : ℕ → List Entry → ℕ
 noted s [] = 0
 noted s (e ∷ past) = kind_places s e.kind + noted s past

@@ -1,4 +1,4 @@
-//! The law of the places of a source, over every legal list of entries.
+//! The law of the room of a source, over every legal list of entries.
 
 ghost use Rattle.source_laws.specs.Room.{HistoriesKeep};
 

@@ -8,7 +8,7 @@ use Rattle.task_freezer.specs.Waits.{left_counts}
 abbrev pub freezer : Inside → FreezerState
 freezer f = record { scripts = f.scripts.now; freezings = f.freezings.items; exited_flags = f.exited_flags.items }
 
--- each script has its place, and those that freezes wait for are counted
+-- each script has its own freezing, and those that freezes wait for are counted
 pub record AreCounted (f : Inside) : Type 0 where
   pub few : length f.scripts.now < 2 ^ 31
   pub freezings : length f.freezings.items ≡ length f.scripts.now

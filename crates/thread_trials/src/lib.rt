@@ -1,8 +1,8 @@
-//! Tests of what threads share, and of calls that no line of `part_cases` can make: jobs of a pool, objects
-//! under locks, the event word in its table, the merge of what several workers made, suspend-to-idle by four
-//! workers; and calls that may be made only if the caller knows what came before, as those on a wakeup
-//! source, on named locks and on the job of an actor. They have a crate of their own, so that the crates that
-//! they try are proved once. No program uses this crate.
+//! Tests of what threads share: jobs of a pool, objects under locks, the event word in its table, the merge
+//! of what several workers made, suspend-to-idle by four workers. Tests of calls that no line of `part_cases`
+//! can make, since the caller has to know what came before: those on a wakeup source, on named locks and on
+//! the job of an actor. They have a crate of their own, so that the crates that they try are proved once. No
+//! program uses this crate.
 //! Begin reading in `src/`.
 #![tactic(auto)]
 

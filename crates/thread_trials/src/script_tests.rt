@@ -189,8 +189,8 @@ fn goes_on(job: &mut ActorJob<'_>) -> Result<bool, Mem>
     Ok(both && is_event && job.calls() == 4 && matches!(job.next(), Want::Nothing))
 }
 
-/// Whoever makes a callback makes its reports; a good write to autosleep keeps the system awake while it is
-/// set, by the source after the others; an operation that is a call makes it; and a script that has exited
+/// Whoever makes a callback makes its reports. A good write to autosleep keeps the system awake while it is
+/// set, by the source after the others. An operation that is a call makes it, and a script that has exited
 /// does nothing.
 #[test]
 fn jobs_make_turns_and_calls(rt: HostRuntime) -> Result<(), Fail> {

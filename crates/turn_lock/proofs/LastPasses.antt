@@ -50,7 +50,7 @@ module _ {A : Type 0} where
   moved_on xs left rest whole a e next = append_assoc xs (a ∷ []) rest ∙ (ap (λ l. xs ++ l) (sym next) ∙ e)
 
 module _ {V I : Type 0} where
-  -- the pass that comes next has the number of its place
+  -- the pass that comes next has the number of its index
   pub came : (own : Token V I) (passes yielded left rest : List (Pass V I)) (p : Pass V I) → AreAll own (tokens passes) → yielded ++ left ≡ passes → left ≡ p ∷ rest
       → IsPassOf own p.token × (number_of p.token ≡ Some (length yielded))
   came own passes yielded left rest p are whole next = are.each_is (length yielded) p.token

@@ -3,7 +3,7 @@ use Rattle.std.specs.Prelude.{ℕ, ◌+◌, ◌<◌, ◌==◌, if◌then◌else�
 use Rattle.turn_lock.specs.declared.view.Made.{Made}
 
 module _ {I : Type 0} where
-  -- an entry at a place of an object's list
+  -- an entry at an index of an object's list
   abbrev pub made : ℕ → ℕ → I → Made I
   made object place x = record { object = object; place = place; entry = x }
 

@@ -61,7 +61,7 @@ module _ {V I : Type 0} where
     pub inside : object < length first
     pub shaped : table_id.words ≡ length first
 
-  -- the passes of a table, each at the place of its number
+  -- the passes of a table, each at the index of its number
   pub record AreAll (own : Token V I) (ps : List (Token V I)) : Type 0 where
     pub counted : length ps ≡ own.me.0.next
     pub unused : own.me.0.known ≡ []

@@ -54,7 +54,7 @@ places_by (call.Event ms false) now own (Some b) end h few meant = rw (lasts ms 
 places_by call.Expire now own None end h few meant = refl
 places_by call.Expire now own (Some b) end h few meant = grind (arith, nat_tests, h.in_progress, h.finished)
 
--- the steps of a call have their places
+-- the steps of a call have their room
 pub places : (made : SourceCall) (now : ℕ) (own : List Entry) → SourceInvariant own → length own ≤ 60000 → IsMeant made now (status_of own) → has_room_for_all (numbers own) (makes made (since own)) ≡ true
 places made now own kept few meant = places_by made now own (since own) (expiry own) (stands_now own kept) few meant
 
@@ -174,7 +174,7 @@ gains by made word later old new a n w h =
     ∙ ap (λ who. source_call 0 made who by.now word (unstamped old.past) ++ unstamped old.past) a
     ∙ ap (λ at. source_call 0 made (maker made) by.now at (unstamped old.past) ++ unstamped old.past) w
 
--- after a call it is a lock still
+-- after a call it is a lock
 pub lock_after : (by : CallBy) (made : SourceCall) (word later : EventNow) (old new : SourceState) (before after : LockStatus) → by.actor ≡ maker made → IsLock before old word → latest (unstamped old.past) ≤ by.now → IsMeant made by.now before
     → after ≡ status_after made by.now before → IsMade by made word later old new → IsLock after new later
 lock_after by made word later old new before after a h time meant s m =

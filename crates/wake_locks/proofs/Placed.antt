@@ -11,7 +11,7 @@ use Rattle.wake_locks.specs.Locks.{LockState, by_name, find, put, inserted, Prec
 use Rattle.wake_locks.specs.LockFields.{IsAt, IsGapFor, AreAllBefore}
 use Rattle.wake_locks.specs.LockStatuses.{is_due}
 
--- ---- by places
+-- ---- by indices
 
 tail_before : (name : List ℕ) (x : LockState) (xs : List LockState) (i : ℕ) → AreAllBefore name (x ∷ xs) (suc i) → AreAllBefore name xs i
 tail_before name x xs i h j d l = h (suc j) d (omega arith)
@@ -28,7 +28,7 @@ find_there name [] at d h = absurd (omega (arith, h.in_range))
 find_there name (x ∷ xs) zero d h = rw (h.here x) refl
 find_there name (x ∷ xs) (suc i) d h = rw (h.before 0 x (omega arith)) (find_there name xs i d (tail_at name x xs i h))
 
--- a lock of its name goes into its place
+-- a lock of its name goes to its index
 pub put_there : (new : LockState) (locks : List LockState) (at : ℕ) → IsAt new.name locks at → put new locks ≡ set locks at new
 put_there new [] at h = absurd (omega (arith, h.in_range))
 put_there new (x ∷ xs) zero h = rw (h.here x) refl
@@ -66,7 +66,7 @@ any_of [] i d e l = absurd (omega arith)
 any_of (y ∷ ys) zero d e l = refl
 any_of (y ∷ ys) (suc i) d e l = any_of ys i d e (omega (arith, l))
 
--- each lock is at its place
+-- each lock is at its index
 pub at_place : (locks : List LockState) → AreSortedByName locks → (at : ℕ) (d : LockState) → at < length locks → IsAt (get_or locks at d).name locks at
 at_place locks h at d l = record {
   in_range = l;
@@ -81,7 +81,7 @@ low_more name locks at e h l less j d k = elim (cases_lt j at) [
   | inr above ↦ subst (λ i. by_name (get_or locks i d).name name ≡ Less) {x = at} (omega arith) (ap (λ (x : LockState). by_name x.name name) (any_of locks at d e l) ∙ less)
 ]
 
--- the names of the locks from that place on come after this one
+-- the names of the locks from that index on come after this one
 abbrev pub ArePreceded : List ℕ → List LockState → ℕ → Type 0
 ArePreceded name locks at = (j : ℕ) (d : LockState) → at ≤ j → j < length locks → by_name (get_or locks j d).name name ≡ Greater
 
@@ -93,7 +93,7 @@ high_more name locks at e h l more j d k m = elim (cases_lt at j) [
   | inr above ↦ subst (λ i. by_name (get_or locks i d).name name ≡ Greater) {x = at} (omega arith) (ap (λ (x : LockState). by_name x.name name) (any_of locks at d e l) ∙ more)
 ]
 
--- a lock of the name is at its place
+-- a lock of the name is at its index
 pub found_at : (name : List ℕ) (locks : List LockState) (at : ℕ) (e : LockState) → AreSortedByName locks → at < length locks → by_name (get_or locks at e).name name ≡ Equal → IsAt name locks at
 found_at name locks at e h l equal = record {
   in_range = l;
@@ -101,7 +101,7 @@ found_at name locks at e h l equal = record {
   here = λ d. ap (λ (x : LockState). by_name x.name name) (any_of locks at d e l) ∙ equal;
 }
 
--- ---- what `put` keeps
+-- ---- what `put` preserves
 
 after_same : (n m : List ℕ) (locks : List LockState) → by_name n m ≡ Equal → PrecedesEach n locks → PrecedesEach m locks
 after_same n m [] e h = tt

@@ -9,7 +9,7 @@ use Rattle.wake_locks.specs.LockStatuses.{end_or_never, never}
 use Rattle.wake_locks.proofs.Placed.{any_of}
 use Rattle.wake_locks.proofs.Sooner.{less, not_due, other_less}
 
--- two places are the same or not
+-- two indices are the same or not
 apart : (i j : ℕ) → (i ≡ j) ⊎ (i ≢ j)
 apart i j = elim (cases_lt i j) [
   | inl l ↦ inr (λ e. omega (arith, l, e))

@@ -65,9 +65,9 @@ IsMeant (call.Event ms hard) now before = (1 ≤ ms) × (hard ≡ false)
 IsMeant call.Expire now before = is_due now before ≡ true
 IsMeant _ now before = Unit {0}
 
--- ---- places among the locks
+-- ---- indices among the locks
 
--- the names of the locks before that place come before this one
+-- the names of the locks before that index come before this one
 abbrev pub AreAllBefore : List ℕ → List LockState → ℕ → Type 0
 AreAllBefore name locks at = (j : ℕ) (d : LockState) → j < at → by_name (slice_index_or locks j d).name name ≡ Less
 
@@ -83,7 +83,7 @@ pub record IsGapFor (name : List ℕ) (locks : List LockState) (at : ℕ) : Type
   pub before : AreAllBefore name locks at
   pub behind : (d : LockState) → at < length locks → by_name (slice_index_or locks at d).name name ≡ Greater
 
--- what is found as due: its place and its moment, which is not before its last entry
+-- what is found as due: its index and its moment, which is not before its last entry
 abbrev pub MatchDue : List LockState → Option Due → Option (ℕ × ℕ) → Type 0
 MatchDue locks None None = Unit {0}
 MatchDue locks None (Some p) = ⊥
@@ -97,13 +97,13 @@ abbrev pub NoneEndsBefore : ℕ → List LockState → Type 0
 NoneEndsBefore soonest [] = Unit {0}
 NoneEndsBefore soonest (lock ∷ locks) = (soonest ≤ end_or_never lock.status) × NoneEndsBefore soonest locks
 
--- none of them does, but for the one at that place
+-- none of them does, but for the one at that index
 abbrev pub NoOtherEndsBefore : ℕ → ℕ → List LockState → Type 0
 NoOtherEndsBefore others at [] = Unit {0}
 NoOtherEndsBefore others zero (lock ∷ locks) = NoneEndsBefore others locks
 NoOtherEndsBefore others (suc at) (lock ∷ locks) = (others ≤ end_or_never lock.status) × NoOtherEndsBefore others at locks
 
--- none of the locks from one place up to another ends by itself before that moment
+-- none of the locks from one index up to another ends by itself before that moment
 abbrev pub NoneEndsWithin : ℕ → ℕ → ℕ → List LockState → Type 0
 NoneEndsWithin moment from until locks = (j : ℕ) (d : LockState) → from ≤ j → j < until → moment ≤ end_or_never (slice_index_or locks j d).status
 
@@ -122,7 +122,7 @@ with_lock at end found =
 abbrev pub with_floor : ℕ → Soonest → Soonest
 with_floor floor found = record { at = found.at; end = found.end; others = min found.others floor }
 
--- its place, and its end
+-- its index, and its end
 abbrev pub index_and_end : Soonest → ℕ × ℕ
 index_and_end found = (found.at, found.end)
 

@@ -66,7 +66,7 @@ inserted Less new lock locks behind = lock ∷ behind
 inserted Equal new lock locks behind = new ∷ locks
 inserted Greater new lock locks behind = new ∷ lock ∷ locks
 
--- the locks with this one at its place (wakelock_lookup_add)
+-- the locks with this one at its index (wakelock_lookup_add)
 abbrev pub put : LockState → List LockState → List LockState
 put new [] = new ∷ []
 put new (lock ∷ locks) = inserted (by_name lock.name new.name) new lock locks (put new locks)

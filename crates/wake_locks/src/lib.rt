@@ -2,7 +2,7 @@
 //! tests are in `part_cases`; `row_trials` runs the command `locks`.
 //!
 //! Promises: A write to `wake_lock` or `wake_unlock` makes the one call that its text asks for, on the source
-//! of that name, and is refused exactly if the text is of no form, the name is unknown or 100 are known. A
+//! of that name. It is refused exactly if the text is of no form, the name is unknown or 100 are known. A
 //! refused write changes nothing. A later, shorter timeout cuts no earlier one. Each expiry comes at its own
 //! moment, those of one moment by name. `Full` names the lock, and comes exactly if a call meets a source
 //! with fewer than four places left. Statistics are those of each source's calls. By the clauses of

@@ -8,7 +8,7 @@ pub(crate) const NEVER: u64 = u64::MAX;
 /// Which of some locks ends first by itself.
 #[derive(Clone, Copy, Debug, PartialEq, Eq)]
 pub(crate) struct Soonest {
-    /// Its place: of those that end together the first by name.
+    /// Its index: of those that end together the first by name.
     pub(crate) at: usize,
     /// When it ends.
     pub(crate) end: u64,

@@ -46,8 +46,8 @@ impl<const BITS: u32> Guard<BITS> {
         now.count % (1 << BITS)
     }
 
-    /// Saves a count. It is in force from now on exactly if it is the visible one and no event
-    /// is in progress, and then the answer is true; else none is in force (`pm_save_wakeup_count`).
+    /// Saves a count. It is in force from now on exactly if it is the visible one and no event is in
+    /// progress. Then the answer is true; else none is in force (`pm_save_wakeup_count`).
     pub fn save(&mut self, now: EventNow, c: u32) -> bool
         ensures answer { result ≡ may_save BITS now c }
         ensures after { self.new ≡ record self.old { force = if result then Some c else None } }
@@ -97,8 +97,8 @@ impl<const BITS: u32> Guard<BITS> {
         self.force
     }
 
-    /// What an entry that saw this word leaves: a save stores or drops, a test that found a wakeup
-    /// drops a count that has changed, a freeze of user tasks forgets the hard events.
+    /// What an entry that saw this word leaves. A save stores or drops a count, a test that found a wakeup
+    /// drops one that has changed, a freeze of user tasks forgets the hard events.
     pub fn note(&mut self, kind: Kind, now: EventNow)
         ensures { self.new ≡ guarded_after BITS kind now self.old }
     {

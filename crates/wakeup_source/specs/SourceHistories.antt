@@ -1,4 +1,4 @@
--- What a source keeps: its history with places reserved, and what is counted of it.
+-- The history of a source with room reserved, and what is counted of it.
 use Rattle.std.specs.Prelude.{◌≤◌, ◌<◌, ◌+◌, ◌-◌, ◌^◌, ℕ, max, List, length}
 use Rattle.sleep_model.specs.declared.entry.SourceEntry.{SourceEntry}
 use Rattle.sleep_model.specs.declared.machine.SourceCall.{SourceCall}
@@ -8,12 +8,12 @@ use Rattle.sleep_model.specs.Sources.{most_entries}
 use Rattle.wakeup_source.specs.declared.call_by.CallBy.{CallBy}
 use Rattle.wakeup_source.specs.SourceStates.{SourceState, unstamped, latest, with_note, with_step}
 
--- the entries so far, the newest first, and how many more have a reserved place
+-- the entries so far, the newest first, and how many more have reserved room
 pub record HistoryRoom : Type 0 where
   pub past : List SourceEntry
   pub room : ℕ
 
--- a source, and how many more entries have a reserved place
+-- a source, and how many more entries have reserved room
 pub record HistoryState : Type 0 where
   pub source : SourceState
   pub room : ℕ
@@ -26,7 +26,7 @@ after_noting by call seen history_seen = record { source = with_note by call see
 abbrev pub stepped : CallBy → WordKind → EventNow → HistoryState → HistoryState
 stepped by step before history_seen = record { source = with_step by step before history_seen.source; room = history_seen.room - 1 }
 
--- n more entries of that caller have their places, their ticks and their time (own)
+-- n more entries of that caller have their room, their ticks and their time (own)
 pub record IsReady (n : ℕ) (by : CallBy) (history_seen : HistoryState) : Type 0 where
   pub room : n ≤ history_seen.room
   pub few : length history_seen.source.past + n ≤ most_entries

@@ -97,7 +97,7 @@ module _ (passes lent left : List WorldPass) (tasks yielded rest : List Task) (w
       let all = ap (λ (l : List WorldPass). length l) passes_are in
       absurd (omega (arith, n.1, less, all, counted, none_left, length-append lent left))
 
-  -- the actor at that place is the task's
+  -- the actor at that index is the task's
   pub its_actor : (t : Task) (more : List Task) → rest ≡ t ∷ more → (actors : List Actor) → actors ≡ map actor_of tasks → (place : ℕ) → place ≡ length workers
       → (d : Actor) → slice_index_or actors place d ≡ actor_of t
   its_actor t more is actors actors_are place place_is d =

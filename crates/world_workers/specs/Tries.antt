@@ -60,7 +60,7 @@ pub record GoesIn (m : Machine) (table locks : TableId) (moment : ℕ) (t : Task
   pub pass : IsWorldPass m table locks moment p
   pub is_in : IsTaskIn m t
 
--- after a try they go with it still: the task did one act, and the pass made what it added
+-- after a try they agree: the task did one act, and the pass made what it added
 pub record HasActed (m : Machine) (table locks : TableId) (moment : ℕ) (old new : Task) (before after : Token WorldObject Noted) : Type 0 where
   pub gains : List (Made Noted)
   pub goes : GoesIn m table locks moment new after

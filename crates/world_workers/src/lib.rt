@@ -3,7 +3,7 @@
 //! its pass made just what they added. Its tests are in `core_trials`.
 //!
 //! Promises: A worker's turn is one act of its task: nothing, the turn of the machine that a job wants, the
-//! call on a source that it wants, or the expiry of a timer; the task hears what was made, and the pass made
+//! call on a source that it wants, or the expiry of a timer. The task notes what was made, and the pass made
 //! just that. So since whatever moment, its acts bring its task on one after another, and its pass made what
 //! they added. A whole burst is one call: the machine and its sources go under locks and come back with what
 //! the passes made, each pass just what its task's acts added. They may go into another burst then: the

@@ -18,7 +18,7 @@ fn turn_of(answer: Result<Turn, Stop>) -> Turn {
     }
 }
 
-/// Takes the pass out of its place.
+/// Takes the pass out for a turn.
 fn taken<'m>(place: &mut Option<WorldPass<'m>>) -> WorldPass<'m>
     requires { IsSome place.old }
     ensures { place.old ≡ Some result }

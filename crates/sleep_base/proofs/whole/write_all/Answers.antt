@@ -3,7 +3,7 @@ use Rattle.std.proofs.Common.{◌≡◌, ℕ, List, ◌++◌, take, drop, rules,
 use Rattle.std.proofs.KnownBytes.{Appends-trans}
 use Rattle.sleep_base.proofs.whole.write_all.Goals as goal
 
--- the front takes n bytes of the rest
+-- the prefix takes n bytes of the rest
 front_grows : (all front rest back : List ℕ) (n : ℕ) → all ≡ front ++ rest → back ≡ drop n rest → all ≡ (front ++ take n rest) ++ back
 front_grows all front rest back n split is =
     split ∙ ap (λ l. front ++ l) (sym (take-append-drop n rest)) ∙ sym (append_assoc front (take n rest) (drop n rest)) ∙ ap (λ l. (front ++ take n rest) ++ l) (sym is)
