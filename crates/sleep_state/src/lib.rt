@@ -1,5 +1,5 @@
-//! What the core reads from its journal, kept up to date entry by entry: where the attempt is, the tasks and
-//! the devices. Its tests are in `part_cases`.
+//! What the core reads from its journal, brought up to date by each entry: the state of the attempt, of the
+//! tasks and of the devices. Its tests are in `part_cases`.
 //!
 //! Promises: After an entry each part is as the definitions say; the least end of the scripts' sleeps. By the
 //! clauses of `note` of each; `Tasks::position`, `raised`, `all_exited`, `least_end`, `are_stopped`.
