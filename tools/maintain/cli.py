@@ -15,7 +15,7 @@ from julampok.files import silence
 HEAD = "Commands for whoever works on this repository."
 FOOT = "Statuses: 0 all is well; 1 something is not; 2 it cannot be tried. 'tools/dev COMMAND --help' has more."
 # Each command, with its module of the folder commands/.
-COMMANDS = {"bench": "bench", "docs": "docs", "edits": "edits", "test": "testing", "try": "trying", "worked": "worked"}
+COMMANDS = {"bench": "bench", "count": "count", "docs": "docs", "edits": "edits", "test": "testing", "try": "trying", "worked": "worked"}
 
 
 def module_of(name):
