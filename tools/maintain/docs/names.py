@@ -17,7 +17,7 @@ LINK = re.compile(r"\]\(([^)\s]+)\)")
 CODE = re.compile(r"`([^`\n]+)`")
 FILE = re.compile(r"(?:[\w.-]+/)*[\w.-]+\.(?:rt|antt|py|md|json|log|txt|edit)$")
 WORD = re.compile(r"[a-z]+(?:_[a-z0-9]+)+$|[A-Z]\w*::\w+$|[A-Z][a-z]+(?:[A-Z][a-z]*)+$")
-WITHIN = re.compile(r"((?:`[\w:]+`(?:, | and )?)+) in `([\w./]+)`")
+WITHIN = re.compile(r"((?:`[\w:]+`(?:,\s+|\s+and\s+)?)+)\s+(?:in|of)\s+`([\w./]+)`")
 COMMAND = re.compile(r"(tools/dev|\./julampok) ([a-z][\w-]*)")
 KERNEL = {"last_failed_step"}  # Names of the kernel that nothing here writes as one word.
 ANYWHERE = ("kernel", "drivers", "include")  # Where the files of Linux stand.
@@ -126,13 +126,14 @@ def text_of(named):
     return "\n".join(text for place in file_places() if (place / named).exists() for text in texts_at(place / named))
 
 
-def broken_places(page, line):
-    """The names of a line that do not stand in the file that the page says."""
-    for named, file in WITHIN.findall(line):
-        text = text_of(file)
-        for name in CODE.findall(named) if text else []:
+def broken_places(page):
+    """The names of a page that do not stand in the file or crate that the page says, each with its line."""
+    whole = page.read_text()
+    for found in WITHIN.finditer(whole):
+        text = text_of(found[2])
+        for name in CODE.findall(found[1]) if text else []:
             if not re.search(rf"\b{name.split('::')[-1]}\b", text):
-                yield f"no {name} in {file}"
+                yield whole.count("\n", 0, found.start()) + 1, f"no {name} in {found[2]}"
 
 
 def broken_commands(page, line):
@@ -171,9 +172,9 @@ def order_of_crates():
 
 def broken(page):
     """What is not there of a page, each with its place."""
-    for number, line in enumerate(page.read_text().split("\n"), 1):
-        found = (what for find in (broken_links, broken_names, broken_places, broken_commands) for what in find(page, line))
-        yield from (f"{page.relative_to(TOP)}:{number}: {what}" for what in found)
+    lines = enumerate(page.read_text().split("\n"), 1)
+    found = [(number, what) for number, line in lines for find in (broken_links, broken_names, broken_commands) for what in find(page, line)]
+    yield from (f"{page.relative_to(TOP)}:{number}: {what}" for number, what in found + [*broken_places(page)])
 
 
 def all_broken():
