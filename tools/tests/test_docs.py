@@ -59,6 +59,7 @@ class Broken(unittest.TestCase):
             ("`no_such_function_anywhere`", "no name no_such_function_anywhere"),
             ("`Nothing::at_all_of_it`", "no name Nothing::at_all_of_it"),
             ("`no_such_thing` in `wakeup_guard`", "no no_such_thing in wakeup_guard"),
+            ("`no_such_thing` of\n  `wakeup_guard`", "no no_such_thing in wakeup_guard"),
             ("`tools/dev nothing NAME`", "no command tools/dev nothing"),
             ("    ./julampok nothing my.json", "no command ./julampok nothing"),
         ):
