@@ -62,7 +62,7 @@ READING = [
             ("sleep_model", "Attempt", ["attempt_due", "stage_due"]),
         ],
     ),
-    ("Which stage follows, and where does a failure lead?", [("sleep_model", "Table", ["stage_after", "next_stage", "after_done"])]),
+    ("Which stage follows, and where does a failure lead?", [("sleep_model", "Table", ["row", "stage_after", "after_done"])]),
     (
         "What do devices do?",
         [
