@@ -66,28 +66,14 @@ fn is_post_of(mark: u32, kind: Kind) -> bool
 fn is_request_of(device: u32, to_suspended: bool, kind: Kind) -> bool
     ensures { IsTrue result ↔ IsRequestOf device to_suspended kind }
 {
-    match kind {
-        Kind::RuntimeAsk {
-            device: d,
-            to_suspended: to,
-            ..
-        } => d == device && to == to_suspended,
-        _ => false,
-    }
+    matches!(kind, Kind::RuntimeAsk { device: d, to_suspended: to, .. } if d == device && to == to_suspended)
 }
 
 /// A new link between those two.
 fn is_link_of(supplier: u32, consumer: u32, kind: Kind) -> bool
     ensures { IsTrue result ↔ IsLinkOf supplier consumer kind }
 {
-    match kind {
-        Kind::LinkAdd {
-            supplier: s,
-            consumer: c,
-            ..
-        } => s == supplier && c == consumer,
-        _ => false,
-    }
+    matches!(kind, Kind::LinkAdd { supplier: s, consumer: c, .. } if s == supplier && c == consumer)
 }
 
 /// That state of the link between those two.
