@@ -176,7 +176,7 @@ impl ByteBuffer {
         device: &ShortText,
     )
         requires { length self.old + 216 ≤ 32768 }
-        ensures text { self.new ≡ self.old ++ (front.now ++ maker.now ++ words.now.verb ++ words.now.phase ++ device.now ++ words.now.behind) }
+        ensures text { self.new ≡ self.old ++ (front.now ++ maker.now ++ words.now.verb ++ words.now.phase ++ device.now ++ words.now.ending) }
         ensures few { length self.new ≤ length self.old + 216 }
     {
         let room = &mut self.room;
@@ -185,7 +185,7 @@ impl ByteBuffer {
         let end = copy_room(room, end, words.verb.room(), words.verb.len());
         let end = copy_room(room, end, words.phase.room(), words.phase.len());
         let end = copy_room(room, end, device.room(), device.len());
-        self.used = copy_room(room, end, words.behind.room(), words.behind.len());
+        self.used = copy_room(room, end, words.ending.room(), words.ending.len());
     }
 }
 

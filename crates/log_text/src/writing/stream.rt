@@ -22,7 +22,7 @@ pub struct LogText<'a> {
     names: ReadyNames<'a>,
     entries: &'a EntryList,
     /// The lines after those of the entries.
-    behind: Vec<u8>,
+    closing: Vec<u8>,
 }
 
 impl<'a> Model for LogText<'a> {
@@ -31,7 +31,7 @@ impl<'a> Model for LogText<'a> {
 
     ghost Value = { List ℕ };
 
-    ghost view = { λ t. flat_map (entry_line t.names) t.entries.now ++ t.behind.items };
+    ghost view = { λ t. flat_map (entry_line t.names) t.entries.now ++ t.closing.items };
 }
 
 impl<'a> LogText<'a> {
@@ -45,11 +45,11 @@ impl<'a> LogText<'a> {
         ensures { IfOk result (λ t. t ≡ text machine.now log.now) }
     {
         let names = ReadyNames::new(alloc, machine)?;
-        let behind = closing_lines(alloc, &names, log)?;
+        let closing = closing_lines(alloc, &names, log)?;
         Ok(LogText {
             names,
             entries: &log.entries,
-            behind,
+            closing,
         })
     }
 
@@ -58,7 +58,7 @@ impl<'a> LogText<'a> {
         ensures bytes { WriteAll (K.written sink.old) (K.written sink.new) (K.faults sink.old) (K.faults sink.new) self.now result }
         ensures faults { K.faults sink.old ≤ K.faults sink.new }
     {
-        write_lines(sink, &self.names, self.entries, self.behind.as_slice())
+        write_lines(sink, &self.names, self.entries, self.closing.as_slice())
     }
 }
 
@@ -107,17 +107,17 @@ fn make_room<K: ByteSink>(sink: &mut K, buffer: &mut ByteBuffer) -> Result<(), F
 fn write_last<K: ByteSink>(
     sink: &mut K,
     buffer: &mut ByteBuffer,
-    behind: &[u8],
+    closing: &[u8],
 ) -> Result<(), Failed>
-    ensures bytes { WriteAll (K.written sink.old) (K.written sink.new) (K.faults sink.old) (K.faults sink.new) (buffer.old ++ behind.now) result }
+    ensures bytes { WriteAll (K.written sink.old) (K.written sink.new) (K.faults sink.old) (K.faults sink.new) (buffer.old ++ closing.now) result }
     ensures faults { K.faults sink.old ≤ K.faults sink.new }
 {
-    if behind.len() <= buffer.left() {
-        buffer.put(behind);
+    if closing.len() <= buffer.left() {
+        buffer.put(closing);
         return write_all(sink, buffer.as_bytes());
     }
     write_all(sink, buffer.as_bytes())?;
-    write_all(sink, behind)
+    write_all(sink, closing)
 }
 
 /// Writes a line for each entry, and then those after them.
@@ -126,9 +126,9 @@ fn write_lines<K: ByteSink>(
     sink: &mut K,
     names: &ReadyNames,
     entries: &EntryList,
-    behind: &[u8],
+    closing: &[u8],
 ) -> Result<(), Failed>
-    ensures bytes { WriteAll (K.written sink.old) (K.written sink.new) (K.faults sink.old) (K.faults sink.new) (flat_map (entry_line names.now) entries.now ++ behind.now) result }
+    ensures bytes { WriteAll (K.written sink.old) (K.written sink.new) (K.faults sink.old) (K.faults sink.new) (flat_map (entry_line names.now) entries.now ++ closing.now) result }
     ensures faults { K.faults sink.old ≤ K.faults sink.new }
 {
     let mut buffer = ByteBuffer::new();
@@ -139,5 +139,5 @@ fn write_lines<K: ByteSink>(
         front.move_to(entry.time, entry.now);
         spell_entry(&mut buffer, names, &front, entry);
     }
-    write_last(sink, &mut buffer, behind)
+    write_last(sink, &mut buffer, closing)
 }

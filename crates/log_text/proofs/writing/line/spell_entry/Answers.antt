@@ -10,6 +10,6 @@ returns-in-Some-known_device-clause-text c =
     let words = c.in-Some-device_words.words in
     let front : c.text.result.now ≡ front_text e.time e.now = rw (c.text.ensures, c.requires.time, c.requires.word) refl in
     subst (λ (line : List ℕ). c.put_line.new.self ≡ c.args.out.now ++ line)
-    (device_line c.args.names.now e words.device c.text.result.now c.in-Some.maker.now words.verb words.phase c.in-Some-known_device.device.now words.after_piece
+    (device_line c.args.names.now e words.device c.text.result.now c.in-Some.maker.now words.verb words.phase c.in-Some-known_device.device.now words.ending
     front c.in-Some.ensures c.in-Some-known_device.ensures (c.in-Some-device_words.ensures c.args.names.now))
     c.put_line.ensures.text

@@ -13,9 +13,9 @@ returns-in_err-make_room-clause-bytes g c =
 pub loop-entry-preserved : goal.loop-entry-preserved
 loop-entry-preserved g c =
     let lines = flat_map (entry_line c.args.names.now) in
-    let behind = c.args.after_piece.now in
+    let closing = c.args.closing.now in
     record {
-      told = taken_on _ _ _ _ _ _ _ _ _ _ _ _ _ c.loop-entry.invariant.told c.in_ok-make_room.ensures.passes c.spell_entry.ensures.text (ap (λ es. lines es ++ behind) c.in-Some.ensures ∙ append_assoc _ _ behind);
+      told = taken_on _ _ _ _ _ _ _ _ _ _ _ _ _ c.loop-entry.invariant.told c.in_ok-make_room.ensures.passes c.spell_entry.ensures.text (ap (λ es. lines es ++ closing) c.in-Some.ensures ∙ append_assoc _ _ closing);
       later = omega (arith, c.loop-entry.invariant.later, c.make_room.ensures.faults);
     }
 

@@ -7,7 +7,7 @@ use Rattle.log_text.proofs.writing.stream.write_lines.Given as goal
 
 abbrev pub invariant-loop-entry : goal.invariant-loop-entry
 invariant-loop-entry g l = record {
-  told : Takes (g.K.ByteSink.written l.initial.sink) (g.K.ByteSink.written l.sink) (g.K.ByteSink.faults l.initial.sink) (g.K.ByteSink.faults l.sink) (flat_map (entry_line l.names) l.entries ++ l.after_piece) (l.buffer ++ (flat_map (entry_line l.names) (unread l.reader) ++ l.after_piece));
+  told : Takes (g.K.ByteSink.written l.initial.sink) (g.K.ByteSink.written l.sink) (g.K.ByteSink.faults l.initial.sink) (g.K.ByteSink.faults l.sink) (flat_map (entry_line l.names) l.entries ++ l.closing) (l.buffer ++ (flat_map (entry_line l.names) (unread l.reader) ++ l.closing));
   later : g.K.ByteSink.faults l.initial.sink ≤ g.K.ByteSink.faults l.sink;
 }
 
