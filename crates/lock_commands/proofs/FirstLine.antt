@@ -1,7 +1,8 @@
 -- The first line of a text, and what follows it.
 use Rattle.std.proofs.Common.{◌≡◌, ◌≢◌, ℕ, ◌==◌, ◌<◌, ◌≤◌, Bool, true, false, List, [], ◌∷◌, length, if◌then◌else◌, refl, ap, arith}
 use Rattle.std.specs.List.{onto_first}
-use Rattle.lock_commands.specs.Lines.{lines, before, after_first}
+use Rattle.sleep_base.specs.Cutting.{before, after_first}
+use Rattle.lock_commands.specs.Lines.{lines}
 
 -- what follows is no longer than the text
 no_longer : (mark : ℕ) (text : List ℕ) → length (after_first mark text) ≤ length text

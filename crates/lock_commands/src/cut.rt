@@ -1,20 +1,9 @@
 //! Texts, cut at the first byte of a value.
 
 ghost use Rattle.std.specs.Prelude.{◌≡◌, ◌≢◌, ◌<◌, ◌∷◌, [], length};
-ghost use Rattle.lock_commands.specs.Lines.{before, after_first, lines};
+ghost use Rattle.lock_commands.specs.Lines.{lines};
 
-/// The bytes before the first byte that is `mark`, and those after it: all and none if there is no such byte.
-pub(crate) fn cut(text: &[u8], mark: u8) -> (&[u8], &[u8])
-    ensures before { result.0.now ≡ before mark text.now }
-    ensures after_first { result.1.now ≡ after_first mark text.now }
-{
-    for i in 0..text.len() {
-        if text[i] == mark {
-            return (&text[..i], &text[i + 1..]);
-        }
-    }
-    (text, b"")
-}
+use sleep_base::cut;
 
 /// The first line of a text that is not empty, and what follows its newline.
 #[tactic(auto, using(crate::proofs::FirstLine::first_of, crate::proofs::FirstLine::shorter))]

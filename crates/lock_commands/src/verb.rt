@@ -5,8 +5,7 @@ ghost use Rattle.std.specs.Str.{bytes_eq};
 ghost use Rattle.lock_commands.specs.Lines.{rest};
 ghost use Rattle.lock_commands.specs.Verbs.{IsShort, milliseconds, starts_right, verb_alone, verb_before, verb_of};
 
-use crate::cut::cut;
-use sleep_base::are_digits;
+use sleep_base::{are_digits, cut};
 
 /// The longest wait, a day in ms, and the most digits of one.
 const MOST_MS: u64 = 86_400_000;

@@ -1,6 +1,6 @@
 -- A machine with a log of it in one input: the machine's file up to the first newline, and after it the log's text (own).
-use Rattle.std.specs.Prelude.{◌≡◌, ◌≤◌, ◌<◌, ℕ, ◌+◌, ◌==◌, List, length, take, drop, string_bytes, Some}
-use Rattle.std.specs.List.{position_or_len}
+use Rattle.std.specs.Prelude.{◌≡◌, ◌≤◌, ◌<◌, ℕ, List, length, string_bytes, Some}
+use Rattle.sleep_base.specs.Cutting.{before, after_first}
 use Rattle.sleep_model.specs.declared.log.Log.{Log}
 use Rattle.sleep_model.specs.declared.machine.Machine.{Machine}
 use Rattle.sleep_model.specs.Fits.{IsWritable}
@@ -11,17 +11,13 @@ use Rattle.program_ending.specs.declared.refusal.Refusal.{Refusal}
 use Rattle.program_ending.specs.declared.refusal.Refusal.TheVariants.{LongMachine, Broken, BadLine}
 use Rattle.program_ending.specs.Streams.{most_machine}
 
--- how many bytes come before the first newline; all if there is none
-abbrev pub line_length : List ℕ → ℕ
-line_length bytes = position_or_len (λ b. b == 10) bytes
-
 -- the machine's file: the bytes before the first newline
 abbrev pub file_in : List ℕ → List ℕ
-file_in bytes = take (line_length bytes) bytes
+file_in bytes = before 10 bytes
 
 -- the log's text: the bytes after it
 abbrev pub text_in : List ℕ → List ℕ
-text_in bytes = drop (line_length bytes + 1) bytes
+text_in bytes = after_first 10 bytes
 
 -- the machine that its file spells, and the log that fits it, whose text follows
 pub record IsLogIn (bytes : List ℕ) (m : Machine) (log : Log) : Type 0 where

@@ -8,12 +8,13 @@ ghost use Rattle.machine_file.specs.Reading.{links_among};
 ghost use Rattle.machine_file.specs.Whole.{IsSpelled, machine_in};
 ghost use Rattle.program_ending.specs.Streams.{most_machine};
 ghost use Rattle.program_ending.specs.CommandEndings.{Refuses};
-ghost use Rattle.log_commands.specs.Input.{IsBadInput, IsBadLog, IsBadMachine, IsLogIn, file_in, line_length, text_in};
+ghost use Rattle.log_commands.specs.Input.{IsBadInput, IsBadLog, IsBadMachine, IsLogIn, file_in, text_in};
 
 use device_links::Links;
 use log_text::{LogFault, read_log};
 use machine_file::{MachineFault, ReadMachine, read_machine};
 use program_ending::{Ending, MOST_MACHINE, Refusal};
+use sleep_base::cut;
 use sleep_model::{Log, Machine};
 use std::alloc::Global;
 
@@ -25,29 +26,12 @@ pub struct LogInput {
     pub log: Log,
 }
 
-/// How many bytes come before the first newline; all if there is none.
-fn line_length(bytes: &[u8]) -> usize
-    ensures is { result ≡ line_length bytes.now }
-    ensures most { result ≤ length bytes.now }
-{
-    for (place, byte) in bytes.iter().enumerate() {
-        if *byte == b'\n' {
-            return place;
-        }
-    }
-    bytes.len()
-}
-
 /// The bytes before the first newline, and those after it; without one, all and none.
 pub(crate) fn cut_line(bytes: &[u8]) -> (&[u8], &[u8])
     ensures file { result.0.now ≡ file_in bytes.now }
     ensures text { result.1.now ≡ text_in bytes.now }
 {
-    let (file, rest) = bytes.split_at(line_length(bytes));
-    match rest {
-        [_, text @ ..] => (file, text),
-        [] => (file, rest),
-    }
+    cut(bytes, b'\n')
 }
 
 /// The machine that these bytes spell, with its links.

@@ -7,7 +7,7 @@ use Rattle.std.proofs.lemmas.Fmt.{decimal_by_steps}
 use Rattle.std.proofs.Math.Seq.{take-append_seam}
 use Rattle.std.proofs.lemmas.List.{length-append}
 use Rattle.log_text.specs.Named.{is_name_byte}
-use Rattle.log_text.specs.Cutting.{before, after_first}
+use Rattle.sleep_base.specs.Cutting.{before, after_first}
 
 -- no byte is that one
 abbrev pub is_without : ℕ → List ℕ → Bool

@@ -2,7 +2,7 @@
 use Rattle.std.proofs.Common.{◌≡◌, ◌≢◌, ℕ, suc, ◌==◌, ◌+◌, ◌<◌, ◌≤◌, Bool, true, false, List, [], ◌∷◌, length, take, drop, if◌then◌else◌, refl, sym, ap, arith}
 use Rattle.std.specs.List.{onto_first}
 use Rattle.std.proofs.lemmas.Bool.{eqb-true}
-use Rattle.log_text.specs.Cutting.{before}
+use Rattle.sleep_base.specs.Cutting.{before}
 use Rattle.log_text.specs.Grammar.{lines}
 
 cut_at : (text : List ℕ) → length (before 10 text) < length text → lines text ≡ take (suc (length (before 10 text))) text ∷ lines (drop (suc (length (before 10 text))) text)

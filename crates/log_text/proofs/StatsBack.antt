@@ -16,7 +16,8 @@ use Rattle.sleep_model.specs.declared.machine.TaskKind.TheVariants as task
 use Rattle.sleep_model.specs.Fits.{fits_stats, fits_script, fits_cause, is_word32, is_word64}
 use Rattle.sleep_model.specs.Text.{space, newline, actor_text, script_text, script_word, task_name, times_text, source_line, waiting_text, waiting_line}
 use Rattle.log_text.specs.Named.{AreNamed}
-use Rattle.log_text.specs.Cutting.{after_first, without_last}
+use Rattle.sleep_base.specs.Cutting.{after_first}
+use Rattle.log_text.specs.Cutting.{without_last}
 use Rattle.log_text.specs.Reading.{times_in, stats_in, why_in, waiting_in, script_in}
 use Rattle.log_text.proofs.Cuts.{is_without, decimal_no_space, last_off}
 use Rattle.log_text.proofs.NumbersBack.{word32_back, word64_back, below32, below64}

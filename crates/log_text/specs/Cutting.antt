@@ -1,19 +1,10 @@
 -- How a line is cut into words, and what numbers they spell.
 use Rattle.std.specs.Prelude.{ℕ, ◌==◌, ◌+◌, ◌-◌, ◌*◌, ◌&&◌, List, [], ◌∷◌, length, take, Option, Some, None, option_and_then, position, if◌then◌else◌}
 use Rattle.std.specs.Str.{bytes_eq}
+use Rattle.sleep_base.specs.Cutting.{before, after_first}
 use Rattle.sleep_base.specs.Digits.{is_digit}
 use Rattle.sleep_model.specs.Fits.{is_word32, is_word64}
 use Rattle.log_text.specs.Named.{is_name_long}
-
--- the bytes before the first of that value, all where there is none
-abbrev pub before : ℕ → List ℕ → List ℕ
-before mark [] = []
-before mark (b ∷ bytes) = if b == mark then [] else b ∷ before mark bytes
-
--- the bytes after the first of that value, nothing if there is none
-abbrev pub after_first : ℕ → List ℕ → List ℕ
-after_first mark [] = []
-after_first mark (b ∷ bytes) = if b == mark then bytes else after_first mark bytes
 
 -- what stands before the first space
 abbrev pub word : List ℕ → List ℕ

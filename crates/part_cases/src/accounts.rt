@@ -5,7 +5,7 @@ ghost use Rattle.sleep_state.specs.TaskStates.{PositionIsSmall, MarksAreSmall};
 
 use crate::asked::{ReplyWord, Words, cut, found};
 use crate::kinds::entry_of;
-use crate::parts::{CaseRunner, answer_lines};
+use crate::parts::{CaseRunner, answer_all, reply_to};
 use crate::reply::{
     CaseReply, NO_CALL, NO_REPLY, Out, error, four, maybe, maybe_long, number, one, size,
 };
@@ -64,12 +64,7 @@ fn note(devices: &mut Devices, text: &str) -> CaseReply {
 impl CaseRunner for Devices {
     /// Answers a question about devices, or notes an entry.
     fn answer(&mut self, line: &str, out: &mut Out) {
-        let (word, rest) = cut(line, ' ');
-        let reply = match found(&VERBS, word) {
-            Some(verb) => reply_of(self, verb, Words::of(rest)),
-            None => note(self, rest),
-        };
-        out.say(reply);
+        out.say(reply_to!(self, line, VERBS, reply_of, note));
     }
 }
 
@@ -95,13 +90,7 @@ fn preserved_of(alloc: Global, text: &str) -> Result<Devices, Mem> {
 
 /// Answers the lines of devices.
 pub fn devices(alloc: Global, text: &str, lines: &str, out: &mut Out) {
-    match preserved_of(alloc, text) {
-        Ok(mut devices) => {
-            answer_lines(&mut devices, lines, out);
-            drop(devices);
-        }
-        Err(_) => out.lack(),
-    }
+    answer_all(preserved_of(alloc, text), lines, out);
 }
 
 /// A question about tasks.
@@ -190,22 +179,15 @@ fn note_task(tasks: &mut Tasks, text: &str) -> CaseReply {
 impl CaseRunner for Tasks {
     /// Answers a question about tasks, or notes an entry.
     fn answer(&mut self, line: &str, out: &mut Out) {
-        let (word, rest) = cut(line, ' ');
-        let reply = match found(&ASKS, word) {
-            Some(asks) => task_reply(self, asks, Words::of(rest)),
-            None => note_task(self, rest),
-        };
-        out.say(reply);
+        out.say(reply_to!(self, line, ASKS, task_reply, note_task));
     }
 }
 
 /// Answers the lines of tasks.
 pub fn tasks(alloc: Global, words: Words, lines: &str, out: &mut Out) {
-    match Tasks::new(alloc, words.number(0) as usize, words.number(1) as usize) {
-        Ok(mut tasks) => {
-            answer_lines(&mut tasks, lines, out);
-            drop(tasks);
-        }
-        Err(_) => out.lack(),
-    }
+    answer_all(
+        Tasks::new(alloc, words.number(0) as usize, words.number(1) as usize),
+        lines,
+        out,
+    );
 }

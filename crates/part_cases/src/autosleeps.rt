@@ -3,7 +3,7 @@
 use crate::asked::{ReplyWord, Words, cut, found};
 use crate::entry_replies::due_reply;
 use crate::kinds::entry_of;
-use crate::parts::{CaseRunner, answer_lines};
+use crate::parts::{CaseRunner, answer_lines, reply_to};
 use crate::paths::maker_reply;
 use crate::reply::{CaseReply, NO_CALL, NO_REPLY, Out, maybe_long, number, one, two};
 use autosleep_loop::Autosleep;
@@ -87,12 +87,7 @@ fn note(auto: &mut Autosleep, text: &str) -> CaseReply {
 impl CaseRunner for Autosleep {
     /// Answers a question about the work, or notes an entry.
     fn answer(&mut self, line: &str, out: &mut Out) {
-        let (word, rest) = cut(line, ' ');
-        let reply = match found(&VERBS, word) {
-            Some(verb) => reply_of(self, verb, Words::of(rest)),
-            None => note(self, rest),
-        };
-        out.say(reply);
+        out.say(reply_to!(self, line, VERBS, reply_of, note));
     }
 }
 

@@ -5,8 +5,8 @@ use crate::asked::{ReplyWord, Words, cut, found};
 use crate::boards_due::asked_reply;
 use crate::kinds::kind_of;
 use crate::links::parents_in;
-use crate::parts::{CaseRunner, answer_lines};
-use crate::reply::{CaseReply, NO_CALL, NO_REPLY, Out, maybe, one, two};
+use crate::parts::{CaseRunner, answer_all};
+use crate::reply::{CaseReply, NO_REPLY, Out, maybe, noted, one, two};
 use async_board::{
     Board, board_tells, is_direct_complete, is_down_in, is_not_down, is_not_up, is_prepared,
     is_ready, is_taken,
@@ -162,13 +162,7 @@ fn changed(board: &mut Board, change: Change, words: Words) -> CaseReply {
 
 /// Notes an entry.
 fn note(board: &mut Board, text: &str) -> CaseReply {
-    match kind_of(text) {
-        Some(kind) => {
-            board.note(kind);
-            NO_REPLY
-        }
-        None => NO_CALL,
-    }
+    noted(kind_of(text).map(|kind| board.note(kind)))
 }
 
 /// What is answered to a line that is no question.
@@ -250,13 +244,7 @@ fn board_case(alloc: Global, text: &str) -> Result<BoardCase, Mem> {
 
 /// Answers the lines of a board.
 pub fn boards(alloc: Global, text: &str, lines: &str, out: &mut Out) {
-    match board_case(alloc, text) {
-        Ok(mut case) => {
-            answer_lines(&mut case, lines, out);
-            drop(case);
-        }
-        Err(_) => out.lack(),
-    }
+    answer_all(board_case(alloc, text), lines, out);
 }
 
 /// What holds of a state: that it is prepared, ready, not down, down, direct-complete, not up, taken.

@@ -2,7 +2,7 @@
 
 use crate::asked::{ReplyWord, Words, cut, found};
 use crate::kinds::entry_of;
-use crate::parts::{CaseRunner, answer_lines};
+use crate::parts::{CaseRunner, answer_lines, reply_to};
 use crate::reply::{CaseReply, NO_CALL, NO_REPLY, Out, long, maybe, number, three, two};
 use sleep_base::Mem;
 use sleep_model::{Group, ListOf, Name, Script, TaskKind};
@@ -79,12 +79,7 @@ fn note(freezer: &mut Freezer<'_>, text: &str) -> CaseReply {
 impl CaseRunner for Freezer<'_> {
     /// Answers a question about the freezer, or notes an entry.
     fn answer(&mut self, line: &str, out: &mut Out) {
-        let (word, rest) = cut(line, ' ');
-        let reply = match found(&VERBS, word) {
-            Some(verb) => reply_of(self, verb, Words::of(rest)),
-            None => note(self, rest),
-        };
-        out.say(reply);
+        out.say(reply_to!(self, line, VERBS, reply_of, note));
     }
 }
 

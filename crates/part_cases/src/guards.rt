@@ -2,7 +2,7 @@
 
 use crate::asked::{ReplyWord, Words, cut, found};
 use crate::kinds::kind_of;
-use crate::parts::{CaseRunner, answer_lines};
+use crate::parts::{CaseRunner, answer_lines, reply_to};
 use crate::reply::{CaseReply, NO_CALL, NO_REPLY, Out, maybe, number, one};
 use wakeup_guard::Guard;
 
@@ -63,12 +63,7 @@ fn note<const BITS: u32>(guard: &mut Guard<BITS>, text: &str) -> CaseReply {
 impl<const BITS: u32> CaseRunner for Guard<BITS> {
     /// Answers a question about the guard, or notes an entry.
     fn answer(&mut self, line: &str, out: &mut Out) {
-        let (word, rest) = cut(line, ' ');
-        let reply = match found(&VERBS, word) {
-            Some(verb) => answer(self, verb, Words::of(rest)),
-            None => note(self, rest),
-        };
-        out.say(reply);
+        out.say(reply_to!(self, line, VERBS, answer, note));
     }
 }
 

@@ -4,7 +4,7 @@ ghost use Rattle.std.specs.Prelude.{◌<◌, IfOk, IfSome};
 ghost use Rattle.sleep_model.specs.Order.{EachAfterParent};
 
 use crate::asked::{ReplyWord, Words, cut, found};
-use crate::parts::{CaseRunner, answer_lines};
+use crate::parts::{CaseRunner, answer_all};
 use crate::reply::{CaseReply, NO_CALL, Out, one};
 use device_links::{LinkFault, Links};
 use sleep_base::Mem;
@@ -139,11 +139,5 @@ fn unlinked(alloc: Global, text: &str) -> Result<Links, Mem> {
 
 /// Answers the lines of links.
 pub fn links(alloc: Global, text: &str, lines: &str, out: &mut Out) {
-    match unlinked(alloc, text) {
-        Ok(mut links) => {
-            answer_lines(&mut links, lines, out);
-            drop(links);
-        }
-        Err(_) => out.lack(),
-    }
+    answer_all(unlinked(alloc, text), lines, out);
 }

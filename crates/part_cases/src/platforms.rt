@@ -3,7 +3,7 @@
 use crate::asked::{Words, cut, found};
 use crate::entry_replies::kind_reply;
 use crate::machines::empty_machine;
-use crate::parts::{CaseRunner, answer_lines};
+use crate::parts::{CaseRunner, answer_all};
 use crate::reply::{CaseReply, NO_CALL, Out, maybe, one};
 use platform_steps::Platform;
 use sleep_base::Mem;
@@ -128,11 +128,5 @@ fn platform_in(alloc: Global, text: &str) -> Result<Platform, Mem> {
 
 /// Answers the lines of a platform.
 pub fn platforms(alloc: Global, text: &str, lines: &str, out: &mut Out) {
-    match platform_in(alloc, text) {
-        Ok(mut platform) => {
-            answer_lines(&mut platform, lines, out);
-            drop(platform);
-        }
-        Err(_) => out.lack(),
-    }
+    answer_all(platform_in(alloc, text), lines, out);
 }

@@ -28,6 +28,14 @@ pub const NO_CALL: CaseReply = CaseReply {
     ],
 };
 
+/// The answer to an entry: no words if the part noted it.
+pub fn noted(done: Option<()>) -> CaseReply {
+    match done {
+        Some(()) => NO_REPLY,
+        None => NO_CALL,
+    }
+}
+
 /// An answer of one word.
 pub fn one(word: ReplyWord) -> CaseReply {
     five(

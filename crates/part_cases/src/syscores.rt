@@ -3,8 +3,8 @@
 use crate::asked::{ReplyWord, Words, cut, found};
 use crate::entry_replies::kind_reply;
 use crate::kinds::kind_of;
-use crate::parts::{CaseRunner, answer_lines};
-use crate::reply::{CaseReply, NO_CALL, NO_REPLY, Out, maybe, one};
+use crate::parts::{CaseRunner, answer_all, reply_to};
+use crate::reply::{CaseReply, Out, maybe, noted, one};
 use std::alloc::Global;
 use syscore_ops::Syscore;
 
@@ -52,34 +52,17 @@ fn reply_of(core: &mut Syscore, verb: SyscoreCall, words: Words) -> CaseReply {
 
 /// Notes an entry.
 fn note(core: &mut Syscore, text: &str) -> CaseReply {
-    match kind_of(text) {
-        Some(kind) => {
-            core.note(kind);
-            NO_REPLY
-        }
-        None => NO_CALL,
-    }
+    noted(kind_of(text).map(|kind| core.note(kind)))
 }
 
 impl CaseRunner for Syscore {
     /// Answers a call on the core's parts, or notes an entry.
     fn answer(&mut self, line: &str, out: &mut Out) {
-        let (word, rest) = cut(line, ' ');
-        let reply = match found(&VERBS, word) {
-            Some(verb) => reply_of(self, verb, Words::of(rest)),
-            None => note(self, rest),
-        };
-        out.say(reply);
+        out.say(reply_to!(self, line, VERBS, reply_of, note));
     }
 }
 
 /// Answers the lines of these parts.
 pub fn syscores(alloc: Global, words: Words, lines: &str, out: &mut Out) {
-    match Syscore::new(alloc, words.number(0)) {
-        Ok(mut core) => {
-            answer_lines(&mut core, lines, out);
-            drop(core);
-        }
-        Err(_) => out.lack(),
-    }
+    answer_all(Syscore::new(alloc, words.number(0)), lines, out);
 }

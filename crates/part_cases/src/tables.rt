@@ -1,7 +1,7 @@
 //! Rows of numbers, stacks and flags: `rows COUNT`, `stack`, `flags COUNT`.
 
 use crate::asked::{ReplyWord, Words, cut};
-use crate::parts::{CaseRunner, answer_lines};
+use crate::parts::{CaseRunner, answer_all, answer_lines};
 use crate::reply::{CaseReply, NO_CALL, NO_REPLY, Out, maybe, one, size};
 use device_rows::{Flags, Rows, Stack};
 use sleep_base::Mem;
@@ -64,13 +64,7 @@ impl CaseRunner for Rows {
 
 /// Answers the lines of rows.
 pub fn rows(alloc: Global, words: Words, lines: &str, out: &mut Out) {
-    match Rows::with_rows(alloc, words.number(0) as usize) {
-        Ok(mut rows) => {
-            answer_lines(&mut rows, lines, out);
-            drop(rows);
-        }
-        Err(_) => out.lack(),
-    }
+    answer_all(Rows::with_rows(alloc, words.number(0) as usize), lines, out);
 }
 
 impl CaseRunner for Stack<u32> {
@@ -109,11 +103,5 @@ impl CaseRunner for Flags {
 
 /// Answers the lines of flags.
 pub fn flags(alloc: Global, words: Words, lines: &str, out: &mut Out) {
-    match Flags::new(alloc, words.number(0) as usize) {
-        Ok(mut flags) => {
-            answer_lines(&mut flags, lines, out);
-            drop(flags);
-        }
-        Err(_) => out.lack(),
-    }
+    answer_all(Flags::new(alloc, words.number(0) as usize), lines, out);
 }

@@ -49,31 +49,18 @@ fn line_of(text: &str) -> Option<Line> {
     Some(Line { verb, number })
 }
 
-/// How many bytes precede the first newline; all if there is none.
-fn line_length(bytes: &[u8]) -> usize
-    ensures { result ≤ length bytes.now }
-{
-    for (place, byte) in bytes.iter().enumerate() {
-        if *byte == b'\n' {
-            return place;
-        }
-    }
-    bytes.len()
-}
-
 /// The text of the first line, and the bytes after it. `None` if it has no newline or is no text.
 pub(crate) fn cut_text(bytes: &[u8]) -> Option<(&str, &[u8])> {
-    let (text, rest) = bytes.split_at(line_length(bytes));
-    let (_, behind) = rest.split_first()?;
-    let text = str::from_utf8(text).ok()?;
-    Some((text, behind))
+    let end = bytes.iter().position(|byte| *byte == b'\n')?;
+    let text = str::from_utf8(&bytes[..end]).ok()?;
+    Some((text, &bytes[end + 1..]))
 }
 
 /// The first line, and the bytes after it.
 pub(crate) fn cut_line(bytes: &[u8]) -> Option<(Line, &[u8])> {
-    let (text, behind) = cut_text(bytes)?;
+    let (text, after) = cut_text(bytes)?;
     let line = line_of(text)?;
-    Some((line, behind))
+    Some((line, after))
 }
 
 /// That many bytes, and those after the newline that follows them.
@@ -82,6 +69,6 @@ pub(crate) fn cut_piece(bytes: &[u8], count: usize) -> Option<(&[u8], &[u8])> {
         return None;
     }
     let (piece, rest) = bytes.split_at(count);
-    let (_, behind) = rest.split_first()?;
-    Some((piece, behind))
+    let (_, after) = rest.split_first()?;
+    Some((piece, after))
 }

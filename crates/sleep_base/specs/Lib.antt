@@ -1,5 +1,6 @@
 -- The definitions of this crate.
 pub mod Calls
+pub mod Cutting
 pub mod Digits
 pub mod Errno
 pub mod Faults

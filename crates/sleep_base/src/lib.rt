@@ -9,6 +9,7 @@
 //! Begin reading in `src/outside.rt`, `src/errno.rt`.
 #![tactic(auto)]
 
+mod cutting;
 mod digits;
 mod errno;
 mod memory;
@@ -17,6 +18,7 @@ mod standard;
 mod wait;
 mod whole;
 
+pub use cutting::cut;
 pub use digits::are_digits;
 pub use errno::Errno;
 pub use memory::{MemSink, MemSource};

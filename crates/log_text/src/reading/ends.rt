@@ -2,10 +2,11 @@ ghost use Rattle.std.specs.Prelude.{◌≡◌, true, IfSome};
 ghost use Rattle.sleep_model.specs.Fits.{fits_stats, fits_script, fits_cause, is_word32};
 ghost use Rattle.log_text.specs.Reading.{times_in, stats_in, why_in, waiting_in};
 
-use crate::reading::cut::{cut, first_word, is};
+use crate::reading::cut::{first_word, is};
 use crate::reading::machine_names::MachineNames;
 use crate::reading::number::{word32, word64};
 use crate::spelling::verb::Verb;
+use sleep_base::cut;
 use sleep_model::{Actor, Stats, Waiting, Why};
 
 /// The statistics with these counts, by the text of the times after them.

@@ -2,11 +2,12 @@ ghost use Rattle.std.specs.Prelude.{◌≡◌, true, IfSome};
 ghost use Rattle.sleep_model.specs.Fits.{fits_word, fits_actor, fits_entry, is_word64};
 ghost use Rattle.log_text.specs.Reading.{now_in, actor_in, entry_by_text, entry_in};
 
-use crate::reading::cut::{cut, first_word, is};
+use crate::reading::cut::{first_word, is};
 use crate::reading::kinds::kind_in;
 use crate::reading::machine_names::MachineNames;
 use crate::reading::number::{word32, word64};
 use crate::spelling::fixed::{AUTO, DEVICE, TIME, TIMER};
+use sleep_base::cut;
 use sleep_model::{Actor, Entry, EventNow};
 
 /// The word that the text spells: events in progress, registered, hard.

@@ -3,8 +3,7 @@
 ghost use Rattle.std.specs.Prelude.{◌≡◌, ◌≢◌, ◌++◌, ◌∷◌, ◌+◌, ◌<◌, [], length, IfOk};
 ghost use Rattle.log_text.specs.Grammar.{lines};
 
-use crate::reading::cut::cut;
-use sleep_base::Mem;
+use sleep_base::{Mem, cut};
 
 /// The first line of a text that is not empty, with its newline, if it has one, and what stands
 /// after it.

@@ -6,12 +6,13 @@ ghost use Rattle.sleep_model.specs.Fits.{fits_actor, fits_kind};
 ghost use Rattle.sleep_model.specs.Text.{body, device as device_of, newline};
 ghost use Rattle.log_text.specs.Front.{maker_text};
 
-use crate::reading::cut::{cut, first_word};
+use crate::reading::cut::first_word;
 use crate::reading::entries::actor_in;
 use crate::reading::machine_names::MachineNames;
 use crate::reading::pieces::{after_byte, after_last_word, after_piece, after_word, phase_first};
 use crate::spelling::fixed::{AUTO, NO_ERROR, TIME};
 use crate::spelling::verb::Verb;
+use sleep_base::cut;
 use sleep_model::{Actor, Kind, SkipCause};
 
 /// What stands after the name of that device and that byte. None if the text begins otherwise.

@@ -1,6 +1,6 @@
 use Rattle.std.proofs.Common.{◌≡◌, ◌++◌, take, drop}
-use Rattle.log_text.specs.Cutting.{before, after_first}
-use Rattle.log_text.proofs.reading.cut.cut.Given as goal
+use Rattle.sleep_base.specs.Cutting.{before, after_first}
+use Rattle.sleep_base.proofs.cutting.cut.Given as goal
 
 -- the first byte of that value is not among those so far
 abbrev pub invariant-loop-i : goal.invariant-loop-i
