@@ -55,11 +55,11 @@ fn ticks_after(moment: Moment, one: JournalEntry) -> Option<u32>
     if moment.time != entry.time || moment.now != entry.now || moment.stamp.pos != stamp.pos {
         return None;
     }
-    let ticks = stamp.tick.checked_sub(moment.stamp.tick)?;
-    if ticks > u64::from(u32::MAX) {
+    let first = moment.stamp.tick;
+    if stamp.tick < first || stamp.tick - first > u64::from(u32::MAX) {
         return None;
     }
-    Some(ticks as u32)
+    Some((stamp.tick - first) as u32)
 }
 
 /// The entry's moment, the last or a new one, and how many ticks the entry stands after its first.
