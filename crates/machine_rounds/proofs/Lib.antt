@@ -9,6 +9,7 @@ pub mod CameBack
 pub mod Fields
 pub mod FirstTasks
 pub mod JobsPreserved
+pub mod NumberSetBits
 pub mod Numbered
 pub mod Idling
 pub mod SeatsPreserved

@@ -2,6 +2,7 @@
 pub mod BurstsOf
 pub mod JobsFields
 pub mod JobsOf
+pub mod NumberSets
 pub mod Refused
 pub mod RunFields
 pub mod Runs

@@ -1,0 +1,11 @@
+use Rattle.std.proofs.Common.{◌≡◌, ℕ, length, replicate, ap, ◌∙◌}
+use Rattle.machine_rounds.specs.NumberSets.{bits_of}
+use Rattle.machine_rounds.proofs.NumberSetBits.{bits_of-none}
+use Rattle.machine_rounds.proofs.asks.Asks.clear.Goals as goal
+
+pub returns : goal.returns
+returns c =
+    let words = c.self.inside.words.items in
+    let long : c.self.inside.words.len ≡ length words = c.self.inside.words.ok.0 in
+    rw (← c.self.view_is)
+    (ap bits_of (c.fill.ensures.items (λ y same. same) ∙ ap (λ n. replicate n 0) long) ∙ bits_of-none words)
