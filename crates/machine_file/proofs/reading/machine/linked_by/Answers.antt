@@ -7,8 +7,8 @@ use Rattle.machine_file.specs.ValidFiles.{broken_devices, broken_ends, broken_cy
 use Rattle.machine_file.proofs.Grouping.{joined_groups, few_known, no_cycle, or_none}
 use Rattle.machine_file.proofs.reading.machine.linked_by.Goals as goal
 
-pub linking_of-requires-clause-joined_groups : goal.linking_of-requires-clause-joined_groups
-linking_of-requires-clause-joined_groups c = joined_groups (view c.args.tree.now) c.requires.form c.requires.devices c.requires.ends
+pub linking_of-requires-clause-joined : goal.linking_of-requires-clause-joined
+linking_of-requires-clause-joined c = joined_groups (view c.args.tree.now) c.requires.form c.requires.devices c.requires.ends
 
 pub returns-in-None-clause-sound : goal.returns-in-None-clause-sound
 returns-in-None-clause-sound c =
