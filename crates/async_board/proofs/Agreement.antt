@@ -1,4 +1,4 @@
--- What a board tells at a place of a machine's log.
+-- What a board answers after entries of a machine's log.
 use Rattle.std.proofs.Common.{◌≡◌, ℕ, true, not, ◌&&◌, List, [], ◌∷◌, length, map, reverse, replicate, refl, sym, ap}
 use Rattle.std.proofs.lemmas.List.{length-map}
 use Rattle.std.proofs.lemmas.Bool.{false≢true}
@@ -19,7 +19,7 @@ use Rattle.sleep_model.specs.Walk.{first_where, last_where}
 use Rattle.async_board.specs.Boards.{states_on, first_board, board_after}
 use Rattle.async_board.specs.AtPoints.{board_at, Agrees}
 
--- the stands of a phase on the way down
+-- the states of a phase on the way down
 pub states_down : (m : Machine) (past : List Entry) (p : Phase) → is_down p ≡ true → states_on (board_at m past) p ≡ phase_states (length m.devices) p past
 states_down m past phase.Suspend e = refl
 states_down m past phase.Late e = refl
@@ -33,7 +33,7 @@ board_first m =
     (length-map m.devices (λ (x : Device). x.parent))
 
 module _ (m : Machine) (past : List Entry) where
-  -- what is asked of the board is what the definitions tell
+  -- what the board answers is what the definitions say
   pub agrees : Agrees m past (board_at m past)
   agrees = record {
     asynchronous = λ d. refl;
@@ -51,7 +51,7 @@ module _ (m : Machine) (past : List Entry) where
     left_alone = λ d. refl;
   }
 
--- an entry that changes no link moves the board alone
+-- an entry that changes no link moves only the board
 pub board_next : (m : Machine) (past : List Entry) (e : Entry) → links_after e.kind (links_at m past) ≡ links_at m past → board_after e.kind (board_at m past) ≡ board_at m (e ∷ past)
 board_next m past e same =
     ap (λ (ls : List Link). record { parents = parents_of m.devices; links = ls; asynchronous = map is_async m.devices; suspend = phase_states (length m.devices) phase.Suspend (e ∷ past); late = phase_states (length m.devices) phase.Late (e ∷ past); noirq = phase_states (length m.devices) phase.Noirq (e ∷ past) }) (sym same)

@@ -8,13 +8,13 @@ use Rattle.sleep_model.proofs.Walks.{AllDifferent, same_eq}
 use Rattle.sleep_model.proofs.Dependents.{among_app, among_rest}
 use Rattle.async_board.specs.Counts.{one, IsLoweredAt, IsRaisedAt, AreLowered, AreRaised}
 
--- what stands at a place is among the list
+-- what is at an index is among the list
 pub among_at : (xs : List ℕ) (i : ℕ) → i < length xs → is_among xs (get_or xs i 0) ≡ true
 among_at [] i l = absurd (omega arith)
 among_at (x ∷ xs) zero l = ap (λ b. b || is_among xs x) (same_eq x)
 among_at (x ∷ xs) (suc i) l = among_rest x xs (get_or xs i 0) (among_at xs i (omega arith))
 
--- what stands at a place of different numbers is not among those before it
+-- what is at an index of different numbers is not among those before it
 pub not_before : (xs : List ℕ) (i : ℕ) → AllDifferent xs → i < length xs → is_among (take i xs) (get_or xs i 0) ≡ false
 not_before [] i h l = absurd (omega arith)
 not_before (x ∷ xs) zero h l = refl

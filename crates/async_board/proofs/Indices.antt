@@ -1,4 +1,4 @@
--- The place of each device in an order of different devices.
+-- The index of each device in an order of different devices.
 use Rattle.std.proofs.Common.{◌≡◌, ◌<◌, ◌+◌, ◌∙◌, ℕ, zero, suc, Bool, true, false, ◌==◌, ◌⊎◌, inl, inr, List, [], ◌∷◌, length, get_or, set, sym, ap, subst, arith, get_or-set_same, get_or-set_other, below_more}
 use Rattle.std.specs.Bool.{OnTrue}
 use Rattle.std.proofs.lemmas.Bool.{cases_eq, false≢true, eqb-true, or_cases}
@@ -8,14 +8,14 @@ use Rattle.async_board.specs.Counts.{IsLengths}
 use Rattle.async_board.specs.Walks.{AreIndices}
 use Rattle.async_board.proofs.Counting.{among_at}
 
--- a device stands at one place alone
+-- a device is at only one index
 place_once : (xs : List ℕ) (i j : ℕ) → AllDifferent xs → i < j → j < length xs → get_or xs i 0 ≡ get_or xs j 0 → ⊥
 place_once [] i j h l m e = omega arith
 place_once (x ∷ xs) i zero h l m e = omega arith
 place_once (x ∷ xs) zero (suc j) h l m e = false≢true (sym h.0 ∙ (ap (is_among xs) e ∙ among_at xs j (omega arith)))
 place_once (x ∷ xs) (suc i) (suc j) h l m e = place_once xs i j h.1 (omega arith) (omega arith) e
 
--- one more device has its place
+-- one more device has its index
 pub places_more : (order indices : List ℕ) (i : ℕ) → AllDifferent order → i < length order → get_or order i 0 < length indices
     → ((j : ℕ) → j < i → get_or indices (get_or order j 0) 0 ≡ j) → (j : ℕ) → j < i + 1 → get_or (set indices (get_or order i 0) i) (get_or order j 0) 0 ≡ j
 places_more order indices i apart l within h =
@@ -23,12 +23,12 @@ places_more order indices i apart l within h =
     (λ j m. get_or-set_other indices (get_or order i 0) (get_or order j 0) i 0 (place_once order j i apart m l) ∙ h j m)
     (get_or-set_same indices (get_or order i 0) i 0 within)
 
--- where the order stays its places do
+-- if the order stays its indices do
 pub placed_still : (stays : Bool) (new old indices : List ℕ) → OnTrue stays (new ≡ old) → AreIndices old indices → OnTrue stays (AreIndices new indices)
 placed_still true new old indices e h = subst (λ (o : List ℕ). AreIndices o indices) (sym e) h
 placed_still false new old indices e h = tt
 
--- who is among a list stands at a place
+-- who is among a list is at an index
 pub found : (xs : List ℕ) (d : ℕ) → is_among xs d ≡ true → (i : ℕ) × (i < length xs) × (get_or xs i 0 ≡ d)
 found [] d m = absurd (false≢true m)
 found (x ∷ xs) d m = by_place (found xs d) (or_cases (x == d) (is_among xs d) m)
@@ -37,7 +37,7 @@ found (x ∷ xs) d m = by_place (found xs d) (or_cases (x == d) (is_among xs d) 
     by_place rest (inl e) = (0, omega arith, eqb-true x d e)
     by_place rest (inr e) = let r = rest e in let l : suc r.0 < suc (length xs) = omega (arith, r.1) in (suc r.0, l, r.2)
 
--- all have their places
+-- all have their indices
 pub placed_all : (order indices : List ℕ) → ((d : ℕ) → d < length order → is_among order d ≡ true) → length indices ≡ length order
     → ((i : ℕ) → i < length order → get_or indices (get_or order i 0) 0 ≡ i) → AreIndices order indices
 placed_all order indices covers size once = record {

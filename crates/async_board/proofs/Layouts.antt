@@ -46,7 +46,7 @@ module _ (ps : List (Option ℕ)) (ls : List Link) (states : List PhaseState) (d
       (subst (λ (x : Bool). AreShifted row x (is_not_down (state_at (set states d s) d)) counts new) b
       (subst (λ (x : Bool). AreShifted row was x counts new) (c ∙ sym (ap is_not_down (states_anew states d s d_stands))) t)))
 
-  -- it is not through as little as before
+  -- it is done or not, as before
   pub below_same : IsBelow ps ls states counts → (was is : Bool) → was ≡ is_not_down (state_at states d) → is ≡ is_not_down s → not (beq was is) ≡ false → IsBelow ps ls (set states d s) counts
   below_same h was is a b e =
       below_moved h (first_occurrences (superiors ps (active_of ls) d)) was is counts refl a b

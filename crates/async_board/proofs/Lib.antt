@@ -1,3 +1,4 @@
+-- The lemmas of this crate, by file.
 pub mod Counting
 pub mod Layouts
 pub mod Moved

@@ -11,13 +11,13 @@ use Rattle.async_board.specs.declared.cursors.Moved.{Moved}
 use Rattle.async_board.specs.Picks.{picks, is_picked, IsPassed, IsAhead}
 use Rattle.async_board.specs.Cursors.{IsPassedBut, IsAheadBut, IsMoved}
 
--- the device that moved is looked for by where it stands now
+-- the device that moved is looked for by its present state
 pub moved_here : (asynchronous : List Bool) (states : List PhaseState) (order : List ℕ) (m : Moved) (what : Pick) → IsMoved asynchronous states order m
     → is_picked what asynchronous states (get_or order m.place 0) ≡ picks what m.after m.asynchronous
 unfolding is_picked
 moved_here asynchronous states order m what h = sym (ap (λ s. picks what s m.asynchronous) h.after ∙ ap (λ b. picks what (state_at states (get_or order m.place 0)) b) h.asynchronous)
 
--- none passes, where the one that moved does not either
+-- none passes, if the one that moved does not either
 pub passed_now : (k : ℕ) (was : Bool) (p : ℕ → Bool) (xs : List ℕ) (at : ℕ) → IsPassedBut k was p xs at → p (get_or xs k 0) ≡ false → IsPassed p xs at
 passed_now k was p xs at h e = record { fits = h.fits; before = λ i l. by_place i l (cases_eq i k) }
   where
@@ -32,7 +32,7 @@ ahead_now k was p xs at h e = record { fits = h.fits; behind = λ i l m. by_plac
     by_place i l m (inl same) = subst (λ (j : ℕ). p (get_or xs j 0) ≡ false) (sym same) e
     by_place i l m (inr other) = h.behind i l m other
 
--- none passes, where the one that moved does as before
+-- none passes, if the one that moved does as before
 pub passed_still : (k : ℕ) (was : Bool) (p : ℕ → Bool) (xs : List ℕ) (at : ℕ) → IsPassedBut k was p xs at → p (get_or xs k 0) ≡ was → IsPassed p xs at
 passed_still k was p xs at h e = record { fits = h.fits; before = λ i l. by_place i l (cases_eq i k) }
   where

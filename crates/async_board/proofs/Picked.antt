@@ -3,7 +3,7 @@ use Rattle.std.proofs.Common.{◌≡◌, ◌<◌, ◌≤◌, ◌-◌, ◌∙◌,
 use Rattle.sleep_model.specs.Walk.{first_where, last_where, or_else}
 use Rattle.async_board.specs.Picks.{IsFirst, IsLast}
 
--- the first place that passes has the first device that does
+-- the first index that passes has the first device that does
 first_at : (p : ℕ → Bool) (xs : List ℕ) (at : ℕ) → at ≤ length xs → ((i : ℕ) → i < at → p (get_or xs i 0) ≡ false)
     → (at < length xs → p (get_or xs at 0) ≡ true) → first_where p xs ≡ slice_get xs at
 first_at p [] at fits before here = refl
@@ -15,14 +15,14 @@ first_at p (x ∷ xs) (suc at) fits before here =
 pub first_is : (p : ℕ → Bool) (xs : List ℕ) (at : ℕ) → IsFirst p xs at → first_where p xs ≡ slice_get xs at
 first_is p xs at h = first_at p xs at h.passed.fits h.passed.before h.here
 
--- none passes where none does
+-- none passes if none does
 none_passes : (p : ℕ → Bool) (xs : List ℕ) → ((i : ℕ) → i < length xs → p (get_or xs i 0) ≡ false) → last_where p xs ≡ None
 none_passes p [] h = refl
 none_passes p (x ∷ xs) h =
     ap (λ o. or_else o (cond (p x) (Some x) None)) (none_passes p xs (λ i l. h (suc i) (omega arith)))
     ∙ ap (λ b. cond b (Some x) None) (h 0 (omega arith))
 
--- the last place that passes has the last device that does
+-- the last index that passes has the last device that does
 last_at : (p : ℕ → Bool) (xs : List ℕ) (k : ℕ) → k < length xs → ((i : ℕ) → k < i → i < length xs → p (get_or xs i 0) ≡ false)
     → p (get_or xs k 0) ≡ true → last_where p xs ≡ slice_get xs k
 last_at p [] k l behind here = absurd (omega arith)

@@ -1,4 +1,4 @@
--- What stays of a pair of phases in which no device is prepared, where a link changes.
+-- What stays of a pair of phases in which no device is prepared, if a link changes.
 use Rattle.std.proofs.Common.{◌≡◌, ◌≢◌, ◌<◌, ◌∙◌, ℕ, Bool, true, false, ◌==◌, List, [], ◌∷◌, ◌++◌, length, map, replicate, get_or, None, refl, sym, ap, subst, cond, arith}
 use Rattle.std.proofs.lemmas.List.{append-nil, ext_get_or, length-replicate}
 use Rattle.std.proofs.lemmas.Bool.{true≢false, ne_eqb, eqb-true, and_parts}
@@ -17,7 +17,7 @@ use Rattle.async_board.specs.Walks.{IsWalk, MayRestart, order_of}
 use Rattle.async_board.proofs.Indices.{found}
 use Rattle.async_board.proofs.Stood.{fresh_states, all_pass, none_pass, zeros}
 
--- ---- a link shows below its supplier alone
+-- ---- a link shows only below its supplier
 
 -- a link of another supplier shows nothing below d, active or not
 silent : (d : ℕ) (active : Bool) (l : Link) (ls : List Link) → (l.supplier == d) ≡ false → consumers_of d (cond active (l ∷ ls) ls) ≡ consumers_of d ls

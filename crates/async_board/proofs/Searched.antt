@@ -52,7 +52,7 @@ all_once p (x ∷ xs) = by_test (all_once p xs) (p x) refl
     by_test rest true e = all_others p x (first_occurrences xs) e ∙ rest
     by_test rest false e = refl
 
--- where none passes, none is found
+-- if none passes, none is found
 none_found : (p : ℕ → Bool) (xs : List ℕ) → length (filter p xs) ≡ 0 → first_where p xs ≡ None
 none_found p [] e = refl
 none_found p (x ∷ xs) e = by_test (none_found p xs) (p x) refl e

@@ -20,7 +20,7 @@ use Rattle.async_board.specs.Picks.{picks, is_picked, IsPassed, IsAhead}
 use Rattle.async_board.specs.Cursors.{IsPassedBut, IsAheadBut, IsMoved, AreCursors, AreCursorsBut}
 use Rattle.async_board.specs.Walks.{AreIndices, IsBelow, IsAbove, IsWalk, order_of}
 
--- a device that is put where it stands moves nothing
+-- a device that is put in the state that it has moves nothing
 pub states_stay : (states : List PhaseState) (d : ℕ) (after : PhaseState) → after ≡ state_at states d → set states d after ≡ states
 states_stay states d after e = ap (set states d) e ∙ set-get_or states d state.Unprepared
 
@@ -78,7 +78,7 @@ module _ (asynchronous : List Bool) (states : List PhaseState) (order indices : 
       prepared = ahead_but pick.Prepared c.prepared h.prepared;
     }
 
-    -- the device that moved, as it stands now
+    -- the device that moved, in its present state
     pub is_moved : m.after ≡ s → d < length states → IsMoved asynchronous (set states d s) order m
     is_moved after l = record {
       within = rw place (placed.within d within);
@@ -86,7 +86,7 @@ module _ (asynchronous : List Bool) (states : List PhaseState) (order indices : 
       asynchronous = flag ∙ ap (is_so asynchronous) (sym device_here);
     }
 
--- ---- the first stands
+-- ---- the first states
 
 pub fresh_states : (n d : ℕ) → state_at (replicate n state.Unprepared) d ≡ state.Unprepared
 fresh_states zero d = refl
@@ -106,7 +106,7 @@ zeros zero d = refl
 zeros (suc n) zero = refl
 zeros (suc n) (suc d) = zeros n d
 
--- all are below and not through, and none is up
+-- all are below and not done, and none is up
 pub fresh_below : (ps : List (Option ℕ)) (ls : List Link) (counts : List ℕ) → IsLengths (length ps) (λ d. first_occurrences (dependents ps (active_of ls) d)) counts → IsBelow ps ls (replicate (length ps) state.Unprepared) counts
 fresh_below ps ls counts h = record {
   size = h.size;

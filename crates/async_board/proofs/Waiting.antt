@@ -13,7 +13,7 @@ use Rattle.async_board.specs.Counts.{one, AreShifted, IsCount}
 
 -- ---- rows of devices, each once
 
--- first places are different
+-- first indices are different
 pub first_different : (xs : List ℕ) → AllDifferent (first_occurrences xs)
 first_different [] = tt
 first_different (x ∷ xs) = (
@@ -21,7 +21,7 @@ first_different (x ∷ xs) = (
   different_filter (λ y. not (y == x)) (first_occurrences xs) (first_different xs),
 )
 
--- who is above e is who e is below of, where e is a device
+-- who is above e is who e is below of, if e is a device
 pub across : (ps : List (Option ℕ)) (ls : List Link) (d e : ℕ) → e < length ps → is_among (superiors ps ls e) d ≡ is_among (dependents ps ls d) e
 across ps ls d e l =
     among_app (parent_of (slice_get ps e)) (suppliers_of e ls) d
@@ -39,7 +39,7 @@ above_across ps ls d e l = among_first_occurrences (superiors ps ls e) d ∙ (ac
 pub below_across : (ps : List (Option ℕ)) (ls : List Link) (d e : ℕ) → d < length ps → is_among (first_occurrences (dependents ps ls e)) d ≡ is_among (first_occurrences (superiors ps ls d)) e
 below_across ps ls d e l = among_first_occurrences (dependents ps ls e) d ∙ (sym (across ps ls e d l) ∙ sym (among_first_occurrences (superiors ps ls d) e))
 
--- who depends on a device of the order stands in the order
+-- who depends on a device of the order is in the order
 pub order_depends : (dependents_of : ℕ → List ℕ) (xs : List ℕ) → IsOrder dependents_of xs → (d x : ℕ) → is_among xs d ≡ true → is_among (dependents_of d) x ≡ true → is_among xs x ≡ true
 order_depends dependents_of [] h d x m n = absurd (false≢true m)
 order_depends dependents_of (y ∷ ys) h d x m n = by_place (order_depends dependents_of ys h.2 d x) (or_cases (y == d) (is_among ys d) m)
@@ -122,7 +122,7 @@ few_pass n p q xs e apart h within m was is =
     let in_it : one (q e && is_among xs e) ≡ 1 = ap (λ b. one (b && is_among xs e)) is ∙ ap one m in
     omega (arith, all, out, in_it, moved_one p q xs e apart h)
 
--- the counts after device e has moved, where back is who counts e
+-- the counts after device e has moved; back has those that count e
 module _ (n : ℕ) (p q : ℕ → Bool) (row : ℕ → List ℕ) (back : List ℕ) (e : ℕ) (old : List ℕ)
     (counts : IsCount n p row old) (apart : (d : ℕ) → AllDifferent (row d)) (over : (d : ℕ) → d < n → is_among back d ≡ is_among (row d) e)
     (others : (x : ℕ) → (x ≡ e → ⊥) → q x ≡ p x) where

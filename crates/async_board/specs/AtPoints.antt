@@ -1,4 +1,4 @@
--- The board at a place of a machine's log.
+-- The board after entries of a machine's log.
 use Rattle.std.specs.Prelude.{◌≡◌, ℕ, true, ◌&&◌, List, length, map, not}
 use Rattle.phase_table.specs.declared.phase.Phase.{Phase}
 use Rattle.phase_table.specs.declared.phase.Phase.TheVariants as phase
@@ -23,7 +23,7 @@ board_at m past = record {
   noirq = phase_states (length m.devices) phase.Noirq past;
 }
 
--- what is asked of a board is what the definitions tell of the machine at that place, in each phase on the way down
+-- what a board answers is what the definitions say of the machine after these entries, in each phase on the way down
 pub record Agrees (m : Machine) (past : List Entry) (board : BoardState) : Type 0 where
   pub asynchronous : (d : ℕ) → is_so board.asynchronous d ≡ is_async_device m d
   pub works : (d : ℕ) → work_on board d ≡ async_work m past d

@@ -3,7 +3,7 @@ use Rattle.async_board.specs.Boards.{BoardState}
 use Rattle.async_board.specs.Walks.{IsLayout, IsWalk}
 use Rattle.async_board.specs.declared.board.Board.TheInside.{Inside}
 
--- a board is seen as its links and the stands of its walks
+-- a board is seen as its links and the states of its walks
 abbrev pub board_of : Inside → BoardState
 board_of b = record {
   parents = b.layout.links.parents;

@@ -14,7 +14,7 @@ use Rattle.sleep_model.specs.Order.{active_of, dependents, superiors, order_by}
 use Rattle.sleep_model.specs.PhaseStates.{phase_states_after, device_of, state_at, by_phase, is_unprepared, is_prepared, is_ready, is_not_down, is_going_down, is_down_in, is_direct_complete, is_not_up}
 use Rattle.sleep_model.specs.Walk.{is_so, first_where, last_where}
 
--- the parent of each device, the links, the newest first, which devices are asynchronous, and where each stands in the three pairs of phases
+-- the parent of each device, the links, the newest first, which devices are asynchronous, and each state in the three pairs of phases
 pub record BoardState : Type 0 where
   pub parents : List (Option ℕ)
   pub links : List Link
@@ -42,7 +42,7 @@ board_after k board = record board {
   noirq = phase_states_after phase.Noirq k (device_of k) board.noirq;
 }
 
--- a board after a device was put there in each pair of phases
+-- a board after a device was put in that state in each pair of phases
 abbrev pub put_in_all : ℕ → PhaseState → BoardState → BoardState
 put_in_all d after board = record board {
   suspend = slice_set board.suspend d after;
@@ -50,7 +50,7 @@ put_in_all d after board = record board {
   noirq = slice_set board.noirq d after;
 }
 
--- a board after a device was put there by phase q, on the way down or on the way up, in the pair that phase q is of
+-- a board after phase q put a device in a state: one for the way down, one for the way up, in the pair that phase q is of
 abbrev pub put_in : Phase → ℕ → PhaseState → PhaseState → BoardState → BoardState
 put_in q d down up board = record board {
   suspend = slice_set board.suspend d (by_phase phase.Suspend q down up (state_at board.suspend d));
@@ -58,7 +58,7 @@ put_in q d down up board = record board {
   noirq = slice_set board.noirq d (by_phase phase.Noirq q down up (state_at board.noirq d));
 }
 
--- a board after a device was put there by phase q, if that is one on the way down
+-- a board after phase q put a device in that state, if q is one on the way down
 abbrev pub skip_in : Phase → ℕ → PhaseState → BoardState → BoardState
 skip_in q d down board = record board {
   suspend = slice_set board.suspend d (by_phase phase.Suspend q down (state_at board.suspend d) (state_at board.suspend d));
@@ -66,7 +66,7 @@ skip_in q d down board = record board {
   noirq = slice_set board.noirq d (by_phase phase.Noirq q down (state_at board.noirq d) (state_at board.noirq d));
 }
 
--- where each device stands in phase p, one on the way down, and its mirror
+-- the state of each device in phase p, one on the way down, and its mirror
 abbrev pub states_on : BoardState → Phase → List PhaseState
 states_on board phase.Late = board.late
 states_on board phase.Noirq = board.noirq
@@ -88,7 +88,7 @@ next_completed_on board = last_where (λ d. is_prepared (state_at board.suspend 
 abbrev pub next_down_on : BoardState → Phase → Option ℕ
 next_down_on board p = last_where (λ d. is_ready (state_at (states_on board p) d)) (order_on board)
 
--- the first device that is scheduled on the way down and not through (async_synchronize_full)
+-- the first device that is scheduled on the way down and not done (async_synchronize_full)
 abbrev pub waits_down_on : BoardState → Phase → Option ℕ
 waits_down_on board p = first_where (λ d. is_going_down (state_at (states_on board p) d)) (order_on board)
 
@@ -106,7 +106,7 @@ next_up_on board p =
 abbrev pub waits_up_on : BoardState → Phase → Option ℕ
 waits_up_on board p = first_where (λ d. is_not_up (state_at (states_on board p) d)) (order_on board)
 
--- the first device below d that is not through (dpm_wait_for_subordinate)
+-- the first device below d that is not done (dpm_wait_for_subordinate)
 abbrev pub waits_below_on : BoardState → Phase → ℕ → Option ℕ
 waits_below_on board p d =
     first_where (λ e. is_not_down (state_at (states_on board p) e)) (dependents board.parents (active_of board.links) d)

@@ -6,13 +6,13 @@ use Rattle.sleep_model.specs.Order.{is_among}
 abbrev pub one : Bool → ℕ
 one b = if b then 1 else 0
 
--- one less at that place, if there is one
+-- one less at that index, if it is in range
 pub record IsLoweredAt (at : ℕ) (old new : List ℕ) : Type 0 where
   pub size : length new ≡ length old
   pub here : at < length old → slice_index_or new at 0 + 1 ≡ slice_index_or old at 0
   pub others : (d : ℕ) → d ≢ at → slice_index_or new d 0 ≡ slice_index_or old d 0
 
--- one more at that place, if there is one
+-- one more at that index, if it is in range
 pub record IsRaisedAt (at : ℕ) (old new : List ℕ) : Type 0 where
   pub size : length new ≡ length old
   pub here : at < length old → slice_index_or new at 0 ≡ slice_index_or old at 0 + 1

@@ -8,25 +8,25 @@ use Rattle.sleep_model.specs.PhaseStates.{state_at}
 use Rattle.sleep_model.specs.Walk.{is_so}
 use Rattle.async_board.specs.Picks.{picks, is_picked, IsPassed, IsAhead}
 
--- none of the places before this one passes, but place k may; was: that one did
+-- none of the indices before this one passes, but index k may; was: that one did
 pub record IsPassedBut (k : ℕ) (was : Bool) (p : ℕ → Bool) (xs : List ℕ) (at : ℕ) : Type 0 where
   pub fits : at ≤ length xs
   pub before : (i : ℕ) → i < at → i ≢ k → p (slice_index_or xs i 0) ≡ false
   pub here : k < at → was ≡ false
 
--- none of the places from this one on passes, but place k may; was: that one did
+-- none of the indices from this one on passes, but index k may; was: that one did
 pub record IsAheadBut (k : ℕ) (was : Bool) (p : ℕ → Bool) (xs : List ℕ) (at : ℕ) : Type 0 where
   pub fits : at ≤ length xs
   pub behind : (i : ℕ) → at ≤ i → i < length xs → i ≢ k → p (slice_index_or xs i 0) ≡ false
   pub here : at ≤ k → was ≡ false
 
--- the device at its place, as it stands now
+-- the device at its index, in its present state
 pub record IsMoved (flags : List Bool) (states : List PhaseState) (order : List ℕ) (m : Moved) : Type 0 where
   pub within : m.place < length order
   pub after : m.after ≡ state_at states (slice_index_or order m.place 0)
   pub asynchronous : m.asynchronous ≡ is_so flags (slice_index_or order m.place 0)
 
--- the cursors of devices that stand so in this order
+-- the cursors of devices in these states in this order
 pub record AreCursors (asynchronous : List Bool) (states : List PhaseState) (order : List ℕ) (c : Cursors) : Type 0 where
   pub unprepared : IsPassed (is_picked pick.Unprepared asynchronous states) order c.unprepared
   pub going : IsPassed (is_picked pick.Going asynchronous states) order c.going
@@ -36,7 +36,7 @@ pub record AreCursors (asynchronous : List Bool) (states : List PhaseState) (ord
   pub ready : IsAhead (is_picked pick.Ready asynchronous states) order c.ready
   pub prepared : IsAhead (is_picked pick.Prepared asynchronous states) order c.prepared
 
--- the cursors of devices that stand so in this order, but from before this one moved
+-- the cursors of devices in these states in this order, but from before this one moved
 pub record AreCursorsBut (m : Moved) (asynchronous : List Bool) (states : List PhaseState) (order : List ℕ) (c : Cursors)
     : Type 0 where
   pub unprepared : IsPassedBut m.place (picks pick.Unprepared m.before m.asynchronous) (is_picked pick.Unprepared asynchronous states) order c.unprepared

@@ -1,3 +1,4 @@
+-- The definitions of this crate, by file.
 pub mod AtPoints
 pub mod BoardFields
 pub mod Boards

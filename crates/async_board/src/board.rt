@@ -1,3 +1,5 @@
+//! The board: the state of each device in the three pairs of phases, and what is asked of it.
+
 ghost use Rattle.std.specs.Prelude.{◌≡◌, Some, length, replicate};
 ghost use Rattle.sleep_model.specs.PhaseStates.{state_at, phase_states_after, device_of};
 ghost use Rattle.sleep_model.specs.Walk.{is_so};
@@ -16,12 +18,12 @@ use sleep_model::{AsyncWork, Kind, Phase, PhaseState};
 use std::alloc::Global;
 use std::marker::Model;
 
-/// Where each device of a machine stands in the three pairs of phases (`drivers/base/power/main.c`,
-/// `include/linux/pm.h`, `struct dev_pm_info`). Contracts see the parents and the links, which
-/// devices are asynchronous, and a list of stands for each pair.
+/// The state of each device of a machine in the three pairs of phases (`drivers/base/power/main.c`,
+/// `include/linux/pm.h`, `struct dev_pm_info`). Contracts see the parents and the links, which devices are
+/// asynchronous, and a list of states for each pair.
 ///
-/// A phase that is asked about is the one on the way down: `Suspend`, `Late` or `Noirq`; its mirror
-/// shares its stands.
+/// A phase that is asked about is the one on the way down: `Suspend`, `Late` or `Noirq`; its mirror shares
+/// its states.
 #[derive(Drop)]
 pub struct Board {
     layout: Layout,
@@ -42,7 +44,7 @@ impl Model for Board {
     ghost invariant = { BoardInvariant };
 }
 
-// Begins anew, no device prepared, over links that have changed right below this supplier alone.
+/// Begins anew, no device prepared, over links that have changed only right below this supplier.
 fn begin_anew(layout: &Layout, supplier: u32, suspend: &mut Walk, late: &mut Walk, noirq: &mut Walk)
     requires suspend { MayRestart layout.now supplier suspend.old }
     requires late { MayRestart layout.now supplier late.old }
@@ -94,7 +96,7 @@ impl Board {
         })
     }
 
-    // Puts a device there in each pair of phases.
+    /// Puts a device there in each pair of phases.
     fn put_in_all(&mut self, device: u32, after: PhaseState)
         ensures { self.new ≡ put_in_all device after self.old }
     {
@@ -103,7 +105,7 @@ impl Board {
         put(&mut self.noirq, &self.layout, device, after);
     }
 
-    // Puts a device there, in the pair of phases that this one is of: on the way down or on the way up.
+    /// Puts a device there, in the pair of phases that this one is of: on the way down or on the way up.
     #[inline(always)]
     #[tactic(auto, using(crate::proofs::Stood::states_stay))]
     fn put_in(&mut self, q: Phase, device: u32, down: PhaseState, up: PhaseState)
@@ -120,7 +122,7 @@ impl Board {
         }
     }
 
-    // Puts a device there that a phase on the way down skips.
+    /// Puts a device there that a phase on the way down skips.
     #[tactic(auto, using(crate::proofs::Stood::states_stay))]
     fn skip_in(&mut self, q: Phase, device: u32, down: PhaseState)
         ensures { self.new ≡ skip_in q device down self.old }
@@ -168,8 +170,8 @@ impl Board {
         &self.layout.links
     }
 
-    /// Adds a link that is active, after which no device is prepared (`device_link_add`). `Mem` if there
-    /// is no memory for it, or where the link cannot be added; nothing has changed then.
+    /// Adds a link that is active, after which no device is prepared (`device_link_add`). `Mem` if there is
+    /// no memory for it, or if the link cannot be added; nothing has changed then.
     pub fn add_link(&mut self, supplier: u32, consumer: u32) -> Result<(), Mem>
         ensures ok { OnOk result (self.new ≡ first_board self.old.parents
             (links_added supplier consumer None self.old.links) self.old.asynchronous) }
@@ -216,7 +218,7 @@ impl Board {
         }
     }
 
-    // The walk of a phase on the way down and its mirror.
+    /// The walk of a phase on the way down and its mirror.
     fn walk(&self, p: Phase) -> &Walk
         ensures states { result.now.states.items ≡ states_on self.now p }
         ensures size { length result.now.states.items ≡ length self.now.parents }
@@ -234,7 +236,7 @@ impl Board {
         }
     }
 
-    // The devices in order, as they stand in that walk.
+    /// The devices in order, with their states in that walk.
     fn look<'a>(&'a self, walk: &'a Walk) -> WalkLook<'a>
         ensures order { result.order.now ≡ order_on self.now }
         ensures states { result.states.now ≡ walk.now.states.items }
@@ -247,7 +249,7 @@ impl Board {
         }
     }
 
-    /// Where a device stands in a phase and its mirror; unprepared if there is no such device.
+    /// The state of a device in a phase and its mirror; unprepared if there is no such device.
     pub fn state(&self, p: Phase, device: u32) -> PhaseState
         ensures { result ≡ state_at (states_on self.now p) device }
     {
@@ -282,9 +284,8 @@ impl Board {
         last_picked(&self.look(walk), Pick::Ready, walk.cursors.ready)
     }
 
-    /// The first device that a phase has scheduled on the way down and that is not through with it
-    /// (`async_synchronize_full`). It is at hand once the walk schedules no more; before, it takes
-    /// a search.
+    /// The first device that a phase has scheduled on the way down and that is not done with it
+    /// (`async_synchronize_full`). It is at hand once the walk schedules no more; before, it takes a search.
     #[tactic(auto, unfolding(crate::specs::Picks::picks, crate::specs::Picks::is_picked))]
     pub fn waits_down(&self, p: Phase) -> Option<u32>
         ensures { result ≡ waits_down_on self.now p }
@@ -321,7 +322,7 @@ impl Board {
         first_picked(&self.look(walk), Pick::NotUp, walk.cursors.not_up)
     }
 
-    /// The first device right below one that is not through with a phase on the way down
+    /// The first device right below one that is not done with a phase on the way down
     /// (`dpm_wait_for_subordinate`).
     pub fn waits_below(&self, p: Phase, device: u32) -> Option<u32>
         ensures { result ≡ waits_below_on self.now p device }
@@ -347,8 +348,8 @@ impl Board {
         }
     }
 
-    /// Whether no device right below one is left that is not through with a phase on the way down. It is
-    /// counted already.
+    /// Whether no device right below one is left that is not done with a phase on the way down. It is counted
+    /// already.
     #[tactic(auto, using(crate::proofs::Searched::free))]
     pub fn is_free_below(&self, p: Phase, device: u32) -> bool
         ensures { result ≡ is_none (waits_below_on self.now p device) }
@@ -382,15 +383,14 @@ impl Board {
         all_direct_complete(&self.suspend.states, &self.layout.links, device)
     }
 
-    /// Whether a device is asynchronous (`power.async_suspend`); not where there is no such device.
+    /// Whether a device is asynchronous (`power.async_suspend`); false if there is no such device.
     pub fn is_asynchronous(&self, device: u32) -> bool
         ensures { result ≡ is_so self.now.asynchronous device }
     {
         is_so(&self.layout.asynchronous, device)
     }
 
-    /// Where an asynchronous device's own work stands; a synchronous one has none
-    /// (`async_schedule_dev`).
+    /// The state of an asynchronous device's own work; a synchronous one has none (`async_schedule_dev`).
     pub fn work(&self, device: u32) -> AsyncWork
         ensures { result ≡ work_on self.now device }
     {

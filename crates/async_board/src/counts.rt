@@ -5,7 +5,7 @@ ghost use Rattle.sleep_model.specs.Order.{is_among};
 ghost use Rattle.sleep_model.proofs.Walks.{AllDifferent};
 ghost use Rattle.async_board.specs.Counts.{IsLoweredAt, IsRaisedAt, AreLowered, AreRaised, AreShifted};
 
-// One less at that place, where there is one.
+/// One less at that index, if it is in range.
 fn lower_at(counts: &mut [usize], device: u32)
     requires { device < length counts.old → 0 < slice_index counts.old device }
     ensures { IsLoweredAt device counts.old counts.new }
@@ -16,7 +16,7 @@ fn lower_at(counts: &mut [usize], device: u32)
     }
 }
 
-// One more at that place, where there is one.
+/// One more at that index, if it is in range.
 fn raise_at(counts: &mut [usize], device: u32)
     requires { device < length counts.old →
         slice_index counts.old device < length counts.old }
@@ -28,7 +28,7 @@ fn raise_at(counts: &mut [usize], device: u32)
     }
 }
 
-// One less for each of these devices.
+/// One less for each of these devices.
 #[tactic(auto, using(crate::proofs::Counting::lowered_more, crate::proofs::Counting::lowered_all))]
 fn lower(counts: &mut [usize], row: &[u32])
     requires apart { AllDifferent row.now }
@@ -41,7 +41,7 @@ fn lower(counts: &mut [usize], row: &[u32])
     }
 }
 
-// One more for each of these devices.
+/// One more for each of these devices.
 #[tactic(auto, using(crate::proofs::Counting::raised_more, crate::proofs::Counting::raised_all))]
 fn raise(counts: &mut [usize], row: &[u32])
     requires apart { AllDifferent row.now }

@@ -1,4 +1,4 @@
-//! Where the searches among the devices begin, moved with each device that stands otherwise.
+//! The cursors at which searches among the devices begin, moved with each device that changes its state.
 
 ghost use Rattle.async_board.specs.Picks.{picks, is_picked, IsPassed, IsAhead};
 ghost use Rattle.async_board.specs.declared.pick.Pick.TheVariants as pick;
@@ -7,8 +7,8 @@ ghost use Rattle.async_board.specs.Cursors.{IsPassedBut, IsAheadBut, IsMoved, Ar
 use crate::pick::{Pick, WalkLook, first_from, last_before, picks};
 use sleep_model::PhaseState;
 
-/// A place in the order for each search: no device before it is looked for or, where the last one
-/// is looked for, none from it on.
+/// An index in the order for each search: no device before it is looked for or, if the last one is looked
+/// for, none from it on.
 #[derive(Clone, Copy)]
 pub(crate) struct Cursors {
     pub(crate) unprepared: usize,
@@ -20,8 +20,8 @@ pub(crate) struct Cursors {
     pub(crate) prepared: usize,
 }
 
-/// The device that has moved: its place in the order, where it stood before and where it stands now,
-/// and whether it is asynchronous.
+/// The device that has moved: its index in the order, its state before and its present one, and whether it is
+/// asynchronous.
 #[derive(Clone, Copy)]
 pub(crate) struct Moved {
     pub(crate) place: usize,
@@ -30,8 +30,8 @@ pub(crate) struct Moved {
     pub(crate) asynchronous: bool,
 }
 
-// Moves the cursor of a first device, after a device has moved. Most moves leave it where it is: the
-// device is looked for as little, or as much, as before.
+/// Moves the cursor of a first device, after a device has moved. Most moves leave it as it is: the device is
+/// looked for as little, or as much, as before.
 #[inline(always)]
 #[tactic(auto, using(crate::proofs::Moved::passed_now, crate::proofs::Moved::passed_still, crate::proofs::Moved::moved_here))]
 fn move_first(at: &mut usize, look: &WalkLook<'_>, what: Pick, moved: Moved)
@@ -53,9 +53,9 @@ fn move_first(at: &mut usize, look: &WalkLook<'_>, what: Pick, moved: Moved)
     }
 }
 
-// Moves the cursor of the devices that are scheduled and not through, after a device has moved. While
-// the walk schedules, towards the order's head, it follows the walk; it moves on once the walk is over,
-// and nobody asks before.
+/// Moves the cursor of the devices that are scheduled and not done, after a device has moved. While the walk
+/// schedules, towards the order's head, it follows the walk; it moves on once the walk is over, and nobody
+/// asks before.
 #[inline(always)]
 #[tactic(auto, using(crate::proofs::Moved::passed_now, crate::proofs::Moved::passed_still, crate::proofs::Moved::moved_here))]
 fn move_going(at: &mut usize, look: &WalkLook<'_>, moved: Moved, is_over: bool)
@@ -77,8 +77,8 @@ fn move_going(at: &mut usize, look: &WalkLook<'_>, moved: Moved, is_over: bool)
     }
 }
 
-// Moves the cursors of the devices that are down, after a device has moved. One of the two alone looks
-// for it: the first if it is asynchronous, else the second.
+/// Moves the cursors of the devices that are down, after a device has moved. Only one of the two looks for
+/// it: the first if it is asynchronous, else the second.
 #[inline(always)]
 fn move_down(to_schedule: &mut usize, up: &mut usize, look: &WalkLook<'_>, moved: Moved)
     requires here { IsMoved look.now.asynchronous.now look.now.states.now look.now.order.now moved }
@@ -98,7 +98,7 @@ fn move_down(to_schedule: &mut usize, up: &mut usize, look: &WalkLook<'_>, moved
     }
 }
 
-// Moves the cursor of a last device, after a device has moved. Most moves leave it where it is.
+/// Moves the cursor of a last device, after a device has moved. Most moves leave it as it is.
 #[inline(always)]
 #[tactic(auto, using(crate::proofs::Moved::ahead_now, crate::proofs::Moved::ahead_still, crate::proofs::Moved::moved_here))]
 fn move_last(at: &mut usize, look: &WalkLook<'_>, what: Pick, moved: Moved)

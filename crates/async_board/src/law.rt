@@ -1,4 +1,4 @@
-//! What a board tells of a machine, only from the definitions.
+//! What a board answers of a machine, only from the definitions.
 
 ghost use Rattle.std.specs.Prelude.{◌≡◌, ◌∷◌, [], List, map, reverse};
 ghost use Rattle.sleep_model.specs.declared.entry.Entry.{Entry};
@@ -8,8 +8,8 @@ ghost use Rattle.sleep_model.specs.Runtime.{is_async};
 ghost use Rattle.async_board.specs.Boards.{first_board, board_after};
 ghost use Rattle.async_board.specs.AtPoints.{board_at, Agrees};
 
-/// A board that is wired for a machine and notes each entry is the board at that place, as long as no
-/// link changes, and tells what the definitions tell there.
+/// A board that is wired for a machine and notes each entry is the board after these entries, as long as no
+/// link changes, and answers what the definitions say.
 #[tactic(auto, using(crate::proofs::Agreement::board_first, crate::proofs::Agreement::board_next))]
 pub fn board_agrees()
     ensures first { (m : Machine) → first_board (parents_of m.devices) (reverse m.links)

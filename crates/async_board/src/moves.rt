@@ -13,8 +13,8 @@ use crate::walk::{Layout, Walk};
 use device_links::Links;
 use sleep_model::PhaseState;
 
-// Notes whether the walk on the way down schedules no more, once a device has moved to there: one has
-// failed since it was prepared.
+/// Notes whether the walk on the way down schedules no more, once a device has moved to there: one has
+/// failed since it was prepared.
 #[inline(always)]
 fn note_failure(failed: &mut bool, after: PhaseState)
     ensures { failed.new ≡ failed_after after failed.old }
@@ -26,7 +26,7 @@ fn note_failure(failed: &mut bool, after: PhaseState)
     }
 }
 
-// How many devices below each are not through, once this device has moved among those that stand so.
+/// How many devices below each are not done, once this device has moved among those in these states.
 #[inline(always)]
 #[tactic(auto, using(crate::proofs::Layouts::below_some))]
 fn move_below(
@@ -53,7 +53,7 @@ fn move_below(
     }
 }
 
-// How many devices above each are not up, once this device has moved among those that stand so.
+/// How many devices above each are not up, once this device has moved among those in these states.
 #[inline(always)]
 #[tactic(auto, using(crate::proofs::Layouts::above_some))]
 fn move_above(
@@ -79,8 +79,8 @@ fn move_above(
     }
 }
 
-// Moves a device that stands there. Where the compiler knows both stands, what this move cannot change
-// is left out.
+/// Moves a device that is in that state. If the compiler knows both states, what this move cannot change is
+/// left out.
 #[inline(always)]
 fn move_device(walk: &mut Walk, layout: &Layout, device: u32, before: PhaseState, after: PhaseState)
     requires closed_over { IsLayout layout.now }
@@ -125,7 +125,7 @@ fn move_device(walk: &mut Walk, layout: &Layout, device: u32, before: PhaseState
     move_cursors(&mut walk.cursors, &look, moved, walk.failed);
 }
 
-// Moves a device that stands there by a move that is rare: no code is made for these two stands alone.
+/// Moves a device that is in that state by a move that is rare: no code is made for only these two states.
 #[inline(never)]
 fn move_otherwise(
     walk: &mut Walk,
@@ -144,7 +144,7 @@ fn move_otherwise(
     move_device(walk, layout, device, before, after);
 }
 
-// A device is completed, which is up.
+/// A device is completed, which is up.
 #[inline(never)]
 fn to_unprepared(walk: &mut Walk, layout: &Layout, device: u32)
     requires closed_over { IsLayout layout.now }
@@ -165,7 +165,7 @@ fn to_unprepared(walk: &mut Walk, layout: &Layout, device: u32)
     }
 }
 
-// A device is prepared.
+/// A device is prepared.
 #[inline(never)]
 fn to_prepared(walk: &mut Walk, layout: &Layout, device: u32)
     requires closed_over { IsLayout layout.now }
@@ -186,7 +186,7 @@ fn to_prepared(walk: &mut Walk, layout: &Layout, device: u32)
     }
 }
 
-// A device that was not taken is scheduled on the way down.
+/// A device that was not taken is scheduled on the way down.
 #[inline(never)]
 fn to_scheduled(walk: &mut Walk, layout: &Layout, device: u32)
     requires closed_over { IsLayout layout.now }
@@ -207,7 +207,7 @@ fn to_scheduled(walk: &mut Walk, layout: &Layout, device: u32)
     }
 }
 
-// A device begins on the way down: an asynchronous one was scheduled, a synchronous one not.
+/// A device begins on the way down: an asynchronous one was scheduled, a synchronous one not.
 #[inline(never)]
 fn to_suspending(walk: &mut Walk, layout: &Layout, device: u32)
     requires closed_over { IsLayout layout.now }
@@ -235,7 +235,7 @@ fn to_suspending(walk: &mut Walk, layout: &Layout, device: u32)
     }
 }
 
-// A device is through on the way down.
+/// A device is done on the way down.
 #[inline(never)]
 fn to_suspended(walk: &mut Walk, layout: &Layout, device: u32)
     requires closed_over { IsLayout layout.now }
@@ -256,7 +256,7 @@ fn to_suspended(walk: &mut Walk, layout: &Layout, device: u32)
     }
 }
 
-// A device that is down is scheduled on the way up.
+/// A device that is down is scheduled on the way up.
 #[inline(never)]
 fn to_rescheduled(walk: &mut Walk, layout: &Layout, device: u32)
     requires closed_over { IsLayout layout.now }
@@ -277,7 +277,7 @@ fn to_rescheduled(walk: &mut Walk, layout: &Layout, device: u32)
     }
 }
 
-// A device begins on the way up: an asynchronous one was scheduled, a synchronous one not.
+/// A device begins on the way up: an asynchronous one was scheduled, a synchronous one not.
 #[inline(never)]
 fn to_resuming(walk: &mut Walk, layout: &Layout, device: u32)
     requires closed_over { IsLayout layout.now }
@@ -305,7 +305,7 @@ fn to_resuming(walk: &mut Walk, layout: &Layout, device: u32)
     }
 }
 
-// A device is up.
+/// A device is up.
 #[inline(never)]
 fn to_resumed(walk: &mut Walk, layout: &Layout, device: u32)
     requires closed_over { IsLayout layout.now }
@@ -326,9 +326,9 @@ fn to_resumed(walk: &mut Walk, layout: &Layout, device: u32)
     }
 }
 
-/// Moves a device from where it stands to where it stands from now on; nothing if there is no such
-/// device. Each stand that devices come to in an undisturbed attempt has a function of its own, which
-/// tells the usual stands before apart: so a move pays for what it changes alone.
+/// Moves a device from its state to its next one; nothing if there is no such device. Each state that devices
+/// come to in an undisturbed attempt has a function of its own, which knows the usual state before it: so a
+/// move pays only for what it changes.
 #[inline(always)]
 pub(crate) fn put(walk: &mut Walk, layout: &Layout, device: u32, after: PhaseState)
     requires closed_over { IsLayout layout.now }

@@ -1,4 +1,4 @@
-//! Where a device's answer leaves it, and tests of a stand.
+//! The state that a device's answer leaves, and tests of a state.
 
 ghost use Rattle.std.specs.Prelude.{◌≡◌};
 ghost use Rattle.std.specs.Bool.{OnFalse, OnTrue};
@@ -11,7 +11,7 @@ ghost use Rattle.sleep_model.specs.PhaseStates as states;
 use sleep_base::Errno;
 use sleep_model::{AsyncWork, Phase, PhaseState, SkipCause};
 
-/// Where a device stands on the way down once its callback has answered (`dpm_run_callback`).
+/// The state of a device on the way down once its callback has answered (`dpm_run_callback`).
 #[inline]
 pub(crate) fn ended_by(r: Option<Errno>) -> PhaseState
     ensures { result ≡ states.ended_by r }
@@ -22,7 +22,7 @@ pub(crate) fn ended_by(r: Option<Errno>) -> PhaseState
     }
 }
 
-/// Where a device stands that is skipped on the way down (`__device_suspend`).
+/// The state of a device that is skipped on the way down (`__device_suspend`).
 pub(crate) fn skipped_for(cause: SkipCause) -> PhaseState
     ensures { result ≡ states.skipped_for cause }
 {
@@ -32,7 +32,7 @@ pub(crate) fn skipped_for(cause: SkipCause) -> PhaseState
     }
 }
 
-/// The work in a phase on the way down or its mirror of a device that stands there, else the other
+/// The work in a phase on the way down or its mirror of a device in that state, else the other
 /// (`dpm_run_callback`).
 pub(crate) fn work_in(p: Phase, state: PhaseState, other: AsyncWork) -> AsyncWork
     ensures { result ≡ work_in p state other }
@@ -83,7 +83,7 @@ pub fn is_ready(state: PhaseState) -> bool
     matches!(state, PhaseState::Prepared)
 }
 
-/// Whether the device is not through with the phase on the way down (`power.completion`).
+/// Whether the device is not done with the phase on the way down (`power.completion`).
 pub fn is_not_down(state: PhaseState) -> bool
     ensures { result ≡ states.is_not_down state }
 {
@@ -96,7 +96,7 @@ pub fn is_not_down(state: PhaseState) -> bool
     )
 }
 
-/// Whether the device is scheduled on the way down and not through (`async_schedule_dev`).
+/// Whether the device is scheduled on the way down and not done (`async_schedule_dev`).
 pub(crate) fn is_going_down(state: PhaseState) -> bool
     ensures { result ≡ states.is_going_down state }
 {

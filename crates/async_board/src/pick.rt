@@ -17,7 +17,7 @@ pub(crate) enum Pick {
     Prepared,
     /// Prepared and not yet taken on the way down.
     Ready,
-    /// Scheduled on the way down and not through.
+    /// Scheduled on the way down and not done.
     Going,
     /// Asynchronous, and down.
     ToSchedule,
@@ -27,7 +27,7 @@ pub(crate) enum Pick {
     NotUp,
 }
 
-/// The devices in order, where each stands, and which are asynchronous.
+/// The devices in order, the state of each, and which are asynchronous.
 #[derive(Clone, Copy)]
 pub(crate) struct WalkLook<'a> {
     pub(crate) order: &'a [u32],
@@ -35,7 +35,7 @@ pub(crate) struct WalkLook<'a> {
     pub(crate) asynchronous: &'a [bool],
 }
 
-/// Whether a device that stands there, asynchronous or not, is looked for.
+/// Whether a device in that state, asynchronous or not, is looked for.
 #[inline(always)]
 #[tactic(auto, unfolding(crate::specs::Picks::picks))]
 pub(crate) fn picks(pick: Pick, state: PhaseState, asynchronous: bool) -> bool
@@ -52,7 +52,7 @@ pub(crate) fn picks(pick: Pick, state: PhaseState, asynchronous: bool) -> bool
     }
 }
 
-/// Where a device stands among others.
+/// The state of a device among others.
 pub(crate) fn state_at(states: &[PhaseState], device: u32) -> PhaseState
     ensures { result ≡ state_at states.now device }
 {
@@ -82,7 +82,7 @@ pub(crate) fn is_picked(look: &WalkLook<'_>, pick: Pick, device: u32) -> bool
     picks(pick, state, is_so(look.asynchronous, device))
 }
 
-/// The first place from this one on whose device is looked for, else the number of places.
+/// The first index from this one on whose device is looked for, else the number of devices.
 pub(crate) fn first_from(look: &WalkLook<'_>, pick: Pick, from: usize) -> usize
     requires { IsPassed (is_picked pick look.now.asynchronous.now look.now.states.now)
         look.now.order.now from }
@@ -97,7 +97,7 @@ pub(crate) fn first_from(look: &WalkLook<'_>, pick: Pick, from: usize) -> usize
     look.order.len()
 }
 
-/// One more than the last place before this one whose device is looked for, else 0.
+/// One more than the last index before this one whose device is looked for, else 0.
 pub(crate) fn last_before(look: &WalkLook<'_>, pick: Pick, from: usize) -> usize
     requires { IsAhead (is_picked pick look.now.asynchronous.now look.now.states.now)
         look.now.order.now from }
@@ -114,14 +114,14 @@ pub(crate) fn last_before(look: &WalkLook<'_>, pick: Pick, from: usize) -> usize
     0
 }
 
-// The device at a place of the order, if there is one.
+/// The device at an index of the order, if there is one.
 fn device_at(order: &[u32], at: usize) -> Option<u32>
     ensures { result ≡ slice_get order.now at }
 {
     order.get(at).copied()
 }
 
-/// The first device that is looked for, where none before this place is.
+/// The first device that is looked for, if none before this index is.
 #[tactic(auto, using(crate::proofs::Picked::first_is))]
 pub(crate) fn first_picked(look: &WalkLook<'_>, pick: Pick, from: usize) -> Option<u32>
     requires { IsPassed (is_picked pick look.now.asynchronous.now look.now.states.now)
@@ -133,7 +133,7 @@ pub(crate) fn first_picked(look: &WalkLook<'_>, pick: Pick, from: usize) -> Opti
     device_at(look.order, at)
 }
 
-/// The last device that is looked for, where none from this place on is.
+/// The last device that is looked for, if none from this index on is.
 #[tactic(auto, using(crate::proofs::Picked::last_is, crate::proofs::Picked::last_none))]
 pub(crate) fn last_picked(look: &WalkLook<'_>, pick: Pick, from: usize) -> Option<u32>
     requires { IsAhead (is_picked pick look.now.asynchronous.now look.now.states.now)

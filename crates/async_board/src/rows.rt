@@ -11,7 +11,7 @@ use crate::pick::state_at;
 use device_links::Links;
 use sleep_model::PhaseState;
 
-/// Whether the count of a device is 0; not where it has none.
+/// Whether the count of a device is 0; false if it has none.
 pub(crate) fn is_none(counts: &[usize], device: u32) -> bool
     ensures { result ≡ (slice_index_or counts.now device 1 == 0) }
 {
@@ -29,6 +29,7 @@ pub(crate) fn count_at(counts: &[usize], device: u32) -> usize
     counts[device as usize]
 }
 
+/// The first device of a row that is not down.
 fn find_not_down(states: &[PhaseState], row: &[u32]) -> Option<u32>
     ensures { result ≡ find (λ e. is_not_down (state_at states.now e)) row.now }
 {
@@ -37,6 +38,7 @@ fn find_not_down(states: &[PhaseState], row: &[u32]) -> Option<u32>
         .find(|device| is_not_down(state_at(states, *device)))
 }
 
+/// The first device of a row that is not up.
 fn find_not_up(states: &[PhaseState], row: &[u32]) -> Option<u32>
     ensures { result ≡ find (λ e. is_not_up (state_at states.now e)) row.now }
 {
@@ -45,6 +47,7 @@ fn find_not_up(states: &[PhaseState], row: &[u32]) -> Option<u32>
         .find(|device| is_not_up(state_at(states, *device)))
 }
 
+/// Whether all devices of a row were skipped as direct-complete.
 fn are_direct_complete(states: &[PhaseState], row: &[u32]) -> bool
     ensures { result ≡ list_all (λ e. is_direct_complete (state_at states.now e)) row.now }
 {
@@ -52,7 +55,7 @@ fn are_direct_complete(states: &[PhaseState], row: &[u32]) -> bool
         .all(|device| is_direct_complete(state_at(states, *device)))
 }
 
-/// The first device right below one that is not through on the way down.
+/// The first device right below one that is not done on the way down.
 pub(crate) fn first_not_down(states: &[PhaseState], links: &Links, device: u32) -> Option<u32>
     ensures { result ≡ first_where (λ e. is_not_down (state_at states.now e))
         (dependents links.now.parents (active_of links.now.links) device) }

@@ -1,4 +1,4 @@
-//! Where the devices stand in a pair of phases.
+//! The states of the devices in a pair of phases.
 
 ghost use Rattle.std.specs.Prelude.{◌≡◌, ◌≢◌, ◌<◌, ℕ, true, IfOk, length, replicate, slice_index_or};
 ghost use Rattle.std.specs.Bool.{OnTrue};
@@ -15,7 +15,7 @@ use sleep_base::Mem;
 use sleep_model::PhaseState;
 use std::alloc::Global;
 
-/// What no attempt changes: the links, the place of each device in their order, and which devices are
+/// What no attempt changes: the links, the index of each device in their order, and which devices are
 /// asynchronous.
 #[derive(Drop)]
 pub(crate) struct Layout {
@@ -24,9 +24,9 @@ pub(crate) struct Layout {
     pub(crate) asynchronous: Vec<bool>,
 }
 
-/// Where the devices stand in a pair of phases, where searches among them begin, and how many
-/// devices each waits for: on the way down those below it that are not through, on the way up those
-/// above it that are not up.
+/// The states of the devices in a pair of phases, the cursors of searches among them, and how many devices
+/// each waits for: on the way down those below it that are not done, on the way up those above it that are
+/// not up.
 #[derive(Drop)]
 pub(crate) struct Walk {
     pub(crate) states: Vec<PhaseState>,
@@ -36,7 +36,7 @@ pub(crate) struct Walk {
     pub(crate) open_above: Vec<usize>,
 }
 
-/// Gives each device its place in an order that has each once.
+/// Gives each device its index in an order that has each once.
 pub(crate) fn fill_indices(indices: &mut [usize], order: &[u32])
     requires size { length indices.old ≡ length order.now }
     requires different { AllDifferent order.now }
@@ -49,7 +49,7 @@ pub(crate) fn fill_indices(indices: &mut [usize], order: &[u32])
     }
 }
 
-/// Gives each device its place in an order that has each once, unless it is known to have it.
+/// Gives each device its index in an order that has each once, unless it is known to have it.
 pub(crate) fn refill_indices(indices: &mut [usize], order: &[u32], are_unchanged: bool)
     requires size { length indices.old ≡ length order.now }
     requires different { AllDifferent order.now }
@@ -63,7 +63,7 @@ pub(crate) fn refill_indices(indices: &mut [usize], order: &[u32], are_unchanged
     }
 }
 
-/// The place of each device in an order that has each once.
+/// The index of each device in an order that has each once.
 pub(crate) fn indices_of(alloc: Global, order: &[u32]) -> Result<Vec<usize>, Mem>
     requires different { AllDifferent order.now }
     requires covers { (d : ℕ) → d < length order.now → is_among order.now d ≡ true }
@@ -75,7 +75,7 @@ pub(crate) fn indices_of(alloc: Global, order: &[u32]) -> Result<Vec<usize>, Mem
     Ok(indices)
 }
 
-// Counts how many devices depend directly on each.
+/// Counts how many devices depend directly on each.
 fn count_below(counts: &mut [usize], links: &Links)
     requires size { length counts.old ≡ length links.now.parents }
     ensures { IsLengths (length links.now.parents)
@@ -87,7 +87,7 @@ fn count_below(counts: &mut [usize], links: &Links)
     }
 }
 
-// Counts how many devices depend directly on each, anew.
+/// Counts how many devices depend directly on each, anew.
 fn recount_below(counts: &mut Vec<usize>, links: &Links)
     requires size { length counts.old.items ≡ length links.now.parents }
     ensures { IsLengths (length links.now.parents)
@@ -96,7 +96,7 @@ fn recount_below(counts: &mut Vec<usize>, links: &Links)
     count_below(counts, links);
 }
 
-// Counts how many devices depend directly on one, anew, where the others have their counts.
+/// Counts how many devices depend directly on one, anew, if the others have their counts.
 fn recount_at(counts: &mut Vec<usize>, links: &Links, device: u32)
     requires size { length counts.old.items ≡ length links.now.parents }
     requires others { (d : ℕ) → d < length links.now.parents → d ≢ device →
@@ -111,7 +111,7 @@ fn recount_at(counts: &mut Vec<usize>, links: &Links, device: u32)
     }
 }
 
-// How many devices depend directly on each.
+/// How many devices depend directly on each.
 fn counts_below(alloc: Global, links: &Links) -> Result<Vec<usize>, Mem>
     ensures { IfOk result (λ v. IsLengths (length links.now.parents)
         (λ d. first_occurrences (dependents links.now.parents (active_of links.now.links) d)) v.items) }
@@ -121,8 +121,8 @@ fn counts_below(alloc: Global, links: &Links) -> Result<Vec<usize>, Mem>
     Ok(counts)
 }
 
-// Where the searches begin among n devices, none of which is prepared. Each cursor stands at
-// what it looks for from the outset, so that only a move of such a device can concern it.
+/// The cursors of searches among n devices, none of which is prepared. Each cursor is at what it looks for
+/// from the outset, so that only a move of such a device can concern it.
 fn first_cursors(count: usize) -> Cursors
     ensures { result ≡ record { unprepared = 0; going = count; to_schedule = count; up = count; not_up = count; ready = 0; prepared = 0 } }
 {
@@ -155,8 +155,8 @@ impl Walk {
         })
     }
 
-    // Has each device not prepared, and counts what each waits for. Where none was prepared, which one
-    // cursor tells, only what depends on the supplier has changed.
+    /// Has each device not prepared, and counts what each waits for. If none was prepared, which one cursor
+    /// shows, only what depends on the supplier has changed.
     fn settle(&mut self, layout: &Layout, supplier: u32)
         requires { MayRestart layout.now supplier self.old }
         ensures states { self.new.states.items
@@ -176,7 +176,7 @@ impl Walk {
         }
     }
 
-    /// Begins anew, no device prepared, over links that have changed right below this supplier alone.
+    /// Begins anew, no device prepared, over links that have changed only right below this supplier.
     pub(crate) fn restart(&mut self, layout: &Layout, supplier: u32)
         requires { MayRestart layout.now supplier self.old }
         ensures states { self.new.states.items

@@ -1,4 +1,4 @@
--- What a board tells is what the definitions tell.
+-- What a board answers is what the definitions say.
 use Rattle.async_board.proofs.Agreement.{agrees}
 use Rattle.async_board.proofs.law.board_agrees.Goals as goal
 

@@ -1,4 +1,4 @@
--- The rows and the stands are those of the links.
+-- The rows and the states are those of the links.
 use Rattle.std.proofs.Common.{◌∙◌, List, ℕ, sym, ap, subst}
 use Rattle.sleep_model.specs.Links.{IsOrder}
 use Rattle.sleep_model.specs.Order.{active_of, is_among, dependents, superiors}

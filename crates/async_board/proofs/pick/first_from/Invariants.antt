@@ -1,4 +1,4 @@
--- None of the places so far passes.
+-- None of the indices so far passes.
 use Rattle.async_board.specs.Picks.{is_picked, IsPassed}
 use Rattle.async_board.proofs.pick.first_from.Given as goal
 

@@ -1,4 +1,4 @@
--- None of the places from here on passes.
+-- None of the indices from here on passes.
 use Rattle.async_board.specs.Picks.{is_picked, IsAhead}
 use Rattle.async_board.proofs.pick.last_before.Given as goal
 

@@ -1,4 +1,4 @@
--- Each device of the order stands at one place.
+-- Each device of the order is at one index.
 use Rattle.std.proofs.Common.{◌<◌, ◌∙◌, length, get_or, arith, length-set}
 use Rattle.async_board.proofs.Counting.{among_at}
 use Rattle.async_board.proofs.Indices.{places_more, placed_all}

@@ -1,4 +1,4 @@
--- The devices so far have their places.
+-- The devices so far have their indices.
 use Rattle.std.proofs.Common.{◌≡◌, ◌<◌, ℕ, length, get_or}
 use Rattle.async_board.proofs.walk.fill_indices.Given as goal
 

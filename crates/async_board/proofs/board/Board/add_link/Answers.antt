@@ -1,4 +1,4 @@
--- The links have changed right below the supplier alone.
+-- Only the links right below the supplier have changed.
 use Rattle.std.proofs.Common.{◌≡◌, ◌∙◌, List, ℕ, sym, ap, subst}
 use Rattle.std.specs.Bool.{OnTrue}
 use Rattle.sleep_model.specs.Order.{is_among}

@@ -1,4 +1,4 @@
--- Where the count is 0, none is found.
+-- If the count is 0, none is found.
 use Rattle.std.proofs.Common.{◌≡◌, ◌∙◌, ◌==◌, List, ℕ, None, sym, ap, subst, get_or}
 use Rattle.sleep_model.specs.declared.progress.PhaseState.{PhaseState}
 use Rattle.sleep_model.specs.Order.{active_of, superiors}
