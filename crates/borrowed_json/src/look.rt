@@ -39,7 +39,8 @@ pub fn as_u64(value: &Value<'_>) -> Option<u64>
     number_in(value)?.as_u64()
 }
 
-/// The whole number of 64 bits and a sign that it is, without fraction and exponent; None if it is none. `-0` is none.
+/// The whole number of 64 bits and a sign that it is, without fraction and exponent; None if it is none. `-0`
+/// is none.
 pub fn as_i64(value: &Value<'_>) -> Option<i64>
     ensures { result ≡ option_and_then as_i64 (as_number (view value.now)) }
 {
@@ -57,8 +58,8 @@ pub fn as_array<'v, 'a>(value: &'v Value<'a>) -> Option<&'v [Value<'a>]>
     }
 }
 
-/// The members of the object that it is, as they stand in the text: a name may stand twice, and the last one counts.
-/// None if it is none.
+/// The members of the object that it is, as they stand in the text: a name may stand twice, and the last one
+/// counts. None if it is none.
 #[tactic(auto, unfolding(crate::specs::View::view))]
 pub fn as_object<'v, 'a>(value: &'v Value<'a>) -> Option<&'v [(&'a str, Value<'a>)]>
     ensures { option_map (λ members. members_view members.now) result ≡ as_object (view value.now) }
@@ -69,7 +70,8 @@ pub fn as_object<'v, 'a>(value: &'v Value<'a>) -> Option<&'v [(&'a str, Value<'a
     }
 }
 
-/// What is at the name in the object that it is; None if it is none, or where the name is none of its members.
+/// What is at the name in the object that it is; None if it is none, or where the name is none of its
+/// members.
 pub fn get<'v, 'a>(value: &'v Value<'a>, name: &str) -> Option<&'v Value<'a>>
     ensures { option_map (λ v. view v.now) result ≡ get name.now (view value.now) }
 {

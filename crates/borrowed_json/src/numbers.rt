@@ -22,6 +22,7 @@ pub(crate) fn number_of(text: &str) -> Option<Number>
     }
 }
 
+/// Whether a numeral begins with a minus.
 fn has_minus(bytes: &[u8]) -> bool
     ensures value { result ≡ (slice_index bytes.now 0 == 45) }
     ensures len { IsTrue result → 0 < length bytes.now }
@@ -29,6 +30,7 @@ fn has_minus(bytes: &[u8]) -> bool
     !bytes.is_empty() && bytes[0] == b'-'
 }
 
+/// The number of a numeral without a minus: of 64 bits, or else a float.
 fn unsigned(numeral: &Numeral<'_>) -> Option<Number>
     ensures { option_map number_view result ≡ number_from false numeral.now }
 {
@@ -38,6 +40,7 @@ fn unsigned(numeral: &Numeral<'_>) -> Option<Number>
     }
 }
 
+/// The number of a numeral with a minus: a negative one of 64 bits, or else a float.
 fn below_zero(numeral: &Numeral<'_>) -> Option<Number>
     ensures { option_map number_view result ≡ number_from true numeral.now }
 {
@@ -68,6 +71,7 @@ pub(crate) fn is_in_range(value: &Value<'_>) -> bool
     }
 }
 
+/// Whether all numbers in these items are in range.
 #[cycle(in_range)]
 fn items_in_range(items: &Vec<Value<'_>>) -> bool
     ensures { result ≡ items_in_range (items_view items.now.items) }
@@ -80,6 +84,7 @@ fn items_in_range(items: &Vec<Value<'_>>) -> bool
     true
 }
 
+/// Whether all numbers in these members are in range.
 #[cycle(in_range)]
 fn are_in_range(members: &Vec<(&str, Value<'_>)>) -> bool
     ensures { result ≡ are_in_range (members_view members.now.items) }

@@ -9,7 +9,7 @@ use json::{Error, Reader, Scratch, Value};
 use sleep_base::Mem;
 use std::alloc::Global;
 
-// How deep arrays and objects nest at most in what `serde_json` reads.
+/// How deep arrays and objects nest at most in what `serde_json` reads.
 const MAX_DEPTH: usize = 127;
 
 /// The value that the bytes are. None exactly where `serde_json` reads none.
@@ -31,6 +31,7 @@ pub fn read_value<'a>(
     }
 }
 
+/// The value that a text is, read with that scratch.
 fn read_text<'a>(
     alloc: Global,
     text: &'a str,

@@ -1,2 +1,3 @@
+-- The lemmas of this crate, by file.
 mod Invariant
 mod Names

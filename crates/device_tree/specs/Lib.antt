@@ -1,3 +1,4 @@
+-- The definitions of this crate, by file.
 pub mod Invariant
 pub mod Refusal
 pub mod Requests

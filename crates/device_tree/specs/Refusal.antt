@@ -9,7 +9,7 @@ use Rattle.device_tree.specs.declared.fault.TreeFault.TheVariants.{TooMany, Name
 abbrev pub number_of_name : List ℕ → List Device → Option ℕ
 number_of_name name devices = position (bytes_eq name) (map (λ d. d.name) devices)
 
--- a device of this name stands among them
+-- a device of this name is among them
 abbrev pub is_taken : List ℕ → List Device → Bool
 is_taken name devices = list_any (bytes_eq name) (map (λ d. d.name) devices)
 
@@ -25,7 +25,7 @@ refusal devices d =
     if is_taken d.name devices then Some NameTaken else
     if is_lost (length devices) d.parent then Some NoParent else None
 
--- what is answered is the refusal, and where there is none, out of memory or success
+-- what is answered is the refusal, and if there is none, out of memory or success
 abbrev pub RefusesDevice : {T : Type 0} → Result T TreeFault → Option TreeFault → Type 0
 RefusesDevice (Ok x) None = Unit {0}
 RefusesDevice (Ok x) (Some f) = ⊥

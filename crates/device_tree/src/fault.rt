@@ -1,3 +1,5 @@
+//! Why a device is not registered.
+
 ghost use Rattle.std.specs.Prelude.{◌≡◌};
 ghost use Rattle.device_tree.specs.declared.fault.TreeFault.TheVariants as fault;
 
@@ -8,10 +10,10 @@ use thiserror::Error;
 /// Why a device was not registered.
 #[derive(Clone, Copy, Debug, PartialEq, Eq, Error)]
 pub enum TreeFault {
-    /// As many devices stand as a machine may have.
+    /// There are as many devices as a machine may have.
     #[error("as many devices stand as a machine may have")]
     TooMany,
-    /// A device of this name stands.
+    /// There is a device of this name.
     #[error("a device of this name stands")]
     NameTaken,
     /// The parent is not registered yet.

@@ -1,10 +1,9 @@
-//! The tree of devices, in the order of their registration (`drivers/base/core.c`). No program stands on it: the
-//! reader of files registers devices by itself. It serves callers that register devices one at a time. Its tests
-//! are in `part_cases`.
+//! The tree of devices, in the order of their registration (`drivers/base/core.c`). The reader of machine
+//! files registers devices by it, one at a time. Its tests are in `part_cases`.
 //!
 //! Promises: The tree is the registered list. Each refusal comes exactly if it should, in order, and changes
-//! nothing. A request for a runtime status is answered by the rule. By the clauses of `Tree::register`, `find`,
-//! `parent`, `children`, `devices`, `len`; `request`.
+//! nothing. A request for a runtime status is answered by the rule. By the clauses of `Tree::register`,
+//! `find`, `parent`, `children`, `devices`, `len`; `request`.
 //!
 //! Begin reading in `src/tree.rt`.
 #![tactic(auto)]

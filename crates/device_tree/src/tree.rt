@@ -1,3 +1,5 @@
+//! The tree of devices: registration, and what is found in it.
+
 ghost use Rattle.std.specs.Prelude.{◌≡◌, ◌<◌, IfSome, OnOk, length, slice_index, vec_len, vec_capacity};
 ghost use Rattle.indexmap.specs.IndexSet.{spare};
 ghost use Rattle.device_tree.specs.Refusal.{is_lost};
@@ -11,7 +13,7 @@ use sleep_model::{Device, Name};
 use std::alloc::Global;
 use std::marker::Model;
 
-// The most devices that a machine has.
+/// The most devices that a machine has.
 const MOST_DEVICES: usize = 1000;
 
 /// Devices in the order of their registration, each with the number of those before it
@@ -53,11 +55,11 @@ impl Tree {
         }
     }
 
-    /// Registers a device after those that stand, and gives its number.
+    /// Registers a device after the others, and gives its number.
     ///
     /// A full tree of 1,000 devices takes none (`TooMany`). Else a name that is taken is refused
-    /// (`NameTaken`), and then a parent that is not among those that stand (`NoParent`): each exactly
-    /// there. `Mem` comes last, if it is out of memory. A refused device leaves no trace.
+    /// (`NameTaken`), and then a parent that is not registered (`NoParent`): each exactly then. `Mem` comes
+    /// last, if it is out of memory. A refused device leaves no trace.
     pub fn register(&mut self, device: Device) -> Result<u32, TreeFault>
         ensures refused { RefusesDevice result (refusal self.old device) }
         ensures number { IfOk result (λ n. n ≡ length self.old) }
@@ -86,7 +88,7 @@ impl Tree {
         }
     }
 
-    // Why the device is not registered, but if it is out of memory.
+    /// Why the device is not registered, but if it is out of memory.
     fn refusal(&self, device: &Device) -> Option<TreeFault>
         ensures { result ≡ refusal self.now device.now }
     {
@@ -112,7 +114,7 @@ impl Tree {
         }
     }
 
-    /// The number of a device's parent. None if it has none, and where there is no such device.
+    /// The number of a device's parent. None if it has none, or if there is no such device.
     pub fn parent(&self, device: u32) -> Option<u32>
         ensures { result ≡ option_and_then (λ d. d.parent) (slice_get self.now device) }
     {
@@ -126,7 +128,7 @@ impl Tree {
         self.children.row(device)
     }
 
-    /// How many devices stand, at most 1,000.
+    /// How many devices are registered, at most 1,000.
     pub fn len(&self) -> u32
         ensures count { result ≡ length self.now }
         ensures tree { IsTree self.now }
@@ -156,7 +158,7 @@ impl Tree {
     }
 }
 
-// Whether the parent is not among the first `count` devices.
+/// Whether the parent is not among the first `count` devices.
 fn is_lost(count: usize, parent: Option<u32>) -> bool
     ensures { result ≡ is_lost count parent }
 {
@@ -166,7 +168,7 @@ fn is_lost(count: usize, parent: Option<u32>) -> bool
     }
 }
 
-// Room for one more device, and for one more child of its parent.
+/// Room for one more device, and for one more child of its parent.
 fn make_room(
     devices: &mut Vec<Device>,
     names: &mut IndexSet<Name>,
@@ -189,7 +191,7 @@ fn make_room(
     Ok(())
 }
 
-// Puts the device at the end of its parent's children.
+/// Puts the device at the end of its parent's children.
 fn add_child(children: &mut Rows, parent: Option<u32>, device: u32)
     requires { IfSome parent (λ p. 0 < slice_index children.old.room p) }
     ensures { children.new.rows ≡ with_number children.old.rows parent device }

@@ -89,7 +89,7 @@ bit_most : (b : Bool) → bit b ≤ 1
 bit_most true = omega arith
 bit_most false = omega arith
 
--- no part of the word runs over
+-- no counter of the word overflows
 pub in_parts : (n : ℕ) (log : List SourceStep) → n ≤ 256 → AreBelow n log → AreInTurn log → ((k : ℕ) → length (steps_of k log) ≤ 60000) → InParts (word_after log)
 in_parts n log few below turns short =
     let all = in_progress n log below turns in

@@ -1,3 +1,4 @@
+-- The lemmas of this crate, by file.
 pub mod Looking
 pub mod Totals
 pub mod Histories

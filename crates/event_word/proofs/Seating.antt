@@ -28,7 +28,7 @@ can_step kind count active rest can =
     let b = both_true (nat_lt count 60000) (fits kind active) a.0 in
     let t : nat_lt count 60000 ≡ true = b.0 in (grind (arith, nat_tests), b.1, a.1)
 
--- a step that fits can be made where there is room
+-- a step that fits can be made if there is room
 pub can_now : (kind : WordKind) (count : ℕ) (active : Bool) → count < 60000 → fits kind active ≡ true → (rest : List WordKind) × (can_make count active (kind ∷ rest) ≡ true)
 can_now kind count active room fit = let t : nat_lt count 60000 ≡ true = grind (arith, nat_tests) in
     ([], ap (λ b. b && fits kind active && true) t ∙ (ap (λ b. b && true) fit))
@@ -47,7 +47,7 @@ new_seat look seats k seat are at =
     let there = at_map (λ (s : EventSeat). s.token) seats k seat at in
     ((are.all_are.each_is k seat.token there).0, (are.untouched k seat.token there).made)
 
--- the same, by a place in the list
+-- the same, by an index in the list
 pub new_at : (look : Token) (z : TableId) (seats : List EventSeat) (k : ℕ) (seat : EventSeat) → look.table_id ≡ z → AreNew look (tokens seats) → k < length seats → seat ≡ get_or seats k seat
     → (seat.token.table_id ≡ z) × (made_of seat.token ≡ [])
 new_at look z seats k seat table are low e =
@@ -96,7 +96,7 @@ module _ {A : Type 0} where
   at_middle [] rest a = refl
   at_middle (x ∷ xs) rest a = at_middle xs rest a
 
--- the seat that comes next has the number of its place
+-- the seat that comes next has the number of its index
 pub came : (look : Token) (seats yielded left rest : List EventSeat) (seat : EventSeat) → AreAll look (tokens seats) → yielded ++ left ≡ seats → left ≡ seat ∷ rest
     → (seat.token.table_id ≡ look.table_id) × (number_of seat.token ≡ Some (length yielded))
 came look seats yielded left rest seat are whole next = are.each_is (length yielded) seat.token

@@ -25,7 +25,7 @@ total_same (suc n) f g same =
     let rest : total n g ≡ total n f = total_same n f g (λ k low. same k (omega arith)) in
     omega arith
 
--- where they differ at one number alone
+-- if they differ at only one number
 pub total_moved : (n i : ℕ) (f g : ℕ → ℕ) → ((k : ℕ) → k ≢ i → g k ≡ f k) → i < n → total n g + f i ≡ total n f + g i
 total_moved zero i f g same low = absurd (omega arith)
 total_moved (suc n) i f g same low = dite (ℕ_discrete n i)
@@ -48,7 +48,7 @@ total_most (suc n) c f most =
     let top : f n ≤ c = most n in
     omega (arith, suc-mul n c)
 
--- no part of the word runs into another
+-- no counter of the word runs into another
 pub record InParts (w : EventNow) : Type 0 where
   pub inpr : w.inpr < 65536
   pub count : w.count < 16777216
@@ -64,7 +64,7 @@ apart_again w parts =
     let high : (w.inpr + 65536 * w.count + 1099511627776 * w.hard) / 1099511627776 ≡ w.hard = omega arith in
     λ i. record { inpr = low i; count = middle i; hard = high i }
 
--- a step adds its weight, where it takes nothing that isn't there
+-- a step adds its weight, if it takes nothing that isn't there
 abbrev pub Has : WordKind → EventNow → Type 0
 Has Start w = Unit {0}
 Has Finish w = 1 ≤ w.inpr

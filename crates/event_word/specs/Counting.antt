@@ -1,4 +1,4 @@
--- The rule of the table, and what each step tells. The table has one word, and no slots.
+-- The rule of the table, and what each step shows. The table has one word, and no slots.
 use Rattle.std.specs.Prelude.{◌≡◌, ℕ, suc, ◌+◌, ◌<◌, ◌≤◌, true, false, List, [], ◌∷◌, ◌++◌, length, slice_index, slice_index_or, Some, None}
 use mathlib.Core.Option.{some}
 use lib.ListN.{get_elem?}

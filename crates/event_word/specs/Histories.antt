@@ -69,8 +69,8 @@ abbrev pub AllInOrder : List (List EventNow) → Type 0
 AllInOrder [] = Unit {0}
 AllInOrder (words ∷ rest) = IsInOrder words × AllInOrder rest
 
--- the steps of all sources stand at the positions from 0 on, each once, and chain; the closing tells the last word;
--- every look of a seat saw one of these words, and no look went back
+-- the steps of all sources are at the positions from 0 on, each once, and chain; the closing shows the last word; every look of a seat saw
+-- one of these words, and no look went back
 pub record AreClosed (made : List (List MadeStep)) (looked : List (List EventNow)) (answer : EventNow) : Type 0 where
   pub history : List SourceStep
   pub makers : AreBelow (length made) history

@@ -1,3 +1,4 @@
+-- The definitions of this crate, by file.
 pub mod Looks
 pub mod Steps
 pub mod Histories

@@ -61,7 +61,7 @@ sources_of look = look.me.0.next
 abbrev pub IsSeatOf : TableId → ℕ → Token → Type 0
 IsSeatOf table_id number t = (t.table_id ≡ table_id) × (number_of t ≡ Some number)
 
--- the seats of all sources of the table of the seat that only looks, each at the place of its number
+-- the seats of all sources of the table of the seat that only looks, each at the index of its number
 pub record AreAll (look : Token) (ts : List Token) : Type 0 where
   pub counted : length ts ≡ sources_of look
   pub each_is : (k : ℕ) (t : Token) → get_elem? ts k ≡ some t → IsSeatOf look.table_id k t

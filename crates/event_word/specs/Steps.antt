@@ -1,4 +1,4 @@
--- What a step on the event word says, by what the stepped-on object tells, and which steps can be made.
+-- What a step on the event word says, by what the stepped-on object shows, and which steps can be made.
 use Rattle.std.specs.Prelude.{◌≡◌, ℕ, suc, Bool, true, false, ◌&&◌, if◌then◌else◌, nat_lt, List, [], ◌∷◌, Option, Some, None}
 use Rattle.sleep_model.specs.declared.word.EventNow.{EventNow}
 use Rattle.sleep_model.specs.declared.word.WordKind.{WordKind}
@@ -11,12 +11,12 @@ use Rattle.event_word.specs.declared.view.MadeStep as view
 abbrev pub MadeStep : Type 0
 MadeStep = view.MadeStep
 
--- the told word after a step
+-- the shown word after a step
 abbrev pub shown_after : WordKind → Option EventNow → Option EventNow
 shown_after step None = None
 shown_after step (Some word) = Some (after_step (Some step) word)
 
--- the told steps, the newest first, after one more
+-- the shown steps, the newest first, after one more
 abbrev pub made_after : WordKind → EventNow → Option (List MadeStep) → Option (List MadeStep)
 made_after step before None = None
 made_after step before (Some made) = Some (record { step = step; before = before } ∷ made)
@@ -29,13 +29,13 @@ CanMake can step = (rest : List WordKind) × (can (step ∷ rest) ≡ true)
 abbrev pub CanGoOn : WordKind → (List WordKind → Bool) → (List WordKind → Bool) → Type 0
 CanGoOn step old new = (rest : List WordKind) → old (step ∷ rest) ≡ true → new rest ≡ true
 
--- a word has place for the step: no part of it runs over or below (24 bits of each: own)
+-- a word has room for the step: no counter of it overflows or falls below 0 (24 bits of each: own)
 abbrev pub has_room : WordKind → EventNow → Bool
 has_room Start word = nat_lt word.inpr 16777215
 has_room Finish word = nat_lt 0 word.inpr && nat_lt word.count 16777215
 has_room Hard word = nat_lt word.hard 16777215
 
--- a word has place for these steps, one after another
+-- a word has room for these steps, one after another
 abbrev pub has_room_for_all : EventNow → List WordKind → Bool
 has_room_for_all word [] = true
 has_room_for_all word (step ∷ rest) = has_room step word && has_room_for_all (after_step (Some step) word) rest
@@ -51,7 +51,7 @@ abbrev pub is_active : List MadeStep → Bool
 is_active [] = false
 is_active (made ∷ before) = active_after made.step (is_active before)
 
--- a source can make the step: it starts where nothing is in progress, and finishes what is
+-- a source can make the step: it starts if nothing is in progress, and finishes what is
 abbrev pub fits : WordKind → Bool → Bool
 fits Start active = if active then false else true
 fits Finish active = active

@@ -27,8 +27,8 @@ fn gather(cells: &SharedWord, look: &mut Token, seats: Vec<EventSeat>)
     }
 }
 
-/// Closes the table, with the seats of all its sources in the order of their numbers. The answer is the word after all
-/// steps.
+/// Closes the table, with the seats of all its sources in the order of their numbers. The answer is the word
+/// after all steps.
 pub fn close(table: EventTable, seats: Vec<EventSeat>, look: LookSeat) -> Result<EventNow, Mem>
     requires look { look.token.table_id ≡ table.cells.shared.table_id }
     requires seats { AreAll look.token (tokens seats.items) }

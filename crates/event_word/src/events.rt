@@ -1,3 +1,5 @@
+//! What every holder of the event word can do: look at it, and move it.
+
 ghost use Rattle.std.specs.Prelude.{◌≡◌, ◌≤◌, ◌+◌, ℕ, Bool, List, Option};
 ghost use Rattle.sleep_model.specs.declared.word.EventNow.{EventNow};
 ghost use Rattle.sleep_model.specs.declared.word.WordKind.{WordKind};
@@ -14,10 +16,10 @@ pub trait Events {
     /// The word, if no other thread can move it.
     ghost shows: { Self → Option EventNow };
 
-    /// The words looked at, the newest first, where the holder tells them.
+    /// The words looked at, the newest first, if the holder shows them.
     ghost looked: { Self → Option (List EventNow) };
 
-    /// The steps that this holder made, the newest first, where it tells them.
+    /// The steps that this holder made, the newest first, if it shows them.
     ghost made: { Self → Option (List MadeStep) };
 
     /// Whether this holder can make these steps next, in this order.

@@ -27,7 +27,8 @@ impl EventTable {
         Ok(seats)
     }
 
-    /// A table with the word 0/0/0, a seat for each source, in the order of their numbers, and one that only looks.
+    /// A table with the word 0/0/0, a seat for each source, in the order of their numbers, and one that only
+    /// looks.
     pub fn new(alloc: Global, sources: u32) -> Result<(EventTable, Vec<EventSeat>, LookSeat), Mem>
         requires { (1 ≤ sources) × (sources ≤ 256) }
         ensures count { IfOk result (λ made. vec_len made.1 ≡ sources) }

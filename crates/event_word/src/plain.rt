@@ -1,3 +1,5 @@
+//! The event word as one plain counter.
+
 ghost use Rattle.std.specs.Prelude.{◌≡◌, Some, None};
 ghost use Rattle.sleep_model.specs.Word.{position};
 ghost use Rattle.event_word.specs.Steps.{has_room_for_all};

@@ -1,4 +1,4 @@
-//! The rule of the table, and what each step tells.
+//! The rule of the table, and what each step shows.
 ghost use Rattle.sleep_model.specs.declared.word.WordKind.TheVariants as kind;
 ghost use Rattle.event_word.specs.Counting.{TableInvariant, look_view, with_one_source, source_view, took_in, spent, steps_by, looks};
 

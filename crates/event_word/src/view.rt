@@ -12,13 +12,13 @@ pub struct MadeStep {
 pub struct WordView {
     /// Whether it is the seat that only looks, and that is needed to close the table.
     pub keeps: bool,
-    /// How many sources there are, where it is that seat.
+    /// How many sources there are, if it is that seat.
     pub next: u64,
-    /// What the sources made whose seats came back, in order, where it is that seat.
+    /// What the sources made whose seats came back, in order, if it is that seat.
     pub known: LinkedList<LinkedList<MadeStep>>,
-    /// What they looked at, in order, where it is that seat.
+    /// What they looked at, in order, if it is that seat.
     pub heard: LinkedList<LinkedList<EventNow>>,
-    /// The source's number, where it is a source's.
+    /// The source's number, if it is a source's.
     pub number: Option<u64>,
     /// The steps that it made, the newest first.
     pub made: LinkedList<MadeStep>,

@@ -1,4 +1,4 @@
--- Where keys stand in a list.
+-- The indices of keys in a list.
 use Rattle.std.proofs.Common.{◌≡◌, ◌<◌, ◌+◌, ◌∙◌, ℕ, suc, Bool, true, false, not, cond, nat_lt, List, ◌∷◌, length, drop, get_or, position, Option, Some, None, refl, sym, ap, arith, drop-cons}
 use Rattle.std.specs.Cmp.{IsEquivalence}
 use Rattle.std.specs.List.{position_or_len}
@@ -12,12 +12,12 @@ found_case true c n m e = let z : nat_lt 0 (suc m) ≡ true = grind (arith, nat_
 found_case false true n m e = let z : nat_lt (1 + n) (suc m) ≡ true = grind (arith, nat_tests) in let s : 1 + n ≡ suc n = omega arith in rw (z, s) refl
 found_case false false n m e = let z : nat_lt (1 + n) (suc m) ≡ false = grind (arith, nat_tests) in rw z refl
 
--- the first place in a list with one more at its front
+-- the first index in a list with one more at its front
 pub position_cons : {X : Type 0} (p : X → Bool) (x : X) (xs : List X) → position p (x ∷ xs) ≡ cond (p x) (Some 0) (option_map suc (position p xs))
 position_cons p x xs = found_case (p x) (nat_lt (position_or_len p xs) (length xs)) (position_or_len p xs) (length xs) refl
 
 module _ {K : Type 0} (eq : K → K → Bool) (laws : IsEquivalence eq) where
-  -- the first place of a key from number i on
+  -- the first index of a key from number i on
   abbrev pub placed : List K → ℕ → K → Option ℕ
   placed keys i q = option_map (λ j. i + j) (position (eq q) (drop i keys))
 

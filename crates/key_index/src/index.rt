@@ -1,10 +1,12 @@
+//! A list of keys, with the first index of each.
+
 use indexmap::IndexMap;
 use sleep_base::Mem;
 use std::alloc::Global;
 use std::hash::Hash;
 use std::marker::Model;
 
-/// A list of keys, of which each is found at its first place at once. Contracts see the list.
+/// A list of keys, of which each is found at its first index at once. Contracts see the list.
 #[derive(Drop)]
 pub struct KeyIndex<K: Hash + Eq + Copy> {
     keys: Vec<K>,
@@ -25,7 +27,7 @@ impl<K: Hash + Eq + Copy> Model for KeyIndex<K> {
 impl<K: Hash + Eq + Copy> KeyIndex<K> {
     ghost use Rattle.std.specs.Prelude.{◌≡◌, length, ◌<◌, IfOk, IfSome, position};
 
-    /// These keys, in this order. `Mem` if there is no memory for their places.
+    /// These keys, in this order. `Mem` if there is no memory for their indices.
     pub fn new(alloc: Global, keys: Vec<K>) -> Result<Self, Mem>
         ensures { IfOk result (λ p. p ≡ keys.items) }
     {
@@ -40,7 +42,7 @@ impl<K: Hash + Eq + Copy> KeyIndex<K> {
         self.keys.as_slice()
     }
 
-    /// The first place of a key. None exactly if it is none of them.
+    /// The first index of a key. None exactly if it is none of them.
     pub fn place(&self, key: &K) -> Option<usize>
         ensures place { result ≡ position (K.eq key.now) self.now }
         ensures within { IfSome result (λ i. i < length self.now) }
@@ -52,7 +54,7 @@ impl<K: Hash + Eq + Copy> KeyIndex<K> {
 ghost use Rattle.std.specs.Prelude.{◌≡◌, IfOk, position};
 ghost use Rattle.indexmap.specs.IndexMap.{get};
 
-/// The first place of each key, from the last key on.
+/// The first index of each key, from the last key on.
 fn first_indices<K: Hash + Eq + Copy>(alloc: Global, keys: &[K]) -> Result<IndexMap<K, usize>, Mem>
     ensures { IfOk result (λ m. (k : K) → get K.eq m k ≡ position (K.eq k) keys.now) }
 {

@@ -1,3 +1,4 @@
+-- Proof by hand of `as_array`: what it returns, by the lemmas of `Seen`.
 use Rattle.std.proofs.Common.{◌≡◌, ◌∙◌, Some, sym, ap, arith}
 use Rattle.json.specs.declared.value.Value.{Array}
 use Rattle.serde_json.specs.Find.{as_array}

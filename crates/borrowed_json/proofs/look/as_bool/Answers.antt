@@ -1,3 +1,4 @@
+-- Proof by hand of `as_bool`: what it returns, by the lemmas of `Seen`.
 use Rattle.std.proofs.Common.{◌∙◌}
 use Rattle.json.specs.Value.{value_view}
 use Rattle.borrowed_json.specs.View.{view}

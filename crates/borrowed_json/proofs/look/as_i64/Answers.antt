@@ -1,3 +1,4 @@
+-- Proof by hand of `as_i64`: what it returns, by the lemmas of `Seen`.
 use Rattle.std.proofs.Common.{◌≡◌, ◌∙◌, option_and_then, Some, None, ap, arith}
 use Rattle.json.specs.Find.{as_number as digits}
 use Rattle.json.specs.Value.{value_view}

@@ -1,3 +1,4 @@
+-- Proof by hand of `as_object`: what it returns, by the lemmas of `Seen`.
 use Rattle.std.proofs.Common.{◌≡◌, ◌∙◌, Some, sym, ap, arith}
 use Rattle.json.specs.declared.value.Value.{Object}
 use Rattle.serde_json.specs.Find.{as_object}

@@ -1,3 +1,4 @@
+-- The invariants of the loops of `in_range`.
 use Rattle.std.proofs.Common.{◌≡◌, drop}
 use Rattle.json.specs.Value.{items_view, members_view}
 use Rattle.borrowed_json.specs.InRange.{items_in_range, are_in_range}

@@ -1,3 +1,4 @@
+-- Proof by hand of `read_text`: what it returns, by the lemmas of `Ranges`.
 use Rattle.std.proofs.Common.{◌≡◌, ◌∙◌, [], Some, true, false, option_and_then, sym, ap, arith}
 use Rattle.json.specs.Json.{if_last, value}
 use Rattle.json.specs.Lex.{tokens}

@@ -1,3 +1,4 @@
+-- Proof by hand of `close`: what it returns, by the lemmas of `Invariance` and `Seating`.
 use Rattle.std.proofs.Common.{List, ◌++◌, ◌∷◌, []}
 use Rattle.std.proofs.Common.{subst}
 use Rattle.sleep_model.specs.declared.word.EventNow.{EventNow}

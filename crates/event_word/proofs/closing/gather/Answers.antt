@@ -1,3 +1,4 @@
+-- Proof by hand of `gather`: the call of `join_seat`, by the lemmas of `Invariance` and `Seating`.
 use Rattle.std.proofs.Common.{rules, ap, sym, ◌∙◌, Some, ℕ}
 use Rattle.event_word.proofs.Invariance.{may_join_source}
 use Rattle.event_word.proofs.Seating.{came, known_length}

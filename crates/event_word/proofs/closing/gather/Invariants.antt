@@ -1,3 +1,4 @@
+-- The invariant of the loop of `gather`.
 use Rattle.std.proofs.Common.{◌≡◌, ◌++◌}
 use Rattle.event_word.specs.Seats.{IsLook, sources_of, looked_of}
 use Rattle.event_word.specs.Lists.{made_lists, looked_lists}

@@ -1,3 +1,4 @@
+-- The invariant of the loop of `look_on`.
 use Rattle.std.proofs.Common.{◌≡◌, ◌≤◌}
 use Rattle.event_word.specs.Looks.{HasGrown}
 use Rattle.event_word.proofs.events.look_on.Given as goal

@@ -1,3 +1,4 @@
+-- Proof by hand of `first_indices`: its loop and what it returns, by the lemmas of `Placing`.
 use Rattle.std.proofs.Common.{◌≡◌, ◌<◌, ◌+◌, ◌-◌, ◌∙◌, ℕ, length, arith, sym, ap, subst}
 use Rattle.std.specs.Map.{lookup}
 use Rattle.indexmap.specs.IndexMap.{get}

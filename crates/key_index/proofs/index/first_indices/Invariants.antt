@@ -1,3 +1,4 @@
+-- The invariant of the loop of `first_indices`.
 use Rattle.std.proofs.Common.{◌≡◌}
 use Rattle.indexmap.specs.IndexMap.{get}
 use Rattle.key_index.proofs.Placing.{placed}

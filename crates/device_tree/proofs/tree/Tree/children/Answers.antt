@@ -1,3 +1,4 @@
+-- Proof by hand of `children`: what it returns, by the lemmas of `Invariant`.
 use Rattle.std.proofs.Common.{ap, ◌∙◌}
 use Rattle.sleep_model.specs.Order.{children_from, parents_of}
 use Rattle.device_tree.proofs.Invariant.{row_is}

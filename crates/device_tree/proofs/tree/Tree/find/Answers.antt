@@ -1,3 +1,4 @@
+-- Proof by hand of `find`: what it returns, by the lemmas of `Names`.
 use Rattle.std.proofs.Common.{ap, ◌∙◌}
 use Rattle.device_tree.specs.Refusal.{number_of_name}
 use Rattle.device_tree.proofs.Names.{place_is}

@@ -1,3 +1,4 @@
+-- Proof by hand of `refusal`: what it returns, by the lemmas of `Names`.
 use Rattle.std.proofs.Common.{◌≡◌, true, false, length, nat_le, ap, sym, ◌∙◌, arith}
 use Rattle.std.proofs.lemmas.Bool.Decides.{nat_tests}
 use Rattle.device_tree.specs.Refusal.{refusal, is_taken, is_lost}

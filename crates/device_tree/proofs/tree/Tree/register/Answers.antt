@@ -1,3 +1,4 @@
+-- Proof by hand of `register`: the invariants of its types, by the lemmas of `Invariant` and `Names`.
 use Rattle.std.proofs.Common.{◌≡◌, ◌++◌, ◌∷◌, [], length, cond, false, ap, sym, ◌∙◌, arith, List, ℕ}
 use Rattle.std.specs.List.{list_any}
 use Rattle.device_tree.specs.Refusal.{refusal}

@@ -1,3 +1,4 @@
+-- Proof by hand of `finish`: the call of `fetch_add`, by the lemmas of `Invariance` and `Seating`.
 use Rattle.std.proofs.Common.{rules}
 use Rattle.sleep_model.specs.declared.word.WordKind.TheVariants.{Finish}
 use Rattle.event_word.proofs.Invariance.{may_step, some_number}

@@ -1,3 +1,4 @@
+-- Proof by hand of `source`: the call of `split_seat`, by the lemmas of `Invariance`.
 use Rattle.std.proofs.Common.{rules}
 use Rattle.event_word.proofs.Invariance.{may_split_source}
 use Rattle.event_word.proofs.table.EventTable.source.Goals as goal

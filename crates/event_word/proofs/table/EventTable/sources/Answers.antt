@@ -1,3 +1,4 @@
+-- Proof by hand of `sources`: its loop, by the lemmas of `Seating`.
 use Rattle.std.proofs.Common.{rules, arith, ap, ◌∙◌, ◌≡◌, ◌+◌}
 use Rattle.event_word.specs.Seats.{sources_of}
 use Rattle.event_word.proofs.Seating.{seats_more}

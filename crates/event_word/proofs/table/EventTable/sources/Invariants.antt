@@ -1,3 +1,4 @@
+-- The invariant of the loop of `sources`.
 use Rattle.std.proofs.Common.{◌≡◌, length}
 use Rattle.event_word.specs.Seats.{AreNew, sources_of, made_of, looked_of, floor_of}
 use Rattle.event_word.specs.Lists.{tokens}
