@@ -15,7 +15,7 @@ use Rattle.apart_log.specs.Slices.{is_in, slice_lines}
 use Rattle.apart_log.proofs.Parting.{filter_again}
 use denote.Ref.{Bor}
 
--- the first alone, and the rest
+-- only the first, and the rest
 pub filter_first : {A : Type 0} (test : A → Bool) (x : A) (rest : List A) → filter test (x ∷ rest) ≡ filter test (x ∷ []) ++ filter test rest
 filter_first test x rest = by (test x)
   where
@@ -23,7 +23,7 @@ filter_first test x rest = by (test x)
     by true = refl
     by false = refl
 
--- what was kept stays so
+-- what passed the test still does
 pub filter_both : {A : Type 0} (test : A → Bool) (xs ys : List A) → filter test (xs ++ ys) ≡ filter test xs ++ filter test ys
 filter_both test [] ys = refl
 filter_both test (x ∷ xs) ys = by (test x) (filter_both test xs ys)
@@ -64,7 +64,7 @@ slice_told m range journal histories entries others ordered are =
     (sym (slice_referred entries)
     ∙ ap (λ (l : List JournalEntry). map (λ e. e.entry) l) (ordered ∙ ap in_order (sym (filter_both (is_in range) journal (sources_entries histories)))))
 
--- those of the entries of a range alone are all
+-- only the entries of a range, they are all
 pub told_of_range : (m : Machine) (range : Range) (past : List JournalEntry) (histories : List (List SourceEntry)) (kept among : List SourceEntry)
     → map of_source kept ≡ filter (is_in range) past → among ≡ kept
     → slice_lines m range (all_entries (map of_source among) histories) ≡ slice_lines m range (all_entries past histories)

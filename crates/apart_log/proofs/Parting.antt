@@ -1,4 +1,4 @@
--- A history whose positions rise is cut where those before a position end.
+-- A history whose positions rise is cut before a position.
 use Rattle.std.proofs.Common.{◌≡◌, ◌∙◌, ◌≤◌, ◌<◌, ◌+◌, ◌&&◌, nat_le, nat_lt, ℕ, zero, suc, Bool, true, false, List, [], ◌∷◌, length, filter, map, take, drop, get_or, cond, Some, None, refl, sym, ap, subst, arith}
 use Rattle.std.specs.List.{AllWithin, list_all}
 use Rattle.std.specs.List.Sorted.{IsNonDecreasingBy, IsPartitionPoint}
@@ -18,14 +18,14 @@ none_preserved test (x ∷ xs) h =
     ap (λ (b : Bool). cond b (x ∷ filter test xs) (filter test xs)) (h 0 x (omega arith) (omega arith))
     ∙ none_preserved test xs (λ k d low lt. h (suc k) d (omega arith) (omega (arith, lt)))
 
--- all, where all passes
+-- all, if all pass
 all_preserved : {A : Type 0} (test : A → Bool) (xs : List A) → AllWithin (λ x. test x ≡ true) xs 0 (length xs) → filter test xs ≡ xs
 all_preserved test [] h = refl
 all_preserved {A = A} test (x ∷ xs) h =
     ap (λ (b : Bool). cond b (x ∷ filter test xs) (filter test xs)) (h 0 x (omega arith) (omega arith))
     ∙ ap (λ (l : List A). x ∷ l) (all_preserved test xs (λ k d low lt. h (suc k) d (omega arith) (omega (arith, lt))))
 
--- the front, where it passes and nothing after it
+-- the front, if it passes and nothing after it does
 pub front_preserved : {A : Type 0} (test : A → Bool) (xs : List A) (k : ℕ) → IsPartitionPoint (λ x. test x ≡ true) (λ x. test x ≡ false) xs k → take k xs ≡ filter test xs
 front_preserved test [] zero point = refl
 front_preserved test [] (suc k) point = refl
@@ -37,7 +37,7 @@ front_preserved {A = A} test (x ∷ xs) (suc k) point =
     ))
     ∙ sym (ap (λ (b : Bool). cond b (x ∷ filter test xs) (filter test xs)) (point.0 0 x (omega arith) (omega arith)))
 
--- the back, where it passes and nothing before it
+-- the back, if it passes and nothing before it does
 pub back_preserved : {A : Type 0} (test : A → Bool) (xs : List A) (k : ℕ) → IsPartitionPoint (λ x. test x ≡ false) (λ x. test x ≡ true) xs k → drop k xs ≡ filter test xs
 back_preserved test [] zero point = refl
 back_preserved test [] (suc k) point = refl
@@ -71,7 +71,7 @@ filter_alike {A = A} test other is (x ∷ xs) =
     ap (λ (b : Bool). cond b (x ∷ filter test xs) (filter test xs)) (is x)
     ∙ ap (λ (l : List A). cond (other x) (x ∷ l) l) (filter_alike test other is xs)
 
--- what is made of a list is kept by a test of what each element makes
+-- a filter of what is made of a list is the filter by what each element makes
 pub filter_mapped : {A B : Type 0} (test : A → Bool) (f : B → A) (ys : List B) → filter test (map f ys) ≡ map f (filter (λ y. test (f y)) ys)
 filter_mapped test f [] = refl
 filter_mapped {A = A} test f (y ∷ ys) = by (test (f y)) (filter_mapped test f ys)
@@ -85,7 +85,7 @@ twice : (b : Bool) → (b && b) ≡ b
 twice true = refl
 twice false = refl
 
--- what a test kept it keeps
+-- what passes a test twice passes it once
 pub filter_again : {A : Type 0} (test : A → Bool) (xs : List A) → filter test (filter test xs) ≡ filter test xs
 filter_again test xs = filter_two test test test (λ x. twice (test x)) xs
 
@@ -118,7 +118,7 @@ is_from a b h = grind (arith, nat_tests)
 pub not_from : (a b : ℕ) → nat_lt a b ≡ true → nat_le b a ≡ false
 not_from a b h = grind (arith, nat_tests)
 
--- what stands from the first position of a range on, and before its end, is of the range
+-- what comes from the first position of a range on, and before its end, is of the range
 pub both_ends : (from end : ℕ) (h : List SourceEntry)
     → map of_source (filter (λ (one : SourceEntry). nat_lt one.stamp.pos end) (filter (λ (one : SourceEntry). nat_le from one.stamp.pos) h))
     ≡ filter (is_in (record { from = from; to = Some end })) (map of_source h)
@@ -127,7 +127,7 @@ both_ends from end h =
     (filter_two (λ (one : SourceEntry). nat_le from one.stamp.pos) (λ (one : SourceEntry). nat_lt one.stamp.pos end) (λ (one : SourceEntry). is_in (record { from = from; to = Some end }) (of_source one)) (λ one. refl) h)
     ∙ sym (filter_mapped (is_in (record { from = from; to = Some end })) of_source h)
 
--- where the range has no end, all that stands from its first position on
+-- if the range has no end, all that comes from its first position on
 pub no_end : (from : ℕ) (h : List SourceEntry)
     → map of_source (filter (λ (one : SourceEntry). nat_le from one.stamp.pos) h) ≡ filter (is_in (record { from = from; to = None })) (map of_source h)
 no_end from h =

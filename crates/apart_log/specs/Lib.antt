@@ -1,2 +1,3 @@
+-- The definitions of this crate, by file.
 pub mod LogFields
 pub mod Slices

@@ -1,4 +1,4 @@
--- What the fields of a log are that is kept as its journal and its sources' histories.
+-- The fields of a log that is stored as its journal and its sources' histories.
 use Rattle.std.specs.Prelude.{◌≡◌, true, map, reverse}
 use Rattle.std.specs.List.{list_all}
 use Rattle.sleep_model.specs.declared.log.Log.{Log}

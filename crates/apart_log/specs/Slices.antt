@@ -8,7 +8,7 @@ use Rattle.sleep_model.specs.Merge.{in_order}
 use Rattle.sleep_model.specs.Text.{entry_line}
 use Rattle.apart_log.specs.declared.range.Range.{Range}
 
--- a position stands before the end of a range, if it has one
+-- a position is before the end of a range, if it has one
 abbrev pub is_before_end : ℕ → Option ℕ → Bool
 is_before_end pos None = true
 is_before_end pos (Some end) = nat_lt pos end
@@ -17,7 +17,7 @@ is_before_end pos (Some end) = nat_lt pos end
 abbrev pub is_in : Range → JournalEntry → Bool
 is_in range e = nat_le range.from e.stamp.pos && is_before_end e.stamp.pos range.to
 
--- the entries of a range, as they stand in the one log
+-- the entries of a range, in the order of the one log
 abbrev pub slice : Range → List JournalEntry → List Entry
 slice range entries = map (λ e. e.entry) (in_order (filter (is_in range) entries))
 

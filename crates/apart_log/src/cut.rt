@@ -1,4 +1,4 @@
-//! A log cut into parts for workers, side by side on threads, and each part into slices.
+//! A log cut for workers, side by side on threads, and each worker's piece into slices.
 
 ghost use Rattle.std.specs.Prelude.{◌≡◌, ◌++◌, true, IfOk, map, reverse};
 ghost use Rattle.std.specs.List.{list_all};
@@ -19,7 +19,7 @@ pub(crate) struct TextSource<'a> {
     pub(crate) machine: &'a Machine,
     pub(crate) journal: &'a Journal,
     pub(crate) histories: &'a [SourceList],
-    /// The position at which the log ends. It says only where cuts are good.
+    /// The position at which the log ends. It says only which cuts are good.
     pub(crate) last: u64,
     /// How often a worker halves its own range. It says only how long slices are.
     pub(crate) in_row: u32,
@@ -50,9 +50,9 @@ fn both(mut texts: Vec<Vec<u8>>, mut others: Vec<Vec<u8>>) -> Result<Vec<Vec<u8>
     Ok(texts)
 }
 
-/// The texts of the slices of a range, which is halved `halvings` times, made one after the other, of that journal and the
-/// histories. What a short slice is made of stays in the processor's cache until its text is written. `Mem` if there is
-/// no memory.
+/// The texts of the slices of a range, which is halved `halvings` times, made one after the other, of that
+/// journal and the histories. What a short slice is made of stays in the processor's cache until its text is
+/// written. `Mem` if there is no memory.
 fn texts_in_row(
     alloc: Global,
     source: &TextSource<'_>,
@@ -84,8 +84,8 @@ fn worker_texts(alloc: Global, source: &TextSource<'_>, range: Range) -> Result<
     texts_in_row(alloc, source, journal.as_slice(), range, source.in_row)
 }
 
-/// The texts of a range, which is halved `halvings` times. Each part has a worker of its own, a thread where one can be
-/// made. `Mem` if there is no memory.
+/// The texts of a range, which is halved `halvings` times. Each piece has a worker of its own, on a thread if
+/// one can be made. `Mem` if there is no memory.
 #[cycle(texts)]
 pub(crate) fn texts<R: Threads + Sync>(
     rt: &R,

@@ -1,4 +1,4 @@
-//! A log as its parts.
+//! A log as its journal and its sources' histories.
 
 ghost use Rattle.std.specs.Prelude.{◌≡◌};
 
@@ -11,7 +11,7 @@ use std::alloc::Global;
 use std::marker::Model;
 use std::thread::Threads;
 
-/// A log that is kept as its machine's journal and its sources' histories. Contracts see the log.
+/// A log that is stored as its machine's journal and its sources' histories. Contracts see the log.
 #[derive(Drop)]
 pub struct ApartLog {
     journal: Journal,
@@ -32,18 +32,19 @@ impl Model for ApartLog {
     ghost invariant = { LogInvariant };
 }
 
-/// How many entries of sources a log has for each one of the journal where slices are worth their threads, at least.
+/// How many entries of sources a log has at least for each one of the journal, if slices are worth their
+/// threads.
 const FEW: usize = 8;
 
 /// The fewest entries of sources of which slices are worth their threads.
 const MANY: usize = 16_384;
 
-/// How many entries of sources a slice has, at least. A processor's cache holds them, and the machine's names, which each slice
-/// spells, are few beside them.
+/// How many entries of sources a slice has, at least. A processor's cache holds them, and the machine's
+/// names, which each slice spells, are few beside them.
 const SLICE: usize = 4_096;
 
-/// How often each of the workers halves its own range, so that its slices are short. There are as many workers as the log is
-/// halved for.
+/// How often each of the workers halves its own range, so that its slices are short. There are as many
+/// workers as the log is halved for.
 fn halvings_in_row(entries: usize, halvings: u32) -> u32 {
     let slices = (entries / SLICE).max(1);
     slices.ilog2().saturating_sub(halvings)
@@ -76,8 +77,8 @@ impl ApartLog {
     ghost use Rattle.sleep_model.specs.Text.{entry_line};
     ghost use Rattle.apart_log.specs.Slices.{joined_texts};
 
-    /// The log of a journal and of the sources' histories, along each of which ticks and positions rise, with the sources'
-    /// statistics and how the run ended.
+    /// The log of a journal and of the sources' histories, along each of which ticks and positions rise, with
+    /// the sources' statistics and how the run ended.
     pub fn new(journal: Journal, histories: Vec<SourceList>, stats: Vec<Stats>, end: LogEnd) -> Self
         requires journal { rises (reverse journal.past) ≡ true }
         requires histories { list_all (λ history. rises (map of_source history)) histories.items ≡ true }
@@ -122,8 +123,9 @@ impl ApartLog {
         })
     }
 
-    /// The texts of slices of the entries; one after the other they are the text of all. Workers make them, each on a thread
-    /// of its own where one can be made; there are twice as many workers for each `halvings`. `Mem` if there is no memory.
+    /// The texts of slices of the entries; one after the other they are the text of all. Workers make them,
+    /// each on a thread of its own if one can be made; there are twice as many workers for each `halvings`.
+    /// `Mem` if there is no memory.
     #[tactic(auto, using(crate::proofs::Cutting::lines_all))]
     pub(crate) fn texts<R: Threads + Sync>(
         &self,

@@ -56,7 +56,7 @@ impl Range {
         }
     }
 
-    /// A position that halves them, where the log ends at `last`.
+    /// A position that halves them, if the log ends at `last`.
     pub(crate) fn middle(self, last: u64) -> u64
         requires { IsUpTo self.from self.to }
         ensures behind { self.from ≤ result }

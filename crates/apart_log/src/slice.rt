@@ -15,7 +15,7 @@ use sleep_base::Mem;
 use sleep_model::{Journal, JournalEntry, SourceEntry, SourceList};
 use std::alloc::{AllocError, Global};
 
-/// Puts an entry of the journal after others, where it is of that range.
+/// Puts an entry of the journal after others, if it is of that range.
 #[inline(always)]
 fn push_in(those: &mut Vec<SourceEntry>, one: JournalEntry, range: Range) -> Result<(), AllocError>
     ensures { OnOk result (map of_source those.new.items ≡ map of_source those.old.items ++ filter (is_in range) (one ∷ [])) }
@@ -43,7 +43,7 @@ pub(crate) fn journal_in(
     Ok(those)
 }
 
-/// Puts an entry after others, where it is of that range.
+/// Puts an entry after others, if it is of that range.
 #[inline(always)]
 fn push_ref_in<'a>(
     entries: &mut Vec<&'a SourceEntry>,
@@ -69,7 +69,7 @@ fn those_in(alloc: Global, entries: &[SourceEntry], range: Range) -> Result<Vec<
     Ok(those)
 }
 
-/// The entries of a history, whose positions rise, that stand before that position.
+/// The entries of a history, whose positions rise, that come before that position.
 fn before(history: &[SourceEntry], pos: u64) -> &[SourceEntry]
     requires { IsNonDecreasingBy (λ (one : SourceEntry). one.stamp.pos) history.now }
     ensures { result.now ≡ filter (λ (one : SourceEntry). nat_lt one.stamp.pos pos) history.now }

@@ -30,7 +30,7 @@ impl Model for SlicedText {
     ghost view = { λ t. joined_texts t.slices.items ++ t.behind.items };
 }
 
-/// How often the log is halved, so that each worker has a part of it.
+/// How often the log is halved, so that each worker has a piece of it.
 fn halvings(workers: u8) -> u32 {
     u32::from(workers).next_power_of_two().trailing_zeros()
 }
@@ -52,7 +52,8 @@ fn closing_lines(
     write_log(alloc, machine, &rest)
 }
 
-/// Writes these texts one after the other. `Failed` at the first write that fails: a front of all was written.
+/// Writes these texts one after the other. `Failed` at the first write that fails: a front of all was
+/// written.
 #[tactic(auto, using(sleep_base::proofs::Written::one_failed, sleep_base::proofs::Written::both_written))]
 fn write_texts<K: ByteSink>(sink: &mut K, texts: &[Vec<u8>]) -> Result<(), Failed>
     ensures bytes { WriteAll (K.written sink.old) (K.written sink.new) (K.faults sink.old) (K.faults sink.new) (joined_texts texts.now) result }
@@ -72,8 +73,8 @@ impl SlicedText {
     ghost use Rattle.sleep_base.specs.Whole.{WriteAll};
     ghost use Rattle.sleep_model.specs.Text.{text};
 
-    /// The text of the log that this machine made, in slices that this number of workers makes. `Mem` if there is no memory
-    /// for it.
+    /// The text of the log that this machine made, in slices that this number of workers makes. `Mem` if
+    /// there is no memory for it.
     pub fn new<R: Threads + Sync>(
         rt: &R,
         alloc: Global,

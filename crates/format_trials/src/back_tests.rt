@@ -9,7 +9,7 @@ use sleep_base::Mem;
 use std::alloc::Global;
 use std::process::Abort;
 
-// The file that is written for the machine of a file; no bytes where it is refused.
+/// The file that is written for the machine of a file; no bytes if it is refused.
 fn rewritten(alloc: Global, file: &str) -> Result<Vec<u8>, Mem> {
     match read_machine(alloc, file.as_bytes()) {
         Ok(read) => {
@@ -21,20 +21,20 @@ fn rewritten(alloc: Global, file: &str) -> Result<Vec<u8>, Mem> {
     }
 }
 
-// Whether that is written for a file.
+/// Whether that is written for a file.
 fn is_written(alloc: Global, file: &str, line: &str) -> Result<bool, Mem> {
     let written = rewritten(alloc, file)?;
     Ok(written.as_slice() == line.as_bytes())
 }
 
-// A text with a newline.
+/// A text with a newline.
 fn line_of(alloc: Global, text: &str) -> Result<String, Mem> {
     let mut line = String::from_str(alloc, text)?;
     line.push('\n')?;
     Ok(line)
 }
 
-// Whether a file is written so, with a newline, and what is written is written so again.
+/// Whether a file is written so, with a newline, and what is written is written so again.
 fn is_read_back(alloc: Global, file: &str, text: &str) -> Result<bool, Mem> {
     let line = line_of(alloc, text)?;
     let once = is_written(alloc, file, line.as_str()) == Ok(true);
@@ -42,7 +42,7 @@ fn is_read_back(alloc: Global, file: &str, text: &str) -> Result<bool, Mem> {
     Ok(once && again)
 }
 
-// That each of these files is written so.
+/// That each of these files is written so.
 fn expect_each(rt: &impl Abort, alloc: Global, files: &[(&str, &str)]) {
     for (file, text) in files {
         assert!(rt; is_read_back(alloc, file, text) == Ok(true), "{file}");

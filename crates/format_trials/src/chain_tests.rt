@@ -22,7 +22,7 @@ source autosleep 0 0 0 0 0 0 0
 finished
 ";
 
-/// How what is told of it ends.
+/// How the command `stats` ends on it.
 const CHAIN: &str = "chain 3 a b c\nlevel a 1\nlevel b 2\nlevel c 3\n";
 
 /// The devices of its longest chain, and the levels of all.
@@ -33,7 +33,7 @@ const LEVELS: [u32; 3] = [1, 2, 3];
 /// The chain without its middle.
 const ENDS: [u32; 2] = [0, 2];
 
-// Whether a machine has three devices, the last below the second, and no links.
+/// Whether a machine has three devices, the last below the second, and no links.
 fn has_devices(machine: &Machine) -> bool
     ensures parents { OnTrue result (parents_of machine.now.devices ≡ None ∷ None ∷ Some 1 ∷ []) }
     ensures links { OnTrue result (machine.now.links ≡ []) }
@@ -44,7 +44,7 @@ fn has_devices(machine: &Machine) -> bool
     }
 }
 
-// Whether an entry adds a link from the first device to the second.
+/// Whether an entry adds a link from the first device to the second.
 fn is_added(kind: Kind) -> bool
     ensures { OnTrue result (kind ≡ LinkAdd 0 1 None) }
 {
@@ -58,7 +58,7 @@ fn is_added(kind: Kind) -> bool
     )
 }
 
-// Whether a log does, and no more.
+/// Whether a log does, and no more.
 fn adds_one(log: &Log) -> bool
     ensures { OnTrue result (added_by [] log.now.entries ≡ record { supplier = 0; consumer = 1; active = true } ∷ []) }
 {
@@ -69,7 +69,8 @@ fn adds_one(log: &Log) -> bool
     is_added(entry.kind) && reader.next().is_none()
 }
 
-// Whether the machine is that of those devices and the log adds that link: then the links at its end stand.
+/// Whether the machine is that of those devices and the log adds that link: then the links at its end are
+/// these.
 #[tactic(auto, using(crate::proofs::Chains::stand))]
 fn is_linked(machine: &Machine, log: &Log) -> bool
     ensures { OnTrue result (CanBeAdded (parents_of machine.now.devices) (added_links machine.now log.now)) }
@@ -77,7 +78,7 @@ fn is_linked(machine: &Machine, log: &Log) -> bool
     has_devices(machine) && adds_one(log)
 }
 
-// A chain of these devices, with the levels of all three.
+/// A chain of these devices, with the levels of all three.
 fn chain_of(alloc: Global, devices: &[u32]) -> Result<Chain, Mem> {
     let devices = devices.to_vec(alloc)?;
     let levels = LEVELS.to_vec(alloc)?;
@@ -87,12 +88,12 @@ fn chain_of(alloc: Global, devices: &[u32]) -> Result<Chain, Mem> {
     })
 }
 
-// Whether the chain is that of all three devices, with their levels.
+/// Whether the chain is that of all three devices, with their levels.
 fn is_whole(chain: &Chain) -> bool {
     chain.devices.as_slice() == DEVICES.as_slice() && chain.levels.as_slice() == LEVELS.as_slice()
 }
 
-// Whether the longest chain is that of all three devices, and is certified.
+/// Whether the longest chain is that of all three devices, and is certified.
 fn is_longest_sure(alloc: Global, machine: &Machine, log: &Log) -> Result<bool, Mem>
     requires accepted { IsAccepted machine.now }
     requires stand { CanBeAdded (parents_of machine.now.devices) (added_links machine.now log.now) }
@@ -104,7 +105,7 @@ fn is_longest_sure(alloc: Global, machine: &Machine, log: &Log) -> Result<bool, 
     Ok(is_whole && sure?)
 }
 
-// Whether the chain without its middle is certified.
+/// Whether the chain without its middle is certified.
 fn is_cut_sure(alloc: Global, machine: &Machine, log: &Log) -> Result<bool, Mem>
     requires accepted { IsAccepted machine.now }
     requires stand { CanBeAdded (parents_of machine.now.devices) (added_links machine.now log.now) }
@@ -115,7 +116,7 @@ fn is_cut_sure(alloc: Global, machine: &Machine, log: &Log) -> Result<bool, Mem>
     sure
 }
 
-// Whether the first is so, and the second is not.
+/// Whether the first is so, and the second is not.
 fn are_distinct(alloc: Global, machine: &Machine, log: &Log) -> bool
     requires { IsAccepted machine.now }
 {
@@ -126,7 +127,7 @@ fn are_distinct(alloc: Global, machine: &Machine, log: &Log) -> bool
         && is_cut_sure(alloc, machine, log) == Ok(false)
 }
 
-// Whether both are so of the machine and the log of an input.
+/// Whether both are so of the machine and the log of an input.
 fn are_distinct_in(alloc: Global, input: &str) -> bool {
     match read_log_input(alloc, input.as_bytes()) {
         Ok(read) => {
@@ -144,7 +145,7 @@ fn the_longest_chain_is_certified(rt: HostRuntime) {
     assert!(rt; are_distinct_in(rt.alloc(), LINKED));
 }
 
-// Whether what is told of an input ends so.
+/// Whether the command ends so on an input.
 fn is_written(alloc: Global, input: &str, end: &str) -> bool {
     match stats_of(alloc, input.as_bytes()) {
         Ok(text) => text.as_slice().ends_with(end.as_bytes()),
@@ -152,7 +153,7 @@ fn is_written(alloc: Global, input: &str, end: &str) -> bool {
     }
 }
 
-/// What is told of it is told of the bytes.
+/// The text for it is that for its bytes.
 #[test]
 fn the_longest_chain_is_written(rt: HostRuntime) {
     assert!(rt; is_written(rt.alloc(), LINKED, CHAIN));

@@ -1,5 +1,5 @@
-//! Tests of machine files and of logs as texts, and of what is told of both. They stand apart from the crates that
-//! they try, so that those are proved once. No program stands on this crate.
+//! Tests of machine files and of logs as texts, and of what commands say of both. They are apart from the
+//! crates that they try, so that those are proved once. No program uses this crate.
 //!
 //! Begin reading in `src/`.
 #![tactic(auto)]

@@ -1,3 +1,5 @@
+//! Tests of the lines of entries, of statistics and of ends, as they are written.
+
 use log_text::write_log;
 use sleep_base::{Errno, Mem};
 use sleep_model::{
@@ -12,7 +14,7 @@ fn name(text: &str) -> Result<Name, Mem> {
     Name::of_bytes(text.as_bytes()).ok_or(Mem)
 }
 
-// A script without steps.
+/// A script without steps.
 fn script(alloc: Global, text: &str, kind: TaskKind) -> Result<Script, Mem> {
     let name = name(text)?;
     Ok(Script {
@@ -23,7 +25,7 @@ fn script(alloc: Global, text: &str, kind: TaskKind) -> Result<Script, Mem> {
     })
 }
 
-// A machine of these things.
+/// A machine of these things.
 fn machine_of(
     alloc: Global,
     devices: Vec<Device>,
@@ -46,7 +48,7 @@ fn machine_of(
     }
 }
 
-// Scripts without steps.
+/// Scripts without steps.
 fn scripts(alloc: Global, rows: &[(&str, TaskKind)]) -> Result<Vec<Script>, Mem> {
     let mut scripts = Vec::new(alloc);
     for (text, kind) in rows {
@@ -55,6 +57,7 @@ fn scripts(alloc: Global, rows: &[(&str, TaskKind)]) -> Result<Vec<Script>, Mem>
     Ok(scripts)
 }
 
+/// Names of these texts.
 fn names(alloc: Global, texts: &[&str]) -> Result<Vec<Name>, Mem> {
     let mut names = Vec::new(alloc);
     for text in texts {
@@ -63,6 +66,7 @@ fn names(alloc: Global, texts: &[&str]) -> Result<Vec<Name>, Mem> {
     Ok(names)
 }
 
+/// Devices with these names, without parents.
 fn devices(alloc: Global, texts: &[&str]) -> Result<Vec<Device>, Mem> {
     let mut devices = Vec::new(alloc);
     for text in texts {
@@ -83,7 +87,7 @@ const THREE: [(&str, TaskKind); 3] = [
     ("k", TaskKind::Irq),
 ];
 
-// The task w alone.
+/// Only the task w.
 pub fn one_task(alloc: Global) -> Result<Machine, Mem> {
     let actors = scripts(alloc, &ONE)?;
     Ok(machine_of(
@@ -95,14 +99,14 @@ pub fn one_task(alloc: Global) -> Result<Machine, Mem> {
     ))
 }
 
-// The devices c and d, and the task w.
+/// The devices c and d, and the task w.
 pub fn two_devices(alloc: Global) -> Result<Machine, Mem> {
     let devices = devices(alloc, &["c", "d"])?;
     let actors = scripts(alloc, &ONE)?;
     Ok(machine_of(alloc, devices, Vec::new(alloc), Vec::new(alloc), actors))
 }
 
-// The device c, the source lid, the mark a, the tasks w and b and the interrupt line k.
+/// The device c, the source lid, the mark a, the tasks w and b and the interrupt line k.
 pub fn machine(alloc: Global) -> Result<Machine, Mem> {
     let devices = devices(alloc, &["c"])?;
     let sources = names(alloc, &["lid"])?;
@@ -115,6 +119,7 @@ pub const TASK: Actor = Actor::Script(0);
 
 const IRQ: Actor = Actor::Script(2);
 
+/// An entry with no event in progress and no hard event.
 fn made(time: u64, count: u32, actor: Actor, kind: Kind) -> Entry {
     let now = EventNow {
         inpr: 0,
@@ -129,17 +134,17 @@ fn made(time: u64, count: u32, actor: Actor, kind: Kind) -> Entry {
     }
 }
 
-// An entry by its moment, the events that are registered, its actor and its kind, and its line.
+/// An entry by its moment, the events that are registered, its actor and its kind, and its line.
 pub type Row = (u64, u32, Actor, Kind, &'static str);
 
-// An entry alone.
+/// Only one entry.
 fn entries_of(alloc: Global, entry: Entry) -> Result<EntryList, Mem> {
     let mut entries = EntryList::new(alloc);
     entries.push(entry)?;
     Ok(entries)
 }
 
-// The text of an entry alone.
+/// The text of only one entry.
 fn line_of(alloc: Global, machine: &Machine, entry: Entry) -> Result<Vec<u8>, Mem> {
     let log = Log {
         entries: entries_of(alloc, entry)?,
@@ -151,14 +156,14 @@ fn line_of(alloc: Global, machine: &Machine, entry: Entry) -> Result<Vec<u8>, Me
     text
 }
 
-// Whether the entry of a row alone makes its line.
+/// Whether the entry of a row makes its line by itself.
 fn is_line(alloc: Global, machine: &Machine, row: &Row) -> Result<bool, Mem> {
     let (time, count, actor, kind, line) = row;
     let text = line_of(alloc, machine, made(*time, *count, *actor, *kind))?;
     Ok(text.as_slice() == line.as_bytes())
 }
 
-// Each entry alone makes its line.
+/// Each entry makes its line by itself.
 pub fn assert_lines(rt: &impl Abort, alloc: Global, machine: &Machine, rows: &[Row]) {
     for row in rows {
         assert!(rt; is_line(alloc, machine, row) == Ok(true), "at {}", row.4);
@@ -286,7 +291,7 @@ const OF_ATTEMPTS: [Row; 6] = [
     ),
 ];
 
-// Writes the rows of a machine's log.
+/// Writes the rows of a machine's log.
 fn expect_lines(rt: &impl Abort, alloc: Global, rows: &[Row]) -> Result<(), Mem> {
     let machine = machine(alloc)?;
     assert_lines(rt, alloc, &machine, rows);
@@ -309,6 +314,7 @@ fn writes_steps_of_attempts(rt: HostRuntime) {
     assert!(rt; expect_lines(&rt, rt.alloc(), &OF_ATTEMPTS) == Ok(()));
 }
 
+/// Statistics of so many events, the longest of which took that time.
 fn stats(count: u32, ms: u64) -> Stats {
     Stats {
         active_count: count,
@@ -321,13 +327,13 @@ fn stats(count: u32, ms: u64) -> Stats {
     }
 }
 
-// Whether a log makes that text.
+/// Whether a log makes that text.
 fn is_text(alloc: Global, machine: &Machine, log: &Log, lines: &str) -> Result<bool, Mem> {
     let text = write_log(alloc, machine, log)?;
     Ok(text.as_slice() == lines.as_bytes())
 }
 
-// Whether a log does, of that machine.
+/// Whether a log does, of that machine.
 fn is_written(alloc: Global, log: &Log, lines: &str) -> Result<bool, Mem> {
     let machine = machine(alloc)?;
     let is_so = is_text(alloc, &machine, log, lines);
@@ -335,7 +341,7 @@ fn is_written(alloc: Global, log: &Log, lines: &str) -> Result<bool, Mem> {
     is_so
 }
 
-// A log of no entry.
+/// A log of no entry.
 fn log_of(alloc: Global, stats: Vec<Stats>, end: LogEnd) -> Log {
     Log {
         entries: EntryList::new(alloc),
@@ -344,7 +350,7 @@ fn log_of(alloc: Global, stats: Vec<Stats>, end: LogEnd) -> Log {
     }
 }
 
-// What is after the entries of a run that is over.
+/// What is after the entries of a run that is over.
 fn finished(alloc: Global) -> Result<Log, Mem> {
     let stats = vec![in alloc; stats(1, 50), stats(0, 0)]?;
     Ok(log_of(alloc, stats, LogEnd::Finished))
@@ -352,6 +358,7 @@ fn finished(alloc: Global) -> Result<Log, Mem> {
 
 const FINISHED: &str = "source lid 1 1 0 0 50 50 50\nsource autosleep 0 0 0 0 0 0 0\nfinished\n";
 
+/// The lines of sources and of a finished end are written.
 #[test]
 fn writes_sources_and_end(rt: HostRuntime) -> Result<(), Fail> {
     let log = finished(rt.alloc())?;
@@ -371,7 +378,7 @@ const WAITS: [Waiting; 2] = [
     },
 ];
 
-// What is after the entries of a run that is stuck.
+/// What is after the entries of a run that is stuck.
 fn stuck(alloc: Global) -> Result<Log, Mem> {
     let waits = WAITS.to_vec(alloc)?;
     Ok(log_of(alloc, Vec::new(alloc), LogEnd::Stuck(ListOf::of_vec(waits))))
@@ -379,6 +386,7 @@ fn stuck(alloc: Global) -> Result<Log, Mem> {
 
 const STUCK: &str = "stuck task:w mark a\nstuck task:w read\n";
 
+/// The lines of scripts that are stuck are written.
 #[test]
 fn writes_who_is_stuck(rt: HostRuntime) -> Result<(), Fail> {
     let log = stuck(rt.alloc())?;

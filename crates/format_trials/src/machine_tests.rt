@@ -1,3 +1,5 @@
+//! Tests of the reader of machine files: which rule a file breaks first, or what it is read as.
+
 use bitflags::Flags;
 use machine_file::{MachineFault, ReadMachine, read_machine};
 use sleep_model::{
@@ -8,14 +10,14 @@ use std::alloc::{AllocError, Global};
 use std::process::Abort;
 use std::test::Fail;
 
-// A file with these further members, and one actor that makes these operations.
+/// A file with these further members, and one actor that makes these operations.
 fn file(alloc: Global, more: &str, operations: &str) -> Result<String, AllocError> {
     format!(in alloc;
         "{{\"version\":1{more},\"actors\":[{{\"name\":\"w\",\"kind\":\"user\",\"script\":[{operations}]}}]}}"
     )
 }
 
-// The number of the rule that is named, and 0 if none is.
+/// The number of the rule that is named, and 0 if none is.
 fn rule_of(read: &Result<ReadMachine, MachineFault>) -> u8 {
     match read {
         Err(MachineFault::Rule { rule, .. }) => *rule,
@@ -23,6 +25,7 @@ fn rule_of(read: &Result<ReadMachine, MachineFault>) -> u8 {
     }
 }
 
+/// The place of the first broken rule in a file.
 fn place_of(read: &Result<ReadMachine, MachineFault>) -> &str {
     match read {
         Err(MachineFault::Rule { place, .. }) => place.as_str(),
@@ -31,7 +34,7 @@ fn place_of(read: &Result<ReadMachine, MachineFault>) -> &str {
     }
 }
 
-// What is to come of a file: the rule that it breaks first, or 0, and where, or what it is read as.
+/// What is to come of a file: the rule that it breaks first, or 0, and the place, or what it is read as.
 #[derive(Clone, Copy)]
 enum Wanted<'a> {
     Rule(u8, &'a str),
@@ -40,7 +43,7 @@ enum Wanted<'a> {
     Shared,
 }
 
-// Whether that came of a file.
+/// Whether that came of a file.
 fn is_wanted(read: &Result<ReadMachine, MachineFault>, wanted: &Wanted<'_>) -> bool {
     match (read, wanted) {
         (_, Wanted::Rule(rule, place)) => rule_of(read) == *rule && place_of(read) == *place,
@@ -51,7 +54,7 @@ fn is_wanted(read: &Result<ReadMachine, MachineFault>, wanted: &Wanted<'_>) -> b
     }
 }
 
-// Whether that comes of a file.
+/// Whether that comes of a file.
 fn gives(alloc: Global, text: &str, wanted: &Wanted<'_>) -> bool {
     let read = read_machine(alloc, text.as_bytes());
     let is_so = is_wanted(&read, wanted);
@@ -59,19 +62,19 @@ fn gives(alloc: Global, text: &str, wanted: &Wanted<'_>) -> bool {
     is_so
 }
 
-// Whether a file breaks that rule first, and there; rule 0 is none.
+/// Whether a file breaks that rule first, and there; rule 0 is none.
 fn breaks(alloc: Global, text: &str, rule: u8, place: &str) -> bool {
     gives(alloc, text, &Wanted::Rule(rule, place))
 }
 
-// That each of these files does.
+/// That each of these files does.
 fn expect_each(rt: &impl Abort, alloc: Global, rows: &[(&str, u8, &str)]) {
     for (text, rule, place) in rows {
         assert!(rt; breaks(alloc, text, *rule, place), "{text}");
     }
 }
 
-// Whether a file with these further members and operations does.
+/// Whether a file with these further members and operations does.
 fn file_breaks(
     alloc: Global,
     more: &str,
@@ -94,7 +97,7 @@ const NO_FILES: [(&str, u8, &str); 8] = [
     (r#"{"version":1,"actors":{}}"#, 4, "actors"),
 ];
 
-/// Files that are none: the first rule that they break, and where.
+/// Files that are none: the first rule that they break, and the place.
 #[test]
 fn files_that_are_none(rt: HostRuntime) {
     expect_each(&rt, rt.alloc(), &NO_FILES);
@@ -173,7 +176,8 @@ const MEMBERS: [(&str, u8, &str); 18] = [
     ),
 ];
 
-/// Each rule on the members of a file, by a file that breaks it, and where: of two that are broken, the first in order.
+/// Each rule on the members of a file, by a file that breaks it, and the place: of two that are broken, the
+/// first in order.
 #[test]
 fn members_that_break_a_rule(rt: HostRuntime) -> Result<(), Fail> {
     for (more, rule, place) in &MEMBERS {
@@ -205,7 +209,7 @@ const OPERATIONS: [(&str, u8, &str); 8] = [
     (r#"{"op":"post","mark":"M"}"#, 16, "actors[0].script[0]"),
 ];
 
-/// Each rule on operations, by a script that breaks it alone, and where.
+/// Each rule on operations, by a script that breaks only that one, and the place.
 #[test]
 fn operations_that_break_a_rule(rt: HostRuntime) -> Result<(), Fail> {
     for (operations, rule, place) in &OPERATIONS {
@@ -275,7 +279,8 @@ const CHANGING_LINKS: [(&str, u8, &str); 11] = [
     ),
 ];
 
-/// Files of version 2, whose links have states and whose scripts change links; a file of version 1 has neither.
+/// Files of version 2, whose links have states and whose scripts change links; a file of version 1 has
+/// neither.
 #[test]
 fn links_that_change(rt: HostRuntime) {
     expect_each(&rt, rt.alloc(), &CHANGING_LINKS);
@@ -300,18 +305,18 @@ fn makers_that_break_a_rule(rt: HostRuntime) {
     expect_each(&rt, rt.alloc(), &MAKERS);
 }
 
-// Members of each list.
+/// Members of each list.
 const MORE: &str = r#","alarm_ms":7,"cpus":4,"auto_cycles":3,
         "devices":[{"name":"bus"},{"name":"usb","parent":"bus","async":true,"runtime":"suspended"},{"name":"clk","wakeup":true}],
         "links":[{"supplier":"clk","consumer":"usb"}],
         "syscore":["irq","clock"],"notifiers":[{"name":"n","priority":-5}],"sources":["lid"],
         "answers":[{"what":"device","name":"usb","phase":"late","attempt":2,"ret":"EIO"},{"what":"syscore","name":"clock","ret":"EBUSY"}]"#;
 
-// What an actor makes of them.
+/// What an actor makes of them.
 const SCRIPT: &str = r#"{"op":"read"},{"op":"save"},{"op":"event","source":"lid"},
         {"op":"runtime","device":"clk","to":"suspended"},{"op":"state","text":"mem"}"#;
 
-// Whether the file of those lists is read as it is written.
+/// Whether the file of those lists is read as it is written.
 fn lists_are_read(alloc: Global) -> Result<bool, AllocError> {
     let text = file(alloc, MORE, SCRIPT)?;
     Ok(gives(alloc, text.as_str(), &Wanted::Lists))
@@ -324,6 +329,7 @@ fn a_machine_is_read(rt: HostRuntime) -> Result<(), Fail> {
     Ok(())
 }
 
+/// Whether it is the machine of the whole file.
 fn is_machine(machine: &Machine, order: &[u32]) -> bool {
     are_numbers(machine)
         && are_devices(machine.devices.as_slice())
@@ -341,6 +347,7 @@ fn is_device(device: &Device, parent: Option<u32>, flags: u8) -> bool {
     device.parent == parent && device.flags.bits() == flags
 }
 
+/// Whether these are the bus, the device on it, and the clock.
 fn are_devices(devices: &[Device]) -> bool {
     match devices {
         [bus, usb, clk] => {
@@ -350,7 +357,7 @@ fn are_devices(devices: &[Device]) -> bool {
     }
 }
 
-// Links are read, and added in turn.
+/// Links are read, and added in turn.
 fn is_link(links: &[Link], order: &[u32]) -> bool {
     match links {
         [link] => { link.supplier == 2 && link.consumer == 1 && order == [0u32, 2, 1].as_slice() }
@@ -358,6 +365,7 @@ fn is_link(links: &[Link], order: &[u32]) -> bool {
     }
 }
 
+/// Whether it is the one notifier, of priority -5.
 fn is_notifier(notifiers: &[Notifier]) -> bool {
     match notifiers {
         [notifier] => notifier.priority == -5,
@@ -365,11 +373,12 @@ fn is_notifier(notifiers: &[Notifier]) -> bool {
     }
 }
 
-// What is answered for, in which attempt, and what.
+/// What is answered for, in which attempt, and what.
 fn is_answer(answer: &Answer, what: What, attempt: Option<u32>, ret: i32) -> bool {
     answer.what == what && answer.attempt == attempt && answer.ret == ret
 }
 
+/// Whether these are the two answers: of a late phase and of a syscore operation.
 fn are_answers(answers: &[Answer]) -> bool {
     match answers {
         [late, core] => {
@@ -380,7 +389,7 @@ fn are_answers(answers: &[Answer]) -> bool {
     }
 }
 
-// The steps of the only script.
+/// The steps of the only script.
 fn steps_of(actors: &[Script]) -> &[Step] {
     match actors {
         [actor] => actor.steps.as_slice(),
@@ -388,6 +397,7 @@ fn steps_of(actors: &[Script]) -> &[Step] {
     }
 }
 
+/// Whether the last three operations are an event, a request and a write to the state.
 fn are_operations(actors: &[Script]) -> bool {
     match steps_of(actors) {
         [_, _, event, runtime, state] => {
@@ -397,6 +407,7 @@ fn are_operations(actors: &[Script]) -> bool {
     }
 }
 
+/// Whether it is an event of source 0 that ends at once.
 fn is_event(op: &Op) -> bool {
     matches!(
         op,
@@ -408,6 +419,7 @@ fn is_event(op: &Op) -> bool {
     )
 }
 
+/// Whether it is a request to suspend device 2.
 fn is_request(op: &Op) -> bool {
     matches!(
         op,
@@ -422,7 +434,7 @@ fn is_state(op: &Op, wanted: bool) -> bool {
     matches!(op, Op::State { if_saved, .. } if *if_saved == wanted)
 }
 
-// A file with a link whose state is given, and a script that sets its state and adds another one.
+/// A file with a link whose state is given, and a script that sets its state and adds another one.
 const CHANGES: &str = r#"{"version":2,"devices":[{"name":"a"},{"name":"b"}],
         "links":[{"supplier":"b","consumer":"a","state":"dormant"}],
         "actors":[{"name":"w","kind":"user","script":[{"op":"link_state","supplier":"b","consumer":"a","to":"active"},{"op":"link","supplier":"a","consumer":"b"}]}]}"#;
@@ -437,6 +449,7 @@ fn are_changes(machine: &Machine) -> bool {
     is_dormant(machine.links.as_slice()) && change_links(machine.actors.as_slice())
 }
 
+/// Whether the one link is dormant.
 fn is_dormant(links: &[Link]) -> bool {
     match links {
         [link] => !link.active,
@@ -444,6 +457,7 @@ fn is_dormant(links: &[Link]) -> bool {
     }
 }
 
+/// Whether the operations set a link's state, and then add a link.
 fn change_links(actors: &[Script]) -> bool {
     match steps_of(actors) {
         [state, added] => sets_link(&state.op) && adds_link(&added.op),
@@ -451,6 +465,7 @@ fn change_links(actors: &[Script]) -> bool {
     }
 }
 
+/// Whether it sets the state of the link between 1 and 0.
 fn sets_link(op: &Op) -> bool {
     matches!(
         op,
@@ -462,6 +477,7 @@ fn sets_link(op: &Op) -> bool {
     )
 }
 
+/// Whether it adds a link between 0 and 1.
 fn adds_link(op: &Op) -> bool {
     matches!(
         op,
@@ -472,7 +488,7 @@ fn adds_link(op: &Op) -> bool {
     )
 }
 
-// Two writers that share marks, and a callback that reports.
+/// Two writers that share marks, and a callback that reports.
 const SHARED: &str = r#"{"version":1,"devices":[{"name":"nic"}],"sources":["lan","lid"],
         "actors":[
             {"name":"w","kind":"user","script":[{"op":"wait","mark":"b"},{"op":"state","text":"mem","if_saved":true,"times":3}]},
@@ -491,7 +507,7 @@ fn is_shared(machine: &Machine) -> bool {
         && have_reports(machine.answers.as_slice())
 }
 
-// Marks stand in the order of their first use.
+/// Marks are in the order of their first use.
 fn are_marks(marks: &[Name]) -> bool {
     match marks {
         [first, second] => { first.bytes() == b"b".as_slice() && second.bytes() == b"a".as_slice() }
@@ -499,7 +515,7 @@ fn are_marks(marks: &[Name]) -> bool {
     }
 }
 
-// Each of two writers has its own script.
+/// Each of two writers has its own script.
 fn are_writers(actors: &[Script]) -> bool {
     match actors {
         [one, other] => waits(one.steps.as_slice()) && posts(other.steps.as_slice()),
@@ -507,6 +523,7 @@ fn are_writers(actors: &[Script]) -> bool {
     }
 }
 
+/// Whether these are a wait for a mark, and three writes to the state.
 fn waits(steps: &[Step]) -> bool {
     match steps {
         [wait, state] => {
@@ -518,7 +535,7 @@ fn waits(steps: &[Step]) -> bool {
     }
 }
 
-// Marks are named by their numbers.
+/// Marks are named by their numbers.
 fn posts(steps: &[Step]) -> bool {
     match steps {
         [autosleep, sleep, one, two] => {
@@ -531,6 +548,7 @@ fn posts(steps: &[Step]) -> bool {
     }
 }
 
+/// Whether the one answer has the reports.
 fn have_reports(answers: &[Answer]) -> bool {
     match answers {
         [answer] => are_reports(answer.reports.as_slice()),
@@ -538,7 +556,7 @@ fn have_reports(answers: &[Answer]) -> bool {
     }
 }
 
-// Reports are read, in their order.
+/// Reports are read, in their order.
 fn are_reports(reports: &[Report]) -> bool {
     match reports {
         [event, relax] => {

@@ -1,3 +1,5 @@
+//! Tests of the reader of logs: what is read, and the first bad line.
+
 use crate::log_tests::{machine, one_task};
 use log_text::{LogFault, read_log, write_log};
 use sleep_base::Mem;
@@ -6,7 +8,7 @@ use std::alloc::Global;
 use std::process::Abort;
 use std::test::Fail;
 
-// All lines but the last of the log of a task that reads the count, saves it and sleeps once.
+/// All lines but the last of the log of a task that reads the count, saves it and sleeps once.
 const SLEEPS_ONCE: &str = "0 0/0/0 task:w read 0\n\
 0 0/0/0 task:w save 0 ok\n\
 0 0/0/0 task:w attempt 1 guarded 0\n\
@@ -40,7 +42,7 @@ const SLEEPS_ONCE: &str = "0 0/0/0 task:w read 0\n\
 1000 0/0/0 task:w exit\n\
 source autosleep 0 0 0 0 0 0 0\n";
 
-// Entries and sources of the machine of several things.
+/// Entries and sources of the machine of several things.
 const SEVERAL: &str = "0 0/0/0 task:w save 0 ok\n\
 0 0/0/0 dev:c end suspend c EBUSY\n\
 0 1/2/3 task:w froze user EBUSY timeout 1 b\n\
@@ -49,7 +51,7 @@ const SEVERAL: &str = "0 0/0/0 task:w save 0 ok\n\
 1000 0/0/0 auto after busy\n\
 source lid 1 1 0 0 50 50 50\nsource autosleep 0 0 0 0 0 0 0\n";
 
-// The line of the fault of this text, and 0 if it is a log.
+/// The line of the fault of this text, and 0 if it is a log.
 fn bad_line(alloc: Global, machine: &Machine, text: &str) -> Result<u32, LogFault> {
     match read_log(alloc, machine, text.as_bytes()) {
         Ok(_) => Ok(0),
@@ -58,7 +60,7 @@ fn bad_line(alloc: Global, machine: &Machine, text: &str) -> Result<u32, LogFaul
     }
 }
 
-// What is written of the log that the text is.
+/// What is written of the log that the text is.
 fn written_again(alloc: Global, machine: &Machine, text: &str) -> Result<Vec<u8>, LogFault> {
     let log = read_log(alloc, machine, text.as_bytes())?;
     let again = write_log(alloc, machine, &log);
@@ -66,20 +68,20 @@ fn written_again(alloc: Global, machine: &Machine, text: &str) -> Result<Vec<u8>
     Ok(again?)
 }
 
-// Whether the text is a log, of which the text is written again.
+/// Whether the text is a log, of which the text is written again.
 pub fn is_read_back(alloc: Global, machine: &Machine, text: &str) -> Result<bool, LogFault> {
     let again = written_again(alloc, machine, text)?;
     Ok(again.as_slice() == text.as_bytes())
 }
 
-// Lines, and more after them.
+/// Lines, and more after them.
 fn with_end(alloc: Global, lines: &str, end: &str) -> Result<String, Mem> {
     let mut text = String::from_str(alloc, lines)?;
     text.push_str(end)?;
     Ok(text)
 }
 
-// Whether lines with more after them are.
+/// Whether lines with more after them are.
 fn are_read_back(
     alloc: Global,
     machine: &Machine,
@@ -90,12 +92,13 @@ fn are_read_back(
     is_read_back(alloc, machine, text.as_str())
 }
 
-// Lines of the only task, which are kept with their end, and of which line 33, the last one, is cut off.
+/// The lines of one task are read back with their end; without it line 33 is the first bad one.
 fn expect_one_task(rt: &impl Abort, alloc: Global, machine: &Machine) {
     assert!(rt; are_read_back(alloc, machine, SLEEPS_ONCE, "finished\n") == Ok(true));
     assert!(rt; bad_line(alloc, machine, SLEEPS_ONCE) == Ok(33));
 }
 
+/// A log of one task is read, and the line that is missing is named.
 #[test]
 fn reads_a_log_and_names_the_line_that_is_missing(rt: HostRuntime) -> Result<(), Fail> {
     let machine = one_task(rt.alloc())?;
@@ -104,7 +107,7 @@ fn reads_a_log_and_names_the_line_that_is_missing(rt: HostRuntime) -> Result<(),
     Ok(())
 }
 
-// That the text's first bad line is that one.
+/// That the text's first bad line is that one.
 pub fn assert_bad(rt: &impl Abort, alloc: Global, machine: &Machine, rows: &[(&str, u32)]) {
     for (text, line) in rows {
         assert!(rt; bad_line(alloc, machine, text) == Ok(*line), "at {text}");
@@ -140,7 +143,7 @@ const BAD_AFTER_END: [(&str, u32); 6] = [
     ),
 ];
 
-// Entries of several things, which are kept, and the first bad line of entries and after them.
+/// Entries of several things are read back; and the first bad line, among entries and after them, is named.
 fn expect_several(rt: &impl Abort, alloc: Global, machine: &Machine) {
     let stuck = "stuck task:w read\nstuck task:b mark a\n";
     assert!(rt; are_read_back(alloc, machine, SEVERAL, stuck) == Ok(true));
@@ -148,6 +151,7 @@ fn expect_several(rt: &impl Abort, alloc: Global, machine: &Machine) {
     assert_bad(rt, alloc, machine, &BAD_AFTER_END);
 }
 
+/// Entries of several things are read, and the first bad line is named.
 #[test]
 fn reads_entries_of_several_things_and_names_the_first_bad_line(
     rt: HostRuntime,

@@ -7,10 +7,10 @@ use sleep_model::{Actor, Entry, EntryList, EventNow, Kind, ListOf, Log, LogEnd, 
 use std::alloc::Global;
 use std::test::Fail;
 
-// More lines than the reader holds at once.
+/// More lines than the reader holds at once.
 const MANY: u32 = 2000;
 
-// Entries of `many` jumps.
+/// Entries of `many` jumps.
 fn jumps(alloc: Global, many: u32) -> Result<EntryList, Mem> {
     let now = EventNow {
         inpr: 0,
@@ -30,7 +30,7 @@ fn jumps(alloc: Global, many: u32) -> Result<EntryList, Mem> {
     Ok(entries)
 }
 
-// A log of `many` jumps.
+/// A log of `many` jumps.
 fn jumping(alloc: Global, many: u32) -> Result<Log, Mem> {
     let entries = jumps(alloc, many)?;
     Ok(Log {
@@ -40,7 +40,7 @@ fn jumping(alloc: Global, many: u32) -> Result<Log, Mem> {
     })
 }
 
-// The text of that log.
+/// The text of that log.
 fn lines(alloc: Global, many: u32) -> Result<Vec<u8>, Mem> {
     let mut text = Vec::new(alloc);
     for _ in 0..many {
@@ -50,13 +50,13 @@ fn lines(alloc: Global, many: u32) -> Result<Vec<u8>, Mem> {
     Ok(text)
 }
 
-// Writes a log to the sink. Answers whether it was written whole.
+/// Writes a log to the sink. Answers whether it was written whole.
 fn write_log(alloc: Global, machine: &Machine, log: &Log, sink: &mut MemSink) -> Result<bool, Mem> {
     let text = LogText::new(alloc, machine, log)?;
     Ok(text.write_to(sink).is_ok())
 }
 
-// Writes a log of many jumps to the sink. Answers whether it was written whole.
+/// Writes a log of many jumps to the sink. Answers whether it was written whole.
 fn write_jumps(alloc: Global, machine: &Machine, sink: &mut MemSink) -> Result<bool, Mem> {
     let log = jumping(alloc, MANY)?;
     let is_whole = write_log(alloc, machine, &log, sink);
@@ -64,24 +64,24 @@ fn write_jumps(alloc: Global, machine: &Machine, sink: &mut MemSink) -> Result<b
     is_whole
 }
 
-// A sink whose calls with those numbers fail.
+/// A sink whose calls with those numbers fail.
 fn sink_of(alloc: Global, fails: &[u64]) -> Result<MemSink, Mem> {
     let fails = fails.to_vec(alloc)?;
     MemSink::new(alloc, 40_000, 40_000, fails)
 }
 
-// Whether the sink has the whole text.
+/// Whether the sink has the whole text.
 fn has_all(alloc: Global, sink: &MemSink) -> Result<bool, Mem> {
     Ok(sink.bytes() == lines(alloc, MANY)?.as_slice())
 }
 
-// Whether it has a front of the text.
+/// Whether it has a front of the text.
 fn has_front(alloc: Global, sink: &MemSink) -> Result<bool, Mem> {
     let text = lines(alloc, MANY)?;
     Ok(!sink.bytes().is_empty() && text.as_slice().starts_with(sink.bytes()))
 }
 
-// Whether a sink takes the log whole, or fails at one call and has a front of it.
+/// Whether a sink takes the log whole, or fails at one call and has a front of it.
 fn is_taken(
     alloc: Global,
     machine: &Machine,
@@ -97,7 +97,7 @@ fn is_taken(
     Ok(is_whole != fails && has_text && sink.faults() == u64::from(fails))
 }
 
-// Whether a sink does whose calls with those numbers fail.
+/// Whether a sink does whose calls with those numbers fail.
 fn is_streamed(alloc: Global, machine: &Machine, fails: &[u64]) -> Result<bool, Mem> {
     let mut sink = sink_of(alloc, fails)?;
     let is_taken = is_taken(alloc, machine, &mut sink, !fails.is_empty());
@@ -105,7 +105,7 @@ fn is_streamed(alloc: Global, machine: &Machine, fails: &[u64]) -> Result<bool, 
     is_taken
 }
 
-/// A log that is longer than what is held at once is written whole, piece by piece. Where its second write fails, what was
+/// A log that is longer than the buffer is written whole, piece by piece. If its second write fails, what was
 /// written is a front of the text.
 #[test]
 fn long_logs_are_written_piece_by_piece(rt: HostRuntime) -> Result<(), Fail> {

@@ -1,3 +1,4 @@
+-- Proof by hand of `texts`: what it returns, by the lemmas of `Cutting`.
 use Rattle.std.proofs.Common.{◌≡◌, ◌∙◌, reverse}
 use Rattle.std.proofs.lemmas.Result.{IfOk-at_ok}
 use Rattle.sleep_model.specs.Merge.{all_entries}

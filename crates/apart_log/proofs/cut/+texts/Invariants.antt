@@ -1,3 +1,4 @@
+-- The number that falls at each call of `texts`.
 use Rattle.std.proofs.Common.{◌+◌, ◌*◌}
 use Rattle.apart_log.proofs.cut.+texts.Given as goal
 

@@ -1,3 +1,4 @@
+-- Proof by hand of `texts_in_row`: what it returns, by the lemmas of `Cutting`.
 use Rattle.std.proofs.Common.{◌∙◌, map}
 use Rattle.sleep_model.specs.Merge.{all_entries, of_source}
 use Rattle.apart_log.proofs.Cutting.{halves_joined}

@@ -1,3 +1,4 @@
+-- Proof by hand of `worker_texts`: what it returns, by the lemmas of `Gathering`.
 use Rattle.std.proofs.Common.{◌≡◌, ◌∙◌, map, reverse}
 use Rattle.std.proofs.lemmas.Result.{IfOk-weaker}
 use Rattle.sleep_model.specs.Merge.{all_entries, of_source}

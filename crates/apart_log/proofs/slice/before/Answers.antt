@@ -1,3 +1,4 @@
+-- Proof by hand of `before`: what it returns, by the lemmas of `Parting`.
 use Rattle.std.proofs.Common.{nat_lt, rules}
 use Rattle.std.proofs.lemmas.List.Sorted.{IsPartitionPoint-from_clause, IsPartitionedBy-ltb}
 use Rattle.sleep_model.specs.declared.entry.SourceEntry.{SourceEntry}

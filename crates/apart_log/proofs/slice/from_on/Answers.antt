@@ -1,3 +1,4 @@
+-- Proof by hand of `from_on`: what it returns, by the lemmas of `Parting`.
 use Rattle.std.proofs.Common.{◌≡◌, ◌∙◌, ◌-◌, ℕ, nat_lt, nat_le, List, drop, length, sym, subst, take, arith, rules}
 use Rattle.std.proofs.lemmas.List.{length-drop, take_all}
 use Rattle.std.proofs.lemmas.List.Sorted.{IsNonDecreasingBy-drop, IsPartitionPoint-from_clause, IsPartitionedBy-ltb}

@@ -1,3 +1,4 @@
+-- Proof by hand of `gathered`: the call of `range_in` and its loop, by the lemmas of `Gathering` and `Parting`.
 use Rattle.std.proofs.Common.{◌∙◌, ◌++◌, List, filter, map, sym, ap, append_assoc, take}
 use Rattle.sleep_model.specs.declared.entry.JournalEntry.{JournalEntry}
 use Rattle.sleep_model.specs.declared.entry.SourceEntry.{SourceEntry}

@@ -1,3 +1,4 @@
+-- Proof by hand of `journal_in`: its loop, by the lemmas of `Gathering`.
 use Rattle.std.proofs.Common.{◌∙◌, ◌++◌, ◌∷◌, [], List, filter, map, sym, ap, append_assoc}
 use Rattle.sleep_model.specs.declared.entry.JournalEntry.{JournalEntry}
 use Rattle.sleep_model.specs.Merge.{of_source}

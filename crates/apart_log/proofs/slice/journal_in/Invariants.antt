@@ -1,3 +1,4 @@
+-- The invariant of the loop of `journal_in`, and the number that falls each time.
 use Rattle.std.proofs.Common.{◌≡◌, ◌++◌, filter, length, map, reverse}
 use Rattle.sleep_model.specs.Merge.{of_source}
 use Rattle.apart_log.specs.Slices.{is_in}

@@ -1,3 +1,4 @@
+-- Proof by hand of `range_in`: the call of `from_on` and what it returns, by the lemmas of `Parting`.
 use Rattle.std.proofs.Common.{◌∙◌, ℕ, List, Option, filter, map, nat_lt, sym, ap}
 use Rattle.sleep_model.specs.declared.entry.SourceEntry.{SourceEntry}
 use Rattle.sleep_model.specs.Merge.{of_source}

@@ -1,3 +1,4 @@
+-- Proof by hand of `slice_text`: what it returns, by the lemmas of `Gathering`.
 use Rattle.std.proofs.Common.{◌≡◌, ◌∙◌, flat_map, map}
 use Rattle.std.proofs.lemmas.Result.{IfOk-weaker}
 use Rattle.sleep_model.specs.Merge.{all_entries, of_source}

@@ -1,3 +1,4 @@
+-- Proof by hand of `those_in`: its loop, by the lemmas of `Gathering`.
 use Rattle.std.proofs.Common.{arith}
 use Rattle.std.proofs.lemmas.Grind.{common_steps}
 use Rattle.sleep_model.specs.Merge.{of_source}

@@ -1,3 +1,4 @@
+-- Proof by hand of `write_texts`: what it returns.
 use Rattle.std.proofs.Common.{◌≡◌, ◌++◌, ℕ, List, Err, ap, subst, sym}
 use Rattle.std.proofs.lemmas.Result.{err_from_is_err_and}
 use Rattle.std.specs.Io.KnownBytes.{Appends}

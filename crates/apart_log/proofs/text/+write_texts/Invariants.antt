@@ -1,3 +1,4 @@
+-- The number that falls at each call of `write_texts`.
 use Rattle.std.proofs.Common.{length}
 use Rattle.apart_log.proofs.text.+write_texts.Given as goal
 
