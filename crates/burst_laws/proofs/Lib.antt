@@ -1,3 +1,4 @@
+-- The lemmas of this crate, by file.
 mod GoingActs
 pub mod GoingBursts
 mod GoingLanding

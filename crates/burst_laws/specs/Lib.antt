@@ -1,3 +1,4 @@
+-- The definitions of this crate, by file.
 pub mod Courses
 pub mod Preservation
 pub mod Serial

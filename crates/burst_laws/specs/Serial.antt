@@ -14,7 +14,8 @@ plain_sources sources = map (λ s. s.source) sources
 abbrev pub burst_state_of : SeatedCoreState → List SeatedSourceState → List Task → BurstState
 burst_state_of machine sources tasks = record { lists = lists_of machine.core.past (plain_sources sources); tasks = tasks }
 
--- the burst's acts have an order in which each finds all lists as those before it left them, and at the end the lists and the tasks are those that came back
+-- the burst's acts have an order in which each finds all lists as those before it left them, and at the end the lists and the tasks are
+-- those that came back
 pub record IsSerial
     (moment : ℕ) (machine : SeatedCoreState) (sources : List SeatedSourceState) (tasks : List Task)
     (machine_then : SeatedCoreState) (sources_then : List SeatedSourceState) (tasks_then : List Task) : Type 0 where

@@ -1,4 +1,5 @@
--- Each entry of a journal that is no jump raises one of four counts, and none falls: entries of attempts, tasks that freeze, steps of scripts, the work's.
+-- Each entry of a journal that is no jump raises one of four counts, and none falls: entries of attempts, tasks that freeze, steps of
+-- scripts, the work's.
 use Rattle.std.proofs.Common.{◌≡◌, ◌≤◌, ◌<◌, ◌+◌, ◌*◌, ◌∙◌, ◌⊎◌, inl, inr, ℕ, zero, suc, Bool, true, false, not, ◌&&◌, ◌||◌, List, [], ◌∷◌, length, Option, slice_set, refl, sym, ap, subst, arith}
 use Rattle.std.proofs.lemmas.Bool.{true≢false}
 use Rattle.sleep_model.specs.declared.entry.Actor.{Actor}

@@ -1,3 +1,4 @@
+-- The lemmas of this crate, by file.
 pub mod Attempts
 pub mod Bounding
 pub mod Counting

@@ -1,4 +1,5 @@
--- If nobody can make anything and something is left to do, each moment for which something waits is later than now; so a jump to one wakes somebody.
+-- If nobody can make anything and something is left to do, each moment for which something waits is later than now; so a jump to one wakes
+-- somebody.
 use Rattle.std.proofs.Common.{◌≡◌, ◌<◌, ◌+◌, ◌∙◌, ℕ, zero, suc, Bool, true, false, not, ◌&&◌, ◌||◌, nat_le, nat_lt, List, [], ◌∷◌, length, IfSome, Option, Some, None, is_some, is_none, slice_get, cond, refl, sym, ap, subst, arith}
 use Rattle.std.proofs.lemmas.Bool.{true≢false}
 use Rattle.std.proofs.lemmas.Bool.Decides.{nat_tests}

@@ -24,7 +24,8 @@ but_jumps (e ∷ past) = one_but_jump e.kind (but_jumps past)
 abbrev pub most_steps : Machine → ℕ
 most_steps m = 2 * length (all_operations m.actors) + 2 * length m.actors
 
--- those of a journal but the jumps: those of attempts, a freeze of each task in each of an attempt's two freezes, those of scripts, and eight in a run of the autosleep work (own)
+-- those of a journal but the jumps: those of attempts, a freeze of each task in each of an attempt's two freezes, those of scripts, and
+-- eight in a run of the autosleep work (own)
 abbrev pub most_of_journal : Machine → ℕ
 most_of_journal m =
     most_attempts m * enough m + (2 * most_attempts m * length m.actors + (most_steps m + 8 * m.auto_cycles))

@@ -1,3 +1,4 @@
+-- The definitions of this crate, by file.
 pub mod Attempts
 pub mod Bounds
 pub mod Exits

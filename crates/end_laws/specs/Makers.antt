@@ -66,7 +66,8 @@ abbrev pub call_next : Machine → List Entry → Actor → Option Kind
 call_next m past who =
     slice_get (calls_of m who (journal past)) (made (length m.sources + 1) (λ s. history s past) who)
 
--- what an actor makes next, by all entries so far and nothing else: time jumps; who is inside a call makes its next step; a timer ends its source's event; others make the next call that they owe, else what is due of them
+-- what an actor makes next, by all entries so far and nothing else: time jumps; who is inside a call makes its next step; a timer ends its
+-- source's event; others make the next call that they owe, else what is due of them
 abbrev pub kind_next : Machine → List Entry → Actor → Option Kind
 kind_next m past actor.Time = Some kind.Jump
 kind_next m past (actor.Timer s) =

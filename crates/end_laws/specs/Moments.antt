@@ -16,7 +16,8 @@ use Rattle.sleep_model.specs.Sources.{expiry}
 abbrev pub LiesAhead : Machine → List Entry → (ℕ → List Entry) → Type 0
 LiesAhead m past of = IfSome (next_time m past of) (λ at. time_of past < at)
 
--- so it is after each legal journal where nobody can make anything and something is left to do, by whatever histories of sources and whatever word (schedule_timeout, mod_timer)
+-- so it is after each legal journal where nobody can make anything and something is left to do, by whatever histories of sources and
+-- whatever word (schedule_timeout, mod_timer)
 abbrev pub NextMomentsLieAhead : Type 0
 NextMomentsLieAhead =
     (m : Machine) (past : List Entry) (of : ℕ → List Entry) (now : EventNow) → JournalPart m past
@@ -28,7 +29,8 @@ NextMomentsLieAhead =
 abbrev pub ExpiriesAreBounded : List Entry → (ℕ → List Entry) → Type 0
 ExpiriesAreBounded past of = (s : ℕ) → IfSome (expiry (of s)) (λ at. at ≤ time_of past + 86400000)
 
--- if each source's expiry is at most a day from now, so is the next moment of a legal journal of an accepted machine (schedule_timeout, mod_timer)
+-- if each source's expiry is at most a day from now, so is the next moment of a legal journal of an accepted machine (schedule_timeout,
+-- mod_timer)
 abbrev pub NextMomentsAreBounded : Type 0
 NextMomentsAreBounded =
     (m : Machine) → IsAccepted m → (past : List Entry) (of : ℕ → List Entry) → JournalPart m past → ExpiriesAreBounded past of

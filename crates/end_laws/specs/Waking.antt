@@ -23,7 +23,8 @@ abbrev pub jumps_unstirred : Kind → Option Sleep → EventNow → Bool
 jumps_unstirred Jump sleep now = is_unstirred sleep now
 jumps_unstirred _ sleep now = true
 
--- at no jump a machine sleeps on whose word has made a step since it entered: an event that comes while it sleeps wakes it before any time passes (suspend_enter, pm_wakeup_pending)
+-- at no jump a machine sleeps on whose word has made a step since it entered: an event that comes while it sleeps wakes it before any time
+-- passes (suspend_enter, pm_wakeup_pending)
 abbrev pub events_wake_first : List Entry → Bool
 events_wake_first [] = true
 events_wake_first (e ∷ past) = jumps_unstirred e.kind (sleep_of past) (numbers past) && events_wake_first past

@@ -1,6 +1,6 @@
-//! How logs end: no sleeping machine lets time pass over an event, time goes forward, each attempt ends, a log has
-//! a bound, and its end names whoever has not exited. Each function here is a law of all legal logs, and does
-//! nothing. `law_trials` tries the definitions on worked logs.
+//! How logs end: no sleeping machine lets time pass over an event, time goes forward, each attempt ends, a
+//! log has a bound, and its end names whoever has not exited. Each function here is a law of all legal logs,
+//! and does nothing. `law_trials` tries the definitions on worked logs.
 //!
 //! Promises: Every legal log of an accepted machine keeps these laws, whoever made it. Two legal logs of one
 //! machine with the same makers are the same log. By the clause of each function of `src/lib.rt`.
@@ -15,16 +15,16 @@ ghost use Rattle.end_laws.specs.Makers.{MakersDetermineEntries, MakersDetermineL
 ghost use Rattle.end_laws.specs.Moments.{JumpsWake, NextMomentsAreBounded, NextMomentsLieAhead};
 ghost use Rattle.end_laws.specs.Waking.{EventsWakeFirst, TimeGoesForward};
 
-/// An event that comes while the machine sleeps wakes it before any time passes: where time jumps while the machine
-/// sleeps, no step was made on the event word since it entered (`kernel/power/suspend.c`, `suspend_enter`;
-/// `drivers/base/power/wakeup.c`, `pm_wakeup_pending`).
+/// An event that comes while the machine sleeps wakes it before any time passes: where time jumps while the
+/// machine sleeps, no step was made on the event word since it entered (`kernel/power/suspend.c`,
+/// `suspend_enter`; `drivers/base/power/wakeup.c`, `pm_wakeup_pending`).
 #[tactic(auto, using(crate::proofs::Waking::events_first))]
 pub fn events_wake_first()
     ensures { EventsWakeFirst }
 {}
 
-/// Each jump of time is to a later moment, and each other entry has the moment of the last jump before it (own: one
-/// virtual clock).
+/// Each jump of time is to a later moment, and each other entry has the moment of the last jump before it
+/// (own: one virtual clock).
 #[tactic(auto, using(crate::proofs::Waking::time_forward))]
 pub fn time_goes_forward()
     ensures { TimeGoesForward }
@@ -37,24 +37,24 @@ pub fn attempts_end()
     ensures { AttemptsEnd }
 {}
 
-/// An attempt's maker and its devices make no more entries in it than are enough: 40, 20 more a device, and 2 more a
-/// notifier, a part of the core and a processor (`kernel/power/suspend.c`, `enter_state`).
+/// An attempt's maker and its devices make no more entries in it than are enough: 40, 20 more a device, and 2
+/// more a notifier, a part of the core and a processor (`kernel/power/suspend.c`, `enter_state`).
 #[tactic(auto, using(crate::proofs::Attempts::short))]
 pub fn attempts_are_short()
     ensures { AttemptsAreShort }
 {}
 
-/// If nobody can make anything and something is left to do, each moment for which something waits is later than now:
-/// the end of a sleep, of a nap, of a freeze and of an event, and the alarm (`kernel/time/timer.c`, `schedule_timeout`).
-/// Whatever the histories of the sources and the word are.
+/// If nobody can make anything and something is left to do, each moment for which something waits is later
+/// than now: the end of a sleep, of a nap, of a freeze and of an event, and the alarm (`kernel/time/timer.c`,
+/// `schedule_timeout`). Whatever the histories of the sources and the word are.
 #[tactic(auto, using(crate::proofs::Moments::lie_ahead))]
 pub fn next_moments_lie_ahead()
     ensures { NextMomentsLieAhead }
 {}
 
-/// If each source's event in progress ends at most a day from now, each moment for which something waits is at most a day
-/// from now: no sleep, no length of an event and no alarm of an accepted machine is longer (`kernel/time/timer.c`,
-/// `schedule_timeout`). Whatever the histories of the sources are.
+/// If each source's event in progress ends at most a day from now, each moment for which something waits is
+/// at most a day from now: no sleep, no length of an event and no alarm of an accepted machine is longer
+/// (`kernel/time/timer.c`, `schedule_timeout`). Whatever the histories of the sources are.
 #[tactic(auto, using(crate::proofs::Nearby::are_bounded))]
 pub fn next_moments_are_bounded()
     ensures { NextMomentsAreBounded }
@@ -67,15 +67,17 @@ pub fn jumps_wake()
     ensures { JumpsWake }
 {}
 
-/// A legal journal of an accepted machine has no more entries but jumps of time than its attempts, its freezes, its
-/// scripts' operations and the runs of its autosleep work may make (own: Linux keeps no journal).
+/// A legal journal of an accepted machine has no more entries but jumps of time than its attempts, its
+/// freezes, its scripts' operations and the runs of its autosleep work may make (own: Linux keeps no
+/// journal).
 #[tactic(auto, using(crate::proofs::Bounding::journal_bounded))]
 pub fn journals_are_bounded()
     ensures { JournalsAreBounded }
 {}
 
-/// A legal log of an accepted machine has no more entries than the machine tells: its journal has as many but for the
-/// jumps, each source no more than its calls have places, and no jump follows a jump (own: Linux keeps no log).
+/// A legal log of an accepted machine has no more entries than the machine tells: its journal has as many but
+/// for the jumps, each source no more than its calls have places, and no jump follows a jump (own: Linux
+/// keeps no log).
 #[tactic(auto, using(crate::proofs::Bounding::logs_bounded))]
 pub fn logs_are_bounded()
     ensures { LogsAreBounded }
@@ -87,8 +89,8 @@ pub fn all_logs_are_bounded()
     ensures { AllLogsAreBounded }
 {}
 
-/// After a legal log each actor may make one entry, by all entries so far and nothing else: each entry is the one that
-/// its actor may make (own: Linux keeps no log).
+/// After a legal log each actor may make one entry, by all entries so far and nothing else: each entry is the
+/// one that its actor may make (own: Linux keeps no log).
 #[tactic(auto, using(crate::proofs::Makers::determines_entries))]
 pub fn makers_determine_entries()
     ensures { MakersDetermineEntries }
@@ -100,15 +102,15 @@ pub fn makers_determine_logs()
     ensures { MakersDetermineLogs }
 {}
 
-/// Nothing is due any more of just those scripts that have exited; of every other script, of the autosleep work and of each
-/// device an entry is due, or they wait (`kernel/exit.c`, `do_exit`).
+/// Nothing is due any more of just those scripts that have exited; of every other script, of the autosleep
+/// work and of each device an entry is due, or they wait (`kernel/exit.c`, `do_exit`).
 #[tactic(auto, using(crate::proofs::Exits::exited_exited))]
 pub fn done_have_exited()
     ensures { DoneHaveExited }
 {}
 
-/// What is due of an actor is never a wait for numbers that somebody keeps: `Stale` is told only by a world, which
-/// compares them first (own).
+/// What is due of an actor is never a wait for numbers that somebody keeps: `Stale` is told only by a world,
+/// which compares them first (own).
 pub fn none_wait_stale()
     ensures { NoneWaitStale }
 {}

@@ -1,3 +1,4 @@
+-- The lemmas of this crate, by file.
 pub mod Rows
 pub mod Alike
 pub mod Numbers

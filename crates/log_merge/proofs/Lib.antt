@@ -1,3 +1,4 @@
+-- The lemmas of this crate, by file.
 pub mod Orders
 pub mod Placing
 pub mod Reading

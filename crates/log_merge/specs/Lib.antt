@@ -1,3 +1,4 @@
+-- The definitions of this crate, by file.
 pub mod Journals
 pub mod Orders
 pub mod WithCounts

@@ -20,8 +20,8 @@ fn journal_of_entries(alloc: Global, entries: &[JournalEntry]) -> Result<Journal
     Ok(journal)
 }
 
-/// The one log of a journal, whose ticks and positions rise, and of the sources' histories, as a list. `Mem` if there is
-/// no memory.
+/// The one log of a journal, whose ticks and positions rise, and of the sources' histories, as a list. `Mem`
+/// if there is no memory.
 pub fn merge(
     alloc: Global,
     journal: &[JournalEntry],

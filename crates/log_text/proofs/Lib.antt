@@ -1,3 +1,4 @@
+-- The lemmas of this crate, by file.
 pub mod Sources
 pub mod Decimals
 pub mod SameNames

@@ -1,3 +1,4 @@
+-- The definitions of this crate, by file.
 pub mod MachineNames
 pub mod Cutting
 pub mod Faults

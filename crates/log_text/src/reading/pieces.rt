@@ -65,7 +65,8 @@ fn resume_first(text: &[u8]) -> Option<(Phase, &[u8])>
     }
 }
 
-/// A phase of devices at the beginning of a text, and what stands after its space. None if the text begins otherwise.
+/// A phase of devices at the beginning of a text, and what stands after its space. None if the text begins
+/// otherwise.
 #[inline]
 pub fn phase_first(text: &[u8]) -> Option<(Phase, &[u8])>
     ensures { IfSome result (λ r. text.now ≡ phase_name r.0 ++ space ++ r.1.now) }

@@ -1,5 +1,5 @@
-//! Lines of devices and of time, of which most logs have most, read piece by piece, each piece held against its one
-//! spelling.
+//! Lines of devices and of time, of which most logs have most, read piece by piece, each piece held against
+//! its one spelling.
 
 ghost use Rattle.std.specs.Prelude.{◌≡◌, ◌++◌, ◌∷◌, IfSome, length, nat_lt, true};
 ghost use Rattle.sleep_model.specs.Fits.{fits_actor, fits_kind};
@@ -50,8 +50,8 @@ fn device_named<'a>(
     Some((device, rest))
 }
 
-/// The device whose name and that byte a text begins with, and what stands after them: mostly the device that the line
-/// before names, or one beside it. None if the text begins otherwise.
+/// The device whose name and that byte a text begins with, and what stands after them: mostly the device that
+/// the line before names, or one beside it. None if the text begins otherwise.
 fn device_first<'a>(
     machine_names: &MachineNames,
     last: u32,
@@ -219,8 +219,8 @@ fn slept_or_device<'a>(
     }
 }
 
-/// What a text tells first of a device, of a phase of devices or of time, and what stands after its line. None also for
-/// what few lines tell, as an error.
+/// What a text tells first of a device, of a phase of devices or of time, and what stands after its line.
+/// None also for what few lines tell, as an error.
 #[inline]
 pub fn kind_first<'a>(
     machine_names: &MachineNames,
@@ -282,8 +282,8 @@ fn actor_named<'a>(machine_names: &MachineNames, text: &'a [u8]) -> Option<(Acto
     Some((who, rest))
 }
 
-/// Who makes an entry, and what stands after the actor and a space: mostly who made the entry before. None if the text
-/// begins otherwise, and for some actors that seldom make one.
+/// Who makes an entry, and what stands after the actor and a space: mostly who made the entry before. None if
+/// the text begins otherwise, and for some actors that seldom make one.
 #[inline]
 pub fn actor_first<'a>(
     machine_names: &MachineNames,

@@ -1,5 +1,5 @@
-//! Single lines: taken piece by piece where they are what most lines are, else read leniently and then held against what
-//! they have to spell.
+//! Single lines: taken piece by piece where they are what most lines are, else read leniently and then held
+//! against what they have to spell.
 
 ghost use Rattle.std.specs.Prelude.{◌≡◌, ◌≢◌, ◌++◌, [], ℕ, true, IfOk, IfSome, IfNone};
 ghost use Rattle.std.specs.Str.{bytes_eq};
@@ -101,8 +101,8 @@ impl LineReader {
         }
     }
 
-    /// What stands after the moment and the word that a text begins with, which the front then has: mostly those of the
-    /// line before. None if the text begins otherwise.
+    /// What stands after the moment and the word that a text begins with, which the front then has: mostly
+    /// those of the line before. None if the text begins otherwise.
     fn after_front<'a>(&mut self, text: &'a [u8]) -> Option<&'a [u8]>
         ensures { IfSome result (λ rest. text.now ≡ front_text self.new.front.time self.new.front.word ++ rest.now) }
     {
@@ -158,7 +158,8 @@ impl LineReader {
         }
     }
 
-    /// What a text tells first, to the end of its line, and what stands after it: mostly something of a device.
+    /// What a text tells first, to the end of its line, and what stands after it: mostly something of a
+    /// device.
     fn first_of_text<'a>(
         &mut self,
         machine_names: &MachineNames,
@@ -206,8 +207,8 @@ impl LineReader {
         }
     }
 
-    /// The entry of a text's first line, and what stands after the line, read at one go. None also for some lines that
-    /// few logs have.
+    /// The entry of a text's first line, and what stands after the line, read at one go. None also for some
+    /// lines that few logs have.
     fn entry_first<'a>(
         &mut self,
         machine_names: &MachineNames,

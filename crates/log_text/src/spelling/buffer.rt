@@ -11,7 +11,8 @@ use std::marker::Model;
 /// How many bytes are held at most.
 const BUFFER_BYTES: usize = 32_768;
 
-/// Bytes that grow at their end, and that contracts see as their list. Putting more after them takes no memory.
+/// Bytes that grow at their end, and that contracts see as their list. Putting more after them takes no
+/// memory.
 #[derive(Drop)]
 pub struct ByteBuffer {
     room: [u8; 32768],
@@ -189,8 +190,8 @@ impl ByteBuffer {
     }
 }
 
-/// Copies all of a room after the first bytes that are held, since a copy of a known size costs least. Returns where
-/// the text in it ends.
+/// Copies all of a room after the first bytes that are held, since a copy of a known size costs least.
+/// Returns where the text in it ends.
 #[inline(always)]
 fn copy_room<const N: usize>(
     buffer: &mut [u8; 32768],

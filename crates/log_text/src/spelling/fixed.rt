@@ -1,4 +1,5 @@
-//! The words of lines that stand for no value of a type of their own, each in one row for the reader and the writer.
+//! The words of lines that stand for no value of a type of their own, each in one row for the reader and the
+//! writer.
 
 /// An answer without an error.
 pub const NO_ERROR: &str = "0";

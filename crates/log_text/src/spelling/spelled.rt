@@ -95,7 +95,8 @@ macro_rules! put {
     }};
 }
 
-/// Puts each word in turn after what is held, with a space between two, as `put_words!(out; Verb::Save, count, OK)`.
+/// Puts each word in turn after what is held, with a space between two, as `put_words!(out; Verb::Save,
+/// count, OK)`.
 macro_rules! put_words {
     ($out:expr; $first:expr $(, $word:expr)*) => {{
         Spelled::put_on($first, $out);

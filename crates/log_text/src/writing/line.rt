@@ -95,7 +95,8 @@ fn put_event(out: &mut ByteBuffer, source: &ShortText, ms: u32, hard: bool)
     out.put_numbered(&Piece::none(), u64::from(ms), &last);
 }
 
-/// Writes what an entry says, to the end of its line: of sleeping, of sources and of time what is ready, else part by part.
+/// Writes what an entry says, to the end of its line: of sleeping, of sources and of time what is ready, else
+/// part by part.
 #[inline(always)]
 fn put_rest(out: &mut ByteBuffer, names: &ReadyNames, entry: Entry)
     requires room { length out.old + 576 ≤ 32768 }

@@ -327,7 +327,8 @@ fn timer_makers(alloc: Global, machine: &Machine) -> Result<Vec<ShortText>, Mem>
     timer_texts(alloc, names.as_slice())
 }
 
-/// The timers of sources of these names as who makes an entry. `Mem` also if a name has more bytes than a name may have.
+/// The timers of sources of these names as who makes an entry. `Mem` also if a name has more bytes than a
+/// name may have.
 fn timer_texts(alloc: Global, names: &[Name]) -> Result<Vec<ShortText>, Mem>
     ensures { IfOk result (λ v. (i : ℕ) → ForSome (slice_get v.items i)
         (λ t. t ≡ (codes "timer:" ++ name_in (slice_get names.now i)) ++ space)) }

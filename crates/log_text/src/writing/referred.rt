@@ -11,7 +11,7 @@ use sleep_base::Mem;
 use sleep_model::{Machine, SourceEntry};
 use std::alloc::Global;
 
-// How many bytes the line of an entry usually has, at most.
+/// How many bytes the line of an entry usually has, at most.
 const USUAL_LINE: usize = 48;
 
 /// Writes a line for each of these entries.
@@ -31,8 +31,8 @@ fn put_referred(
     Ok(())
 }
 
-/// The lines of these entries of sources, in the order in which they are given. `Mem` if there is no memory for them
-/// (own: Linux keeps no such log).
+/// The lines of these entries of sources, in the order in which they are given. `Mem` if there is no memory
+/// for them (own: Linux keeps no such log).
 pub fn write_entries(
     alloc: Global,
     machine: &Machine,

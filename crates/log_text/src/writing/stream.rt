@@ -39,8 +39,8 @@ impl<'a> LogText<'a> {
     ghost use Rattle.sleep_base.specs.Whole.{WriteAll};
     ghost use Rattle.sleep_model.specs.Text.{text};
 
-    /// The text of the log that this machine made. `Mem` if there is no memory for its names, or for the lines after
-    /// those of the entries.
+    /// The text of the log that this machine made. `Mem` if there is no memory for its names, or for the
+    /// lines after those of the entries.
     pub fn new(alloc: Global, machine: &'a Machine, log: &'a Log) -> Result<Self, Mem>
         ensures { IfOk result (λ t. t ≡ text machine.now log.now) }
     {
@@ -53,7 +53,8 @@ impl<'a> LogText<'a> {
         })
     }
 
-    /// Writes the text, without memory. `Failed` at the first write that fails: a front of the text was written.
+    /// Writes the text, without memory. `Failed` at the first write that fails: a front of the text was
+    /// written.
     pub fn write_to<K: ByteSink>(&self, sink: &mut K) -> Result<(), Failed>
         ensures bytes { WriteAll (K.written sink.old) (K.written sink.new) (K.faults sink.old) (K.faults sink.new) self.now result }
         ensures faults { K.faults sink.old ≤ K.faults sink.new }

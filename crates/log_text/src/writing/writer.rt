@@ -16,8 +16,8 @@ use std::marker::Model;
 /// The room that any line has where it is put together.
 pub const LINE: usize = 2048;
 
-/// Lines that are written one after the other, and that contracts see as the list of their bytes. The last ones are held
-/// in place, where a line takes no memory.
+/// Lines that are written one after the other, and that contracts see as the list of their bytes. The last
+/// ones are held in place, where a line takes no memory.
 #[derive(Drop)]
 pub struct LineWriter {
     bytes: Vec<u8>,

@@ -1,3 +1,4 @@
+-- The law `courses_go_on`, by the lemmas of `GoingOn`.
 use Rattle.burst_laws.proofs.laws.courses_go_on.Goals as goal
 use Rattle.burst_laws.proofs.GoingOn.{courses_go_on}
 

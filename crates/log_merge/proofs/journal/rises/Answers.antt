@@ -1,3 +1,4 @@
+-- Proof by hand of `rises`: its loop and what it returns, by the lemmas of `Rising`.
 use Rattle.std.proofs.Common.{sym, ◌∙◌}
 use Rattle.log_merge.proofs.Rising.{rises_on, rises_over}
 use Rattle.log_merge.proofs.journal.rises.Goals as goal

@@ -1,3 +1,4 @@
+-- The invariant of the loop of `rises`.
 use Rattle.std.proofs.Common.{◌≡◌, ◌-◌, drop}
 use Rattle.sleep_model.specs.Merge.{rises}
 use Rattle.log_merge.proofs.journal.rises.Given as goal

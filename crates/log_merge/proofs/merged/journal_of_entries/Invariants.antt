@@ -1,3 +1,4 @@
+-- The invariant of the loop of `journal_of_entries`.
 use Rattle.std.proofs.Common.{◌≡◌, ◌≤◌, ◌+◌, length, reverse, take}
 use Rattle.log_merge.proofs.merged.journal_of_entries.Given as goal
 

@@ -1,3 +1,4 @@
+-- The invariant of the loop of `gathered`.
 use Rattle.std.proofs.Common.{◌≡◌, take}
 use Rattle.log_merge.specs.Remainders.{seen, sources_entries}
 use Rattle.log_merge.proofs.sources.gathered.Given as goal

@@ -1,3 +1,4 @@
+-- Proof by hand of `in_order`: what it returns, by the lemmas of `Sorts`.
 use Rattle.std.proofs.Common.{rules}
 use Rattle.log_merge.proofs.Sorts.{sorted_as_seen}
 use Rattle.log_merge.proofs.sources.in_order.Goals as goal

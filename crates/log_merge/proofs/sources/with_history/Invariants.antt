@@ -1,3 +1,4 @@
+-- The invariant of the loop of `with_history`.
 use Rattle.std.proofs.Common.{◌≡◌, ◌++◌, map, take}
 use Rattle.sleep_model.specs.Merge.{of_source}
 use Rattle.log_merge.specs.Remainders.{seen}

@@ -1,3 +1,4 @@
+-- Proof by hand of `merge_journal`: what it returns, by the lemmas of `Placing`.
 use Rattle.std.proofs.Common.{ap, ◌∙◌, reverse}
 use Rattle.sleep_model.specs.Interleaved.{interleaved}
 use Rattle.log_merge.specs.WithCounts.{with_counts}

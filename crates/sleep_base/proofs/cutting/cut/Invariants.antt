@@ -1,3 +1,4 @@
+-- The invariant of the loop of `cut`.
 use Rattle.std.proofs.Common.{◌≡◌, ◌++◌, take, drop}
 use Rattle.sleep_base.specs.Cutting.{before, after_first}
 use Rattle.sleep_base.proofs.cutting.cut.Given as goal

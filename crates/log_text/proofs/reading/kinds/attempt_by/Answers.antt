@@ -1,3 +1,4 @@
+-- Proof by hand of `attempt_by`: what it returns, by the lemmas of `OtherVerbs`.
 use Rattle.log_text.proofs.OtherVerbs.{no_attempt}
 use Rattle.log_text.proofs.reading.kinds.attempt_by.Goals as goal
 

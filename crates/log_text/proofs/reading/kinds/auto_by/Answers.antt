@@ -1,3 +1,4 @@
+-- Proof by hand of `auto_by`: what it returns, by the lemmas of `OtherVerbs`.
 use Rattle.std.proofs.Common.{◌∙◌}
 use Rattle.log_text.proofs.OtherVerbs.{no_auto}
 use Rattle.log_text.proofs.reading.kinds.auto_by.Goals as goal

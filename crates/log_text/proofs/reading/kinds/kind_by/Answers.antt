@@ -1,3 +1,4 @@
+-- Proof by hand of `kind_by`: what it returns, by the lemmas of `OtherVerbs`.
 use Rattle.std.proofs.Common.{◌∙◌}
 use Rattle.log_text.proofs.OtherVerbs.{no_device}
 use Rattle.log_text.proofs.reading.kinds.kind_by.Goals as goal

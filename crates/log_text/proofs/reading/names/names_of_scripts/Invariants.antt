@@ -1,3 +1,4 @@
+-- The invariant of the loop of `names_of_scripts`.
 use Rattle.std.proofs.Common.{◌≡◌, take, map}
 use Rattle.log_text.proofs.reading.names.names_of_scripts.Given as goal
 

@@ -1,3 +1,4 @@
+-- Proof by hand of `word64`: its loop.
 use Rattle.std.proofs.Common.{arith}
 use Rattle.std.proofs.lemmas.Grind.{common_steps}
 use Rattle.log_text.proofs.reading.number.word64.Goals as goal

@@ -1,3 +1,4 @@
+-- The invariant of the loop of `word64`.
 use Rattle.std.proofs.Common.{◌≡◌, true, drop}
 use Rattle.sleep_model.specs.Fits.{is_word64}
 use Rattle.log_text.specs.Cutting.{word64, number_after}

@@ -1,3 +1,4 @@
+-- Proof by hand of `begin_first`: what it returns.
 use Rattle.std.proofs.Common.{arith, append_assoc}
 use Rattle.log_text.proofs.reading.quick.begin_first.Goals as goal
 

@@ -1,3 +1,4 @@
+-- Proof by hand of `read_end`: what it returns, by the lemmas of `Finished`.
 use Rattle.std.proofs.Common.{◌≡◌, ◌∙◌, sym, length, arith, true, bytes_eq}
 use Rattle.std.proofs.lemmas.Bool.Decides.{nat_tests}
 use Rattle.log_text.specs.Grammar.{finished_line}

@@ -1,3 +1,4 @@
+-- Proof by hand of `read_entries`: its loop, by the lemmas of `Loops` and `NextEntry`.
 use Rattle.std.proofs.Common.{◌≡◌, ◌++◌, ◌∷◌, [], true, rules, refl, sym, arith}
 use Rattle.std.proofs.lemmas.Grind.{common_steps}
 use Rattle.sleep_model.specs.Fits.{fits_entry}

@@ -1,3 +1,4 @@
+-- The invariant of the loop of `read_entries`, and the number that falls each time.
 use Rattle.std.proofs.Common.{◌≡◌, ◌++◌, ℕ, true, length, flat_map}
 use Rattle.std.specs.List.{list_all}
 use Rattle.sleep_model.specs.Fits.{fits_entry}

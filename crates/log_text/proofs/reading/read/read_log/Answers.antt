@@ -1,3 +1,4 @@
+-- Proof by hand of `read_log`: what it returns, by the lemmas of `ReadBack`.
 use Rattle.std.proofs.Common.{◌≡◌, subst, IfOk, IfErr}
 use Rattle.std.specs.Prelude.{IsOkUnless}
 use Rattle.sleep_model.specs.declared.log.Log.{Log}

@@ -1,3 +1,4 @@
+-- Proof by hand of `read_sources`: its loop and what it returns, by the lemmas of `Loops`.
 use Rattle.std.proofs.Common.{◌≡◌, ◌∙◌, ℕ, List, ◌≤◌, ◌<◌, ◌++◌, ◌∷◌, [], ap, subst, length, get_or, arith}
 use Rattle.sleep_model.specs.Text.{source_line}
 use Rattle.log_text.specs.Faults.{AtLine, IsNoSource}

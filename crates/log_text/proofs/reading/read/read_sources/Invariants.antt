@@ -1,3 +1,4 @@
+-- The invariant of the loop of `read_sources`.
 use Rattle.std.proofs.Common.{◌≡◌, ◌++◌, ◌∷◌, [], ℕ, true, length, take, drop, codes}
 use Rattle.std.specs.List.{list_all}
 use Rattle.sleep_model.specs.Fits.{fits_stats}

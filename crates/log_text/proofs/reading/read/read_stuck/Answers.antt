@@ -1,3 +1,4 @@
+-- Proof by hand of `read_stuck`: its loop.
 use Rattle.std.proofs.Common.{arith}
 use Rattle.std.proofs.lemmas.Grind.{common_steps}
 use Rattle.log_text.proofs.reading.read.read_stuck.Goals as goal

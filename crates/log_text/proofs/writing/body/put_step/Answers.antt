@@ -1,3 +1,4 @@
+-- Proof by hand of `put_step`: what it returns, by the lemmas of `OtherKinds`.
 use Rattle.std.proofs.Common.{◌∙◌, ◌++◌, ℕ, List, ap}
 use Rattle.log_text.proofs.OtherKinds.{no_step}
 use Rattle.log_text.proofs.writing.body.put_step.Goals as goal

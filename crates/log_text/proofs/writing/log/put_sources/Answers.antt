@@ -1,3 +1,4 @@
+-- Proof by hand of `put_sources`: its loop and what it returns, by the lemmas of `Sources`.
 use Rattle.std.proofs.Common.{rules, arith, ◌≡◌, ◌∙◌, ap, ℕ, ◌<◌, ◌≤◌, length, List, ◌++◌, get_or, min, length-append}
 use Rattle.std.proofs.lemmas.Slice.Zip.{zip_turn, zip_end}
 use Rattle.std.proofs.lemmas.Grind.{common_steps}

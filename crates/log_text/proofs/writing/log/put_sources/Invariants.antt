@@ -1,3 +1,4 @@
+-- The invariant of the loop of `put_sources`.
 use Rattle.std.proofs.Common.{◌≡◌, ◌++◌, length}
 use Rattle.log_text.proofs.Sources.{lines_from}
 use Rattle.log_text.proofs.writing.log.put_sources.Given as goal

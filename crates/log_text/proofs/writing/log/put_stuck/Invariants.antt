@@ -1,3 +1,4 @@
+-- The invariant of the loop of `put_stuck`.
 use Rattle.std.proofs.Common.{◌≡◌, ◌++◌, take, flat_map}
 use Rattle.sleep_model.specs.Text.{waiting_line}
 use Rattle.log_text.proofs.writing.log.put_stuck.Given as goal

@@ -1,3 +1,4 @@
+-- The invariant of the loop of `device_makers`.
 use Rattle.std.proofs.Common.{◌≡◌, ◌++◌, codes, take, map}
 use Rattle.sleep_model.specs.Text.{space}
 use Rattle.log_text.proofs.writing.ready.device_makers.Given as goal

@@ -1,3 +1,4 @@
+-- The invariant of the loop of `name_texts`.
 use Rattle.std.proofs.Common.{◌≡◌, take}
 use Rattle.log_text.proofs.writing.ready.name_texts.Given as goal
 

@@ -1,3 +1,4 @@
+-- The invariant of the loop of `script_makers`.
 use Rattle.std.proofs.Common.{◌≡◌, ◌++◌, take, map}
 use Rattle.sleep_model.specs.Text.{script_word, space}
 use Rattle.log_text.proofs.writing.ready.script_makers.Given as goal

@@ -1,3 +1,4 @@
+-- The invariant of the loop of `timer_texts`.
 use Rattle.std.proofs.Common.{◌≡◌, ◌++◌, codes, take, map}
 use Rattle.sleep_model.specs.Text.{space}
 use Rattle.log_text.proofs.writing.ready.timer_texts.Given as goal

@@ -1,3 +1,4 @@
+-- The invariant of the loop of `put_referred`.
 use Rattle.std.proofs.Common.{◌≡◌, ◌++◌, take, flat_map}
 use Rattle.sleep_model.specs.Text.{entry_line}
 use Rattle.log_text.specs.Referred.{referred}

@@ -1,3 +1,4 @@
+-- Proof by hand of `source`: what it returns, by the lemmas of `Readable`.
 use Rattle.std.proofs.Common.{◌≡◌, ◌∙◌, ◌+◌, sym, drop, length, Some}
 use Rattle.sleep_model.specs.Text.{source_line}
 use Rattle.log_text.specs.Cutting.{without_last}

@@ -1,3 +1,4 @@
+-- Proof by hand of `stuck`: what it returns, by the lemmas of `Readable`.
 use Rattle.std.proofs.Common.{◌≡◌, ◌∙◌, sym, drop, None, Some}
 use Rattle.log_text.specs.Cutting.{without_last}
 use Rattle.log_text.specs.Reading.{waiting_in}
