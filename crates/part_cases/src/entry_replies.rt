@@ -94,6 +94,7 @@ fn device_reply(kind: Kind) -> CaseReply {
     }
 }
 
+/// The word of a step of the platform.
 fn doing(step: PlatDo) -> &'static str {
     match step {
         PlatDo::Begin => "platform_begin",
@@ -112,6 +113,7 @@ fn undoing(step: PlatUndo) -> &'static str {
     }
 }
 
+/// The word of a skip, by its cause.
 fn skipping(cause: SkipCause) -> &'static str {
     match cause {
         SkipCause::Error => "skip_error",

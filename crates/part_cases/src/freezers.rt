@@ -31,6 +31,7 @@ fn left_reply(left: Left) -> CaseReply {
     two(number(left.count), maybe(left.first))
 }
 
+/// The reply on what becomes of a freeze.
 fn round_reply(round: Round) -> CaseReply {
     match round {
         Round::Again { left, until } => three(ReplyWord::Text("again"), number(left), long(until)),

@@ -122,6 +122,7 @@ fn say_call(links: &mut Links, verb: LinkCall, words: Words, out: &mut Out) {
 }
 
 impl CaseRunner for Links {
+    /// Answers a call on links.
     fn answer(&mut self, line: &str, out: &mut Out) {
         let (word, rest) = cut(line, ' ');
         match found(&VERBS, word) {

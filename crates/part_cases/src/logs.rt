@@ -115,6 +115,7 @@ impl EntryCase {
 }
 
 impl CaseRunner for EntryCase {
+    /// Answers a call on entries.
     fn answer(&mut self, line: &str, out: &mut Out) {
         let (word, rest) = cut(line, ' ');
         if self.call(word, Words::of(rest), out).is_err() {

@@ -78,6 +78,7 @@ pub fn actor_reply(who: Actor) -> CaseReply {
     }
 }
 
+/// The reply on who makes the attempt.
 pub fn maker_reply(maker: Option<Actor>) -> CaseReply {
     match maker {
         Some(who) => actor_reply(who),
@@ -85,6 +86,7 @@ pub fn maker_reply(maker: Option<Actor>) -> CaseReply {
     }
 }
 
+/// The reply on the stage under way, if there is one.
 fn stage_of_reply(stage: Option<Stage>) -> CaseReply {
     match stage {
         Some(stage) => stage_reply(stage),
@@ -92,6 +94,7 @@ fn stage_of_reply(stage: Option<Stage>) -> CaseReply {
     }
 }
 
+/// The reply on the sleep of the machine, if it sleeps.
 fn sleep_reply(sleep: Option<Sleep>) -> CaseReply {
     match sleep {
         Some(sleep) => two(long(sleep.pos), long(sleep.since)),

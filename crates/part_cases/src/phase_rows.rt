@@ -18,6 +18,7 @@ fn row_reply(row: PhaseRow) -> CaseReply {
     )
 }
 
+/// The reply on a row, if there is one.
 fn found_reply(row: Option<PhaseRow>) -> CaseReply {
     match row {
         Some(row) => row_reply(row),

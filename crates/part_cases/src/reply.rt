@@ -133,6 +133,7 @@ pub struct Out {
 }
 
 impl Out {
+    /// An output without a byte.
     pub fn new(alloc: Global) -> Out {
         Out {
             bytes: Vec::new(alloc),

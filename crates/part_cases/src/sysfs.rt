@@ -25,6 +25,7 @@ pub fn text_in(alloc: Global, text: &str) -> Result<Vec<u8>, Mem> {
     Ok(bytes)
 }
 
+/// The reply on a text of a state.
 fn sysfs_reply(state: Result<State, Errno>) -> ReplyWord {
     match state {
         Ok(state) => ReplyWord::Text(state_word(state)),

@@ -68,6 +68,7 @@ pub fn rows(alloc: Global, words: Words, lines: &str, out: &mut Out) {
 }
 
 impl CaseRunner for Stack<u32> {
+    /// Answers a call on a stack.
     fn answer(&mut self, line: &str, out: &mut Out) {
         let (word, rest) = cut(line, ' ');
         out.say(match word {

@@ -52,6 +52,7 @@ impl Gate for Holders {
         }
     }
 
+    /// Counts who holds the machine's lock.
     fn held(&self, who: Actor) {
         match who {
             Actor::Script(_) => self.scripts.fetch_add(1, Ordering::SeqCst),

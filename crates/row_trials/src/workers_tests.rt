@@ -62,6 +62,7 @@ struct Race {
 }
 
 impl Gate for Race {
+    /// The interrupt's first turn waits until the task has the lock.
     fn pass(&self, job: u32) {
         if job == 1 && self.passes.fetch_add(1, Ordering::SeqCst) == 0 {
             self.saw_held
@@ -69,6 +70,7 @@ impl Gate for Race {
         }
     }
 
+    /// The task, which has the lock, waits for the interrupt's turns once.
     fn held(&self, who: Actor) {
         if who == Actor::Script(0) && !self.held.swap(true, Ordering::SeqCst) {
             self.saw_calls

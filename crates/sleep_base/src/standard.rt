@@ -67,6 +67,7 @@ pub enum Stream {
 }
 
 impl Write for Stream {
+    /// Writes to standard output or standard error.
     fn write(&mut self, piece: &[u8]) -> io::Result<usize> {
         match self {
             Stream::Output(stdout) => stdout.write(piece),

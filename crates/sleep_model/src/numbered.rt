@@ -5,6 +5,7 @@ ghost use Rattle.sleep_model.specs.Text.{name_in};
 
 use crate::{AUTOSLEEP, Machine, Name};
 
+/// The name with that number; no bytes if there is none.
 fn name_at(names: &[Name], number: u32) -> &[u8]
     ensures { result.now ≡ name_in (slice_get names.now number) }
 {

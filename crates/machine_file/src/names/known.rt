@@ -131,6 +131,7 @@ fn first_reserved<'x>(
     Ok(number)
 }
 
+/// The reserved name, and these after it.
 fn behind<'x>(alloc: Global, reserved: &'x str, names: &[&'x str]) -> Result<Vec<&'x str>, Mem>
     ensures { IfOk result (λ v. texts v.items ≡ reserved.now ∷ texts names.now) }
 {
@@ -140,6 +141,7 @@ fn behind<'x>(alloc: Global, reserved: &'x str, names: &[&'x str]) -> Result<Vec
     Ok(all)
 }
 
+/// The number of the name that comes again, not counting the reserved one.
 fn one_less(number: Option<usize>) -> Option<usize>
     ensures { result ≡ option_map (λ k. k - 1) number }
 {

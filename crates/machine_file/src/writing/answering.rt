@@ -55,6 +55,7 @@ fn put_ret(out: &mut JsonWriter, ret: i32) -> Result<(), Mem>
     }
 }
 
+/// Writes what an answer returns.
 fn put_answered(out: &mut JsonWriter, answer: &Answer) -> Result<(), Mem>
     ensures { OnOk result (out.new ≡ with_row out.old (row (codes "ret") (error_or (error_of_number answer.now.ret) answer.now.ret))) }
 {

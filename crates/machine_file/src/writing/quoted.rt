@@ -16,6 +16,7 @@ pub(crate) fn push_quoted(out: &mut Vec<u8>, text: &[u8]) -> Result<(), Mem>
     Ok(())
 }
 
+/// Writes the bytes of a text, each escaped if need be.
 fn push_escaped(out: &mut Vec<u8>, text: &[u8]) -> Result<(), Mem>
     ensures { OnOk result (out.new.items ≡ out.old.items ++ flat_map escape_byte text.now) }
 {
@@ -58,6 +59,7 @@ fn letter_of(byte: u8) -> u8
     }
 }
 
+/// The hexadecimal digit of a number.
 fn hex(digit: u8) -> u8
     requires { digit < 16 }
     ensures { result ≡ digit_char digit }

@@ -43,6 +43,7 @@ impl Written for Device {
     }
 }
 
+/// Writes the name of a parent, if there is one.
 fn put_parent(out: &mut JsonWriter, machine: &Machine, parent: Option<u32>) -> Result<(), Mem>
     ensures { OnOk result (out.new ≡ with_row out.old (row (codes "parent") (option_map (λ p. string (device machine.now p)) parent))) }
 {
@@ -65,6 +66,7 @@ fn put_status(out: &mut JsonWriter, flags: DeviceFlags) -> Result<(), Mem>
 impl Written for Link {
     ghost value = { link_value };
 
+    /// Writes the object of a link.
     fn write_to(&self, machine: &Machine, out: &mut JsonWriter) -> Result<(), Mem> {
         out.open_object()?;
         out.text("consumer", machine.device_name(self.consumer))?;
@@ -98,6 +100,7 @@ impl Written for Notifier {
     }
 }
 
+/// Writes a priority, unless it is 0.
 fn put_priority(out: &mut JsonWriter, notifier: &Notifier) -> Result<(), Mem>
     ensures { OnOk result (out.new ≡ with_row out.old (row (codes "priority") (integer_unless_zero notifier.now.priority))) }
 {
@@ -156,6 +159,7 @@ fn put_text(out: &mut JsonWriter, word: &str, text: &[u8], times: u32) -> Result
     out.number_unless("times", 1, u64::from(times))
 }
 
+/// Writes the members of a sleep.
 fn put_sleep(out: &mut JsonWriter, word: &str, ms: u32, times: u32) -> Result<(), Mem>
     ensures { OnOk result (out.new ≡ fold with_row out.old (always (codes "ms") (count ms) ∷ op_member word.now ∷ times_row times ∷ [])) }
 {
@@ -163,6 +167,7 @@ fn put_sleep(out: &mut JsonWriter, word: &str, ms: u32, times: u32) -> Result<()
     put_word(out, word, times)
 }
 
+/// Writes the members of an operation on a mark.
 fn put_mark(out: &mut JsonWriter, word: &str, mark: &[u8], times: u32) -> Result<(), Mem>
     ensures { OnOk result (out.new ≡ fold with_row out.old (text_row (codes "mark") mark.now ∷ op_member word.now ∷ times_row times ∷ [])) }
 {
