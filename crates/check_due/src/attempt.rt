@@ -42,7 +42,7 @@ fn notify_due(past: &Passed<'_>) -> Due
     ensures { (now : EventNow) → result ≡ stage_due past.now.machine (journal_of past.now) now Notifies }
 {
     match past.next_called() {
-        None => Due::Exited,
+        None => Due::Nothing,
         Some(x) => Due::Makes(Kind::NotifyPrepare(x, answered(past, What::Notifier(x)))),
     }
 }
@@ -52,7 +52,7 @@ fn stop_due(past: &Passed<'_>, now: EventNow) -> Due
     ensures { result ≡ stage_due past.now.machine (journal_of past.now) now StopsCpus }
 {
     match past.next_cpu_off() {
-        None => Due::Exited,
+        None => Due::Nothing,
         Some(k) => {
             if past.is_pending(now) {
                 Due::Makes(Kind::CpuBusy(k))
@@ -68,7 +68,7 @@ fn core_due(past: &Passed<'_>) -> Due
     ensures { (now : EventNow) → result ≡ stage_due past.now.machine (journal_of past.now) now StopsSyscore }
 {
     match past.next_stopped() {
-        None => Due::Exited,
+        None => Due::Nothing,
         Some(x) => Due::Makes(Kind::SyscoreSuspend(x, answered(past, What::Syscore(x)))),
     }
 }
@@ -78,7 +78,7 @@ fn resume_due(past: &Passed<'_>) -> Due
     ensures { (now : EventNow) → result ≡ stage_due past.now.machine (journal_of past.now) now StartsSyscore }
 {
     match past.next_started() {
-        None => Due::Exited,
+        None => Due::Nothing,
         Some(x) => Due::Makes(Kind::SyscoreResume(x)),
     }
 }
@@ -88,7 +88,7 @@ fn cpu_on_due(past: &Passed<'_>) -> Due
     ensures { (now : EventNow) → result ≡ stage_due past.now.machine (journal_of past.now) now StartsCpus }
 {
     match past.next_cpu_on() {
-        None => Due::Exited,
+        None => Due::Nothing,
         Some(k) => Due::Makes(Kind::CpuOn(k)),
     }
 }
@@ -98,7 +98,7 @@ fn post_due(past: &Passed<'_>) -> Due
     ensures { (now : EventNow) → result ≡ stage_due past.now.machine (journal_of past.now) now Posts }
 {
     match past.next_posted() {
-        None => Due::Exited,
+        None => Due::Nothing,
         Some(x) => Due::Makes(Kind::NotifyPost(x)),
     }
 }
@@ -145,7 +145,7 @@ fn stage_or_next(past: &Passed<'_>, now: EventNow, stage: Stage) -> Result<Due, 
     ensures { IfOk result (λ d. d ≡ stage_or_next past.now.machine (journal_of past.now) now stage) }
 {
     match stage_due(past, now, stage)? {
-        Due::Exited => stage_due(past, now, next_stage(stage)),
+        Due::Nothing => stage_due(past, now, next_stage(stage)),
         due => Ok(due),
     }
 }
@@ -156,7 +156,7 @@ pub(crate) fn attempt_due(past: &Passed<'_>, now: EventNow) -> Result<Due, Mem>
     ensures { IfOk result (λ d. d ≡ attempt_due past.now.machine (journal_of past.now) now) }
 {
     match past.stage() {
-        None => Ok(Due::Exited),
+        None => Ok(Due::Nothing),
         Some(stage) => stage_or_next(past, now, stage),
     }
 }

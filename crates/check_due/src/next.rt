@@ -115,7 +115,7 @@ fn op_due(
             consumer,
             active,
         } => Ok(link_set_due(past, *supplier, *consumer, *active)),
-        _ => Ok(Due::Exited),
+        _ => Ok(Due::Nothing),
     }
 }
 
@@ -177,7 +177,7 @@ fn script_due(past: &Passed<'_>, now: EventNow, i: u32) -> Result<Due, Mem>
                 past.operation(i),
             )
         }
-        _ => Ok(Due::Exited),
+        _ => Ok(Due::Nothing),
     }
 }
 
@@ -194,6 +194,6 @@ pub fn due(past: &Passed<'_>, who: Actor, now: EventNow) -> Result<Due, Mem>
         Actor::Script(i) => script_due(past, now, i),
         Actor::Auto => auto_due(past, now),
         Actor::Dev(d) => Ok(device_due(past, now, d)),
-        _ => Ok(Due::Exited),
+        _ => Ok(Due::Nothing),
     }
 }

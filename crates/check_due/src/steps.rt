@@ -119,7 +119,7 @@ fn slept_due(until: Option<u64>, time: u64) -> Due
     ensures { result ≡ slept_due until time }
 {
     match until {
-        None => Due::Exited,
+        None => Due::Nothing,
         Some(until) => {
             if until <= time {
                 Due::Makes(Kind::Slept)

@@ -13,7 +13,7 @@ use Rattle.sleep_model.specs.declared.machine.Op.TheVariants as op
 use Rattle.sleep_model.specs.declared.machine.Script.{Script}
 use Rattle.sleep_model.specs.declared.machine.TaskKind.{TaskKind}
 use Rattle.sleep_model.specs.declared.progress.Due.{Due}
-use Rattle.sleep_model.specs.declared.progress.Due.TheVariants.{Makes, Waits, Exited}
+use Rattle.sleep_model.specs.declared.progress.Due.TheVariants.{Makes, Waits, Nothing}
 use Rattle.sleep_model.specs.declared.progress.Freezing.{Freezing}
 use Rattle.sleep_model.specs.declared.progress.ScriptPosition.{ScriptPosition}
 use Rattle.sleep_model.specs.declared.word.EventNow.{EventNow}
@@ -91,7 +91,7 @@ task m past now f k position o h is =
     (if f.asked && freezes_at (is_user k) position.waits o then Makes kind.Frozen else step_due m past now position f.asked o) refl
     (rw h is))
 
-gone : (exited on : Bool) (d : Due) → (exited || on) ≡ true → (on ≡ true → is_made d ≡ false) → is_made (if exited then Exited else d) ≡ false
+gone : (exited on : Bool) (d : Due) → (exited || on) ≡ true → (on ≡ true → is_made d ≡ false) → is_made (if exited then Nothing else d) ≡ false
 gone true on d h f = refl
 gone false on d h f = f h
 

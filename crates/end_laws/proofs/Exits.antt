@@ -25,7 +25,7 @@ use Rattle.sleep_model.specs.declared.progress.AsyncWork.{AsyncWork}
 use Rattle.sleep_model.specs.declared.progress.Callback.{Callback}
 use Rattle.sleep_model.specs.declared.progress.AsyncWork.TheVariants.{Idle, Scheduled, Inside}
 use Rattle.sleep_model.specs.declared.progress.Due.{Due}
-use Rattle.sleep_model.specs.declared.progress.Due.TheVariants.{Makes, Waits, Exited}
+use Rattle.sleep_model.specs.declared.progress.Due.TheVariants.{Makes, Waits, Nothing}
 use Rattle.sleep_model.specs.declared.progress.Freezing.{Freezing}
 use Rattle.sleep_model.specs.declared.progress.ScriptPosition.{ScriptPosition}
 use Rattle.sleep_model.specs.declared.progress.Sleep.{Sleep}
@@ -73,7 +73,7 @@ IsOwn _ = Unit {0}
 abbrev pub Determined : Due → Type 0
 Determined (Makes k) = Unit {0}
 Determined (Waits cause) = IsOwn cause
-Determined Exited = ⊥
+Determined Nothing = ⊥
 
 if_determined : (b : Bool) (x y : Due) → (b ≡ true → Determined x) → (b ≡ false → Determined y) → Determined (cond b x y)
 if_determined true x y h g = h refl
@@ -86,7 +86,7 @@ after_determined (Some d) next h = tt
 first_determined : (x y : Due) → Determined x → Determined (or_next x y)
 first_determined (Makes k) y h = tt
 first_determined (Waits cause) y h = h
-first_determined Exited y h = absurd h
+first_determined Nothing y h = absurd h
 
 left_determined : (k : ℕ → Kind) (o : Option ℕ) (y : Due) → Determined y → Determined (or_next (if_left k o) y)
 left_determined k None y h = h
@@ -236,7 +236,7 @@ module _ (m : Machine) (past : List Entry) (now : EventNow) where
         (λ g. if_determined (f.asked && freezes_at (is_user s.kind) (position_of m past i).waits o) _ _ (λ h. tt)
         (λ h. step_determined (position_of m past i) f.asked o begun (λ x k. at_entry s (position_of m past i).done x k)))) in
         subst (λ (x : Option Script). Determined (position_due m past now f x (position_of m past i))) (sym at.1)
-        (subst (λ b. Determined (cond b Exited (task_due m past now f s.kind (position_of m past i) o))) (sym there) task)
+        (subst (λ b. Determined (cond b Nothing (task_due m past now f s.kind (position_of m past i) o))) (sym there) task)
 
     own_determined : (who : Actor) → HasTurns m who → (HasExited m past who → ⊥) → Determined (own_due m past who now)
     own_determined (actor.Script i) l not_exited = by (position_of m past i).exited refl
@@ -359,7 +359,7 @@ module _ (m : Machine) (i : ℕ) (l : i < length m.actors) where
 -- ---- the laws
 
 module _ (m : Machine) (past : List Entry) (j : JournalPart m past) where
-  exited_done : (who : Actor) → HasTurns m who → (now : EventNow) → HasExited m past who → due m past who now ≡ Exited
+  exited_done : (who : Actor) → HasTurns m who → (now : EventNow) → HasExited m past who → due m past who now ≡ Nothing
   exited_done (actor.Script i) l now h = by (is_actor (actor.Script i) (maker past)) refl
     where
       none : is_actor (actor.Script i) (maker past) ≡ true → ⊥
@@ -376,11 +376,11 @@ module _ (m : Machine) (past : List Entry) (j : JournalPart m past) where
           of_maker None f = absurd (true≢false (sym f))
           of_maker (Some w) f = ap Some (same_is w f)
 
-      by_script : (o : Option Script) → position_due m past now (freezing m i past) o (position_of m past i) ≡ Exited
+      by_script : (o : Option Script) → position_due m past now (freezing m i past) o (position_of m past i) ≡ Nothing
       by_script None = refl
-      by_script (Some s) = ap (λ b. cond b Exited (task_due m past now (freezing m i past) s.kind (position_of m past i) (slice_get (entry_steps s) (position_of m past i).done))) h
+      by_script (Some s) = ap (λ b. cond b Nothing (task_due m past now (freezing m i past) s.kind (position_of m past i) (slice_get (entry_steps s) (position_of m past i).done))) h
 
-      by : (b : Bool) → is_actor (actor.Script i) (maker past) ≡ b → cond b (attempt_due m past now) (own_due m past (actor.Script i) now) ≡ Exited
+      by : (b : Bool) → is_actor (actor.Script i) (maker past) ≡ b → cond b (attempt_due m past now) (own_due m past (actor.Script i) now) ≡ Nothing
       by true e = absurd (none e)
       by false e = by_script (slice_get m.actors i)
   exited_done actor.Auto l now h = absurd h
@@ -405,8 +405,8 @@ exited_exited m past j who l now = (λ e. has_exited m past j who l now (λ t. s
 
 pub none_stale : NoneWaitStale
 none_stale m past j who l now calls time e =
-    let gone : due m past who now ≡ Exited = exited_done m past j who l now (has_exited m past j who l now (λ t. subst Determined e t)) in
-    let no : Waits (why.Stale calls time) ≡ Exited = sym e ∙ gone in cc
+    let gone : due m past who now ≡ Nothing = exited_done m past j who l now (has_exited m past j who l now (λ t. subst Determined e t)) in
+    let no : Waits (why.Stale calls time) ≡ Nothing = sym e ∙ gone in cc
 
 -- ---- the end of a log
 
@@ -415,7 +415,7 @@ module _ (m : Machine) (past : List Entry) (now : EventNow) where
   put_names true i d others e t h = absurd (true≢false e)
   put_names false i (Waits cause) others e t h = let same : (i == i) ≡ true = grind (arith, nat_tests) in ap (λ b. b || list_any (λ (w : Waiting). is_same w.actor (actor.Script i)) others) same
   put_names false i (Makes k) others e t h = absurd (true≢false h)
-  put_names false i Exited others e t h = absurd t
+  put_names false i Nothing others e t h = absurd t
 
   put_more : (exited : Bool) (i n : ℕ) (d : Due) (others : List Waiting) → names (actor.Script n) others → names (actor.Script n) (put_waiting exited i d others)
   put_more true i n d others h = h
@@ -425,7 +425,7 @@ module _ (m : Machine) (past : List Entry) (now : EventNow) where
       by true g = refl
       by false g = g
   put_more false i n (Makes k) others h = h
-  put_more false i n Exited others h = h
+  put_more false i n Nothing others h = h
 
   all_named : (i k : ℕ) (places : List ScriptPosition) → k < length places → (position_at places k).exited ≡ false → Determined (due m past (actor.Script (i + k)) now) → is_made (due m past (actor.Script (i + k)) now) ≡ false
       → names (actor.Script (i + k)) (waiting_from m past now i places)

@@ -173,7 +173,7 @@ module _ (m : Machine) (past : List Entry) (of : ℕ → List Entry) (now : Even
           let own : due m past (actor.Script i) now ≡ task_due m past now (freezing m i past) s.kind (position_of m past i) (slice_get (entry_steps s) (position_of m past i).done) =
           ap (λ b. cond b (attempt_due m past now) (own_due m past (actor.Script i) now)) outside
           ∙ (ap (λ (x : Option Script). position_due m past now (freezing m i past) x (position_of m past i)) e
-          ∙ ap (λ b. cond b turn.Exited (task_due m past now (freezing m i past) s.kind (position_of m past i) (slice_get (entry_steps s) (position_of m past i).done))) dozing.there) in
+          ∙ ap (λ b. cond b turn.Nothing (task_due m past now (freezing m i past) s.kind (position_of m past i) (slice_get (entry_steps s) (position_of m past i).done))) dozing.there) in
           not_come at (time_of past) (task_later m past now (freezing m i past) s.kind (position_of m past i) (slice_get (entry_steps s) (position_of m past i).done) at thawed awake dozing u (sym (ap is_made own) ∙ script_rests m past of now idle i within))
         where
           at_step : passes is_state (slice_get (steps_in m i) (position_of m past i).done) ≡ passes is_state (slice_get (entry_steps s) (position_of m past i).done)

@@ -14,7 +14,7 @@ use Rattle.sleep_model.specs.declared.machine.Op.{Op}
 use Rattle.sleep_model.specs.declared.machine.Op.TheVariants as op
 use Rattle.sleep_model.specs.declared.machine.Script.{Script}
 use Rattle.sleep_model.specs.declared.progress.Due.{Due}
-use Rattle.sleep_model.specs.declared.progress.Due.TheVariants.{Makes, Waits, Exited}
+use Rattle.sleep_model.specs.declared.progress.Due.TheVariants.{Makes, Waits, Nothing}
 use Rattle.sleep_model.specs.declared.progress.ScriptPosition.{ScriptPosition}
 use Rattle.sleep_model.specs.declared.progress.Sleep.{Sleep}
 use Rattle.sleep_model.specs.declared.progress.Stage.{Stage}
@@ -168,7 +168,7 @@ module _ (m : Machine) (acc : IsAccepted m) (past : List Entry) (now : EventNow)
   task_is s go a =
       ap (λ b. cond b (attempt_due m past now) (own_due m past (actor.Script i) now)) a
       ∙ (ap (λ (x : Option Script). position_due m past now (freezing m i past) x (position_of m past i)) go.script
-      ∙ (ap (λ b. cond b Exited (task_due m past now (freezing m i past) s.kind (position_of m past i) (slice_get (entry_steps s) (position_of m past i).done))) go.there
+      ∙ (ap (λ b. cond b Nothing (task_due m past now (freezing m i past) s.kind (position_of m past i) (slice_get (entry_steps s) (position_of m past i).done))) go.there
       ∙ (ap (λ b. cond b (Waits why.Frozen) (cond (sleeps_now past && not (is_line s.kind)) (Waits why.Asleep) (cond ((freezing m i past).asked && freezes_at (is_user s.kind) (position_of m past i).waits (slice_get (entry_steps s) (position_of m past i).done)) (Makes kind.Frozen) (step_due m past now (position_of m past i) (freezing m i past).asked (slice_get (entry_steps s) (position_of m past i).done))))) go.thawed
       ∙ ap (λ b. cond b (Waits why.Asleep) (cond ((freezing m i past).asked && freezes_at (is_user s.kind) (position_of m past i).waits (slice_get (entry_steps s) (position_of m past i).done)) (Makes kind.Frozen) (step_due m past now (position_of m past i) (freezing m i past).asked (slice_get (entry_steps s) (position_of m past i).done)))) go.awake)))
 

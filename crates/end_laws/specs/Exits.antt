@@ -7,7 +7,7 @@ use Rattle.sleep_model.specs.declared.entry.Entry.{Entry}
 use Rattle.sleep_model.specs.declared.log.Waiting.{Waiting}
 use Rattle.sleep_model.specs.declared.log.Why.TheVariants as why
 use Rattle.sleep_model.specs.declared.machine.Machine.{Machine}
-use Rattle.sleep_model.specs.declared.progress.Due.TheVariants.{Waits, Exited}
+use Rattle.sleep_model.specs.declared.progress.Due.TheVariants.{Waits, Nothing}
 use Rattle.sleep_model.specs.declared.word.EventNow.{EventNow}
 use Rattle.sleep_model.specs.Due.{due}
 use Rattle.sleep_model.specs.Legal.{IsLegal, IsStuckAfter, JournalPart, waiting}
@@ -33,7 +33,7 @@ HasExited m past _ = ⊥
 abbrev pub DoneHaveExited : Type 0
 DoneHaveExited =
     (m : Machine) (past : List Entry) → JournalPart m past → (who : Actor) → HasTurns m who → (now : EventNow)
-    → (due m past who now ≡ Exited) ↔ HasExited m past who
+    → (due m past who now ≡ Nothing) ↔ HasExited m past who
 
 -- nobody waits because numbers that somebody keeps are no longer the core's (own)
 abbrev pub NoneWaitStale : Type 0

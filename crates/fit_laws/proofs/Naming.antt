@@ -25,7 +25,7 @@ use Rattle.sleep_model.specs.declared.progress.AsyncWork.{AsyncWork}
 use Rattle.sleep_model.specs.declared.progress.AsyncWork.TheVariants.{Idle, Scheduled, Inside}
 use Rattle.sleep_model.specs.declared.progress.Callback.{Callback}
 use Rattle.sleep_model.specs.declared.progress.Due.{Due}
-use Rattle.sleep_model.specs.declared.progress.Due.TheVariants.{Makes, Waits, Exited}
+use Rattle.sleep_model.specs.declared.progress.Due.TheVariants.{Makes, Waits, Nothing}
 use Rattle.sleep_model.specs.declared.progress.Freezing.{Freezing}
 use Rattle.sleep_model.specs.declared.progress.ScriptPosition.{ScriptPosition}
 use Rattle.sleep_model.specs.declared.progress.Sleep.{Sleep}
@@ -88,7 +88,7 @@ only_after P (Some d) x h = tt
 only_next : (P : Kind → Type 0) (x y : Due) → OnlyMade P x → OnlyMade P y → OnlyMade P (or_next x y)
 only_next P (Makes k) y h g = h
 only_next P (Waits w) y h g = tt
-only_next P Exited y h g = g
+only_next P Nothing y h g = g
 
 only_left : (P : Kind → Type 0) (k : ℕ → Kind) (o : Option ℕ) → ((x : ℕ) → o ≡ Some x → P (k x)) → OnlyMade P (if_left k o)
 only_left P k None f = tt

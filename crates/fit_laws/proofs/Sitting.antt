@@ -15,7 +15,7 @@ use Rattle.sleep_model.specs.declared.machine.Machine.{Machine}
 use Rattle.sleep_model.specs.declared.machine.Op.{Op}
 use Rattle.sleep_model.specs.declared.machine.Op.TheVariants as op
 use Rattle.sleep_model.specs.declared.machine.Script.{Script}
-use Rattle.sleep_model.specs.declared.progress.Due.TheVariants.{Makes, Waits, Exited}
+use Rattle.sleep_model.specs.declared.progress.Due.TheVariants.{Makes, Waits, Nothing}
 use Rattle.sleep_model.specs.declared.progress.Freezing.{Freezing}
 use Rattle.sleep_model.specs.declared.progress.ScriptPosition.{ScriptPosition}
 use Rattle.sleep_model.specs.declared.progress.Stage.{Stage}
@@ -177,7 +177,7 @@ step_is m past now i s closed script there unfrozen awake =
     let o : Option Op = slice_get (entry_steps s) (position_of m past i).done in
     ap (λ (w : Option Actor). cond (is_actor (actor.Script i) w) (attempt_due m past now) (own_due m past (actor.Script i) now)) closed
     ∙ (ap (λ (x : Option Script). position_due m past now (freezing m i past) x (position_of m past i)) script
-    ∙ (ap (λ b. cond b Exited (task_due m past now (freezing m i past) s.kind (position_of m past i) o)) there
+    ∙ (ap (λ b. cond b Nothing (task_due m past now (freezing m i past) s.kind (position_of m past i) o)) there
     ∙ (ap (λ (f : Freezing). task_due m past now f s.kind (position_of m past i) o) unfrozen
     ∙ ap (λ b. cond b (Waits why.Asleep) (step_due m past now (position_of m past i) false o)) awake)))
 

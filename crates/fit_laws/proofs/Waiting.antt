@@ -13,7 +13,7 @@ use Rattle.sleep_model.specs.declared.machine.Op.{Op}
 use Rattle.sleep_model.specs.declared.machine.Op.TheVariants as op
 use Rattle.sleep_model.specs.declared.machine.Script.{Script}
 use Rattle.sleep_model.specs.declared.progress.Due.{Due}
-use Rattle.sleep_model.specs.declared.progress.Due.TheVariants.{Makes, Waits, Exited}
+use Rattle.sleep_model.specs.declared.progress.Due.TheVariants.{Makes, Waits, Nothing}
 use Rattle.sleep_model.specs.declared.progress.Freezing.{Freezing}
 use Rattle.sleep_model.specs.declared.progress.ScriptPosition.{ScriptPosition}
 use Rattle.sleep_model.specs.declared.progress.Sleep.{Sleep}
@@ -68,7 +68,7 @@ at_entry s n x e = each_get (λ x. makes_entry x ≡ true) (entry_steps s) n x (
 abbrev pub WaitsWell : Machine → Due → Type 0
 WaitsWell m (Makes k) = Unit {0}
 WaitsWell m (Waits cause) = fits_cause m cause ≡ true
-WaitsWell m Exited = ⊥
+WaitsWell m Nothing = ⊥
 
 well_if : (m : Machine) (b : Bool) (x y : Due) → (b ≡ true → WaitsWell m x) → (b ≡ false → WaitsWell m y) → WaitsWell m (cond b x y)
 well_if m true x y f g = f refl
@@ -139,7 +139,7 @@ put_fits m i false (Waits cause) rest l h g =
     let there : nat_lt i (length m.actors) ≡ true = grind (arith, nat_tests) in
     ap (λ b. (b && fits_cause m cause) && list_all (FitsWaiting m) rest) there ∙ (ap (λ b. b && list_all (FitsWaiting m) rest) (h refl).0 ∙ g)
 put_fits m i false (Makes k) rest l h g = absurd (true≢false (h refl).1)
-put_fits m i false Exited rest l h g = absurd (h refl).0
+put_fits m i false Nothing rest l h g = absurd (h refl).0
 
 all_fit : (m : Machine) (past : List Entry) (now : EventNow) (i : ℕ) (places : List ScriptPosition) → i + length places ≤ length m.actors → AllWell m past now i places → list_all (FitsWaiting m) (waiting_from m past now i places) ≡ true
 all_fit m past now i [] l h = refl
@@ -149,7 +149,7 @@ put_filled : (m : Machine) (i : ℕ) (exited gone : Bool) (d : Due) (rest : List
 put_filled m i true gone d rest e h g = g e
 put_filled m i false gone (Waits cause) rest e h g = refl
 put_filled m i false gone (Makes k) rest e h g = absurd (true≢false (h refl).1)
-put_filled m i false gone Exited rest e h g = absurd (h refl).0
+put_filled m i false gone Nothing rest e h g = absurd (h refl).0
 
 some_wait : (m : Machine) (past : List Entry) (now : EventNow) (i : ℕ) (places : List ScriptPosition) → AllWell m past now i places → all_exited places ≡ false → is_filled (waiting_from m past now i places) ≡ true
 some_wait m past now i [] h e = absurd (true≢false e)

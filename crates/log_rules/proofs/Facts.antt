@@ -6,7 +6,7 @@ use Rattle.sleep_model.specs.declared.entry.Kind.{Kind}
 use Rattle.sleep_model.specs.declared.entry.Kind.TheVariants as kind
 use Rattle.sleep_model.specs.declared.machine.Machine.{Machine}
 use Rattle.sleep_model.specs.declared.progress.Due.{Due}
-use Rattle.sleep_model.specs.declared.progress.Due.TheVariants.{Makes, Waits, Exited}
+use Rattle.sleep_model.specs.declared.progress.Due.TheVariants.{Makes, Waits, Nothing}
 use Rattle.sleep_model.specs.declared.progress.Sleep.{Sleep}
 use Rattle.sleep_model.specs.declared.word.EventNow.{EventNow}
 use Rattle.sleep_model.specs.Attempt.{freeze_since, sleep_of}
@@ -35,20 +35,20 @@ only_is P d k h e = subst (OnlyMade P) e h
 pub only_map : (P Q : Kind → Type 0) → ((k : Kind) → P k → Q k) → (d : Due) → OnlyMade P d → OnlyMade Q d
 only_map P Q f (Makes k) h = f k h
 only_map P Q f (Waits w) h = tt
-only_map P Q f Exited h = tt
+only_map P Q f Nothing h = tt
 
 -- what is due is itself due
 pub itself : (d : Due) → OnlyMade (λ k. d ≡ Makes k) d
 itself (Makes k) = refl
 itself (Waits w) = tt
-itself Exited = tt
+itself Nothing = tt
 
 -- nothing is due
 abbrev IsExited : Due → Type 0
-IsExited Exited = Unit {0}
+IsExited Nothing = Unit {0}
 IsExited _ = ⊥
 
-pub gone : (k : Kind) → Exited ≡ Makes k → ⊥
+pub gone : (k : Kind) → Nothing ≡ Makes k → ⊥
 gone k e = subst IsExited e tt
 
 -- an entry of the journal is none of time

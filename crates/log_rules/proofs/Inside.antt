@@ -9,7 +9,7 @@ use Rattle.sleep_model.specs.declared.entry.Kind.{Kind}
 use Rattle.sleep_model.specs.declared.entry.Kind.TheVariants as kind
 use Rattle.sleep_model.specs.declared.machine.Machine.{Machine}
 use Rattle.sleep_model.specs.declared.word.EventNow.{EventNow}
-use Rattle.sleep_model.specs.declared.progress.Due.TheVariants.{Makes, Exited}
+use Rattle.sleep_model.specs.declared.progress.Due.TheVariants.{Makes, Nothing}
 use Rattle.sleep_model.specs.declared.progress.Stage.{Stage}
 use Rattle.sleep_model.specs.Attempt.{attempt_due}
 use Rattle.sleep_model.specs.Calls.{calls_of, calls_after_turn, ends_turn, is_calling, is_left, made, report_calls, turns_ended}
@@ -140,7 +140,7 @@ time_makes_no_entry : (m : Machine) (past : List Entry) (e : Entry) → JournalP
 time_makes_no_entry m past e j a h =
     let makes : due m past actor.Time e.now ≡ Makes e.kind = subst (λ (x : Actor). due m past x e.now ≡ Makes e.kind) a h.0 in
     let other : is_actor actor.Time (maker past) ≡ false = time_makes_none (maker past) (stage_of past) (lock_agrees m past j).2 in
-    gone e.kind (subst (λ (b : Bool). cond b (attempt_due m past e.now) Exited ≡ Makes e.kind) other makes)
+    gone e.kind (subst (λ (b : Bool). cond b (attempt_due m past e.now) Nothing ≡ Makes e.kind) other makes)
 
 jump_reports_none : (m : Machine) (n : ℕ) (k : Kind) → class_of k ≡ OfTime → report_calls m n k ≡ []
 jump_reports_none m n (kind.Begin p d) h = absurd (journal_no_time h)

@@ -6,7 +6,7 @@ use Rattle.sleep_model.specs.declared.entry.Entry.{Entry}
 use Rattle.sleep_model.specs.declared.entry.Kind.{Kind}
 use Rattle.sleep_model.specs.declared.entry.Kind.TheVariants as kind
 use Rattle.sleep_model.specs.declared.machine.Machine.{Machine}
-use Rattle.sleep_model.specs.declared.progress.Due.TheVariants.{Makes, Exited}
+use Rattle.sleep_model.specs.declared.progress.Due.TheVariants.{Makes, Nothing}
 use Rattle.sleep_model.specs.declared.progress.Stage.{Stage}
 use Rattle.sleep_model.specs.declared.progress.Stage.TheVariants as stage
 use Rattle.sleep_model.specs.declared.word.EventNow.{EventNow}
@@ -180,7 +180,7 @@ the_makers m past now who k e = record { keeps = forth m past now who k e; makes
 -- ---- all
 
 -- timers and time make nothing of the journal of their own
-none_makes : (m : Machine) (past : List Entry) (now : EventNow) (who : Actor) (k : Kind) → is_maker past who ≡ false → own_due m past who now ≡ Exited → (KeepsMost m past now who k → ⊥) → AreOne m past now who k
+none_makes : (m : Machine) (past : List Entry) (now : EventNow) (who : Actor) (k : Kind) → is_maker past who ≡ false → own_due m past who now ≡ Nothing → (KeepsMost m past now who k → ⊥) → AreOne m past now who k
 none_makes m past now who k e g n = record {
   keeps = λ j d. absurd (gone k (sym g ∙ subst (λ (b : Bool). cond b (attempt_due m past now) (own_due m past who now) ≡ Makes k) e d));
   makes = λ h. absurd (n h);

@@ -8,7 +8,7 @@ use Rattle.sleep_model.specs.declared.entry.Kind.TheVariants as kind
 use Rattle.sleep_model.specs.declared.machine.Machine.{Machine}
 use Rattle.sleep_model.specs.declared.progress.Callback.{Callback}
 use Rattle.sleep_model.specs.declared.progress.Due.{Due}
-use Rattle.sleep_model.specs.declared.progress.Due.TheVariants.{Makes, Waits, Exited}
+use Rattle.sleep_model.specs.declared.progress.Due.TheVariants.{Makes, Waits, Nothing}
 use Rattle.sleep_model.specs.declared.progress.Sleep.{Sleep}
 use Rattle.sleep_model.specs.declared.progress.Stage.{Stage}
 use Rattle.sleep_model.specs.declared.progress.Stage.TheVariants as stage
@@ -30,7 +30,7 @@ use Rattle.log_rules.proofs.Facts.{never, is_none}
 
 -- something is due, or waited for
 abbrev Some' : Due → Type 0
-Some' Exited = ⊥
+Some' Nothing = ⊥
 Some' _ = Unit {0}
 
 goes_if : (b : Bool) (x y : Due) → Some' x → Some' y → Some' (cond b x y)
@@ -45,7 +45,7 @@ left_goes : (k : ℕ → Kind) (o : Option ℕ) → is_some o ≡ true → Some'
 left_goes k None h = never h
 left_goes k (Some x) h = tt
 
-left_exited : (k : ℕ → Kind) (o : Option ℕ) → is_some o ≡ false → if_left k o ≡ Exited
+left_exited : (k : ℕ → Kind) (o : Option ℕ) → is_some o ≡ false → if_left k o ≡ Nothing
 left_exited k None h = refl
 left_exited k (Some x) h = never (sym h)
 
@@ -105,7 +105,7 @@ stage_goes m past now stage.Posts h = left_goes _ (next_posted m past) h
 stage_goes m past now _ h = tt
 
 -- and one that has none has nothing due
-stage_exited : (m : Machine) (past : List Entry) (now : EventNow) (here : Stage) → has_more m past here ≡ false → stage_due m past now here ≡ Exited
+stage_exited : (m : Machine) (past : List Entry) (now : EventNow) (here : Stage) → has_more m past here ≡ false → stage_due m past now here ≡ Nothing
 stage_exited m past now stage.Notifies h = left_exited _ (next_called m past) h
 stage_exited m past now stage.StopsCpus h = left_exited _ (next_cpu_off m past) h
 stage_exited m past now stage.StopsSyscore h = left_exited _ (next_stopped m past) h
@@ -117,7 +117,7 @@ stage_exited m past now _ h = never (sym h)
 or_next_goes : (x y : Due) → Some' x → or_next x y ≡ x
 or_next_goes (Makes k) y h = refl
 or_next_goes (Waits w) y h = refl
-or_next_goes Exited y h = absurd h
+or_next_goes Nothing y h = absurd h
 
 row_due : (m : Machine) (past : List Entry) (now : EventNow) (here : Stage) → stage_or_next m past now here ≡ stage_due m past now (by_case (has_more m past here) here (next_stage here))
 row_due m past now here = by_more (has_more m past here) refl
@@ -128,7 +128,7 @@ row_due m past now here = by_more (has_more m past here) refl
 
 -- what is due at a row, if one is under way
 abbrev pub due_in_row : Machine → List Entry → EventNow → Option Stage → Due
-due_in_row m past now None = Exited
+due_in_row m past now None = Nothing
 due_in_row m past now (Some row) = stage_due m past now row
 
 -- what the maker makes is what is due at the row

@@ -10,7 +10,7 @@ use Rattle.sleep_model.specs.declared.machine.Op.{Op}
 use Rattle.sleep_model.specs.declared.machine.Op.TheVariants as op
 use Rattle.sleep_model.specs.declared.machine.Script as script
 use Rattle.sleep_model.specs.declared.progress.Due.{Due}
-use Rattle.sleep_model.specs.declared.progress.Due.TheVariants.{Makes, Waits, Exited}
+use Rattle.sleep_model.specs.declared.progress.Due.TheVariants.{Makes, Waits, Nothing}
 use Rattle.sleep_model.specs.declared.progress.Freezing.{Freezing}
 use Rattle.sleep_model.specs.declared.progress.ScriptPosition.{ScriptPosition}
 use Rattle.sleep_model.specs.declared.word.EventNow.{EventNow}
@@ -284,7 +284,7 @@ freezes_made m past now who f user position o free z =
         (only_is (IsOfOp m past position o) _ k (shape_made m past now position f.asked o) e)
         (only_is (Else m past) _ k (else_made m past now position f.asked o free) e)
     by_due p (Waits w) e = tt
-    by_due p Exited e = tt
+    by_due p Nothing e = tt
 
 -- what a script keeps outside attempts of its own
 abbrev Script : Machine → List Entry → EventNow → Actor → Freezing → Option script.Script → ScriptPosition → Kind → Type 0

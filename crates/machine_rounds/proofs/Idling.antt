@@ -13,7 +13,7 @@ use Rattle.sleep_model.specs.declared.log.Waiting.{Waiting}
 use Rattle.sleep_model.specs.declared.machine.Machine.{Machine}
 use Rattle.sleep_model.specs.declared.machine.Script.{Script}
 use Rattle.sleep_model.specs.declared.progress.Due.{Due}
-use Rattle.sleep_model.specs.declared.progress.Due.TheVariants.{Makes, Waits, Exited}
+use Rattle.sleep_model.specs.declared.progress.Due.TheVariants.{Makes, Waits, Nothing}
 use Rattle.sleep_model.specs.declared.progress.ScriptPosition.{ScriptPosition}
 use Rattle.sleep_model.specs.declared.word.EventNow.{EventNow}
 use Rattle.sleep_model.specs.Accepted.{IsAccepted}
@@ -141,22 +141,22 @@ fault_is old run word fault.Mem same seen k refused = tt
 
 -- ---- who waits
 
-put_by : (b : Bool) (i : ℕ) (d : Due) (after_idle_round : List Waiting) → (b ≡ true → d ≡ Exited) → put_waiting b i d after_idle_round ≡ waits_of i d ++ after_idle_round
+put_by : (b : Bool) (i : ℕ) (d : Due) (after_idle_round : List Waiting) → (b ≡ true → d ≡ Nothing) → put_waiting b i d after_idle_round ≡ waits_of i d ++ after_idle_round
 put_by false i (Waits why) after_idle_round h = refl
-put_by false i Exited after_idle_round h = refl
+put_by false i Nothing after_idle_round h = refl
 put_by false i (Makes k) after_idle_round h = refl
-put_by true i (Waits why) after_idle_round h = absurd (let no : Waits why ≡ Exited = h refl in cc)
-put_by true i Exited after_idle_round h = refl
+put_by true i (Waits why) after_idle_round h = absurd (let no : Waits why ≡ Nothing = h refl in cc)
+put_by true i Nothing after_idle_round h = refl
 put_by true i (Makes k) after_idle_round h = refl
 
 -- nothing is due of a script that has exited, while no attempt is open
-exited_done : (m : Machine) (past : List Entry) (now : EventNow) (i : ℕ) → maker past ≡ None → (position_at (positions (length m.actors) past) i).exited ≡ true → due m past (actor.Script i) now ≡ Exited
+exited_done : (m : Machine) (past : List Entry) (now : EventNow) (i : ℕ) → maker past ≡ None → (position_at (positions (length m.actors) past) i).exited ≡ true → due m past (actor.Script i) now ≡ Nothing
 exited_done m past now i closed exited =
     ap (λ o. cond (is_actor (actor.Script i) o) (attempt_due m past now) (own_due m past (actor.Script i) now)) closed ∙ by_script (slice_get m.actors i)
   where
-    by_script : (o : Option Script) → position_due m past now (freezing m i past) o (position_at (positions (length m.actors) past) i) ≡ Exited
+    by_script : (o : Option Script) → position_due m past now (freezing m i past) o (position_at (positions (length m.actors) past) i) ≡ Nothing
     by_script None = refl
-    by_script (Some s) = ap (λ b. cond b Exited (task_due m past now (freezing m i past) s.kind (position_at (positions (length m.actors) past) i) (slice_get (entry_steps s) (position_at (positions (length m.actors) past) i).done))) exited
+    by_script (Some s) = ap (λ b. cond b Nothing (task_due m past now (freezing m i past) s.kind (position_at (positions (length m.actors) past) i) (slice_get (entry_steps s) (position_at (positions (length m.actors) past) i).done))) exited
 
 seats_step_len : (a : Actor) (part : PositionEffect) (ss : List ScriptPosition) → length (positions_after a part ss) ≡ length ss
 seats_step_len (actor.Script i) part ss = length-set ss i _

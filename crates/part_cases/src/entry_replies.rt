@@ -139,6 +139,6 @@ pub fn due_reply(due: Due) -> CaseReply {
     match due {
         Due::Makes(kind) => kind_reply(kind),
         Due::Waits(why) => why_reply(why),
-        Due::Exited => named("gone"),
+        Due::Nothing => named("gone"),
     }
 }

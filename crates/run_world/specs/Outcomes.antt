@@ -9,7 +9,7 @@ use Rattle.sleep_model.specs.declared.log.Why.TheVariants as why
 use Rattle.sleep_model.specs.declared.machine.Machine.{Machine}
 use Rattle.sleep_model.specs.declared.machine.SourceCall.{SourceCall}
 use Rattle.sleep_model.specs.declared.machine.SourceCall.TheVariants as calls
-use Rattle.sleep_model.specs.declared.progress.Due.TheVariants.{Makes, Waits, Exited}
+use Rattle.sleep_model.specs.declared.progress.Due.TheVariants.{Makes, Waits, Nothing}
 use Rattle.sleep_model.specs.declared.progress.Due.{Due}
 use Rattle.sleep_model.specs.declared.word.EventNow.{EventNow}
 use Rattle.sleep_model.specs.declared.word.Stamp.{Stamp}
@@ -136,7 +136,7 @@ AfterCoreTurn m who calls floor now past (Ok (Did stamp k attempt)) gains =
     (turn : IsTurn m who calls floor stamp k attempt gains) × (turn.past ≡ past) × (now ≡ time_of (entries past))
 AfterCoreTurn m who calls floor now past (Ok (NotYet cause)) gains =
     IsNoTurn m who calls floor now past (Waits cause) gains ⊎ IsStaleTurn m who calls now past cause gains
-AfterCoreTurn m who calls floor now past (Ok Done) gains = IsNoTurn m who calls floor now past Exited gains
+AfterCoreTurn m who calls floor now past (Ok Done) gains = IsNoTurn m who calls floor now past Nothing gains
 AfterCoreTurn m who calls floor now past (Err fault) gains = IsRefusedTurn m who calls now past gains
 
 -- the journal that a pass finds at the machine's lock: what it made there itself is in it, at its indices

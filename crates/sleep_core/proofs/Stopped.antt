@@ -11,7 +11,7 @@ use Rattle.sleep_model.specs.declared.machine.Op.{Op}
 use Rattle.sleep_model.specs.declared.machine.Op.TheVariants as op
 use Rattle.sleep_model.specs.declared.machine.Script.{Script}
 use Rattle.sleep_model.specs.declared.progress.AsyncWork.TheVariants.{Idle}
-use Rattle.sleep_model.specs.declared.progress.Due.TheVariants.{Makes, Waits, Exited}
+use Rattle.sleep_model.specs.declared.progress.Due.TheVariants.{Makes, Waits, Nothing}
 use Rattle.sleep_model.specs.declared.progress.ScriptPosition.{ScriptPosition}
 use Rattle.sleep_model.specs.declared.progress.Stage.{Stage}
 use Rattle.sleep_model.specs.declared.progress.PhaseState.{PhaseState}
@@ -166,7 +166,7 @@ position_still m past now (Some s) position h still = by_exit position.exited re
         by_sleep true = refl
         by_sleep false = step_still m past now position false (slice_get (entry_steps s) position.done) until (h until e).0 (h until e).1 e l
 
-    by_exit : (b : Bool) → position.exited ≡ b → is_made (cond b Exited (task_due m past now unasked s.kind position (slice_get (entry_steps s) position.done))) ≡ false
+    by_exit : (b : Bool) → position.exited ≡ b → is_made (cond b Nothing (task_due m past now unasked s.kind position (slice_get (entry_steps s) position.done))) ≡ false
     by_exit true e = refl
     by_exit false e = by_until position.until refl (subst (λ (b : Bool). (b || sleeps_past position.until (time_of past)) ≡ true) e still)
 

@@ -1,7 +1,7 @@
 -- What a turn of the core does.
 use Rattle.std.specs.Prelude.{◌≡◌, false, Result, Ok, Err}
 use Rattle.sleep_model.specs.declared.entry.Actor.{Actor}
-use Rattle.sleep_model.specs.declared.progress.Due.TheVariants.{Makes, Waits, Exited}
+use Rattle.sleep_model.specs.declared.progress.Due.TheVariants.{Makes, Waits, Nothing}
 use Rattle.sleep_model.specs.declared.word.EventNow.{EventNow}
 use Rattle.sleep_model.specs.declared.word.Stamp.{Stamp}
 use Rattle.sleep_model.specs.Devices.{is_device}
@@ -22,6 +22,6 @@ AfterTurn old new who word floor (Ok (Did stamp kind attempt)) =
     × (stamp ≡ next_stamp old.past floor word)
     × (attempt ≡ attempts (entries new.past))
 AfterTurn old new who word floor (Ok (NotYet why)) = (due old.machine (entries old.past) who word ≡ Waits why) × (new ≡ old)
-AfterTurn old new who word floor (Ok Done) = (due old.machine (entries old.past) who word ≡ Exited) × (new ≡ old)
+AfterTurn old new who word floor (Ok Done) = (due old.machine (entries old.past) who word ≡ Nothing) × (new ≡ old)
 AfterTurn old new who word floor (Err fault) =
     (is_actor who (maker (entries old.past)) ≡ false) × (is_device who ≡ false) × (new ≡ old)

@@ -25,7 +25,7 @@ impl<'m> Core<'m> {
             (next_called self.now.machine (entries self.now.past)) }
     {
         match self.next_called() {
-            None => Due::Exited,
+            None => Due::Nothing,
             Some(x) => Due::Makes(Kind::NotifyPrepare(x, self.answered(What::Notifier(x)))),
         }
     }
@@ -87,7 +87,7 @@ impl<'m> Core<'m> {
         ensures { result ≡ if_left (cpu_kind (pending (entries self.now.past) now)) (next_cpu_off self.now.machine (entries self.now.past)) }
     {
         match self.history.platform().next_cpu_off() {
-            None => Due::Exited,
+            None => Due::Nothing,
             Some(k) if self.pending(now) => Due::Makes(Kind::CpuBusy(k)),
             Some(k) => Due::Makes(Kind::CpuOff(k)),
         }
@@ -99,7 +99,7 @@ impl<'m> Core<'m> {
             (next_stopped self.now.machine (entries self.now.past)) }
     {
         match self.next_stopped() {
-            None => Due::Exited,
+            None => Due::Nothing,
             Some(x) => Due::Makes(Kind::SyscoreSuspend(x, self.answered(What::Syscore(x)))),
         }
     }
@@ -135,7 +135,7 @@ impl<'m> Core<'m> {
         ensures { result ≡ if_left kind.SyscoreResume (next_started self.now.machine (entries self.now.past)) }
     {
         match self.history.syscore().next_started() {
-            None => Due::Exited,
+            None => Due::Nothing,
             Some(x) => Due::Makes(Kind::SyscoreResume(x)),
         }
     }
@@ -145,7 +145,7 @@ impl<'m> Core<'m> {
         ensures { result ≡ if_left kind.CpuOn (next_cpu_on self.now.machine (entries self.now.past)) }
     {
         match self.history.platform().next_cpu_on() {
-            None => Due::Exited,
+            None => Due::Nothing,
             Some(k) => Due::Makes(Kind::CpuOn(k)),
         }
     }
@@ -155,7 +155,7 @@ impl<'m> Core<'m> {
         ensures { result ≡ if_left kind.NotifyPost (next_posted self.now.machine (entries self.now.past)) }
     {
         match self.history.platform().next_posted() {
-            None => Due::Exited,
+            None => Due::Nothing,
             Some(x) => Due::Makes(Kind::NotifyPost(x)),
         }
     }
@@ -199,7 +199,7 @@ impl<'m> Core<'m> {
         ensures { result ≡ stage_or_next self.now.machine (entries self.now.past) now stage }
     {
         match self.stage_due(now, stage) {
-            Due::Exited => self.stage_due(now, next_stage(stage)),
+            Due::Nothing => self.stage_due(now, next_stage(stage)),
             due => due,
         }
     }
@@ -211,7 +211,7 @@ impl<'m> Core<'m> {
         ensures { result ≡ attempt_due self.now.machine (entries self.now.past) now }
     {
         match self.stage() {
-            None => Due::Exited,
+            None => Due::Nothing,
             Some(Stage::Downs(p)) => self.down_due(now, p),
             Some(Stage::Ups(p)) => self.up_due(p),
             Some(Stage::Prepares) => self.prepare_due(),

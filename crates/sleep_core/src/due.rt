@@ -20,7 +20,7 @@ impl<'m> Core<'m> {
             Actor::Script(script) => self.script_due(script, now),
             Actor::Auto => self.auto_due(now),
             Actor::Dev(device) => self.device_due(now, device),
-            Actor::Timer(_) | Actor::Time => Due::Exited,
+            Actor::Timer(_) | Actor::Time => Due::Nothing,
         }
     }
 

@@ -100,7 +100,7 @@ impl<'m> Core<'m> {
                 active: *active,
                 r: self.link_state_due(*supplier, *consumer),
             }),
-            Op::Awake { .. } | Op::Relax { .. } | Op::Event { .. } => Due::Exited,
+            Op::Awake { .. } | Op::Relax { .. } | Op::Event { .. } => Due::Nothing,
         }
     }
 
@@ -133,7 +133,7 @@ impl<'m> Core<'m> {
     {
         let position = self.history.tasks().position(script);
         if position.exited {
-            return Due::Exited;
+            return Due::Nothing;
         }
         let freezing = self.history.freezer().freezing(script);
         let op = self.plan(script).operation(position.done);

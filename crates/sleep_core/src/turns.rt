@@ -187,7 +187,7 @@ impl<'m> Core<'m> {
         let makes = self.is_maker(who);
         match self.due_of(makes, who, word) {
             Due::Waits(why) => Ok(CoreTurn::NotYet(why)),
-            Due::Exited => Ok(CoreTurn::Done),
+            Due::Nothing => Ok(CoreTurn::Done),
             Due::Makes(kind) => {
                 let tick = next_tick(rt, floor.tick, self.history.last().tick);
                 let stamp = Stamp {

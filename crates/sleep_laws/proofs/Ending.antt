@@ -364,7 +364,7 @@ module _ (m : Machine) (past : List Entry) (ranks : IsRanked m past) (now : Even
 pub first_made : (x y : Due) → is_made (or_next x y) ≡ false → is_made x ≡ false
 first_made (turn.Makes k) y e = e
 first_made (turn.Waits w) y e = refl
-first_made turn.Exited y e = refl
+first_made turn.Nothing y e = refl
 
 pub left_made : (k : ℕ → Kind) (o : Option ℕ) (next : Due) → is_made (or_next (if_left k o) next) ≡ false → is_made next ≡ false
 left_made k None next e = e

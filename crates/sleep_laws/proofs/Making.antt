@@ -20,7 +20,7 @@ use Rattle.sleep_model.specs.declared.machine.PlatUndo.{PlatUndo}
 use Rattle.sleep_model.specs.declared.machine.PlatUndo.TheVariants as undo
 use Rattle.sleep_model.specs.declared.machine.What.TheVariants as what
 use Rattle.sleep_model.specs.declared.progress.Due.{Due}
-use Rattle.sleep_model.specs.declared.progress.Due.TheVariants.{Makes, Waits, Exited}
+use Rattle.sleep_model.specs.declared.progress.Due.TheVariants.{Makes, Waits, Nothing}
 use Rattle.sleep_model.specs.declared.progress.Stage.{Stage}
 use Rattle.sleep_model.specs.declared.progress.Stage.TheVariants as stage
 use Rattle.sleep_model.specs.declared.progress.Sleep.{Sleep}
@@ -48,7 +48,7 @@ use Rattle.sleep_laws.proofs.Made.{Down, InSuspend, InLate, InNoirq, Up, InResum
 abbrev pub OnDue : (Kind → Type 0) → Type 0 → Due → Type 0
 OnDue P none (Makes k) = P k
 OnDue P none (Waits w) = Unit {0}
-OnDue P none Exited = none
+OnDue P none Nothing = none
 
 on_if : (P : Kind → Type 0) (none : Type 0) (b : Bool) (x y : Due) → (b ≡ true → OnDue P none x) → (b ≡ false → OnDue P none y) → OnDue P none (cond b x y)
 on_if P none true x y f g = f refl
@@ -380,9 +380,9 @@ next_proper m past _ _ (PastPosts e) h = tt
 or_next_made : (m : Machine) (past : List Entry) (now : EventNow) (here there : Stage) (none : Type 0) (x y : Due) → OnDue (Made m past now here) (Comes m past here there) x → (Comes m past here there → OnDue (Made m past now there) none y) → OnDue (AtStage m past now here) none (or_next x y)
 or_next_made m past now here there none (Makes k) y h f = Come here (AtOnce here) h
 or_next_made m past now here there none (Waits w) y h f = tt
-or_next_made m past now here there none Exited (Makes k) h f = Come there h (f h)
-or_next_made m past now here there none Exited (Waits w) h f = tt
-or_next_made m past now here there none Exited Exited h f = f h
+or_next_made m past now here there none Nothing (Makes k) h f = Come there h (f h)
+or_next_made m past now here there none Nothing (Waits w) h f = tt
+or_next_made m past now here there none Nothing Nothing h f = f h
 
 at_made : (m : Machine) (past : List Entry) (now : EventNow) (here : Stage) → Proper here → OnDue (AtStage m past now here) (Comes m past (next_stage here) (next_stage (next_stage here))) (stage_or_next m past now here)
 at_made m past now here h =
@@ -400,4 +400,4 @@ maker_made m past now who a (Some here) e h = by_due (stage_or_next m past now h
     by_due : (x : Due) → OnDue (AtStage m past now here) (Comes m past (next_stage here) (next_stage (next_stage here))) x → OnlyMade (EntryMade m past now who) x
     by_due (Makes k) (Come there c d) = ByMaker who here there k a e c d
     by_due (Waits w) h = tt
-    by_due Exited h = tt
+    by_due Nothing h = tt

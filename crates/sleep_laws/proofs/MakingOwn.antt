@@ -20,7 +20,7 @@ use Rattle.sleep_model.specs.declared.machine.Op.{Op}
 use Rattle.sleep_model.specs.declared.machine.Op.TheVariants as op
 use Rattle.sleep_model.specs.declared.machine.Script.{Script}
 use Rattle.sleep_model.specs.declared.progress.Due.{Due}
-use Rattle.sleep_model.specs.declared.progress.Due.TheVariants.{Makes, Waits, Exited}
+use Rattle.sleep_model.specs.declared.progress.Due.TheVariants.{Makes, Waits, Nothing}
 use Rattle.sleep_model.specs.declared.progress.Freezing.{Freezing}
 use Rattle.sleep_model.specs.declared.progress.ScriptPosition.{ScriptPosition}
 use Rattle.sleep_model.specs.declared.progress.PhaseState.{PhaseState}
@@ -144,7 +144,7 @@ task_made m past now i = by_script (slice_get m.actors i) refl
     by_step : (s : Script) → MayGo m past i s → (d : Due) → OnlyMade (StepMade m past now (position_of m past i) (freezing m i past).asked (slice_get (entry_steps s) (position_of m past i).done)) d → OnlyMade (TaskMade m past now i) d
     by_step s go (Makes k) h = TaskMade.Steps s k (slice_get (entry_steps s) (position_of m past i).done) go refl h
     by_step s go (Waits w) h = tt
-    by_step s go Exited h = tt
+    by_step s go Nothing h = tt
 
     by_asked : (s : Script) → MayGo m past i s → (a b : Bool) → (freezing m i past).asked ≡ a → (d : Due) → OnlyMade (TaskMade m past now i) d → OnlyMade (TaskMade m past now i) (cond (a && b) (Makes kind.Frozen) d)
     by_asked s go true true e d h = TaskMade.Freezes s go e
@@ -191,7 +191,7 @@ auto_made m past now a =
     by_work : sleeps_now past ≡ false → is_over m past ≡ false → (d : Due) → OnlyMade (WorkMade m past now (work past)) d → OnlyMade (EntryMade m past now actor.Auto) d
     by_work x y (Makes k) h = ByWork (work past) k a x y refl h
     by_work x y (Waits w) h = tt
-    by_work x y Exited h = tt
+    by_work x y Nothing h = tt
 
 -- ---- an asynchronous device
 
@@ -271,7 +271,7 @@ device_made m past now d (Inside p) f (inr h) = inside_made m past now d p (devi
 under : (m : Machine) (past : List Entry) (now : EventNow) (who : Actor) (P : Kind → Type 0) (d : Due) → ((k : Kind) → P k → EntryMade m past now who k) → OnlyMade P d → OnlyMade (EntryMade m past now who) d
 under m past now who P (Makes k) f h = f k h
 under m past now who P (Waits w) f h = tt
-under m past now who P Exited f h = tt
+under m past now who P Nothing f h = tt
 
 own_made : (m : Machine) (past : List Entry) (now : EventNow) (who : Actor) → is_actor who (maker past) ≡ false → OnlyMade (EntryMade m past now who) (own_due m past who now)
 own_made m past now (actor.Script i) a = under m past now (actor.Script i) (TaskMade m past now i) (script_due m past now i) (λ k h. ByTask i k a h) (task_made m past now i)

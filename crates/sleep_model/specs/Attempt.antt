@@ -14,7 +14,7 @@ use Rattle.sleep_model.specs.declared.machine.Machine.{Machine}
 use Rattle.sleep_model.specs.declared.machine.What.{What}
 use Rattle.sleep_model.specs.declared.machine.What.TheVariants as what
 use Rattle.sleep_model.specs.declared.progress.Due.{Due}
-use Rattle.sleep_model.specs.declared.progress.Due.TheVariants.{Makes, Waits, Exited}
+use Rattle.sleep_model.specs.declared.progress.Due.TheVariants.{Makes, Waits, Nothing}
 pub use Rattle.sleep_model.specs.declared.progress.Sleep.{Sleep}
 use Rattle.sleep_model.specs.declared.progress.Stage.{Stage}
 use Rattle.sleep_model.specs.declared.progress.Stage.TheVariants as stage
@@ -130,7 +130,7 @@ failed (e ∷ past) = failed_after e.kind (failed past)
 
 -- something that may be left to do (own)
 abbrev pub if_left : (ℕ → Kind) → Option ℕ → Due
-if_left k None = Exited
+if_left k None = Nothing
 if_left k (Some x) = Makes (k x)
 
 -- the next processor is stopped, unless a wakeup is pending (freeze_secondary_cpus)
@@ -165,7 +165,7 @@ stage_due m past now stage.Ends = Makes (kind.Over (attempts past) (failed past)
 
 -- the first that has anything (own)
 abbrev pub or_next : Due → Due → Due
-or_next Exited next = next
+or_next Nothing next = next
 or_next due next = due
 
 -- what is made at a stage, or else at the one after it: of two in a row one always has something (suspend_enter)
@@ -174,7 +174,7 @@ stage_or_next m past now here = or_next (stage_due m past now here) (stage_due m
 
 -- what is made at the stage of the open attempt, if one is open (suspend_enter)
 abbrev pub due_at : Machine → List Entry → EventNow → Option Stage → Due
-due_at m past now None = Exited
+due_at m past now None = Nothing
 due_at m past now (Some here) = stage_or_next m past now here
 
 -- what the open attempt's maker makes next (enter_state)

@@ -6,7 +6,7 @@ use Rattle.sleep_model.specs.declared.entry.Actor.TheVariants as actor
 use Rattle.sleep_model.specs.declared.entry.Entry.{Entry}
 use Rattle.sleep_model.specs.declared.machine.Machine.{Machine}
 use Rattle.sleep_model.specs.declared.progress.Due.{Due}
-use Rattle.sleep_model.specs.declared.progress.Due.TheVariants.{Exited}
+use Rattle.sleep_model.specs.declared.progress.Due.TheVariants.{Nothing}
 use Rattle.sleep_model.specs.Attempt.{attempt_due, sleeps_now}
 use Rattle.sleep_model.specs.Autosleep.{auto_due}
 use Rattle.sleep_model.specs.Devices.{device_due, async_work}
@@ -33,8 +33,8 @@ abbrev pub own_due : Machine → List Entry → Actor → EventNow → Due
 own_due m past (actor.Script i) now = script_due m past now i
 own_due m past actor.Auto now = auto_due m past now (sleeps_now past) (is_over m past)
 own_due m past (actor.Dev d) now = device_due m past now d (async_work m past d)
-own_due m past (actor.Timer s) now = Exited
-own_due m past actor.Time now = Exited
+own_due m past (actor.Timer s) now = Nothing
+own_due m past actor.Time now = Nothing
 
 -- what is due of an actor that sees this word: the maker of the open attempt follows the table
 abbrev pub due : Machine → List Entry → Actor → EventNow → Due

@@ -16,7 +16,7 @@ use Rattle.sleep_model.specs.declared.progress.Freezing.{Freezing}
 use Rattle.sleep_model.specs.declared.progress.ScriptPosition.{ScriptPosition}
 use Rattle.sleep_model.specs.Attempt.{sleeps_now}
 use Rattle.sleep_model.specs.declared.progress.Due.{Due}
-use Rattle.sleep_model.specs.declared.progress.Due.TheVariants.{Makes, Waits, Exited}
+use Rattle.sleep_model.specs.declared.progress.Due.TheVariants.{Makes, Waits, Nothing}
 use Rattle.sleep_model.specs.Word.{visible}
 use Rattle.sleep_model.specs.Numbers.{time_of}
 use Rattle.sleep_model.specs.Guard.{in_force}
@@ -65,7 +65,7 @@ autosleep_due held begun mem off =
 
 -- a sleep up to that time ends once it has come (schedule_timeout)
 abbrev pub slept_due : Option ℕ → ℕ → Due
-slept_due None time = Exited
+slept_due None time = Nothing
 slept_due (Some until) time = if nat_le until time then Makes kind.Slept else Waits (why.Until until)
 
 -- a wait for a mark of that number (own)
@@ -109,7 +109,7 @@ step_due m past now position asked (Some (op.Link supplier consumer)) =
     Makes (kind.LinkAdd supplier consumer (link_add_due m past supplier consumer))
 step_due m past now position asked (Some (op.LinkState supplier consumer active)) =
     Makes (kind.LinkState supplier consumer active (link_state_due m past supplier consumer))
-step_due m past now position asked (Some _) = Exited
+step_due m past now position asked (Some _) = Nothing
 
 -- a frozen task waits, and so does a task while the machine sleeps; one that is asked to freeze does so if it may (try_to_freeze)
 abbrev pub task_due : Machine → List Entry → EventNow → Freezing → TaskKind → ScriptPosition → Option Op → Due
@@ -121,6 +121,6 @@ task_due m past now f kind' position op =
 
 -- a script that has exited makes nothing more
 abbrev pub position_due : Machine → List Entry → EventNow → Freezing → Option Script → ScriptPosition → Due
-position_due m past now f None position = Exited
+position_due m past now f None position = Nothing
 position_due m past now f (Some s) position =
-    if position.exited then Exited else task_due m past now f s.kind position (slice_get (entry_steps s) position.done)
+    if position.exited then Nothing else task_due m past now f s.kind position (slice_get (entry_steps s) position.done)

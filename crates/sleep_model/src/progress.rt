@@ -148,7 +148,10 @@ pub enum Work {
 /// What is due of an actor: the one entry that it can make, what it waits for, or nothing more.
 #[derive(Clone, Copy)]
 pub enum Due {
+    /// It makes this entry.
     Makes(Kind),
+    /// It waits for that.
     Waits(Why),
-    Exited,
+    /// Nothing is left for it to make.
+    Nothing,
 }
