@@ -82,14 +82,15 @@ impl<'m> Run<'m> {
     ghost use Rattle.running_laws.specs.Running.{histories, journal_histories};
     ghost use Rattle.machine_rounds.specs.Runs.{nobody_enabled, IsQuiescent, IsClosed, IsHalted, IsSeen, IsAfterIdleRound, AfterAll, EndsSo, Fails, IsRefused, IsRun, entries_made};
 
-    /// Whether all is calm: nobody has a call on a source to make, and no attempt is open.
+    /// Whether the run is quiescent: nobody has a call on a source to make, and no attempt is open.
     fn is_quiescent(&self) -> bool
         ensures { OnTrue result (IsQuiescent self.now) }
     {
         self.jobs.owe_none() && !self.core().is_open()
     }
 
-    /// Whether a script can make anything that sees this word. Where all is calm, none can that has exited or sleeps on.
+    /// Whether a script can make anything that sees this word. If the run is quiescent, none can that has
+    /// exited or sleeps on.
     #[inline(always)]
     fn may_go(&self, quiescent: bool, script: u32, word: EventNow) -> bool
         requires quiescent { OnTrue quiescent (IsQuiescent self.now) }
@@ -102,7 +103,8 @@ impl<'m> Run<'m> {
         self.is_enabled(Actor::Script(script), word)
     }
 
-    /// Whether no script can make anything that sees this word. Where all is calm and all scripts are still, none is asked.
+    /// Whether no script can make anything that sees this word. If the run is quiescent and all scripts are
+    /// stopped, none is asked.
     fn scripts_idle(&self, quiescent: bool, word: EventNow) -> bool
         requires { OnTrue quiescent (IsQuiescent self.now) }
         ensures { result ≡ none_enabled self.now.machine (entries self.now.journal) (histories self.now.sources) word Script (length self.now.machine.actors) }
@@ -125,7 +127,7 @@ impl<'m> Run<'m> {
         none
     }
 
-    /// Whether no device can make anything that sees this word. Where all is calm, none can.
+    /// Whether no device can make anything that sees this word. If the run is quiescent, none can.
     fn devices_idle(&self, quiescent: bool, word: EventNow) -> bool
         requires { OnTrue quiescent (IsQuiescent self.now) }
         ensures { result ≡ none_enabled self.now.machine (entries self.now.journal) (histories self.now.sources) word Dev (length self.now.machine.devices) }
@@ -169,8 +171,9 @@ impl<'m> Run<'m> {
         by_script & !works & by_device & by_timer
     }
 
-    /// Time jumps to the next pending moment, where nobody can make anything by the word that was looked at last. A run
-    /// makes so few entries that the clock and the ticks of stamps stay in their range. `Mem` if there is no memory.
+    /// Time jumps to the next pending moment, if nobody can make anything by the word that was looked at
+    /// last. A run makes so few entries that the clock and the ticks of stamps stay in their range. `Mem` if
+    /// there is no memory.
     fn jump(&mut self, word: EventNow, to: u64) -> Result<(), RunFault>
         requires least { JumpStep self.old.machine (entries self.old.journal) (histories self.old.sources) word to }
         requires seen { IsSeen self.old word }
@@ -186,8 +189,8 @@ impl<'m> Run<'m> {
         Ok(())
     }
 
-    /// After a round that did nothing: whoever can go on makes an entry by the word that is looked at; time jumps where
-    /// nobody can; or the run is over.
+    /// After a round that did nothing: whoever can go on makes an entry by the word that is looked at; time
+    /// jumps if nobody can; or the run is over.
     pub(crate) fn after_idle_round<R: Wait>(&mut self, rt: &R) -> Result<AfterIdleRound, RunFault>
         ensures machine { self.new.machine ≡ self.old.machine }
         ensures after { IsAfterIdleRound self.old self.new result }
@@ -209,7 +212,7 @@ impl<'m> Run<'m> {
         }
     }
 
-    /// The scripts that wait, and for what, where nobody goes on by that word.
+    /// The scripts that wait, and for what, if nobody goes on by that word.
     fn waiting(&self, alloc: Global, word: EventNow) -> Result<Vec<Waiting>, AllocError>
         requires { IsHalted self.now word }
         ensures { IfOk result (λ v. v.items ≡ waiting self.now.machine (entries self.now.journal) word) }
@@ -261,8 +264,8 @@ impl<'m> Run<'m> {
         Ok((end, stats))
     }
 
-    /// The journal and the sources' histories, of which the closed table of the event word lays all steps. `Mem` where
-    /// there is no memory.
+    /// The journal and the sources' histories, all of whose steps the closed table of the event word has.
+    /// `Mem` if there is no memory.
     fn closed(self, alloc: Global) -> Result<(Journal, Vec<SourceList>), Mem>
         ensures journal { IfOk result (λ kept. kept.0.past ≡ self.entry.journal) }
         ensures histories { IfOk result (λ kept. kept.1.items ≡ journal_histories self.entry.sources) }
@@ -304,8 +307,9 @@ impl<'m> Run<'m> {
         }
     }
 
-    /// Why a run gives nothing, of which a call was refused: where a source is full, the table of the event word is
-    /// closed, and what was made up to then is a legal log, so the machine's calls may fill the source.
+    /// Why a run gives nothing, one of whose calls was refused: if a source is full, the table of the event
+    /// word is closed, and what was made up to then is a legal log, so the machine's calls may fill the
+    /// source.
     pub(crate) fn into_fault<R: Wait>(
         mut self,
         rt: &R,

@@ -94,7 +94,8 @@ impl<'m> DuringBurst<'m> {
         make_burst(rt, alloc, &plan, contents)
     }
 
-    /// The run again, of what came back from a burst, where all actors may know that stamp. Everybody is to be asked.
+    /// The run again, of what came back from a burst, if all actors may know that stamp. Everybody is to be
+    /// asked.
     fn joined(
         self,
         core: SeatedCore<'m>,
@@ -225,8 +226,8 @@ impl<'m> Run<'m> {
         Ok((during, contents))
     }
 
-    /// A burst by this number of workers: each actor of the machine, and each source's timer, makes turns as long as it can.
-    /// `Mem` if there is no memory, for the burst or for one of them.
+    /// A burst by this number of workers: each actor of the machine, and each source's timer, makes turns as
+    /// long as it can. `Mem` if there is no memory, for the burst or for one of them.
     fn burst<R: Threads + Wait + Sync, G: Gate + Sync>(
         self,
         rt: &R,
@@ -279,8 +280,8 @@ impl<'m> Run<'m> {
         Ok(None)
     }
 
-    /// Stretches of the caller's own rounds. The run stays in its place meanwhile, since it is large and most stretches
-    /// make a few entries.
+    /// Stretches of the caller's own rounds. The run stays in its place meanwhile, since it is large and most
+    /// stretches make a few entries.
     fn advance_alone<R: Wait>(self, rt: &R, stretches: u32) -> Advance<'m>
         ensures machine { result.run.machine ≡ self.entry.machine }
         ensures after { AfterStretches stretches self.entry result.run result.came }
@@ -319,8 +320,8 @@ impl<'m> Run<'m> {
         Ok(Advance { run, came })
     }
 
-    /// Brings the run on, by as many stretches of the caller's own rounds as the pace wants, else by a burst: it makes an
-    /// entry at least, or the run is over.
+    /// Brings the run on, by as many stretches of the caller's own rounds as the pace wants, else by a burst:
+    /// it makes an entry at least, or the run is over.
     fn advance<R: Threads + Wait + Sync, G: Gate + Sync>(
         self,
         rt: &R,
@@ -347,8 +348,8 @@ impl<'m> Run<'m> {
         let _ = &self.machine;
     }
 
-    /// The log of the whole run: one worker makes all rounds, several make bursts between rounds. Each turn of the loop
-    /// makes an entry or ends it, and no run has more entries than a log has at most.
+    /// The log of the whole run: one worker makes all rounds, several make bursts between rounds. Each turn
+    /// of the loop makes an entry or ends it, and no run has more entries than a log has at most.
     pub fn to_end<R: Threads + Wait + Sync, G: Gate + Sync>(
         self,
         rt: &R,

@@ -1,4 +1,4 @@
-//! Who can go on where a round did nothing: its next entry is made by the word that was looked at.
+//! Who can go on after a round that did nothing: its next entry is made by the word that was looked at.
 
 use crate::run::{Run, RunFault};
 use fit_laws::{kinds_are_ranged, moments_are_ranged};
@@ -71,8 +71,8 @@ impl<'m> Run<'m> {
         None
     }
 
-    /// A turn of an actor that has made its calls and of which something is due, by the word that was looked at last.
-    /// What it made stands after all entries.
+    /// A turn of an actor that has made its calls and of which something is due, by the word that was looked
+    /// at last. What it made comes after all entries.
     fn turn_by<R: Wait>(&mut self, rt: &R, who: Actor, word: EventNow) -> Result<(), RunFault>
         requires actor { IsActor self.old.machine who }
         requires calls { calls_made self.old.machine self.old.sources who ≡ calls_due self.old.machine who (entries self.old.journal) }
@@ -119,8 +119,8 @@ impl<'m> Run<'m> {
         }
     }
 
-    /// The next entry of somebody who can go on, by the word that was looked at last, where not all rest. All actors are
-    /// asked again after it.
+    /// The next entry of somebody who can go on, by the word that was looked at last, if not all are idle.
+    /// All actors are asked again after it.
     pub(crate) fn go_by<R: Wait>(&mut self, rt: &R, word: EventNow) -> Result<(), RunFault>
         requires seen { IsSeen self.old word }
         requires some { nobody_enabled self.old word ≡ false }

@@ -17,7 +17,7 @@ use std::marker::Model;
 /// What a job hears of its actor.
 #[derive(Clone, Copy)]
 pub(crate) enum Heard {
-    /// It made an entry of the journal, with that stamp, where `attempt` attempts were begun.
+    /// It made an entry of the journal, with that stamp, when `attempt` attempts were begun.
     Entry {
         stamp: Stamp,
         kind: Kind,
@@ -100,7 +100,7 @@ fn owing_among(jobs: &[ActorJob<'_>]) -> u32
     owing
 }
 
-/// One more, where another has a call to make.
+/// One more, if another has a call to make.
 #[inline(always)]
 fn more_owing(owes: bool, owing: u32) -> u32
     requires { owing + 1 < 2 ^ 32 }
@@ -109,7 +109,7 @@ fn more_owing(owes: bool, owing: u32) -> u32
     if owes { owing + 1 } else { owing }
 }
 
-/// One fewer, where the one that made a call has none left to make.
+/// One fewer, if the one that made a call has none left to make.
 #[inline(always)]
 fn left_owing(owes: bool, owing: u32) -> u32
     requires { 0 < owing }
@@ -170,7 +170,7 @@ impl<'m> Jobs<'m> {
     ghost use Rattle.std.specs.Bool.{OnTrue};
     ghost use Rattle.machine_rounds.specs.JobsOf.{OweNone};
 
-    /// The jobs of these parts, before anything was done: a script alone may have a call to make then.
+    /// The jobs of these parts, before anything was done: only a script may have a call to make then.
     fn of_components(
         scripts: Vec<ActorJob<'m>>,
         auto: ActorJob<'m>,
@@ -245,7 +245,7 @@ impl<'m> Jobs<'m> {
         self.actors.job(who).calls()
     }
 
-    /// An actor made an entry of the journal, with that stamp, where `attempt` attempts were begun.
+    /// An actor made an entry of the journal, with that stamp, when `attempt` attempts were begun.
     pub(crate) fn told_core(&mut self, who: Actor, stamp: Stamp, kind: Kind, attempt: u32)
         requires job { HasJob self.old who }
         requires made { (job_at self.old who).pending ≡ [] }

@@ -81,7 +81,7 @@ impl<'m> Run<'m> {
         next
     }
 
-    /// The next pending moment in ms, where there is one.
+    /// The next pending moment in ms, if there is one.
     pub(crate) fn next_time(&self) -> Option<u64>
         ensures is { result ≡ next_time self.now.machine (entries self.now.journal) (histories self.now.sources) }
         // If nobody can make anything and no moment is pending no attempt is open.

@@ -2,7 +2,8 @@
 
 ghost use Rattle.std.specs.Prelude.{◌≤◌};
 
-/// The fewest calls on sources beside the busiest task's that make a burst worth each thread that is made for it.
+/// The fewest calls on sources, not counting the busiest task's, that make a burst worth each thread that is
+/// made for it.
 const WORTH: u64 = 256;
 
 /// The fewest of them for each task that make it worth asking all tasks.
@@ -14,12 +15,12 @@ const WHOLE: u32 = 2;
 /// The most stretches in a row without a burst, each up to a jump of time.
 const MOST_ALONE: u32 = 65_536;
 
-/// A burst costs some tens of microseconds for each thread, which is most of a run that makes a few entries at each
-/// moment. It asks each task again and again, where the caller knows who may have something to do. Turns of the machine
-/// stand one after another under its lock, and what one task does alone no thread makes faster. So where bursts come to
-/// few calls on sources for the threads that they take, the caller goes on alone for a while, and then tries again: twice
-/// as long each time. A burst after one that came to few calls is made by few workers. All is counted, and nothing
-/// measured by a clock. No clause speaks of this.
+/// A burst costs some tens of microseconds for each thread, which is most of a run that makes a few entries
+/// at each moment. It asks each task again and again, while the caller knows who may have something to do.
+/// Turns of the machine follow one another under its lock, and no thread makes faster what only one task
+/// does. So if bursts come to few calls on sources for the threads that they take, the caller goes on by
+/// itself for a while, and then tries again: twice as long each time. A burst after one that came to few
+/// calls is made by few workers. All is counted, and nothing measured by a clock. No clause speaks of this.
 #[derive(Drop)]
 pub(crate) struct Pace {
     /// How many workers there are: one makes no burst.
@@ -29,7 +30,7 @@ pub(crate) struct Pace {
     made: u32,
     /// How many bursts in a row came to little.
     short: u32,
-    /// For how many stretches the caller then goes on alone.
+    /// For how many stretches the caller then goes on by itself.
     alone: u32,
     /// How many workers the last burst was worth.
     worth: u64,
@@ -49,8 +50,8 @@ impl Pace {
         }
     }
 
-    /// For how many stretches the caller goes on alone before the next burst. They are taken: the next answer is none,
-    /// unless a burst comes to little in between, or there is but one worker.
+    /// For how many stretches the caller goes on by itself before the next burst. They are taken: the next
+    /// answer is none, unless a burst comes to little in between, or there is only one worker.
     pub(crate) fn take_alone(&mut self) -> u32 {
         if self.most == 1 {
             return MOST_ALONE;
@@ -60,7 +61,8 @@ impl Pace {
         alone
     }
 
-    /// How many workers make the next burst: all the first ones, then as many as the last one was worth, and two at least.
+    /// How many workers make the next burst: all the first ones, then as many as the last one was worth, and
+    /// two at least.
     pub(crate) fn workers(&self) -> u8
         ensures { 1 ≤ result }
     {
@@ -70,7 +72,8 @@ impl Pace {
         self.most.min(2).max(self.worth as u8)
     }
 
-    /// A burst of `tasks` tasks by that many workers made `beside` calls on sources beside those of the busiest task.
+    /// A burst of `tasks` tasks by that many workers made `beside` calls on sources that were not the busiest
+    /// task's.
     pub(crate) fn note(&mut self, beside: u64, tasks: usize, workers: u8) {
         self.made = self.made.saturating_add(1);
         self.worth = beside / WORTH + 1;

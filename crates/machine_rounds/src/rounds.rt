@@ -38,7 +38,8 @@ impl<'m> Run<'m> {
         self.waiters.had_lock_turn(who, is_held, scripts);
     }
 
-    /// An actor that was called for a mark has had its try. Where the mark is raised still, the next one is called.
+    /// An actor that was called for a mark has had its try. If the mark is raised yet, the next one is
+    /// called.
     #[inline(never)]
     fn pass_mark(&mut self, who: Actor, mark: u32)
         ensures { self.new ≡ self.old }
@@ -49,7 +50,7 @@ impl<'m> Run<'m> {
         }
     }
 
-    /// Wakes the readers of the count, where no event is in progress.
+    /// Wakes the readers of the count, if no event is in progress.
     #[inline(always)]
     fn wake_readers<R: Wait>(&mut self, rt: &R)
         ensures { IsSame self.old self.new }
@@ -59,7 +60,8 @@ impl<'m> Run<'m> {
         }
     }
 
-    /// The try of an actor, which is not asked again until something may have ended its wait. Whether entries were made.
+    /// The try of an actor, which is not asked again until something may have ended its wait. Whether entries
+    /// were made.
     #[inline(always)]
     fn ask_once<R: Wait>(&mut self, rt: &R, who: Actor) -> Result<bool, RunFault>
         requires { IsActor self.old.machine who }
@@ -98,7 +100,8 @@ impl<'m> Run<'m> {
         }
     }
 
-    /// The first that may have something to do of the scripts from a number on, the autosleep work and the devices.
+    /// The first that may have something to do of the scripts from a number on, the autosleep work and the
+    /// devices.
     #[inline(always)]
     fn next_from(&self, script: u32) -> Option<Actor>
         ensures { IfSome result (IsActor self.now.machine) }
@@ -124,8 +127,8 @@ impl<'m> Run<'m> {
         }
     }
 
-    /// The tries of the scripts, the autosleep work and the devices that may have something to do, in order. One that is
-    /// alone with that is asked on: each such try is a round of its own. Whether entries were made.
+    /// The tries of the scripts, the autosleep work and the devices that may have something to do, in order.
+    /// If there is only one it is asked on: each such try is a round of its own. Whether entries were made.
     #[inline(always)]
     fn ask_actors<R: Wait>(&mut self, rt: &R) -> Result<bool, RunFault>
         ensures machine { self.new.machine ≡ self.old.machine }
@@ -145,7 +148,7 @@ impl<'m> Run<'m> {
         Ok(made)
     }
 
-    /// The try of a source's timer: it makes a call where its moment has come.
+    /// The try of a source's timer: it makes a call if its moment has come.
     fn ask_timer<R: Wait>(&mut self, rt: &R, source: u32) -> Result<bool, RunFault>
         requires { source ≤ length self.old.machine.sources }
         ensures machine { self.new.machine ≡ self.old.machine }
@@ -172,8 +175,8 @@ impl<'m> Run<'m> {
         Ok(made)
     }
 
-    /// The tries of the timers, which are not asked again until time has jumped where none was due. Whether entries
-    /// were made.
+    /// The tries of the timers, which are not asked again until time has jumped if none was due. Whether
+    /// entries were made.
     #[inline(never)]
     fn ask_timers<R: Wait>(&mut self, rt: &R) -> Result<bool, RunFault>
         ensures machine { self.new.machine ≡ self.old.machine }
@@ -186,8 +189,8 @@ impl<'m> Run<'m> {
         Ok(made)
     }
 
-    /// One round: each actor that may have something to do gets one try, the scripts first, then the autosleep
-    /// work, the devices and the timers. Whether entries were made.
+    /// One round: each actor that may have something to do gets one try, the scripts first, then the
+    /// autosleep work, the devices and the timers. Whether entries were made.
     #[inline(always)]
     fn round<R: Wait>(&mut self, rt: &R) -> Result<bool, RunFault>
         ensures machine { self.new.machine ≡ self.old.machine }
@@ -216,8 +219,8 @@ impl<'m> Run<'m> {
         Ok(made)
     }
 
-    /// A stretch: rounds, and where the last one made no entry what comes then, an entry or the end of the run. How the run
-    /// is over, if it is.
+    /// A stretch: rounds, and if the last one made no entry what comes then, an entry or the end of the run.
+    /// How the run is over, if it is.
     pub(crate) fn stretch<R: Wait>(
         &mut self,
         rt: &R,

@@ -117,8 +117,8 @@ fn fault_of(fault: SourceFault, source: u32) -> RunFault
     }
 }
 
-/// A device is through with that phase: the devices that waited for it are right above it on the way down, right below it
-/// on the way up.
+/// A device is done with that phase: the devices that waited for it are right above it on the way down, right
+/// below it on the way up.
 fn waiting_for<'a>(core: &'a Core<'_>, phase: Phase, device: u32) -> &'a [u32] {
     if phase.is_down() {
         core.above(device)
@@ -224,8 +224,8 @@ impl<'m> Run<'m> {
         self.seated.look(rt, &self.table, self.floor.pos)
     }
 
-    /// An actor makes the call on a source that is next, as a whole: its note, and all steps that it makes. `Mem` only
-    /// where the source has places left for it.
+    /// An actor makes the call on a source that is next, as a whole: its note, and all steps that it makes.
+    /// `Mem` only if the source has room left for it.
     pub(crate) fn call<R: Wait>(
         &mut self,
         rt: &R,
@@ -285,7 +285,7 @@ impl<'m> Run<'m> {
         }
     }
 
-    /// Wakes those that waited for a device, which is through with that phase and has nothing to do itself.
+    /// Wakes those that waited for a device, which is done with that phase and has nothing to do itself.
     #[inline(always)]
     fn wake_after_end(&mut self, phase: Phase, device: u32)
         ensures { self.new ≡ self.old }
@@ -335,7 +335,7 @@ impl<'m> Run<'m> {
         }
     }
 
-    /// A turn of an actor that has made its calls. What it made stands after all entries.
+    /// A turn of an actor that has made its calls. What it made comes after all entries.
     #[inline(always)]
     pub(crate) fn turn<R: Wait>(&mut self, rt: &R, who: Actor) -> Result<TurnOutcome, RunFault>
         requires actor { IsActor self.old.machine who }

@@ -1,3 +1,4 @@
+//! Who waits for what, so that only those are asked that may have something to do.
 ghost use Rattle.std.specs.Prelude.{◌<◌, ◌^◌, length, IfSome};
 
 use crate::asks::Asks;
@@ -6,9 +7,9 @@ use sleep_model::{Actor, Device, DeviceFlags, Why};
 use std::alloc::Global;
 
 /// Who may have something to do, and so is asked in a round: scripts, the autosleep work, asynchronous
-/// devices, timers. Whoever waits is woken, and so asked again, once something may have ended the wait: an entry, a step of
-/// the event word, a jump of time. None of this is part of what is promised: whoever was left out is found
-/// before time jumps.
+/// devices, timers. Whoever waits is woken, and so asked again, once something may have ended the wait: an
+/// entry, a step of the event word, a jump of time. None of this is part of what is promised: whoever was
+/// left out is found before time jumps.
 #[derive(Drop)]
 pub(crate) struct Waiters {
     scripts: Asks,
@@ -232,7 +233,7 @@ impl Waiters {
         self.devices.insert(device);
     }
 
-    /// Wakes the maker of an attempt, where it waits for that device, which is through with a phase.
+    /// Wakes the maker of an attempt, if it waits for that device, which is done with a phase.
     #[inline(always)]
     pub(crate) fn wake_maker(&mut self, device: u32) {
         if self.awaited == Some(device) {
@@ -269,9 +270,9 @@ impl Waiters {
         self.scripts.take(&mut self.readers);
     }
 
-    /// That mark was raised by an actor, or left as it is by one that was called for it: calls the next of the scripts, of
-    /// which there are `many`, that wait for it, the first one after the last. So as many are called as the mark is high,
-    /// in the order in which rounds come to them.
+    /// That mark was raised by an actor, or left as it is by one that was called for it: calls the next of
+    /// the scripts, of which there are `many`, that wait for it, the first one after the last. So as many are
+    /// called as the mark is high, in the order in which rounds come to them.
     #[inline(never)]
     pub(crate) fn call_for_mark(&mut self, who: Actor, mark: u32, many: u32) {
         let from = match who {
@@ -309,7 +310,7 @@ impl Waiters {
         None
     }
 
-    /// The mark that an actor was called for, where this is its try.
+    /// The mark that an actor was called for, if this is its try.
     #[inline(always)]
     pub(crate) fn take_call(&mut self, who: Actor) -> Option<u32> {
         match who {
@@ -321,8 +322,8 @@ impl Waiters {
         }
     }
 
-    /// An actor has let the autosleep lock go: wakes the next of the scripts, of which there are `many`, that wait for the
-    /// lock, and the work, which may be queued.
+    /// An actor has let the autosleep lock go: wakes the next of the scripts, of which there are `many`, that
+    /// wait for the lock, and the work, which may be queued.
     #[inline(never)]
     pub(crate) fn wake_for_lock(&mut self, who: Actor, many: u32) {
         self.unqueued = false;
@@ -359,7 +360,7 @@ impl Waiters {
         }
     }
 
-    /// The script that was woken for the lock has had its try. Where the lock was free, the next one is woken.
+    /// The script that was woken for the lock has had its try. If the lock was free, the next one is woken.
     #[inline(never)]
     pub(crate) fn had_lock_turn(&mut self, who: Actor, is_held: bool, many: u32) {
         self.next_for_lock = None;
@@ -394,8 +395,8 @@ impl Waiters {
         self.scripts.insert(script);
     }
 
-    /// Wakes whoever may wait for a moment, since time has jumped. Devices wait for none, nor do frozen scripts; those that
-    /// sleep are woken one by one.
+    /// Wakes whoever may wait for a moment, since time has jumped. Devices wait for none, nor do frozen
+    /// scripts; those that sleep are woken one by one.
     pub(crate) fn wake_for_time(&mut self) {
         self.wake_but_sleepers();
         self.timers = true;

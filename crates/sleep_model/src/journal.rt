@@ -1,4 +1,4 @@
-//! The journal of a machine, kept short: entries in a row mostly share their moment and the word.
+//! The journal of a machine in few bytes: entries in a row mostly share their moment and the word.
 
 ghost use Rattle.std.specs.Prelude.{◌≡◌, ◌≤◌, ◌<◌, ◌+◌, ◌^◌, IfSome, length, vec_len, vec_capacity};
 ghost use Rattle.sleep_model.specs.Journals.{IsShared, IsFound, IsOf, entry_of, moment_at};
@@ -16,8 +16,8 @@ pub(crate) struct Moment {
     stamp: Stamp,
 }
 
-/// An entry: the number of its moment, how many ticks it stands after that moment's first, who made it,
-/// and what it was.
+/// An entry: the number of its moment, how many ticks it comes after that moment's first, who made it, and
+/// what it was.
 #[derive(Clone, Copy)]
 pub(crate) struct Recorded {
     moment: u32,
@@ -46,7 +46,7 @@ impl Model for Journal {
     ghost invariant = { JournalInvariant };
 }
 
-/// How many ticks an entry stands after the first of that moment, if it is of that moment.
+/// How many ticks an entry comes after the first of that moment, if it is of that moment.
 #[inline(always)]
 fn ticks_after(moment: Moment, one: JournalEntry) -> Option<u32>
     ensures { IfSome result (λ ticks. IsShared moment one ticks) }
@@ -62,7 +62,7 @@ fn ticks_after(moment: Moment, one: JournalEntry) -> Option<u32>
     Some((stamp.tick - first) as u32)
 }
 
-/// The entry's moment, the last or a new one, and how many ticks the entry stands after its first.
+/// The entry's moment, the last or a new one, and how many ticks the entry comes after its first.
 #[inline(always)]
 #[tactic(auto, using(crate::proofs::Journals::found_last, crate::proofs::Journals::found_new))]
 fn found(moments: &mut Vec<Moment>, one: JournalEntry) -> (u32, u32)

@@ -1,3 +1,4 @@
+-- Proof that `Asks::add` meets its contract, and that it keeps the invariant of its type.
 use Rattle.std.proofs.Common.{◌≡◌, ◌+◌, ◌-◌, ◌*◌, ◌%◌, ◌^◌, ◌<◌, ℕ, length, get_or, arith, sym, ap, subst, ◌∙◌}
 use Rattle.std.specs.Int.{bit_not, w64}
 use Rattle.std.specs.Prelude.{bit_and, bit_or}

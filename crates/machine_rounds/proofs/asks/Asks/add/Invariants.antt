@@ -1,3 +1,4 @@
+-- The invariant of the loop of `Asks::add`.
 use Rattle.std.proofs.Common.{◌≡◌, ℕ, ◌<◌, ◌≤◌, List, length, get_or}
 use Rattle.std.specs.Prelude.{bit_or}
 use Rattle.machine_rounds.proofs.asks.Asks.add.Given as goal

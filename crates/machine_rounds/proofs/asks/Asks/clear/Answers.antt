@@ -1,3 +1,4 @@
+-- Proof that `Asks::clear` meets its contract.
 use Rattle.std.proofs.Common.{◌≡◌, ℕ, length, replicate, ap, ◌∙◌}
 use Rattle.machine_rounds.specs.NumberSets.{bits_of}
 use Rattle.machine_rounds.proofs.NumberSetBits.{bits_of-none}

@@ -1,3 +1,4 @@
+-- Proof that `Asks::has` meets its contract.
 use Rattle.std.proofs.Common.{◌≡◌, ◌/◌, ◌%◌, ℕ, get_or, eqb, arith, sym, ap, ◌∙◌}
 use Rattle.std.specs.Int.{bit_at}
 use Rattle.machine_rounds.specs.NumberSets.{is_in}

@@ -1,3 +1,4 @@
+-- Proof that `Asks::is_empty` meets its contract.
 use Rattle.std.proofs.Common.{◌≡◌, ℕ, ◌^◌, ◌<◌, eq-eqb, sym, ap, subst, ◌∙◌, arith, rules}
 use Rattle.std.proofs.lemmas.Bool.{eqb-true}
 use Rattle.machine_rounds.specs.NumberSets.{is_in}

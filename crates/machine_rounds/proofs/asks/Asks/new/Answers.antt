@@ -1,3 +1,4 @@
+-- Proof that `Asks::new` meets its contract.
 use Rattle.std.proofs.Common.{◌≡◌, ◌+◌, ◌/◌, replicate, arith, ap, ◌∙◌}
 use Rattle.std.specs.Prelude.{min}
 use Rattle.machine_rounds.specs.NumberSets.{bits_of}

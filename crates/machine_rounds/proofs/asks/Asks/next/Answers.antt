@@ -1,3 +1,4 @@
+-- Proof that `Asks::next` meets its contract, and that it meets what `lowest_of` requires.
 use Rattle.std.proofs.Common.{◌≡◌, ◌+◌, ◌*◌, ◌-◌, ◌/◌, ◌%◌, ◌^◌, ◌<◌, ℕ, get_or, arith, ap, ◌∙◌}
 use Rattle.std.specs.Int.{trailing_zeros, w64}
 use Rattle.std.specs.Prelude.{min, bit_and}

@@ -1,3 +1,4 @@
+-- Proof that `Asks::remove` meets its contract, and that it keeps the invariant of its type.
 use Rattle.std.proofs.Common.{◌≡◌, ◌+◌, ◌*◌, ◌/◌, ◌%◌, ◌^◌, ◌<◌, ◌≤◌, ℕ, false, set, get_or, length, arith, sym, ap, ◌∙◌}
 use Rattle.std.proofs.lemmas.List.{get_or_read, set_past}
 use Rattle.std.proofs.lemmas.Nat.{and_le_l}

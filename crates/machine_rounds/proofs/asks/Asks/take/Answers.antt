@@ -1,3 +1,4 @@
+-- Proof that `Asks::take` meets its contract.
 use Rattle.machine_rounds.proofs.NumberSetBits.{none_are, union-none}
 use Rattle.machine_rounds.proofs.asks.Asks.take.Goals as goal
 
