@@ -158,7 +158,7 @@ SECTIONS = [
         "sleep_base",
         "The outside",
         "`include/uapi/asm-generic/errno-base.h`, for errors; the rest is own",
-        ["Errno", "Digits", "Faults", "Calls", "Streams", "Whole"],
+        ["Errno", "Digits", "Cutting", "Faults", "Calls", "Streams", "Whole"],
     ),
     (
         "machine_file",
