@@ -1,6 +1,6 @@
 //! Tests of logs whose links change.
 
-use crate::log_tests::{Row, TASK, assert_lines, two_devices};
+use crate::log_tests::{LogLine, TASK, assert_lines, two_devices};
 use crate::reading_tests::{assert_bad, is_read_back};
 use sleep_base::Errno;
 use sleep_model::{Kind, Machine};
@@ -34,7 +34,7 @@ const NOT_SET: Kind = Kind::LinkState {
     r: Some(Errno::ENODEV),
 };
 
-const OF_LINKS: [Row; 4] = [
+const OF_LINKS: [LogLine; 4] = [
     (0, 0, TASK, ADDED, "0 0/0/0 task:w link c d 0\n"),
     (0, 0, TASK, NOT_ADDED, "0 0/0/0 task:w link c d EINVAL\n"),
     (0, 0, TASK, SET, "0 0/0/0 task:w link_state d c dormant 0\n"),

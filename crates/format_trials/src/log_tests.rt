@@ -135,7 +135,7 @@ fn made(time: u64, count: u32, actor: Actor, kind: Kind) -> Entry {
 }
 
 /// An entry by its moment, the events that are registered, its actor and its kind, and its line.
-pub type Row = (u64, u32, Actor, Kind, &'static str);
+pub type LogLine = (u64, u32, Actor, Kind, &'static str);
 
 /// Only one entry.
 fn entries_of(alloc: Global, entry: Entry) -> Result<EntryList, Mem> {
@@ -157,14 +157,14 @@ fn line_of(alloc: Global, machine: &Machine, entry: Entry) -> Result<Vec<u8>, Me
 }
 
 /// Whether the entry of a row makes its line by itself.
-fn is_line(alloc: Global, machine: &Machine, row: &Row) -> Result<bool, Mem> {
+fn is_line(alloc: Global, machine: &Machine, row: &LogLine) -> Result<bool, Mem> {
     let (time, count, actor, kind, line) = row;
     let text = line_of(alloc, machine, made(*time, *count, *actor, *kind))?;
     Ok(text.as_slice() == line.as_bytes())
 }
 
 /// Each entry makes its line by itself.
-pub fn assert_lines(rt: &impl Abort, alloc: Global, machine: &Machine, rows: &[Row]) {
+pub fn assert_lines(rt: &impl Abort, alloc: Global, machine: &Machine, rows: &[LogLine]) {
     for row in rows {
         assert!(rt; is_line(alloc, machine, row) == Ok(true), "at {}", row.4);
     }
@@ -176,7 +176,7 @@ const EVENT: Kind = Kind::Event {
     hard: false,
 };
 
-const OF_TASKS: [Row; 9] = [
+const OF_TASKS: [LogLine; 9] = [
     (0, 0, TASK, Kind::Read(0), "0 0/0/0 task:w read 0\n"),
     (0, 0, TASK, Kind::Saved(0), "0 0/0/0 task:w save 0 ok\n"),
     (
@@ -220,7 +220,7 @@ const OF_TASKS: [Row; 9] = [
 
 const SKIP: Kind = Kind::Skip(Phase::Suspend, 0, SkipCause::Pending);
 
-const OF_PHASES: [Row; 4] = [
+const OF_PHASES: [LogLine; 4] = [
     (
         0,
         0,
@@ -252,7 +252,7 @@ const ATTEMPT: Kind = Kind::Attempt {
 
 const TIMEOUT: FrozeEnd = FrozeEnd::Timeout { left: 1, first: 1 };
 
-const OF_ATTEMPTS: [Row; 6] = [
+const OF_ATTEMPTS: [LogLine; 6] = [
     (0, 0, TASK, ATTEMPT, "0 0/0/0 task:w attempt 1 guarded 0\n"),
     (
         0,
@@ -292,7 +292,7 @@ const OF_ATTEMPTS: [Row; 6] = [
 ];
 
 /// Writes the rows of a machine's log.
-fn expect_lines(rt: &impl Abort, alloc: Global, rows: &[Row]) -> Result<(), Mem> {
+fn expect_lines(rt: &impl Abort, alloc: Global, rows: &[LogLine]) -> Result<(), Mem> {
     let machine = machine(alloc)?;
     assert_lines(rt, alloc, &machine, rows);
     drop(machine);

@@ -49,9 +49,7 @@ fn is_direct(env: &DownEnv<'_>, p: Phase, device: u32) -> bool
     }
 }
 
-/// What the phase does with a device at its turn: it skips it or begins its callback.
-/// What a device makes at its turn: a pending wakeup skips it, it is direct-complete, or its callback
-/// begins.
+/// What a device makes at its turn: a pending wakeup skips it, it is direct-complete, or its callback begins.
 fn taken(env: &DownEnv<'_>, p: Phase, device: u32) -> Kind
     ensures { (down : Down) → result ≡ taken_on (down_state down env.now) p device }
 {

@@ -47,13 +47,13 @@ fn stats(counts: [u32; 3], times: [u64; 4]) -> Stats {
 }
 
 /// A source whose history has room for all of a test.
-type Source = WakeSource<MOST_ENTRIES>;
+type LongSource = WakeSource<MOST_ENTRIES>;
 
 /// A relax while no event is in progress leaves only its note.
 #[test]
 fn a_relax_of_an_inactive_source_is_noted(rt: HostRuntime) -> Result<(), Fail> {
     let mut events = PlainEvents::new();
-    let mut lid = Source::new(rt.alloc(), 0);
+    let mut lid = LongSource::new(rt.alloc(), 0);
     let stamp = lid.relax(&rt, &mut events, at(5))?;
     assert!(rt; stamp == Stamp { pos: 0, tick: 1 } && lid.history().len() == 1);
     assert!(rt; lid.stats(5) == stats([0, 0, 0], [0, 0, 0, 0]));
@@ -64,7 +64,7 @@ fn a_relax_of_an_inactive_source_is_noted(rt: HostRuntime) -> Result<(), Fail> {
 #[test]
 fn each_entry_bears_the_word_before_it(rt: HostRuntime) -> Result<(), Fail> {
     let mut events = PlainEvents::new();
-    let mut lid = Source::new(rt.alloc(), 0);
+    let mut lid = LongSource::new(rt.alloc(), 0);
     let end = lid.event(&rt, &mut events, at(0), 0, true)?;
     assert!(rt; end == Stamp { pos: 3, tick: 4 });
     assert!(rt; has_seen(&lid, &[FIRST, FIRST, word(1, 0), word(1, 1)]));
@@ -72,7 +72,7 @@ fn each_entry_bears_the_word_before_it(rt: HostRuntime) -> Result<(), Fail> {
 }
 
 /// Whether the entries of a source saw these words, in this order.
-fn has_seen(source: &Source, words: &[EventNow]) -> bool {
+fn has_seen(source: &LongSource, words: &[EventNow]) -> bool {
     let history = source.history();
     for (entry, word) in history.iter().zip(words) {
         if entry.entry.now != *word {
@@ -98,7 +98,7 @@ fn a_source_with_three_places_left_is_full(rt: HostRuntime) -> Result<(), Fail> 
 #[test]
 fn a_raised_source_goes_on_above(rt: HostRuntime) -> Result<(), Fail> {
     let mut events = PlainEvents::new();
-    let mut lid = Source::new(rt.alloc(), 0);
+    let mut lid = LongSource::new(rt.alloc(), 0);
     assert!(rt; lid.expire(&rt, &mut events, at(0))?.is_none());
     lid.raise(Stamp { pos: 0, tick: 8 });
     let stamp = lid.stay_awake(&rt, &mut events, at(0))?;
