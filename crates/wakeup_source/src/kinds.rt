@@ -5,6 +5,7 @@ ghost use Rattle.wakeup_source.specs.SourceStates.{step_kind};
 use sleep_model::{Kind, SourceCall, WordKind};
 
 /// What a source writes of a call.
+#[inline(always)]
 pub(crate) fn note_of(source: u32, call: SourceCall) -> Kind
     ensures { result ≡ note source call }
 {
@@ -17,6 +18,7 @@ pub(crate) fn note_of(source: u32, call: SourceCall) -> Kind
 }
 
 /// What a source writes of a step on the word.
+#[inline(always)]
 pub(crate) fn step_of(source: u32, step: WordKind) -> Kind
     ensures { result ≡ step_kind source step }
 {

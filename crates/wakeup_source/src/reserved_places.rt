@@ -47,6 +47,7 @@ impl Entries {
     }
 
     /// How many entries there are. A vector has fewer than 2^63.
+    #[inline(always)]
     pub(crate) fn len(&self) -> usize
         ensures len { result ≡ length self.now.past }
         ensures small { result < 2 ^ 63 }
@@ -55,6 +56,7 @@ impl Entries {
     }
 
     /// Appends an entry in a reserved place.
+    #[inline(always)]
     pub(crate) fn put(&mut self, entry: SourceEntry)
         requires { 0 < self.old.room }
         ensures { self.new ≡ record { past = entry ∷ self.old.past; room = self.old.room - 1 } }

@@ -59,6 +59,7 @@ impl SourceHistory {
     }
 
     /// How many entries there are, fewer than 2^63.
+    #[inline(always)]
     pub(crate) fn len(&self) -> usize
         ensures len { result ≡ length self.now.source.past }
         ensures small { result < 2 ^ 63 }
@@ -82,6 +83,7 @@ impl SourceHistory {
     }
 
     /// What the source last knew.
+    #[inline(always)]
     pub(crate) fn floor(&self) -> Stamp
         ensures { result ≡ self.now.source.floor }
     {
@@ -101,6 +103,7 @@ impl SourceHistory {
     }
 
     /// Whether an event is in progress.
+    #[inline(always)]
     pub(crate) fn is_active(&self) -> bool
         ensures { result ≡ is_some (since (unstamped self.now.source.past)) }
     {
@@ -131,6 +134,7 @@ impl SourceHistory {
     }
 
     /// Appends the note of a call that saw that word.
+    #[inline(always)]
     pub(crate) fn note(&mut self, by: CallBy, call: SourceCall, seen: EventNow)
         requires { IsReady 1 by self.old }
         ensures { self.new ≡ after_noting by call seen self.old }
@@ -145,12 +149,13 @@ impl SourceHistory {
             actor: by.actor,
             kind: note_of(self.id, call),
         };
-        self.tally = self.tally.noted(call, by.now);
+        self.tally.note(call, by.now);
         self.floor = stamp;
         self.entries.put(SourceEntry { stamp, entry });
     }
 
     /// Appends a step of the call on the word, with the word before it.
+    #[inline(always)]
     pub(crate) fn step(&mut self, by: CallBy, step: WordKind, before: EventNow)
         requires { IsReady 1 by self.old }
         ensures { self.new ≡ stepped by step before self.old }
@@ -165,7 +170,7 @@ impl SourceHistory {
             actor: by.actor,
             kind: step_of(self.id, step),
         };
-        self.tally = self.tally.stepped(step, by.now);
+        self.tally.step(step, by.now);
         self.floor = Stamp {
             pos: stamp.pos + 1,
             tick: stamp.tick,

@@ -20,6 +20,7 @@ impl SourceHistory {
     /// Sees that the four entries that a call may make have places and ticks. `Full` where so many entries leave
     /// fewer than four places, `Mem` if there is no memory: nothing has changed then. Ticks that would pass their
     /// range wait for ever.
+    #[inline(always)]
     pub(crate) fn make_room<R: Wait>(
         &mut self,
         rt: &R,
@@ -43,6 +44,7 @@ impl SourceHistory {
     }
 
     /// Looks at the word and notes the call.
+    #[inline(always)]
     pub(crate) fn look<R: Wait, B: Bump>(
         &mut self,
         rt: &R,
@@ -66,6 +68,7 @@ impl SourceHistory {
     }
 
     /// The event begins, unless one is in progress (`wakeup_source_report_event`).
+    #[inline(always)]
     pub(crate) fn start_unless_active<B: Bump>(&mut self, events: &mut B, by: CallBy)
         requires ready { IsReady 3 by self.old }
         requires floor { self.old.source.floor.pos ≤ B.floor events.old }
@@ -87,6 +90,7 @@ impl SourceHistory {
     }
 
     /// A hard event is counted, where it is one (`pm_system_wakeup`).
+    #[inline(always)]
     pub(crate) fn hard_if<B: Bump>(&mut self, events: &mut B, by: CallBy, hard: bool)
         requires ready { IsReady 2 by self.old }
         requires floor { self.old.source.floor.pos ≤ B.floor events.old }
@@ -108,6 +112,7 @@ impl SourceHistory {
     }
 
     /// The event in progress is registered, where it ends (`wakeup_source_deactivate`).
+    #[inline(always)]
     pub(crate) fn finish_if<B: Bump>(&mut self, events: &mut B, by: CallBy, ends: bool)
         requires ready { IsReady 1 by self.old }
         requires floor { self.old.source.floor.pos ≤ B.floor events.old }

@@ -7,7 +7,7 @@ use sleep_model::{SourceCall, Stats, WordKind};
 
 /// What is counted of a wakeup source (`include/linux/pm_wakeup.h`, `struct wakeup_source`). Times
 /// are in ms.
-#[derive(Clone, Copy)]
+#[derive(Drop)]
 pub(crate) struct Tally {
     /// When the event in progress began, and when it ends by itself.
     pub(crate) since: Option<u64>,
@@ -24,6 +24,7 @@ pub(crate) struct Tally {
 
 /// The expiry after an event of that length: one that stands is cut by none that is shorter
 /// (`pm_wakeup_ws_event`).
+#[inline(always)]
 fn expiry_by(ms: u32, now: u64, before: Option<u64>) -> Option<u64>
     requires { now ≤ 2 ^ 63 }
     ensures { result ≡ expiry_by ms now before }
@@ -55,85 +56,64 @@ impl Tally {
         }
     }
 
-    /// After the note of a call (`wakeup_source_report_event`, `__pm_stay_awake`, `pm_wakeup_timer_fn`).
-    pub(crate) fn noted(self, call: SourceCall, now: u64) -> Self
-        requires events { self.event_count + 1 < 2 ^ 32 }
-        requires expiries { self.expire_count + 1 < 2 ^ 32 }
+    /// Counts the note of a call (`wakeup_source_report_event`, `__pm_stay_awake`, `pm_wakeup_timer_fn`).
+    #[inline(always)]
+    pub(crate) fn note(&mut self, call: SourceCall, now: u64)
+        requires events { self.old.event_count + 1 < 2 ^ 32 }
+        requires expiries { self.old.expire_count + 1 < 2 ^ 32 }
         requires now { now ≤ 2 ^ 63 }
-        ensures { result ≡ tally_noted call now self }
+        ensures { self.new ≡ tally_noted call now self.old }
     {
         match call {
-            SourceCall::Awake => self.counted().lasting(),
-            SourceCall::Relax => self,
-            SourceCall::Event { ms, .. } => Tally {
-                expiry: expiry_by(ms, now, self.expiry),
-                ..self.counted()
-            },
-            SourceCall::Expire => Tally {
-                expire_count: self.expire_count + 1,
-                ..self
-            },
+            SourceCall::Awake => {
+                self.event_count += 1;
+                self.expiry = None;
+            }
+            SourceCall::Relax => {}
+            SourceCall::Event { ms, .. } => {
+                self.event_count += 1;
+                self.expiry = expiry_by(ms, now, self.expiry);
+            }
+            SourceCall::Expire => self.expire_count += 1,
         }
     }
 
-    /// One more event.
-    fn counted(self) -> Self
-        requires { self.event_count + 1 < 2 ^ 32 }
-        ensures { result ≡ record self { event_count = self.event_count + 1 } }
-    {
-        Tally {
-            event_count: self.event_count + 1,
-            ..self
-        }
-    }
-
-    /// The event in progress does not end by itself.
-    fn lasting(self) -> Self
-        ensures { result ≡ record self { expiry = None } }
-    {
-        Tally {
-            expiry: None,
-            ..self
-        }
-    }
-
-    /// After a step on the word (`wakeup_source_activate`, `wakeup_source_deactivate`).
-    pub(crate) fn stepped(self, step: WordKind, now: u64) -> Self
-        requires starts { self.active_count + 1 < 2 ^ 32 }
-        requires total { self.total + run_time self.since now < 2 ^ 64 }
-        ensures { result ≡ tally_stepped step now self }
+    /// Counts a step on the word (`wakeup_source_activate`, `wakeup_source_deactivate`).
+    #[inline(always)]
+    pub(crate) fn step(&mut self, step: WordKind, now: u64)
+        requires starts { self.old.active_count + 1 < 2 ^ 32 }
+        requires total { self.old.total + run_time self.old.since now < 2 ^ 64 }
+        ensures { self.new ≡ tally_stepped step now self.old }
     {
         match step {
-            WordKind::Start => Tally {
-                since: Some(now),
-                active_count: self.active_count + 1,
-                last: now,
-                ..self
-            },
-            WordKind::Finish => self.finished(now),
-            WordKind::Hard => self,
+            WordKind::Start => {
+                self.since = Some(now);
+                self.active_count += 1;
+                self.last = now;
+            }
+            WordKind::Finish => self.finish(now),
+            WordKind::Hard => {}
         }
     }
 
     /// The event in progress, if one is, has ended: it counts among those that lasted.
-    fn finished(self, now: u64) -> Self
-        requires { self.total + run_time self.since now < 2 ^ 64 }
-        ensures { result ≡ tally_stepped Finish now self }
+    #[inline(always)]
+    fn finish(&mut self, now: u64)
+        requires { self.old.total + run_time self.old.since now < 2 ^ 64 }
+        ensures { self.new ≡ tally_stepped Finish now self.old }
     {
         let lasted = self.active_time(now);
-        Tally {
-            since: None,
-            expiry: None,
-            total: self.total + lasted,
-            longest: self.longest.max(lasted),
-            last: now,
-            ..self
-        }
+        self.since = None;
+        self.expiry = None;
+        self.total += lasted;
+        self.longest = self.longest.max(lasted);
+        self.last = now;
     }
 
     /// How long the event in progress has lasted by that moment.
-    fn active_time(self, at: u64) -> u64
-        ensures { result ≡ run_time self.since at }
+    #[inline(always)]
+    fn active_time(&self, at: u64) -> u64
+        ensures { result ≡ run_time self.now.since at }
     {
         match self.since {
             Some(since) => at.saturating_sub(since),
@@ -142,8 +122,9 @@ impl Tally {
     }
 
     /// Whether the moment has come at which the event in progress ends by itself.
-    pub(crate) fn has_expired(self, now: u64) -> bool
-        ensures { result ≡ has_expired self.expiry now }
+    #[inline(always)]
+    pub(crate) fn has_expired(&self, now: u64) -> bool
+        ensures { result ≡ has_expired self.now.expiry now }
     {
         match self.expiry {
             Some(end) => end <= now,
@@ -152,9 +133,9 @@ impl Tally {
     }
 
     /// The statistics at that moment, with the event in progress (`print_wakeup_source_stats`).
-    pub(crate) fn stats(self, at: u64) -> Stats
-        requires { self.total + run_time self.since at < 2 ^ 64 }
-        ensures { result ≡ stats_by self at }
+    pub(crate) fn stats(&self, at: u64) -> Stats
+        requires { self.now.total + run_time self.now.since at < 2 ^ 64 }
+        ensures { result ≡ stats_by self.now at }
     {
         let active_time = self.active_time(at);
         Stats {
