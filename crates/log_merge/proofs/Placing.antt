@@ -1,5 +1,5 @@
 -- The entries of sources placed in a journal give the definition's log.
-use Rattle.std.proofs.Common.{◌≡◌, ℕ, ◌<◌, ◌≤◌, ◌+◌, suc, Bool, true, false, not, nat_le, List, [], ◌∷◌, ◌++◌, length, get_or, drop, zero, true≢false, refl, sym, ap, ◌∙◌, arith, append-nil, append_assoc, if◌then◌else◌, Option, Some, None, MatchOption}
+use Rattle.std.proofs.Common.{◌≡◌, ℕ, ◌<◌, ◌≤◌, ◌+◌, suc, Bool, true, false, not, nat_le, List, [], ◌∷◌, ◌++◌, length, get_or, drop, zero, true≢false, refl, sym, ap, ◌∙◌, arith, append-nil, append_assoc, if◌then◌else◌, Option, Some, None, MatchOption, slice_get}
 use Rattle.std.proofs.lemmas.Bool.Decides.{nat_tests}
 use Rattle.sleep_model.specs.declared.entry.Entry.{Entry}
 use Rattle.sleep_model.specs.declared.entry.JournalEntry.{JournalEntry}
@@ -8,7 +8,7 @@ use Rattle.sleep_model.specs.declared.entry_list.OtherEntry.{OtherEntry}
 use Rattle.sleep_model.specs.Merge.{in_order, merge, of_source, rises, precedes}
 use Rattle.sleep_model.specs.Interleaved.{interleaved}
 use Rattle.log_merge.specs.WithCounts.{pass, with_counts}
-use Rattle.log_merge.specs.Remainders.{unstamped, is_in_order, leads, seen, sources_entries}
+use Rattle.log_merge.specs.Remainders.{unstamped, is_in_order, is_journals_turn, leads, leads_next, seen, sources_entries}
 use denote.Ref.{Bor}
 use Rattle.log_merge.proofs.Reading.{both_right, in_order_from, journal_first, log_of_all, order_same, other_first, rising_in_order, sorted_in_order}
 
@@ -49,6 +49,57 @@ pass_up other n (e ∷ rest) = by (precedes other e) refl (pass_up other (suc n)
     by : (b : Bool) → precedes other e ≡ b → suc n ≤ (pass other (suc n) rest).0 → n ≤ (pass other n (e ∷ rest)).0
     by true h more = rw (pass_here other e n rest h) (omega arith)
     by false h more = rw (pass_on other e n rest h) (omega (arith, more))
+
+-- the next entry of a journal is the first that is left of it
+leads_same : (other : JournalEntry) (journal : List JournalEntry) → leads_next other (slice_get journal 0) ≡ leads other journal
+leads_same other [] = refl
+leads_same other (e ∷ rest) = refl
+
+not_true : (b : Bool) → not b ≡ true → b ≡ false
+not_true true h = sym h
+not_true false h = refl
+
+-- where the next entry of the log is the journal's, the entries of sources stand after it
+counts_on : (n : ℕ) (old next others : List JournalEntry) (result : Option JournalEntry) → is_journals_turn old others ≡ true → MatchOption result ((old ≡ []) × (next ≡ old)) (λ e. old ≡ e ∷ next)
+    → with_counts n old others ≡ with_counts (n + 1) next others
+counts_on n old next [] result h m = refl
+counts_on n old next (other ∷ others) result h m =
+    let one : n + 1 ≡ suc n = omega arith in
+    rw one
+    (ap (λ (q : ℕ × List JournalEntry). record { before = q.0; entry = other.entry } ∷ with_counts q.0 q.1 others)
+    (passed_one other n old next result (not_true (leads other old) h) m).0)
+
+-- so the entries that are placed stay those of all
+pub counted_on : (new all total : List OtherEntry) (n : ℕ) (old next left others : List JournalEntry) (result : Option JournalEntry) → is_journals_turn old left ≡ true
+    → MatchOption result ((old ≡ []) × (next ≡ old)) (λ e. old ≡ e ∷ next) → new ++ with_counts n old left ≡ all ++ with_counts n old others
+    → all ++ with_counts n old others ≡ total → new ++ with_counts (n + 1) next left ≡ total
+counted_on new all total n old next left others result h m placed so =
+    ap (λ (l : List OtherEntry). new ++ l) (sym (counts_on n old next left result h m)) ∙ placed ∙ so
+
+-- and one less of the journal is left
+pub length_on : (n len : ℕ) (old next : List JournalEntry) (result : Option JournalEntry) → MatchOption result ((old ≡ []) × (next ≡ old)) (λ e. old ≡ e ∷ next)
+    → n + length old ≡ len → n < len → n + 1 + length next ≡ len
+length_on n len old next None m l h = absurd (omega (arith, l, h, ap (λ (l : List JournalEntry). length l) m.0))
+length_on n len old next (Some e) m l h = omega (arith, l, ap (λ (l : List JournalEntry). length l) m)
+
+-- where no entry of the journal is left, all of the sources' are placed
+pub counted_all : (new all total : List OtherEntry) (n : ℕ) (journal left others : List JournalEntry) → length journal ≡ 0 → is_journals_turn journal left ≡ true
+    → new ++ with_counts n journal left ≡ all ++ with_counts n journal others → all ++ with_counts n journal others ≡ total → new ≡ total
+counted_all new all total n [] [] others l h placed so = sym (append-nil new) ∙ placed ∙ so
+counted_all new all total n [] (x ∷ left) others l h placed so = absurd (true≢false (sym h))
+counted_all new all total n (e ∷ journal) left others l h placed so = absurd (omega (arith, l))
+
+-- and so are they where none of them is left
+pub counted_over : (all total : List OtherEntry) (n : ℕ) (journal : List JournalEntry) (others : List (Bor SourceEntry)) (k : ℕ) → k ≡ length others
+    → all ++ with_counts n journal (drop k (seen others)) ≡ total → all ≡ total
+counted_over all total n journal others k l so =
+    sym (append-nil all) ∙ sym (ap (λ (left : List JournalEntry). all ++ with_counts n journal left) (none k others l)) ∙ so
+  where
+    none : (k : ℕ) (others : List (Bor SourceEntry)) → k ≡ length others → drop k (seen others) ≡ []
+    none zero [] l = refl
+    none (suc k) [] l = refl
+    none zero (x ∷ xs) l = absurd (omega (arith, l))
+    none (suc k) (x ∷ xs) l = none k xs (omega (arith, l))
 
 -- ---- among the journal
 
@@ -129,3 +180,29 @@ placed_next all new n journal others k other d m rest end l at is more so =
     (ap (λ (l : List OtherEntry). l ++ with_counts m rest (drop (suc k) (seen others))) more
     ∙ (append_assoc all (record { before = m; entry = other.now.entry } ∷ []) (with_counts m rest (drop (suc k) (seen others)))
     ∙ (ap (λ (l : List OtherEntry). all ++ l) (sym here) ∙ so)))
+
+-- one that stands before all that is left of the journal is placed there
+pub placed_here : (all new : List OtherEntry) (n : ℕ) (journal : List JournalEntry) (others : List (Bor SourceEntry)) (k : ℕ) (other d : Bor SourceEntry) (end : List OtherEntry) (next : Option JournalEntry) (b : Bool)
+    → k < length others → other ≡ get_or others k d → next ≡ slice_get journal 0 → b ≡ leads_next (of_source other.now) next → b ≡ true → new ≡ all ++ record { before = n; entry = other.now.entry } ∷ []
+    → all ++ with_counts n journal (drop k (seen others)) ≡ end → new ++ with_counts n journal (drop (k + 1) (seen others)) ≡ end
+placed_here all new n journal others k other d end next b l at first is true-here more so =
+    let leading = sym (leads_same (of_source other.now) journal) ∙ ap (leads_next (of_source other.now)) (sym first) ∙ sym is ∙ true-here in
+    let here : pass (of_source other.now) n journal ≡ (n, journal) = passed_all (of_source other.now) n journal leading in
+    placed_next all new n journal others k other d n journal end l at (sym here) more so
+
+-- before one that does not stand there it is the journal's turn
+pub turn_at : (journal : List JournalEntry) (others : List (Bor SourceEntry)) (k : ℕ) (other d : Bor SourceEntry) (next : Option JournalEntry) (b : Bool) → k < length others → other ≡ get_or others k d
+    → next ≡ slice_get journal 0 → b ≡ leads_next (of_source other.now) next → b ≡ false → is_journals_turn journal (drop k (seen others)) ≡ true
+turn_at journal [] k other d next b l at first is other-here = absurd (omega (arith, l))
+turn_at journal (x ∷ xs) zero other d next b l at first is other-here =
+    ap not
+    (ap (λ (o : Bor SourceEntry). leads (of_source o.now) journal) (sym at)
+    ∙ sym (leads_same (of_source other.now) journal) ∙ ap (leads_next (of_source other.now)) (sym first) ∙ sym is ∙ other-here)
+turn_at journal (x ∷ xs) (suc k) other d next b l at first is other-here = turn_at journal xs k other d next b (omega (arith, l)) at first is other-here
+
+-- after the last one, too
+pub turn_over : (journal : List JournalEntry) (others : List (Bor SourceEntry)) (k : ℕ) → k ≡ length others → is_journals_turn journal (drop k (seen others)) ≡ true
+turn_over journal [] zero l = refl
+turn_over journal [] (suc k) l = refl
+turn_over journal (x ∷ xs) zero l = absurd (omega (arith, l))
+turn_over journal (x ∷ xs) (suc k) l = turn_over journal xs k (omega (arith, l))

@@ -1,5 +1,5 @@
 -- Entries of a journal and of sources, in the order of the one log (own: Linux keeps no such log).
-use Rattle.std.specs.Prelude.{Bool, true, List, [], ◌∷◌, ◌&&◌, flat_map, map, not}
+use Rattle.std.specs.Prelude.{Bool, true, List, [], ◌∷◌, ◌&&◌, flat_map, map, not, Option, Some, None}
 use Rattle.std.specs.List.{list_all}
 use Rattle.sleep_model.specs.declared.entry.Entry.{Entry}
 use Rattle.sleep_model.specs.declared.entry.JournalEntry.{JournalEntry}
@@ -32,6 +32,11 @@ unstamped entries = map (λ e. e.entry) entries
 abbrev pub leads : JournalEntry → List JournalEntry → Bool
 leads other [] = true
 leads other (e ∷ rest) = precedes other e
+
+-- an entry of a source stands before the next of a journal, or none is left of it
+abbrev pub leads_next : JournalEntry → Option JournalEntry → Bool
+leads_next other None = true
+leads_next other (Some e) = precedes other e
 
 -- the next entry of the log is the journal's, if one is left
 abbrev pub is_journals_turn : List JournalEntry → List JournalEntry → Bool

@@ -1,43 +1,58 @@
 //! The one log over a journal that is kept as it stands: where the entries of the sources stand in it
 //! (own: Linux keeps no such log).
 
-ghost use Rattle.std.specs.Prelude.{◌≡◌, ◌+◌, ◌^◌, ◌<◌, true, IfOk, length, reverse};
+ghost use Rattle.std.specs.Prelude.{◌≡◌, ◌≤◌, ◌++◌, true, IfOk, drop, length, reverse};
 ghost use Rattle.sleep_model.specs.Merge.{merge, of_source, rises};
-ghost use Rattle.log_merge.specs.WithCounts.{pass, with_counts};
-ghost use Rattle.log_merge.specs.Remainders.{leads, seen};
+ghost use Rattle.log_merge.specs.WithCounts.{with_counts};
+ghost use Rattle.log_merge.specs.Remainders.{is_journals_turn, leads_next, seen};
 
 use crate::order::is_ahead;
 use crate::sources::sorted;
 use sleep_base::Mem;
-use sleep_model::{EntryList, Journal, JournalReader, OtherEntry, SourceEntry, SourceList};
+use sleep_model::{
+    EntryList, Journal, JournalEntry, JournalReader, OtherEntry, SourceEntry, SourceList,
+};
 use std::alloc::Global;
 
-/// Whether that entry of a source stands before all that is left of a journal.
+/// Whether that entry of a source stands before the next of a journal, or none is left of it.
 #[inline(always)]
-fn leads(reader: &JournalReader<'_>, other: &SourceEntry) -> bool
-    ensures { result ≡ leads (of_source other.now) reader.now }
+fn leads(next: &Option<JournalEntry>, other: &SourceEntry) -> bool
+    ensures { result ≡ leads_next (of_source other.now) next.now }
 {
-    match reader.peek() {
-        Some(entry) => is_ahead(other, &entry),
+    match next {
+        Some(entry) => is_ahead(other, entry),
         None => true,
     }
 }
 
-/// Passes the entries of a journal of `len`, of which `from` were passed, that stand before that entry of
-/// a source, and answers how many then are passed.
-#[tactic(auto, using(crate::proofs::Placing::passed_one, crate::proofs::Placing::passed_all))]
-fn pass(reader: &mut JournalReader<'_>, from: usize, len: usize, other: &SourceEntry) -> usize
-    requires { from + length reader.old ≡ len }
-    ensures passed { (result, reader.new) ≡ pass (of_source other.now) from reader.old }
-    ensures len { result + length reader.new ≡ len }
+/// Places those of these entries of sources, from that one on, that stand before all that is left of a journal, of which
+/// `before` were passed. Answers how many then are placed.
+#[inline(always)]
+fn put_leading(
+    all: &mut Vec<OtherEntry>,
+    before: usize,
+    others: &[&SourceEntry],
+    from: usize,
+    reader: &JournalReader<'_>,
+) -> Result<usize, Mem>
+    requires { from ≤ length others.now }
+    ensures placed { IfOk result (λ n. all.new.items ++ with_counts before reader.now (drop n (seen others.now))
+        ≡ all.old.items ++ with_counts before reader.now (drop from (seen others.now))) }
+    ensures turn { IfOk result (λ n. is_journals_turn reader.now (drop n (seen others.now)) ≡ true) }
+    ensures most { IfOk result (λ n. n ≤ length others.now) }
 {
-    for passed in from..len {
-        if leads(reader, other) {
-            return passed;
+    let next = reader.peek();
+    for place in from..others.len() {
+        let other = others[place];
+        if !leads(&next, other) {
+            return Ok(place);
         }
-        let _ = reader.next();
+        all.push(OtherEntry {
+            before,
+            entry: other.entry,
+        })?;
     }
-    len
+    Ok(others.len())
 }
 
 /// Each of these entries of sources, which stand in order, with the number of the journal's before it. `Mem` where
@@ -50,15 +65,16 @@ fn with_counts(
     ensures { IfOk result (λ all. all.items ≡ with_counts 0 (reverse journal.now.past) (seen others.now)) }
 {
     let mut reader = journal.reader();
-    let mut before = 0;
+    let mut placed = 0;
     let mut all = Vec::with_capacity(alloc, others.len())?;
-    for other in others {
-        before = pass(&mut reader, before, journal.len(), other);
-        all.push(OtherEntry {
-            before,
-            entry: other.entry,
-        })?;
+    for before in 0..journal.len() {
+        if placed == others.len() {
+            return Ok(all);
+        }
+        placed = put_leading(&mut all, before, others, placed, &reader)?;
+        let _ = reader.next();
     }
+    put_leading(&mut all, journal.len(), others, placed, &reader)?;
     Ok(all)
 }
 
