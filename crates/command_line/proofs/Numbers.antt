@@ -8,7 +8,8 @@ use Rattle.std.proofs.lemmas.Str.{digit_value_digit}
 use Rattle.std.proofs.lemmas.Bool.{lt-leb}
 use Rattle.std.proofs.lemmas.Bool.Decides.{leb_tells}
 use Rattle.clap.proofs.WalkLemmas.{both}
-use Rattle.command_line.specs.Words.{has_no_zero_before, is_digit, number_in, value_of}
+use Rattle.sleep_base.specs.Digits.{is_digit}
+use Rattle.command_line.specs.Words.{has_no_zero_before, number_in, value_of}
 
 -- a digit's value
 digit_is : (d : ℕ) → is_digit d ≡ true → (48 ≤ d) × (d ≤ 57) × (digit_value d + 48 ≡ d)

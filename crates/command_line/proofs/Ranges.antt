@@ -3,9 +3,10 @@ use Rattle.std.proofs.Common.{ℕ, ◌≡◌, ◌≤◌, ◌-◌, ◌^◌, ◌&&
 use Rattle.std.specs.Prelude.{IfSome, nat_le, option_and_then, bytes_eq, take, drop}
 use Rattle.std.specs.List.{list_all}
 use Rattle.clap.proofs.WalkLemmas.{both}
+use Rattle.sleep_base.specs.Digits.{is_digit}
 use Rattle.command_line.specs.declared.command.Command.{Command}
 use Rattle.command_line.specs.declared.command.Command.TheVariants.{Run, Gen, Soak, Check, Locks, Stats, Idle}
-use Rattle.command_line.specs.Words.{IsInRange, alone_of, command_in, command_of, after_option, idle_of, idle_sizes, option_index, workers_named, workers_number, has_no_zero_before, is_digit, number_in, run_of, seeded_of, value_of, workers_of, workers_prefix}
+use Rattle.command_line.specs.Words.{IsInRange, alone_of, command_in, command_of, after_option, idle_of, idle_sizes, option_index, workers_named, workers_number, has_no_zero_before, number_in, run_of, seeded_of, value_of, workers_of, workers_prefix}
 
 if_so : (b : Bool) (n : ℕ) (P : ℕ → Type 0) → (b ≡ true → P n) → IfSome (cond b (Some n) None) P
 if_so true n P h = h refl

@@ -2,14 +2,10 @@
 
 ghost use Rattle.std.specs.Prelude.{◌≡◌, true};
 ghost use Rattle.std.specs.List.{list_all};
-ghost use Rattle.command_line.specs.Words.{is_digit, has_no_zero_before, number_in};
+ghost use Rattle.sleep_base.specs.Digits.{is_digit};
+ghost use Rattle.command_line.specs.Words.{has_no_zero_before, number_in};
 
-/// Whether each byte is a decimal digit.
-fn are_digits(bytes: &[u8]) -> bool
-    ensures { result ≡ list_all is_digit bytes.now }
-{
-    bytes.iter().all(|&byte| byte.is_ascii_digit())
-}
+use sleep_base::are_digits;
 
 /// Whether there is a first byte, and it is no 0 before others.
 fn has_no_zero_before(bytes: &[u8]) -> bool

@@ -1,7 +1,8 @@
 -- Proof by hand of `number_in`: what it returns, by the lemmas of `Numbers`.
 use Rattle.std.proofs.Common.{◌≡◌, ◌∙◌, ◌<◌, ◌⊎◌, inl, inr, sym, ap, true}
 use Rattle.std.specs.List.{list_all}
-use Rattle.command_line.specs.Words.{has_no_zero_before, is_digit}
+use Rattle.sleep_base.specs.Digits.{is_digit}
+use Rattle.command_line.specs.Words.{has_no_zero_before}
 use Rattle.command_line.proofs.Numbers.{number_inside, number_outside, number_beyond}
 use Rattle.command_line.proofs.number.number_in.Goals as goal
 
