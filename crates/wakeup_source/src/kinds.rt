@@ -1,3 +1,4 @@
+//! The kinds of entries of a source's call.
 ghost use Rattle.std.specs.Prelude.{◌≡◌};
 ghost use Rattle.sleep_model.specs.Calls.{note};
 ghost use Rattle.wakeup_source.specs.SourceStates.{step_kind};

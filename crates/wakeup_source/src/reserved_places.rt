@@ -1,3 +1,4 @@
+//! The entries of a source, with room that is reserved before a call.
 use sleep_model::{ListOf, SourceEntry, SourceList};
 use std::alloc::{AllocError, Global};
 use std::marker::Model;

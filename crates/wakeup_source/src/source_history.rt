@@ -1,3 +1,4 @@
+//! The history of a source and what is counted of it.
 use crate::call_by::CallBy;
 use crate::kinds::{note_of, step_of};
 use crate::reserved_places::Entries;
@@ -37,7 +38,7 @@ impl SourceHistory {
     ghost use Rattle.wakeup_source.specs.SourceHistories.{IsReady, after_noting, stepped};
     ghost use Rattle.wakeup_source.specs.SourceStates.{new_source, unstamped, latest, later_stamp};
 
-    /// The book of a source that was never called.
+    /// The history of a source that was never called.
     pub(crate) fn new(alloc: Global, id: u32) -> Self
         ensures { result ≡ record { source = new_source id; room = 0 } }
     {

@@ -17,9 +17,9 @@ impl SourceHistory {
     ghost use Rattle.wakeup_source.specs.Called.{viewed_source, Notes, Steps, CanGoOnAll};
     ghost use Rattle.wakeup_source.specs.SourceStates.{unstamped, latest};
 
-    /// Sees that the four entries that a call may make have places and ticks. `Full` where so many entries leave
-    /// fewer than four places, `Mem` if there is no memory: nothing has changed then. Ticks that would pass their
-    /// range wait for ever.
+    /// Sees that the four entries that a call may make have places and ticks. `Full` if so many entries leave
+    /// fewer than four places, `Mem` if there is no memory: nothing has changed then. Ticks that would pass
+    /// their range wait for ever.
     #[inline(always)]
     pub(crate) fn make_room<R: Wait>(
         &mut self,
@@ -89,7 +89,7 @@ impl SourceHistory {
         self.step(by, WordKind::Start, before);
     }
 
-    /// A hard event is counted, where it is one (`pm_system_wakeup`).
+    /// A hard event is counted, if it is one (`pm_system_wakeup`).
     #[inline(always)]
     pub(crate) fn hard_if<B: Bump>(&mut self, events: &mut B, by: CallBy, hard: bool)
         requires ready { IsReady 2 by self.old }
@@ -111,7 +111,7 @@ impl SourceHistory {
         self.step(by, WordKind::Hard, before);
     }
 
-    /// The event in progress is registered, where it ends (`wakeup_source_deactivate`).
+    /// The event in progress is registered, if it ends (`wakeup_source_deactivate`).
     #[inline(always)]
     pub(crate) fn finish_if<B: Bump>(&mut self, events: &mut B, by: CallBy, ends: bool)
         requires ready { IsReady 1 by self.old }

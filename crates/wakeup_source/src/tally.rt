@@ -1,3 +1,4 @@
+//! What is counted of a source: its event in progress, and its statistics.
 ghost use Rattle.std.specs.Prelude.{◌≡◌, ◌≤◌, ◌<◌, ◌+◌, ◌^◌, [], None};
 ghost use Rattle.sleep_model.specs.Sources.{has_expired, run_time, later};
 ghost use Rattle.sleep_model.specs.declared.word.WordKind.TheVariants.{Finish};
@@ -22,8 +23,7 @@ pub(crate) struct Tally {
     pub(crate) last: u64,
 }
 
-/// The expiry after an event of that length: one that stands is cut by none that is shorter
-/// (`pm_wakeup_ws_event`).
+/// The expiry after an event of that length: a later one before it is not cut (`pm_wakeup_ws_event`).
 #[inline(always)]
 fn expiry_by(ms: u32, now: u64, before: Option<u64>) -> Option<u64>
     requires { now ≤ 2 ^ 63 }
