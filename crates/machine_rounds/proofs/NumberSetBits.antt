@@ -181,7 +181,7 @@ module _ (words : List ℕ) (full : ℕ) (m : AreMarked words full) where
         | inr some ↦ omega arith
       ]
 
-  -- ---- whether there is none, and one alone
+  -- ---- whether there is none, and whether there is only one
 
   pub all_empty : full ≡ 0 → (k : ℕ) → is_in (bits_of words) k ≡ false
   all_empty none k =
