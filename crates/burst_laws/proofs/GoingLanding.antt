@@ -1,4 +1,4 @@
--- What an act adds stands at one object, in front of the list that stood there.
+-- What an act adds is at one object, in front of the list that was there.
 use Rattle.std.proofs.Common.{◌≡◌, ◌∙◌, ◌+◌, ℕ, Bool, true, false, ◌==◌, List, [], ◌∷◌, ◌++◌, length, refl, sym, ap, ap₂, subst, length-append, arith}
 use Rattle.std.proofs.lemmas.Bool.Decides.{nat_tests}
 use Rattle.sleep_model.specs.declared.entry.JournalEntry.{JournalEntry}
@@ -8,7 +8,7 @@ use Rattle.run_laws.specs.Passes.{Noted}
 use Rattle.run_world.specs.Roots.{notes_on}
 use Rattle.burst_laws.specs.Courses.{Lands}
 
--- ---- what was noted tells where it stands
+-- ---- what was noted says which object it is at
 
 -- the items that were placed
 abbrev items_in : List (Made Noted) → List Noted
@@ -54,7 +54,7 @@ with_notes : (past added : List JournalEntry) → with_all past (notes_on past a
 with_notes past [] = refl
 with_notes past (e ∷ added) = with_onto past (notes_on past added) (record { entry = e; past = added ++ past })
 
--- where something was added the list before it does not depend on another
+-- if something was added the list before it does not depend on another
 before_some : (none past : List JournalEntry) (e : JournalEntry) (added : List JournalEntry) → before_all none (notes_on past (e ∷ added)) ≡ past
 before_some none past e added = before_onto none (notes_on past added) (record { entry = e; past = added ++ past }) ∙ before_notes past added
 
@@ -64,7 +64,7 @@ some_noted past e added = length-append (notes_on past added) (record { entry = 
 
 -- ---- two ways to say what was added
 
--- they stand at one object, after one list, and leave one list
+-- they are at one object, after one list, and leave one list
 record IsOne (object object' : ℕ) (past past' with with' : List JournalEntry) : Type 0 where
   objects : object ≡ object'
   pasts : past ≡ past'
@@ -91,7 +91,7 @@ one_place object object' place place' past past' e added (f ∷ other) is =
       withs = sym (with_notes past (e ∷ added)) ∙ (ap₂ with_all pasts notes ∙ with_notes past' (f ∷ other));
     }
 
--- ---- where an act lands
+-- ---- the object of an act
 
 -- the list of one object was that, and has more in front; the others are as they were
 pub record HasLanded (object : ℕ) (past with : List JournalEntry) (old new : ℕ → List JournalEntry) : Type 0 where
@@ -99,7 +99,7 @@ pub record HasLanded (object : ℕ) (past with : List JournalEntry) (old new : �
   pub is : new object ≡ with
   pub others : (i : ℕ) → (object == i) ≡ false → new i ≡ old i
 
--- what an act added at an object tells where it landed
+-- what an act added at an object says which object it is at
 pub lands_there : (object place : ℕ) (past : List JournalEntry) (e : JournalEntry) (added : List JournalEntry) (gains : List (Made Noted)) (old new : ℕ → List JournalEntry)
     → gains ≡ placed object place (notes_on past (e ∷ added)) → Lands gains old new → HasLanded object past (e ∷ added ++ past) old new
 lands_there object place past e added gains old new gained l =

@@ -10,7 +10,7 @@ use Rattle.burst_laws.specs.Courses.{Begins, Course, CoursesGoOn, Goes, GoesFart
 use Rattle.burst_laws.proofs.GoingActs.{GoesOnBy, acted, actor_stays}
 use Rattle.burst_laws.proofs.GoingTasks.{has_none, has_same}
 
--- at a later standing the run goes on, at the same moment
+-- at a later state the run goes on, at the same moment
 record GoesTo (m : Machine) (moment : ℕ) (first last : BurstState) (g : GoesOnAt m first) : Type 0 where
   far : GoesFarther m first last g
   time : moment ≡ time_of (entries (last.lists 0))

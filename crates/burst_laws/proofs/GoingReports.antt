@@ -1,4 +1,4 @@
--- A report on a source where it stands in a run.
+-- A report on a source in a state of a run.
 use Rattle.std.proofs.Common.{◌≡◌, ◌∙◌, ◌≤◌, ◌<◌, ◌+◌, ℕ, Bool, true, false, ◌==◌, List, [], ◌∷◌, ◌++◌, length, map, slice_set, refl, sym, ap, subst, arith}
 use Rattle.std.proofs.lemmas.Bool.Decides.{nat_tests}
 use Rattle.sleep_model.specs.declared.entry.Actor.{Actor}
@@ -30,7 +30,7 @@ use Rattle.burst_laws.specs.Courses.{Lands}
 use Rattle.burst_laws.proofs.GoingLanding.{HasLanded, lands_there}
 use Rattle.burst_laws.proofs.GoingSwapped.{one_swapped}
 
--- ---- where a report lands
+-- ---- the object of a report
 
 map_onto : (added past : List SourceEntry) → map of_source (added ++ past) ≡ map of_source added ++ map of_source past
 map_onto [] past = refl

@@ -12,13 +12,13 @@ use Rattle.burst_laws.specs.Courses.{AreApart, AreTasks, IsTaskOf, has_task}
 
 -- ---- one of a list is another
 
--- it stands there
+-- it is there
 set_there : {A : Type 0} (xs : List A) (i : ℕ) (old x : A) → slice_get xs i ≡ Some old → slice_get (slice_set xs i x) i ≡ Some x
 set_there [] i old x h = absurd (cc)
 set_there (y ∷ xs) zero old x h = refl
 set_there (y ∷ xs) (suc i) old x h = set_there xs i old x h
 
--- the others stand as they stood
+-- the others are as they were
 set_aside : {A : Type 0} (xs : List A) (i j : ℕ) (x : A) → (i == j) ≡ false → slice_get (slice_set xs i x) j ≡ slice_get xs j
 set_aside [] i j x h = refl
 set_aside (y ∷ xs) zero zero x h = absurd (let no : true ≡ false = h in cc)

@@ -1,4 +1,4 @@
--- What a pass made of an object's entries, where its next act is the first of all.
+-- What a pass made of an object's entries, if its next act is the first of all.
 use Rattle.std.proofs.Common.{◌≡◌, ◌<◌, ◌≤◌, ◌+◌, ◌==◌, ◌∙◌, ℕ, suc, Bool, true, false, cond, List, [], ◌∷◌, ◌++◌, length, refl, sym, ap, arith}
 use Rattle.std.proofs.lemmas.Bool.Decides.{nat_tests}
 use Rattle.turn_lock.specs.declared.view.Made.{Made}
@@ -14,7 +14,7 @@ number_is m n h = grind (arith, nat_tests)
 
 -- ---- in the log of an object
 
--- they stand from the place on
+-- they are the entries from the position on
 front_place : (k i p : ℕ) (es : List (ℕ × Noted)) (m : Made Noted) (ms : List (Made Noted)) → made_by k i p es ≡ m ∷ ms → p ≤ m.place
 front_place k i p [] m ms h = absurd (cc)
 front_place k i p (e ∷ es) m ms h = by (front_place k i (p + 1) es m ms) (e.0 == k) h
@@ -37,7 +37,7 @@ front_tick low k i p (e ∷ es) m ms up h = by (front_tick e.1.entry.stamp.tick 
         let l : e.1.entry.stamp.tick < m.entry.entry.stamp.tick = rest g in
         let above : low < e.1.entry.stamp.tick = up.0 in omega arith
 
--- an act's entries that stand where the log begins are the first of it
+-- an act's entries at the log's begin are the first of it
 pub taken : (k i : ℕ) (notes : List Noted) (p : ℕ) (es : List (ℕ × Noted)) (more : List (Made Noted)) → made_by k i p es ≡ placed i p notes ++ more
     → (rest : List (ℕ × Noted)) × (es ≡ all_by k notes ++ rest) × (made_by k i (p + length notes) rest ≡ more)
 taken k i [] p es more h = let plus : p + 0 ≡ p = omega arith in (es, refl, ap (λ (q : ℕ). made_by k i q es) plus ∙ h)
@@ -60,7 +60,7 @@ taken k i (n ∷ notes) p (e ∷ es) more h = by (taken k i notes (p + 1) es mor
 pub head_made : (i p : ℕ) (e : ℕ × Noted) (es : List (ℕ × Noted)) → made_by e.0 i p (e ∷ es) ≡ made i p e.1 ∷ made_by e.0 i (p + 1) es
 head_made i p e es = ap (λ (b : Bool). cond b (made i p e.1 ∷ made_by e.0 i (p + 1) es) (made_by e.0 i (p + 1) es)) (same_number e.0)
 
--- a pass's first entry stands where the log begins, if no pass's has a lower tick
+-- a pass's first entry is at the log's begin, if no pass's has a lower tick
 pub ready : (k i p place : ℕ) (es : List (ℕ × Noted)) (n : Noted) (more : List (Made Noted)) → Ascends 0 (empty es) → made_by k i p es ≡ made i place n ∷ more
     → ((j : ℕ) (x : Made Noted) (xs : List (Made Noted)) → made_by j i p es ≡ x ∷ xs → n.entry.stamp.tick ≤ x.entry.entry.stamp.tick) → place ≡ p
 ready k i p place [] n more up h least = absurd (let bad : [] ≡ made i place n ∷ more = h in cc)

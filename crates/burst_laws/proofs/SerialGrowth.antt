@@ -27,7 +27,7 @@ course_longer : (count moment : ℕ) (first last : BurstState) → Course count 
 course_longer count moment first last Begins i = omega arith
 course_longer count moment first last (Goes old new before act) i = omega (arith, course_longer count moment first old before i, lands_longer act.gains old.lists new.lists act.lands i)
 
--- the list of source s stands after the machine's
+-- the list of source s comes after the machine's
 pub one_after : (journal : List JournalEntry) (sources : List SourceState) (s : ℕ) → lists_of journal sources (1 + s) ≡ of_sources sources s
 one_after journal sources s = let next : 1 + s ≡ suc s = omega arith in ap (lists_of journal sources) next
 

@@ -58,7 +58,7 @@ pub count_notes : (past added : List JournalEntry) → length (notes_on past add
 count_notes past [] = refl
 count_notes past (e ∷ added) = omega (arith, length-append (notes_on past added) (record { entry = e; past = added ++ past } ∷ []), count_notes past added)
 
--- the first of them tells where they stand
+-- the first of them says which object they are at
 pub past_is : (list past : List JournalEntry) (e : JournalEntry) (added : List JournalEntry) → Follows list (notes_on past (e ∷ added)) → past ≡ list
 past_is list past e [] h = h.0
 past_is list past e (x ∷ added) h = past_is list past x added (follows_front list (notes_on past (x ∷ added)) (record { entry = e; past = (x ∷ added) ++ past } ∷ []) h)
@@ -73,7 +73,7 @@ has_first past e added = first (notes_on past added) (record { entry = e; past =
 
 -- ---- their ticks
 
--- the tick of the newest entry, this one where there is none
+-- the tick of the newest entry, this one if there is none
 abbrev pub newest : ℕ → List JournalEntry → ℕ
 newest low [] = low
 newest low (e ∷ past) = e.stamp.tick

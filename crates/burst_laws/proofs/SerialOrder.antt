@@ -156,7 +156,7 @@ module _ {T : Type 0} (Step : T → List (Made Noted) → T → Type 0) (final :
   module _ (Reached : (ℕ → List JournalEntry) → List T → Type 0)
       (land : (lists : ℕ → List JournalEntry) (tasks : List T) (k : ℕ) (t u : T) (p : Plan) → Reached lists tasks → slice_get tasks k ≡ Some t → Step t (gains_of p) u
       → p.past ≡ lists p.object → Reached (landed lists p) (set tasks k u)) where
-    -- a standing that was reached, with so many acts left
+    -- a state that was reached, with so many acts left
     record Onward (count : ℕ) : Type 0 where
       pub lists : ℕ → List JournalEntry
       pub tasks : List T
@@ -166,7 +166,7 @@ module _ {T : Type 0} (Step : T → List (Made Noted) → T → Type 0) (final :
       pub fits : Fits lists tasks left log
       pub fewer : total left ≡ count
 
-    -- where nothing is left
+    -- if nothing is left
     abbrev pub Ending : Type 0
     Ending = (ending : ℕ → List JournalEntry) × Reached ending lasts × ((i : ℕ) → ending i ≡ final i)
 

@@ -9,7 +9,7 @@ use Rattle.run_laws.specs.Passes.{Noted}
 use Rattle.run_world.specs.Roots.{notes_on}
 use Rattle.burst_laws.proofs.SerialNotes.{has_first}
 
--- an act that is left: the object, the list that stands there then, and the entries that it adds, the newest and the others
+-- an act that is left: the object, its list then, and the entries that it adds, the newest and the others
 pub record Plan : Type 0 where
   pub object : ℕ
   pub past : List JournalEntry

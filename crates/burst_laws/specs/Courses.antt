@@ -22,7 +22,7 @@ use Rattle.run_world.specs.declared.task.Task.{Task}
 use Rattle.run_world.specs.declared.task.Task.TheVariants as task
 use Rattle.run_world.specs.Acts.{Does, actor_of}
 
--- where a burst stands: each object's list, the newest entry first, the machine's at 0, that of source s at 1 + s; and the tasks
+-- the state of a burst: each object's list, the newest entry first, the machine's at 0, that of source s at 1 + s; and the tasks
 pub record BurstState : Type 0 where
   pub lists : ℕ → List JournalEntry
   pub tasks : List Task
@@ -32,7 +32,7 @@ abbrev pub lists_of : List JournalEntry → List SourceState → ℕ → List Jo
 lists_of journal sources zero = journal
 lists_of journal sources (suc s) = of_sources sources s
 
--- what an act adds stands in front of one object's list as it was, and the other lists are as they were
+-- what an act adds is in front of one object's list as it was, and the other lists are as they were
 pub record Lands (gains : List (Made Noted)) (old new : ℕ → List JournalEntry) : Type 0 where
   pub object : ℕ
   pub added : List JournalEntry
@@ -77,7 +77,7 @@ pub record AreTasks (m : Machine) (jobs : Actor → JobState) (floors : Actor �
 
 -- ---- a course keeps what a run keeps
 
--- what goes on at a standing: the run, with its sources, jobs and floors
+-- what goes on in a state: the run, with its sources, jobs and floors
 pub record GoesOnAt (m : Machine) (burst_state : BurstState) : Type 0 where
   pub sources : List SourceState
   pub jobs : Actor → JobState
@@ -90,13 +90,13 @@ pub record GoesOnAt (m : Machine) (burst_state : BurstState) : Type 0 where
 abbrev pub has_task : List Task → Actor → Bool
 has_task tasks who = list_any (λ t. is_same (actor_of t) who) tasks
 
--- at a later standing the run goes on with tasks of the same actors, and actors without a task know what they knew
+-- in a later state the run goes on with tasks of the same actors, and actors without a task know what they knew
 pub record GoesFarther (m : Machine) (first last : BurstState) (g : GoesOnAt m first) : Type 0 where
   pub on : GoesOnAt m last
   pub same : (who : Actor) → has_task last.tasks who ≡ has_task first.tasks who
   pub others : (who : Actor) → has_task first.tasks who ≡ false → on.floors who ≡ g.floors who
 
--- from a standing at which a run goes on, acts one after another come to one at which it goes on
+-- from a state in which a run goes on, acts one after another come to one in which it goes on
 abbrev pub CoursesGoOn : Type 0
 CoursesGoOn =
     (m : Machine) (count moment : ℕ) (first last : BurstState) → is_word64 moment ≡ true → moment ≡ time_of (entries (first.lists 0))

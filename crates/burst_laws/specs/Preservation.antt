@@ -11,7 +11,7 @@ use Rattle.run_world.specs.Bursts.{IsBurst}
 use Rattle.burst_laws.specs.Courses.{GoesFarther, GoesOnAt, BurstState}
 use Rattle.burst_laws.specs.Serial.{plain_sources, burst_state_of}
 
--- the run goes on at a later standing with these very sources
+-- the run goes on in a later state with these very sources
 pub record GoesOnWith (m : Machine) (first last : BurstState) (g : GoesOnAt m first) (sources : List SourceState) : Type 0 where
   pub farther : GoesFarther m first last g
   pub sources_are : farther.on.sources ≡ sources
@@ -23,7 +23,7 @@ BurstsGrow =
     → IsBurst moment machine sources tasks machine_then sources_then tasks_then → length sources ≡ length sources_then
     → entry_count machine.core.past (plain_sources sources) ≤ entry_count machine_then.core.past (plain_sources sources_then)
 
--- a run goes on after a burst at its time, where the sources that came back are between calls
+-- a run goes on after a burst at its time, if the sources that came back are between calls
 abbrev pub BurstsGoOn : Type 0
 BurstsGoOn =
     (m : Machine) (moment : ℕ) (machine machine_then : SeatedCoreState) (sources sources_then : List SeatedSourceState)

@@ -10,7 +10,7 @@ use Rattle.burst_laws.specs.Courses.{Course, BurstState, lists_of}
 abbrev pub plain_sources : List SeatedSourceState → List SourceState
 plain_sources sources = map (λ s. s.source) sources
 
--- where these stand
+-- the state of a burst with these
 abbrev pub burst_state_of : SeatedCoreState → List SeatedSourceState → List Task → BurstState
 burst_state_of machine sources tasks = record { lists = lists_of machine.core.past (plain_sources sources); tasks = tasks }
 

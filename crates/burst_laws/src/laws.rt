@@ -5,13 +5,13 @@ ghost use Rattle.burst_laws.specs.Preservation.{BurstsGoOn, BurstsGrow};
 ghost use Rattle.burst_laws.specs.Serial.{BurstsAreSerial};
 
 /// The acts of a burst have an order in which each finds the machine and the sources as those before it left
-/// them, and after the last stand the tasks, the machine and the sources that came back.
+/// them. The last one leaves the tasks, the machine and the sources that came back.
 pub fn bursts_are_serial()
     ensures { BurstsAreSerial }
 {}
 
-/// From a standing at which a run goes on, acts one after another come to one at which it goes on: the tasks
-/// are of the same actors, and whoever has none knows what it knew.
+/// From a state in which a run goes on, acts one after another come to one in which it goes on. The tasks are
+/// of the same actors, and whoever has none knows what it knew.
 pub fn courses_go_on()
     ensures { CoursesGoOn }
 {}

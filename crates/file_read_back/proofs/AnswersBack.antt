@@ -41,7 +41,7 @@ has_by : (x : List ℕ) (r : Option Data) → is_some_and (is_text x) r ≡ is_s
 has_by x None = refl
 has_by x (Some v) = refl
 
--- the same text stands at the name of both
+-- the same text is at the name of both
 pub same_text : (name x : List ℕ) (v w : Data) → word_at name v ≡ word_at name w → has_text name x v ≡ has_text name x w
 same_text name x v w e = has_by x (get name v) ∙ ap (is_some_and (λ s. bytes_eq s x)) e ∙ sym (has_by x (get name w))
 
@@ -112,7 +112,7 @@ error_back : (e : Errno) → ret_written (neg_ℤ (pos (error_number e))) ≡ So
 error_back EINTR = refl
 error_back _ = refl
 
--- what is written is what stood there; or it is left out, as it is 0
+-- what is written is what was there; or it is left out, as it is 0
 abbrev pub RetBack : Option Data → Type 0
 RetBack r = (ret_written (ret_by r) ≡ r) ⊎ ((ret_written (ret_by r) ≡ None) × (ret_by r ≡ pos 0))
 

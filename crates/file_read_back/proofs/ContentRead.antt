@@ -75,7 +75,7 @@ pair_scalar h l high low =
 
 -- ---- escapes
 
--- a short escape and what it stands for are ASCII
+-- a short escape and its meaning are ASCII
 abbrev IsShortEscape : ℕ → Option ℕ → Type 0
 IsShortEscape y None = ⊤
 IsShortEscape y (Some c) = (y < 128) × (c < 128)

@@ -35,7 +35,7 @@ pub record ValidDevice (d o : Data) : Type 0 where
   pub names : names_of_device o ≡ true
   pub parent : is_none_or (is_among_names (devices_named d)) (word_at (codes "parent") o) ≡ true
 
--- the flags, by what stands at each name
+-- the flags, by what is at each name
 abbrev flags_by : (List ℕ → Option Data) → DeviceFlags
 flags_by g =
     record { 0 = bit (unwrap_or (option_and_then as_bool (g (codes "async"))) false) 1 + bit (unwrap_or (option_and_then as_bool (g (codes "wakeup"))) false) 2 + bit (is_some_and (is_text (codes "suspended")) (g (codes "runtime"))) 4 }
@@ -73,7 +73,7 @@ module _ (d o : Data) (kept : ValidDevice d o) where
   abbrev rows : List (Named (Option Data))
   rows = device_rows (whole_machine d) (whole_device (devices_named d) o)
 
-  -- the parent's name stands at its place
+  -- the parent's name is at its index
   parent_back : (w : Option (List ℕ)) → is_none_or (is_among_names (devices_named d)) w ≡ true →
       option_map (λ p. string (device (whole_machine d) p)) (option_and_then (λ s. position (bytes_eq s) (devices_named d)) w) ≡ option_map string w
   parent_back None e = refl

@@ -45,7 +45,7 @@ other_name i j hi hj apart =
     unless_so (bytes_eq (drawn_name i) (drawn_name j))
     (λ e. apart (decimal_injective i j (omega arith) (omega arith) (ap (drop 1) ((bytes_decides (drawn_name i) (drawn_name j)).0 e))))
 
--- names are the same where their numbers are
+-- names are the same if their numbers are
 pub name_same : (i j : ℕ) → i < 1000 → j < 1000 → bytes_eq (drawn_name i) (drawn_name j) ≡ (j == i)
 name_same i j hi hj = by (j == i) refl
   where
@@ -60,7 +60,7 @@ name_among a (suc n) zero i e h = or_left (bytes_eq (drawn_name i) (drawn_name a
 name_among a (suc n) (suc k) i e h =
     or_right (bytes_eq (drawn_name i) (drawn_name a)) (is_among_names (names_from (a + 1) n) (drawn_name i)) (name_among (a + 1) n k i (omega arith) (omega arith))
 
--- and stands at its place
+-- and is at its index
 pub name_at : (a n k i : ℕ) → a + k ≡ i → k < n → a + n ≤ 1000 → position (bytes_eq (drawn_name i)) (names_from a n) ≡ Some k
 name_at a zero k i e h l = absurd (omega arith)
 name_at a (suc n) zero i e h l =
@@ -74,7 +74,7 @@ name_at a (suc n) (suc k) i e h l =
 pub name_placed : (n i : ℕ) → n ≤ 1000 → i < n → index_among (names_from 0 n) (drawn_name i) ≡ i
 name_placed n i l h = ap (λ o. unwrap_or o 0) (name_at 0 n i i (omega arith) h (omega arith))
 
--- no name stands twice
+-- no name is there twice
 pub names_differ : (before : List (List ℕ)) (a n k : ℕ) → a + n ≤ 1000 → ((i : ℕ) → a ≤ i → i < 1000 → is_among_names before (drawn_name i) ≡ false)
     → first_not_after (λ earlier name. not (is_among_names earlier name)) before k (names_from a n) ≡ None
 names_differ before a zero k l h = refl

@@ -67,7 +67,7 @@ event_source seed n (suc (suc (suc s))) ms l = absurd (omega arith)
 
 -- ---- links
 
--- links that stand before others stand by themselves
+-- links in order before others are in order by themselves
 stand_before : (ps : List (Option ℕ)) (xs ys : List Link) → AreLinks ps (xs ++ ys) → AreLinks ps ys
 stand_before ps [] ys h = h
 stand_before ps (x ∷ xs) ys h = stand_before ps xs ys h.4

@@ -103,7 +103,7 @@ parent_before seed (suc i) = by (draw seed (suc i) (suc i + 1)) (drawn_less seed
     by d l true e = tt
     by d l false e = let other : d ≡ suc i → ⊥ = eqb-false d (suc i) e in omega arith
 
--- a device's parent stands before it
+-- a device's parent comes before it
 pub parent_low : (seed i n : ℕ) → i < n → IfSome (drawn_parent seed i) (λ q. q < n)
 parent_low seed i n l = by (drawn_parent seed i) (parent_before seed i)
   where

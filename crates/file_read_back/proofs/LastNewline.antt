@@ -26,7 +26,7 @@ lexemes later [] = []
 lexemes later (t ∷ ts) = cond (later && begins t) (comma ∷ []) [] ++ (token_lexemes t ++ lexemes (ends t) ts)
 
 module _ (rest : List ℕ) (ended : ends_word rest ≡ true) where
-  -- after a value stands a comma, a closing bracket or the rest
+  -- a value is followed by a comma, a closing bracket or the rest
   value_ends : (ts : List Token) → ends_word (print_from true ts ++ rest) ≡ true
   unfolding print_from
   value_ends [] = ended

@@ -39,7 +39,7 @@ pub record SameLink (d o : Data) : Type 0 where
   pub form : is_link_form true (link_again d o) ≡ true
   pub names : names_of_link (link_again d o) ≡ true
 
--- the state, which is left out where the link is active
+-- the state, which is left out if the link is active
 abbrev state_of : Bool → Option Data
 state_of active = cond active None (Some (string (codes "dormant")))
 
@@ -88,7 +88,7 @@ pub record SameNotifier (o : Data) : Type 0 where
   pub form : is_notifier_form (notifier_again o) ≡ true
   pub names : own_name (notifier_again o) ≡ true
 
--- a number that is left out where it is 0
+-- a number that is left out if it is 0
 pub integer_back : (z : ℤ) → unwrap_or (option_and_then as_integer (option_and_then as_number (integer_unless_zero z))) (pos 0) ≡ z
 integer_back (negsuc n) = refl
 integer_back (pos n) = by (n == 0) refl

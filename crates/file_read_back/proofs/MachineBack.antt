@@ -118,7 +118,7 @@ module _ (d : Data) where
     pub known_same : known_of again ≡ known_of d
     known_same = λ i. record { devices = devices_named_same i; sources = sources_same i; marks = marks_same i }
 
-    -- ---- the parts
+    -- ---- the lists of a machine
 
     pub device_same : (o : Data) → ValidDevice d o → whole_device (devices_named d) (device_again d o) ≡ whole_device (devices_named d) o
     device_same o k =

@@ -1,4 +1,4 @@
--- The name at the place of a name is that name.
+-- The name at the index of a name is that name.
 use Rattle.std.proofs.Common.{◌≡◌, ◌∙◌, ◌||◌, ◌++◌, ℕ, zero, suc, List, [], ◌∷◌, map, codes, Bool, true, false, cond, bytes_eq, position, Some, None, option_map, unwrap_or, refl, sym, ap}
 use Rattle.std.specs.List.{slice_get}
 use Rattle.std.specs.Cmp.Lexicographic.{bytes_decides}
@@ -14,7 +14,7 @@ use Rattle.machine_file.specs.Operations.{whole_marks}
 use Rattle.machine_file.specs.Whole.{whole_machine, whole_notifier}
 use Rattle.machine_file.proofs.Placing.{position_cons}
 
--- a name's place, and that it stands there
+-- a name's index, and that it is there
 pub record HasPlace (names : List (List ℕ)) (s : List ℕ) : Type 0 where
   pub at : ℕ
   pub first : position (bytes_eq s) names ≡ Some at
@@ -38,7 +38,7 @@ placed (n ∷ names) s e = by (bytes_eq s n) refl e (placed names s)
           there = r.there;
         }
 
--- the name at a name's place
+-- the name at a name's index
 pub at_place : (names : List (List ℕ)) (s : List ℕ) → is_among_names names s ≡ true → name_in (slice_get names (index_among names s)) ≡ s
 at_place names s e = let p = placed names s e in ap (λ o. name_in (slice_get names (unwrap_or o 0))) p.first ∙ ap name_in p.there
 

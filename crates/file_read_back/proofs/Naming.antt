@@ -1,4 +1,4 @@
--- The names of a machine that a file spells are spelled as names are, and told apart.
+-- The names of a machine that a file spells are spelled as names are, and different.
 use Rattle.std.proofs.Common.{◌≡◌, ◌∙◌, ◌&&◌, ◌||◌, ◌++◌, ◌⊎◌, inl, inr, ℕ, suc, Bool, true, false, not, cond, if◌then◌else◌, List, [], ◌∷◌, find, flat_map, bytes_eq, codes, unwrap_or, option_and_then, Option, Some, None, refl, sym, ap, subst}
 use Rattle.std.specs.List.{list_any, list_all, cons_option}
 use Rattle.std.specs.Option.{option_map, option_or}
@@ -52,7 +52,7 @@ member_spelled (Some d) e = text_name d e
 own_spelled : (d : Data) → own_name d ≡ true → is_name (name_of d) ≡ true
 own_spelled d e = member_spelled (get (codes "name") d) e
 
--- ---- names that are told apart
+-- ---- names that are different
 
 none_of_map : {X Y : Type 0} (f : X → Y) (o : Option X) → option_map f o ≡ None → o ≡ None
 none_of_map f None e = refl
@@ -84,7 +84,7 @@ later_true false b e = e
 neither : (a b : Bool) → a ≡ false → b ≡ false → (a || b) ≡ false
 neither a b e h = ap (λ c. c || b) e ∙ h
 
--- names of which none stands before it, nor any of those before all
+-- names of which none comes before it, nor any of those before all
 record AreApart (before xs : List (List ℕ)) : Type 0 where
   distinct : are_distinct xs ≡ true
   others : (s : List ℕ) → is_among_names before s ≡ true → is_among_names xs s ≡ false
@@ -108,7 +108,7 @@ apart before n (x ∷ xs) e =
         by false h = refl
         by true h = absurd (false≢true (sym none ∙ ap (is_among_names before) (sym ((bytes_decides s x).0 h)) ∙ some))
 
--- names that are spelled as names are, and of which none stands before it
+-- names that are spelled as names are, and of which none comes before it
 named : (names : List (List ℕ)) → list_all is_name names ≡ true → first_not_after (λ b s. not (is_among_names b s)) [] 0 names ≡ None → are_names names ≡ true
 named names all none = and_from (list_all is_name names) (are_distinct names) all (apart [] 0 names none).distinct
 
@@ -243,7 +243,7 @@ all_marks d (a ∷ actors) h =
     all_joined is_name (marks_of (list_in (codes "script") a)) (flat_map (λ b. marks_of (list_in (codes "script") b)) actors)
     (marks_named d (list_in (codes "script") a) h.0.ops) (all_marks d actors h.1)
 
--- names at their first places alone
+-- only names at their first indices
 firsts_named : (found names : List (List ℕ)) → list_all is_name found ≡ true → list_all is_name names ≡ true → list_all is_name (first_occurrences found names) ≡ true
 firsts_named found [] e h = e
 firsts_named found (name ∷ names) e h =
@@ -270,7 +270,7 @@ marks_apart d h =
 
 -- ---- the machine
 
--- what a value spells that breaks no rule has names that are told apart
+-- what a value spells that breaks no rule has different names
 pub all_named : (d : Data) → first_broken d ≡ None → AreNamed (whole_machine d)
 all_named d h =
     let r = keeps_all rules d h in
@@ -328,6 +328,6 @@ by_tree m (Some d) is = by_rules d m (first_broken d) refl is
 pub machines_named : AllNamed
 machines_named m is = by_tree m (tree is.0) is.1
 
--- so its logs are told apart by their texts
+-- so its logs are distinguished by their texts
 pub texts_injective : TextsAreInjective
 texts_injective m is a b v w same = one_log m (machines_named m is) a b v w same

@@ -1,4 +1,4 @@
--- Numbers that are left out where they have their default.
+-- Numbers that are left out if they have their default.
 use Rattle.std.proofs.Common.{◌≡◌, ◌&&◌, ◌==◌, ℕ, Bool, true, false, cond, nat_le, Option, Some, None, option_map, option_and_then, unwrap_or, refl, sym}
 use Rattle.std.proofs.lemmas.Bool.{false≢true, eqb-true}
 use Rattle.serde_json.specs.Data.{Data, boolean}
@@ -7,7 +7,7 @@ use Rattle.machine_file.specs.Look.{is_some_and, is_none_or}
 use Rattle.machine_file.specs.Form.{is_within, is_truth}
 use Rattle.machine_file.specs.Spelling.{count}
 
--- the number at a member, by what stands there
+-- the number at a member, by what is there
 abbrev pub number_of : Option Data → Option ℕ
 number_of r = option_and_then as_u64 (option_and_then as_number r)
 
@@ -22,7 +22,7 @@ number_back default n = by (n == default) refl
     by true e = sym (eqb-true n default e)
     by false e = refl
 
--- a number that may be given is of its range, where the default is, too
+-- a number that may be given is of its range, if the default is, too
 pub in_range_or : (least most default : ℕ) (r : Option Data) → is_none_or (is_within least most) r ≡ true → (nat_le least default && nat_le default most) ≡ true →
     (nat_le least (unwrap_or (number_of r) default) && nat_le (unwrap_or (number_of r) default) most) ≡ true
 in_range_or least most default None e h = h

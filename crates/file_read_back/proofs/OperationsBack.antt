@@ -25,7 +25,7 @@ use Rattle.file_read_back.proofs.LinksBack.{spelled}
 use Rattle.file_read_back.proofs.Numbers.{number_of, unless_default, number_back, in_range_or, number_form, maybe_back, maybe_form, if_true, truth_back, truth_form}
 use Rattle.machine_file.proofs.ScriptsValid.{member_apart}
 
--- what each word of the table spells, by what stands at each name
+-- what each word of the table spells, by what is at each name
 abbrev spelled_by : Known → (List ℕ → Option Data) → List (List ℕ × Op)
 spelled_by known g =
     (codes "read", Read)

@@ -21,7 +21,7 @@ abbrev pick : Machine → Option Machine → Machine
 pick m None = m
 pick m (Some k) = k
 
--- two that are there are one where what holds them is
+-- two that are there are one if what holds them is
 pub some_is : (k l : Machine) → Some k ≡ Some l → k ≡ l
 some_is k l same = ap (pick k) same
 

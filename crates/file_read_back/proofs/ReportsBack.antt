@@ -21,7 +21,7 @@ use Rattle.file_read_back.proofs.NamesBack.{source_back}
 use Rattle.file_read_back.proofs.Numbers.{number_of, number_back, in_range_or, number_form, truth_back, truth_form}
 use Rattle.file_read_back.proofs.OperationsBack.{among_word, some_string}
 
--- the call, by what stands at each name
+-- the call, by what is at each name
 abbrev call_by : (List ℕ → Option Data) → SourceCall
 call_by g =
     cond (is_some_and (is_text (codes "awake")) (g (codes "call"))) call.Awake

@@ -14,7 +14,7 @@ use Rattle.machine_file.specs.Form.{Named}
 use Rattle.machine_file.specs.Spelling.{as_items, put_if, as_members, object_of, list_unless_empty}
 use Rattle.machine_file.proofs.Sheets.{is_before, are_rising, put_first}
 
--- what stands at the first row of that name
+-- what is at the first row of that name
 abbrev pub found : List (Named (Option Data)) → List ℕ → Option Data
 found [] name = None
 found (r ∷ rows) name = if bytes_eq name r.name then r.is else found rows name
@@ -74,7 +74,7 @@ pub items_back : (ds : List Data) → items_of (as_items ds) ≡ ds
 items_back [] = refl
 items_back (d ∷ ds) = ap (λ xs. d ∷ xs) (items_back ds)
 
--- the list at a member that is left out where it is empty
+-- the list at a member that is left out if it is empty
 pub listed : (ds : List Data) → items_of (unwrap_or (option_and_then as_array (list_unless_empty ds)) no_items) ≡ ds
 listed [] = refl
 listed (d ∷ ds) = items_back (d ∷ ds)

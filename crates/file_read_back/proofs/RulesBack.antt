@@ -35,7 +35,7 @@ use Rattle.file_read_back.proofs.AnswersBack.{ValidAnswer, answer_again, answers
 use Rattle.file_read_back.proofs.FileValid.{ValidFile, valid_file}
 use Rattle.file_read_back.proofs.MachineBack.{again, text_again, devices_list, links_list, syscore_list, notifiers_list, sources_list, actors_list, answers_list, devices_named_same, notifiers_named_same, actors_named_same, sources_same, syscore_same, whole_devices_same, link_same, name_same, kinds_same}
 
--- ---- no rule is broken where each is kept
+-- ---- no rule is broken if each is kept
 
 pub none_broken : (rs : List Rule) (v : Data) → KeepsAll rs v → first_of rs v ≡ None
 none_broken [] v h = refl

@@ -27,7 +27,7 @@ use Rattle.file_read_back.proofs.OperationsBack.{ValidOperation, op_again, same_
 
 -- ---- the kind
 
--- the kind, by what stands at its name
+-- the kind, by what is at its name
 abbrev kind_at : Option Data → TaskKind
 kind_at r = cond (is_some_and (is_text (codes "kthread")) r) Kthread (cond (is_some_and (is_text (codes "nofreeze")) r) NoFreeze (cond (is_some_and (is_text (codes "irq")) r) Irq User))
 
@@ -123,7 +123,7 @@ pub same_allowed : (d a o : Data) → ValidActor d a → ValidOperation d o → 
 same_allowed d a o actor kept =
     ap₂ (λ kind row. is_some_and (λ (r : Operation). is_among_names r.makers kind) row) ((same_actor d a actor.form actor.names).kind_word) (same_row d o kept)
 
--- no operation fails where each passes
+-- no operation fails if each passes
 pub none_fails_of : (test : Data → Data → Bool) (n : ℕ) (actors : List Data) → EachOf (λ a. list_all (test a) (list_in (codes "script") a) ≡ true) actors → first_operation_of test n actors ≡ None
 none_fails_of test n [] h = refl
 none_fails_of test n (a ∷ actors) h =

@@ -1,4 +1,4 @@
--- The texts of a value that are UTF-8, and where its names come from.
+-- The texts of a value that are UTF-8, and the texts that its names come from.
 use Rattle.std.proofs.Common.{ℕ, zero, suc, List, [], ◌∷◌, ◌++◌, map, flat_map, codes, Bool, true, false, if◌then◌else◌, Option, Some, None, option_and_then, unwrap_or, Ordering, Less, Equal, Greater, nat_cmp, IsUtf8, refl, sym, subst}
 use Rattle.std.specs.Prelude.{⊤}
 use Rattle.std.specs.List.{slice_get, cons_option}

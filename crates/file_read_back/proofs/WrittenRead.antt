@@ -24,7 +24,7 @@ use Rattle.file_read_back.proofs.LastNewline.{tokens-newline}
 
 -- ---- values that are read as they are written
 
--- the name stands before those of the members
+-- the name comes before those of the members
 abbrev pub stands_first : List ℕ → Members → Bool
 stands_first k no_members = true
 stands_first k (member l d ms) = is_lt (slice_cmp nat_cmp k l) && stands_first k ms
@@ -62,7 +62,7 @@ abbrev joined_members : Members → Members → Members
 joined_members no_members ms = ms
 joined_members (member k d fs) ms = member k d (joined_members fs ms)
 
--- each name of the ones stands before those of the others
+-- each name of the ones comes before those of the others
 abbrev StandBefore : Members → Members → Type 0
 StandBefore no_members ms = ⊤
 StandBefore (member k d fs) ms = (stands_first k ms ≡ true) × StandBefore fs ms

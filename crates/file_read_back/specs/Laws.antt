@@ -1,4 +1,4 @@
--- That a machine is read back from what is written for it, and that texts tell its logs apart.
+-- That a machine is read back from what is written for it, and that texts determine its logs.
 use Rattle.std.specs.Prelude.{◌≡◌, ◌≤◌, ℕ, List, codes, true, false, bytes_eq, Some, None}
 use Rattle.serde_json.specs.Data.{Data}
 use Rattle.serde_json.specs.Find.{get}
@@ -27,15 +27,15 @@ pub record IsSecondOf (d e : Data) : Type 0 where
   pub members : has_only file_members e ≡ true
   pub others : (name : List ℕ) → bytes_eq name (codes "version") ≡ false → get name e ≡ get name d
 
--- where the first breaks no rule, the second breaks none and spells the same machine
+-- if the first breaks no rule, the second breaks none and spells the same machine
 abbrev pub AllVersionsAlike : Type 0
 AllVersionsAlike = (d e : Data) → IsSecondOf d e → first_broken d ≡ None → (first_broken e ≡ None) × (whole_machine e ≡ whole_machine d)
 
--- the names of each machine that a file spells are spelled as names are, and told apart
+-- the names of each machine that a file spells are spelled as names are, and different
 abbrev pub AllNamed : Type 0
 AllNamed = (m : Machine) → IsSpelled m → AreNamed m
 
--- two logs that fit a machine which a file spells are one log where they have one text
+-- two logs that fit a machine which a file spells are one log if they have one text
 abbrev pub TextsAreInjective : Type 0
 TextsAreInjective = (m : Machine) → IsSpelled m → (a b : Log) → IsWritable m a → IsWritable m b → text m a ≡ text m b → a ≡ b
 

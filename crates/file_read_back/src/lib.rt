@@ -1,10 +1,10 @@
-//! What is written for a machine is read back as that machine, and the texts of its logs tell them apart. No
+//! What is written for a machine is read back as that machine, and the texts of its logs distinguish them. No
 //! program is mentioned here: the laws are about the definitions that readers and writers of files and logs
 //! meet. `format_trials` tries files and logs both ways.
 //!
 //! Promises: The file that is written for a spelled machine is accepted and spells that machine; so is the
 //! file of every generated machine. Version 2 in place of version 1 spells the same machine. A spelled
-//! machine's names are told apart, so two logs that fit it and have one text are one log. By the clauses of
+//! machine's names are different, so two logs that fit it and have one text are one log. By the clauses of
 //! `machines_read_back`, `values_spell_again`, `generated_machines_read_back`, `versions_spell_alike`,
 //! `machines_are_named`, `log_texts_are_injective`.
 //!
@@ -30,8 +30,8 @@ pub fn machines_read_back()
     ensures { AllReadBack }
 {}
 
-/// The names of a machine that some file spells are spelled as names and told apart, as those who
-/// read its logs ask.
+/// The names of a machine that some file spells are spelled as names and different, as those who read its
+/// logs ask.
 pub fn machines_are_named()
     ensures { AllNamed }
 {}
