@@ -9,7 +9,7 @@ use Rattle.sleep_model.specs.declared.machine.Machine.{Machine}
 use Rattle.sleep_model.specs.declared.word.EventNow.{EventNow}
 use Rattle.sleep_model.specs.declared.progress.Work.{Work}
 use Rattle.sleep_model.specs.Autosleep.{work_after}
-use Rattle.sleep_model.specs.Numbers.{time_of, time_after}
+use Rattle.sleep_model.specs.Numbers.{time_after}
 use Rattle.autosleep_loop.specs.Autosleeps.{AutosleepState, autosleep_after}
 use Rattle.async_board.proofs.Agreement.{board_next}
 use Rattle.sleep_core.specs.Histories.{IsOfTask, guard_of, path_of, devices_of, board_of, tasks_of, freezer_of, autosleep_of, steps_of, syscore_of}
@@ -29,88 +29,66 @@ pub record Stays (m : Machine) (past : List Entry) (e : Entry) : Type 0 where
   pub platform : steps_of m past ≡ steps_of m (e ∷ past)
   pub syscore : syscore_of m past ≡ syscore_of m (e ∷ past)
 
--- the time, too, where a task sleeps
-pub record Passes (m : Machine) (past : List Entry) (e : Entry) : Type 0 where
-  pub time : time_of past ≡ time_of (e ∷ past)
-  pub stays : Stays m past e
-
-by_kind : (m : Machine) (past : List Entry) (time : ℕ) (now : EventNow) (who : Actor) (k : Kind) → IsOfTask k → Passes m past (entry_of time now who k)
+by_kind : (m : Machine) (past : List Entry) (time : ℕ) (now : EventNow) (who : Actor) (k : Kind) → IsOfTask k → Stays m past (entry_of time now who k)
 by_kind m past time now who (kind.Sleep until) h = record {
-  time = refl;
-  stays = record {
-    guard = refl;
-    path = refl;
-    devices = refl;
-    board = board_next m past (entry_of time now who (kind.Sleep until)) refl;
-    freezer = freezer_moves m (entry_of time now who (kind.Sleep until)) past;
-    platform = refl;
-    syscore = refl;
-  };
+  guard = refl;
+  path = refl;
+  devices = refl;
+  board = board_next m past (entry_of time now who (kind.Sleep until)) refl;
+  freezer = freezer_moves m (entry_of time now who (kind.Sleep until)) past;
+  platform = refl;
+  syscore = refl;
 }
 by_kind m past time now who (kind.SleepD until) h = record {
-  time = refl;
-  stays = record {
-    guard = refl;
-    path = refl;
-    devices = refl;
-    board = board_next m past (entry_of time now who (kind.SleepD until)) refl;
-    freezer = freezer_moves m (entry_of time now who (kind.SleepD until)) past;
-    platform = refl;
-    syscore = refl;
-  };
+  guard = refl;
+  path = refl;
+  devices = refl;
+  board = board_next m past (entry_of time now who (kind.SleepD until)) refl;
+  freezer = freezer_moves m (entry_of time now who (kind.SleepD until)) past;
+  platform = refl;
+  syscore = refl;
 }
 by_kind m past time now who kind.Slept h = record {
-  time = refl;
-  stays = record {
-    guard = refl;
-    path = refl;
-    devices = refl;
-    board = board_next m past (entry_of time now who kind.Slept) refl;
-    freezer = freezer_moves m (entry_of time now who kind.Slept) past;
-    platform = refl;
-    syscore = refl;
-  };
+  guard = refl;
+  path = refl;
+  devices = refl;
+  board = board_next m past (entry_of time now who kind.Slept) refl;
+  freezer = freezer_moves m (entry_of time now who kind.Slept) past;
+  platform = refl;
+  syscore = refl;
 }
 by_kind m past time now who kind.Pass h = record {
-  time = refl;
-  stays = record {
-    guard = refl;
-    path = refl;
-    devices = refl;
-    board = board_next m past (entry_of time now who kind.Pass) refl;
-    freezer = freezer_moves m (entry_of time now who kind.Pass) past;
-    platform = refl;
-    syscore = refl;
-  };
+  guard = refl;
+  path = refl;
+  devices = refl;
+  board = board_next m past (entry_of time now who kind.Pass) refl;
+  freezer = freezer_moves m (entry_of time now who kind.Pass) past;
+  platform = refl;
+  syscore = refl;
 }
 by_kind m past time now who (kind.Post mark) h = record {
-  time = refl;
-  stays = record {
-    guard = refl;
-    path = refl;
-    devices = refl;
-    board = board_next m past (entry_of time now who (kind.Post mark)) refl;
-    freezer = freezer_moves m (entry_of time now who (kind.Post mark)) past;
-    platform = refl;
-    syscore = refl;
-  };
+  guard = refl;
+  path = refl;
+  devices = refl;
+  board = board_next m past (entry_of time now who (kind.Post mark)) refl;
+  freezer = freezer_moves m (entry_of time now who (kind.Post mark)) past;
+  platform = refl;
+  syscore = refl;
 }
 by_kind m past time now who (kind.Got mark) h = record {
-  time = refl;
-  stays = record {
-    guard = refl;
-    path = refl;
-    devices = refl;
-    board = board_next m past (entry_of time now who (kind.Got mark)) refl;
-    freezer = freezer_moves m (entry_of time now who (kind.Got mark)) past;
-    platform = refl;
-    syscore = refl;
-  };
+  guard = refl;
+  path = refl;
+  devices = refl;
+  board = board_next m past (entry_of time now who (kind.Got mark)) refl;
+  freezer = freezer_moves m (entry_of time now who (kind.Got mark)) past;
+  platform = refl;
+  syscore = refl;
 }
 by_kind m past time now who k h = absurd h
 
-pub passes : (m : Machine) (past : List Entry) (e : Entry) → IsOfTask e.kind → Passes m past e
-passes m past e h = by_kind m past e.time e.now e.actor e.kind h
+-- by an entry by which a task sleeps
+pub stays : (m : Machine) (past : List Entry) (time : ℕ) (now : EventNow) (who : Actor) (k : Kind) → IsOfTask k → Stays m past (entry_of time now who k)
+stays m past time now who k h = by_kind m past time now who k h
 
 -- where time jumps, so do the tasks and the autosleep work
 pub record Jumps (m : Machine) (past : List Entry) (e : Entry) : Type 0 where

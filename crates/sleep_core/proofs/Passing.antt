@@ -14,7 +14,6 @@ use Rattle.sleep_model.specs.Autosleep.{work, work_after, work_step, is_queued, 
 use Rattle.sleep_model.specs.Freezer.{freezings}
 use Rattle.sleep_model.specs.Lock.{holder, is_on}
 use Rattle.sleep_model.specs.Marks.{raised}
-use Rattle.sleep_model.specs.Numbers.{time_of}
 use Rattle.sleep_model.specs.Positions.{Stays, first_position, positions, positions_after}
 use Rattle.async_board.proofs.Agreement.{board_next}
 use Rattle.async_board.specs.Boards.{board_after}
@@ -23,7 +22,6 @@ use Rattle.sleep_core.specs.Histories.{IsOfDevice, board_of, path_of, tasks_of, 
 -- such an entry moves its device, and each of these parts stands as before
 pub record Passes (m : Machine) (past : List Entry) (e : Entry) : Type 0 where
   pub board : board_after e.kind (board_of m past) ≡ board_of m (e ∷ past)
-  pub time : time_of past ≡ time_of (e ∷ past)
   pub path : path_of past ≡ path_of (e ∷ past)
   pub tasks : tasks_of m past ≡ tasks_of m (e ∷ past)
   pub freezer : freezer_of m past ≡ freezer_of m (e ∷ past)
@@ -58,7 +56,6 @@ autosleep_stays past who k same = ap (λ (w : Work). record { holder = holder pa
 by_kind : (m : Machine) (past : List Entry) (time : ℕ) (now : EventNow) (who : Actor) (k : Kind) → IsOfDevice k → Passes m past (entry_of time now who k)
 by_kind m past time now who (kind.Prepare d r) h = record {
   board = board_next m past (entry_of time now who (kind.Prepare d r)) refl;
-  time = refl;
   path = refl;
   tasks = tasks_stay m past who;
   freezer = freezer_stays m past who;
@@ -68,7 +65,6 @@ by_kind m past time now who (kind.Prepare d r) h = record {
 }
 by_kind m past time now who (kind.Complete d) h = record {
   board = board_next m past (entry_of time now who (kind.Complete d)) refl;
-  time = refl;
   path = refl;
   tasks = tasks_stay m past who;
   freezer = freezer_stays m past who;
@@ -78,7 +74,6 @@ by_kind m past time now who (kind.Complete d) h = record {
 }
 by_kind m past time now who (kind.Schedule p d) h = record {
   board = board_next m past (entry_of time now who (kind.Schedule p d)) refl;
-  time = refl;
   path = refl;
   tasks = tasks_stay m past who;
   freezer = freezer_stays m past who;
@@ -88,7 +83,6 @@ by_kind m past time now who (kind.Schedule p d) h = record {
 }
 by_kind m past time now who (kind.Begin p d) h = record {
   board = board_next m past (entry_of time now who (kind.Begin p d)) refl;
-  time = refl;
   path = refl;
   tasks = tasks_stay m past who;
   freezer = freezer_stays m past who;
@@ -98,7 +92,6 @@ by_kind m past time now who (kind.Begin p d) h = record {
 }
 by_kind m past time now who (kind.End p d r) h = record {
   board = board_next m past (entry_of time now who (kind.End p d r)) refl;
-  time = refl;
   path = refl;
   tasks = tasks_stay m past who;
   freezer = freezer_stays m past who;
@@ -108,7 +101,6 @@ by_kind m past time now who (kind.End p d r) h = record {
 }
 by_kind m past time now who (kind.Skip p d cause) h = record {
   board = board_next m past (entry_of time now who (kind.Skip p d cause)) refl;
-  time = refl;
   path = refl;
   tasks = tasks_stay m past who;
   freezer = freezer_stays m past who;
@@ -118,5 +110,5 @@ by_kind m past time now who (kind.Skip p d cause) h = record {
 }
 by_kind m past time now who k h = absurd h
 
-pub passes : (m : Machine) (past : List Entry) (e : Entry) → IsOfDevice e.kind → Passes m past e
-passes m past e h = by_kind m past e.time e.now e.actor e.kind h
+pub passes : (m : Machine) (past : List Entry) (time : ℕ) (now : EventNow) (who : Actor) (k : Kind) → IsOfDevice k → Passes m past (entry_of time now who k)
+passes m past time now who k h = by_kind m past time now who k h

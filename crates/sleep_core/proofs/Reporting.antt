@@ -6,6 +6,8 @@ use Rattle.sleep_model.specs.declared.entry.Actor.{Actor}
 use Rattle.sleep_model.specs.declared.entry.Actor.TheVariants as actor
 use Rattle.sleep_model.specs.declared.entry.Entry.{Entry}
 use Rattle.sleep_model.specs.declared.entry.JournalEntry.{JournalEntry}
+use Rattle.sleep_model.specs.declared.entry.Kind.{Kind}
+use Rattle.sleep_model.specs.declared.entry.Kind.TheVariants as kind
 use Rattle.sleep_model.specs.declared.machine.Answer.{Answer}
 use Rattle.sleep_model.specs.declared.machine.Machine.{Machine}
 use Rattle.sleep_model.specs.declared.machine.What.{What}
@@ -16,8 +18,9 @@ use Rattle.sleep_model.specs.Path.{attempts, is_same}
 use Rattle.fit_laws.proofs.Planning.{reports_made, calls_counted}
 use Rattle.sleep_state.specs.JournalRooms.{entries}
 use Rattle.sleep_core.specs.Cores.{IsActor}
-use Rattle.sleep_core.specs.Histories.{HistoryState, after_entry}
+use Rattle.sleep_core.specs.Histories.{HistoryState, IsOfNone, after_entry}
 use Rattle.sleep_core.specs.Reports.{ReportCounts, reported_by, grown_at, counts_after, counts_of}
+use Rattle.sleep_core.proofs.Growing.{none_more}
 
 -- ---- a number that grows
 
@@ -136,3 +139,15 @@ pub counts_more : (h reserved new : HistoryState) (j : JournalEntry) → reserve
 counts_more h reserved new j machine past new_is =
     ap (λ (k : HistoryState). counts_of k.machine (entries k.past)) new_is
     ∙ (ap (λ (m : Machine). counts_of m (entries (j ∷ reserved.past))) machine ∙ ap (λ (xs : List JournalEntry). counts_of h.machine (entries (j ∷ xs))) past)
+
+-- one of no device reports nothing
+none_reported : (m : Machine) (n : ℕ) (k : Kind) → IsOfNone k → length (report_calls m n k) ≡ 0
+none_reported m n (kind.Begin p d) h = absurd h
+none_reported m n _ h = refl
+
+pub counts_same : (h reserved new : HistoryState) (j : JournalEntry) → IsOfNone j.entry.kind → reserved.machine ≡ h.machine → reserved.past ≡ h.past → new ≡ after_entry reserved j
+    → counts_of new.machine (entries new.past) ≡ counts_of h.machine (entries h.past)
+counts_same h reserved new j other machine past new_is =
+    counts_more h reserved new j machine past new_is
+    ∙ (ap (λ n. counts_after j.entry.actor n (counts_of h.machine (entries h.past))) (none_reported h.machine (attempts (entries h.past)) j.entry.kind other)
+    ∙ none_more j.entry.actor (counts_of h.machine (entries h.past)))

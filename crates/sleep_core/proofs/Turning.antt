@@ -33,7 +33,7 @@ use Rattle.attempt_laws.proofs.Needing.{none_needed, due_own_spends, due_attempt
 use Rattle.sleep_state.specs.JournalRooms.{entries}
 use Rattle.sleep_core.specs.CoreFields.{SleptEarly, FrozeEarly, IsCore}
 use Rattle.sleep_core.specs.Cores.{CoreState, IsActor}
-use Rattle.sleep_core.specs.Histories.{HistoryState, Admits, HasRoom, room_for, after_entry}
+use Rattle.sleep_core.specs.Histories.{HistoryState, Admits, HasRoom, IsOfDevice, room_for, after_entry}
 use Rattle.sleep_core.specs.Numbered.{Leaves, IsCounted}
 
 -- ---- what is due is of the journal
@@ -187,8 +187,8 @@ core_seen h reserved new machine past same =
     ap (λ (k : HistoryState). seen_core k.machine k.past) same ∙ (ap (λ m. seen_core m reserved.past) machine ∙ ap (seen_core h.machine) past)
 
 -- the core after an entry that was due, in the room that was made for it
-pub core_more : (h reserved new : HistoryState) (j : JournalEntry) (own : Bool) → IsCore h → IsActor h.machine j.entry.actor → due h.machine (entries h.past) j.entry.actor j.entry.now ≡ Makes j.entry.kind → j.entry.time ≡ time_of (entries h.past) → Leaves h.machine j.entry.kind (entries h.past) → own ≡ (is_actor j.entry.actor (maker (entries h.past)) || is_device j.entry.actor) → HasRoom own j.entry.kind h reserved → new ≡ after_entry reserved j → IsCore new
-core_more h reserved new j own core is makes at leaves own_is has new_is =
+pub core_more : (h reserved new : HistoryState) (j : JournalEntry) (own : Bool) → IsCore h → IsActor h.machine j.entry.actor → due h.machine (entries h.past) j.entry.actor j.entry.now ≡ Makes j.entry.kind → j.entry.time ≡ time_of (entries h.past) → attempts_after j.entry.kind (attempts (entries h.past)) + 1 < 2 ^ 32 → own ≡ (is_actor j.entry.actor (maker (entries h.past)) || is_device j.entry.actor) → HasRoom own j.entry.kind h reserved → new ≡ after_entry reserved j → IsCore new
+core_more h reserved new j own core is makes at few own_is has new_is =
     let m = h.machine in
     let past = entries h.past in
     let suffices = room_suffices m past core.legal core.accepted j.entry h.room reserved.room makes core.room own own_is has.own_room has.other_room in
@@ -199,7 +199,7 @@ core_more h reserved new j own core is makes at leaves own_is has new_is =
       accepted = core.accepted;
       legal = legal_more m past core.legal j.entry is makes at;
       room = omega (arith, suffices.rest);
-      few = leaves.attempts;
+      few = few;
       early = time_early j.entry.kind j.entry.time (time_of past) early core.early;
       slept = slept_after j.entry.kind (position j.entry.now) j.entry.time (sleep_of past) early core.slept;
       froze = froze_after j.entry.kind j.entry.time (freeze_since past) early core.froze;
@@ -220,6 +220,56 @@ admits_more h reserved e own core makes leaves own_is has short =
       marks = subst (λ (xs : List JournalEntry). MarksAreSmall e.kind (raised (length reserved.machine.marks) (entries xs))) (sym has.past)
           (subst (λ (x : Machine). MarksAreSmall e.kind (raised (length x.marks) past)) (sym has.machine) leaves.marks);
     }
+
+-- ---- entries of devices
+
+step_of_none : (m : Machine) (past : List Entry) (now : EventNow) (script_position : _) (asked : Bool) (o : _) (k : Kind) → StepMade m past now script_position asked o k → IsOfDevice k → ⊥
+step_of_none m past now script_position asked _ _ StepMade.Exits h = h
+step_of_none m past now script_position asked _ _ _ h = h
+
+task_of_none : (m : Machine) (past : List Entry) (now : EventNow) (i : ℕ) (k : Kind) → TaskMade m past now i k → IsOfDevice k → ⊥
+task_of_none m past now i _ (TaskMade.Freezes s may asked) h = h
+task_of_none m past now i k (TaskMade.Steps s _ o may at x) h = step_of_none m past now _ _ o k x h
+
+work_of_none : (m : Machine) (past : List Entry) (now : EventNow) (w : _) (k : Kind) → WorkMade m past now w k → IsOfDevice k → ⊥
+work_of_none m past now _ _ WorkMade.Runs h = h
+work_of_none m past now _ _ _ h = h
+
+or_device : (b : Bool) → (b || true) ≡ true
+or_device true = refl
+or_device false = refl
+
+entry_own : (m : Machine) (past : List Entry) (now : EventNow) (who : Actor) (k : Kind) → EntryMade m past now who k → IsOfDevice k → (is_actor who (maker past) || is_device who) ≡ true
+entry_own m past now who k (ByMaker _ here there _ maker at comes x) h = ap (λ (b : Bool). b || is_device who) maker
+entry_own m past now _ k (ByTask i _ not x) h = absurd (task_of_none m past now i k x h)
+entry_own m past now _ k (ByWork w _ not awake goes at x) h = absurd (work_of_none m past now w k x h)
+entry_own m past now _ k (ByDevice d _ not x) h = or_device (is_actor (actor.Dev d) (maker past))
+entry_own m past now _ _ ByTime h = absurd h
+
+-- an entry of a device is the maker's or a device's
+device_own : (m : Machine) (past : List Entry) (now : EventNow) (who : Actor) (k : Kind) → due m past who now ≡ Makes k → IsOfDevice k → true ≡ (is_actor who (maker past) || is_device who)
+device_own m past now who k makes h = sym (entry_own m past now who k (made m past now who k makes) h)
+
+-- and begins no attempt
+attempts_stay : (k : Kind) (n : ℕ) → IsOfDevice k → attempts_after k n ≡ n
+attempts_stay (kind.Prepare d r) n h = refl
+attempts_stay (kind.Complete d) n h = refl
+attempts_stay (kind.Schedule p d) n h = refl
+attempts_stay (kind.Begin p d) n h = refl
+attempts_stay (kind.End p d r) n h = refl
+attempts_stay (kind.Skip p d cause) n h = refl
+attempts_stay k n h = absurd h
+
+-- it has its place
+pub device_room : (h : HistoryState) (e : Entry) → IsCore h → due h.machine (entries h.past) e.actor e.now ≡ Makes e.kind → IsOfDevice e.kind → 0 < h.room
+device_room h e core makes of_device =
+    (room_suffices h.machine (entries h.past) core.legal core.accepted e h.room h.room makes core.room true (device_own h.machine (entries h.past) e.now e.actor e.kind makes of_device) (λ own. refl) (λ other. absurd (false≢true (sym other)))).place
+
+-- the core after it
+pub core_device : (h new : HistoryState) (j : JournalEntry) → IsCore h → IsActor h.machine j.entry.actor → due h.machine (entries h.past) j.entry.actor j.entry.now ≡ Makes j.entry.kind → j.entry.time ≡ time_of (entries h.past) → IsOfDevice j.entry.kind → new ≡ after_entry h j → IsCore new
+core_device h new j core is makes at of_device new_is =
+    core_more h h new j true core is makes at (subst (λ (n : ℕ). n + 1 < 2 ^ 32) (sym (attempts_stay j.entry.kind (attempts (entries h.past)) of_device)) core.few) (device_own h.machine (entries h.past) j.entry.now j.entry.actor j.entry.kind makes of_device)
+    (record { machine = refl; past = refl; grows = omega arith; own_room = λ own. refl; other_room = λ other. absurd (false≢true (sym other)) }) new_is
 
 -- ---- jumps of time
 

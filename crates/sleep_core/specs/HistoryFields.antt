@@ -4,7 +4,8 @@ use Rattle.sleep_model.specs.Numbers.{time_of}
 use Rattle.attempt_laws.specs.Room.{enough}
 use Rattle.sleep_state.specs.JournalRooms.{entries}
 use Rattle.sleep_core.specs.declared.history.History.TheInside.{Inside}
-use Rattle.sleep_core.specs.Histories.{HistoryState, last_stamp, guard_of, path_of, devices_of, board_of, tasks_of, freezer_of, autosleep_of, steps_of, syscore_of}
+use Rattle.sleep_core.specs.Components.{AreRead}
+use Rattle.sleep_core.specs.Histories.{HistoryState, last_stamp}
 
 -- the history as contracts see it
 abbrev pub history_seen : Inside → HistoryState
@@ -16,12 +17,4 @@ pub record IsHistory (h : Inside) : Type 0 where
   pub small : enough h.machine.now < 2 ^ 32
   pub last_is : h.last ≡ last_stamp h.journal.past
   pub time_is : h.time ≡ time_of (entries h.journal.past)
-  pub guard_is : h.guard ≡ guard_of (entries h.journal.past)
-  pub path_is : h.path ≡ path_of (entries h.journal.past)
-  pub devices_is : h.devices ≡ devices_of h.machine.now (entries h.journal.past)
-  pub board_is : h.board ≡ board_of h.machine.now (entries h.journal.past)
-  pub tasks_is : h.tasks ≡ tasks_of h.machine.now (entries h.journal.past)
-  pub freezer_is : h.freezer ≡ freezer_of h.machine.now (entries h.journal.past)
-  pub autosleep_is : h.autosleep ≡ autosleep_of (entries h.journal.past)
-  pub platform_is : h.platform ≡ steps_of h.machine.now (entries h.journal.past)
-  pub syscore_is : h.syscore ≡ syscore_of h.machine.now (entries h.journal.past)
+  pub components_are : AreRead h.machine.now (entries h.journal.past) h.components

@@ -1,6 +1,6 @@
+pub mod Components
 pub mod CoreFields
 pub mod Cores
-pub mod FirstParts
 pub mod Histories
 pub mod HistoryFields
 pub mod Numbered

@@ -4,7 +4,7 @@ ghost use Rattle.std.specs.Prelude.{◌≡◌, ◌≤◌, ◌^◌};
 ghost use Rattle.sleep_model.specs.declared.progress.Due.TheVariants.{Makes};
 ghost use Rattle.sleep_model.specs.declared.entry.Kind.TheVariants as kind;
 ghost use Rattle.sleep_model.specs.declared.machine.What.TheVariants as what;
-ghost use Rattle.sleep_model.specs.Attempt.{answered, freeze_since, sleep_of, freeze_due, froze_due, wakes_due, enter_due, if_left, cpu_kind, busy_error, stage_due, stage_or_next, due_at, attempt_due};
+ghost use Rattle.sleep_model.specs.Attempt.{answered, freeze_since, sleep_of, freeze_due, froze_due, wakes_due, enter_due, if_left, cpu_kind, busy_error, stage_due, stage_or_next, due_at};
 ghost use Rattle.sleep_model.specs.Freezer.{left};
 ghost use Rattle.sleep_model.specs.Guard.{pending};
 ghost use Rattle.sleep_model.specs.Notifiers.{next_called, next_posted, next_cpu_off, next_cpu_on, next_stopped, next_started};
@@ -194,29 +194,13 @@ impl<'m> Core<'m> {
 
     /// What is made at a stage, or else at the one after it.
     #[inline(never)]
-    fn stage_or_next(&self, now: EventNow, stage: Stage) -> Due
+    pub(crate) fn stage_or_next(&self, now: EventNow, stage: Stage) -> Due
         requires { IsProper stage }
         ensures { result ≡ stage_or_next self.now.machine (entries self.now.past) now stage }
     {
         match self.stage_due(now, stage) {
             Due::Nothing => self.stage_due(now, next_stage(stage)),
             due => due,
-        }
-    }
-
-    /// What the maker of the open attempt makes next. A walk over devices always has something to do, or
-    /// waits, so that the stage after it is not asked.
-    #[inline(always)]
-    pub(crate) fn attempt_due(&self, now: EventNow) -> Due
-        ensures { result ≡ attempt_due self.now.machine (entries self.now.past) now }
-    {
-        match self.stage() {
-            None => Due::Nothing,
-            Some(Stage::Downs(p)) => self.down_due(now, p),
-            Some(Stage::Ups(p)) => self.up_due(p),
-            Some(Stage::Prepares) => self.prepare_due(),
-            Some(Stage::Completes) => self.complete_due(),
-            Some(stage) => self.stage_or_next(now, stage),
         }
     }
 }

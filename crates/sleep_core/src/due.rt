@@ -7,7 +7,7 @@ ghost use Rattle.sleep_state.specs.JournalRooms.{entries};
 ghost use Rattle.sleep_core.specs.Cores.{IsActor};
 
 use crate::state::Core;
-use sleep_model::{Actor, Due, EventNow};
+use sleep_model::{Actor, Due, EventNow, Stage};
 
 impl<'m> Core<'m> {
     /// What is due of an actor that makes no attempt.
@@ -24,17 +24,24 @@ impl<'m> Core<'m> {
         }
     }
 
-    /// What is due of an actor that sees this word, and that makes the open attempt or not.
+    /// What is due of an actor that sees this word, and that makes the open attempt or not. A walk over devices always
+    /// has something to do, or waits, so that the stage after it is not asked.
     #[inline(always)]
     pub(crate) fn due_of(&self, makes: bool, who: Actor, now: EventNow) -> Due
         requires makes { makes ≡ is_actor who (maker (entries self.now.past)) }
         requires actor { IsActor self.now.machine who }
         ensures { result ≡ due self.now.machine (entries self.now.past) who now }
     {
-        if makes {
-            self.attempt_due(now)
-        } else {
-            self.own_due(who, now)
+        if !makes {
+            return self.own_due(who, now);
+        }
+        match self.stage() {
+            None => Due::Nothing,
+            Some(Stage::Downs(p)) => self.down_due(now, p),
+            Some(Stage::Ups(p)) => self.up_due(p),
+            Some(Stage::Prepares) => self.prepare_due(),
+            Some(Stage::Completes) => self.complete_due(),
+            Some(stage) => self.stage_or_next(now, stage),
         }
     }
 

@@ -1,22 +1,12 @@
-ghost use Rattle.std.specs.Prelude.{◌≡◌, ◌<◌, ◌^◌, map, IfOk, OnOk, OnErr};
-ghost use Rattle.sleep_model.specs.Runtime.{is_async};
-ghost use Rattle.async_board.specs.Boards.{first_board};
-ghost use Rattle.sleep_model.specs.Accepted.{IsAccepted};
-ghost use Rattle.sleep_core.specs.FirstParts.{AreFirst};
-ghost use Rattle.sleep_model.specs.Autosleep.{runs_after};
-ghost use Rattle.autosleep_loop.specs.Autosleeps.{autosleep_after};
-ghost use Rattle.sleep_core.specs.Histories.{moved_board, IsOfDevice, IsOfNone, IsOfTask};
-ghost use Rattle.sleep_core.specs.Numbered.{IsCounted};
-ghost use Rattle.wakeup_guard.specs.Guarded.{guarded_after};
+ghost use Rattle.std.specs.Prelude.{◌≡◌};
 
+use crate::components::Components;
 use async_board::Board;
 use autosleep_loop::Autosleep;
 use device_links::Links;
 use platform_steps::Platform;
-use sleep_base::{Mem, lost};
-use sleep_model::{
-    Actor, Device, DeviceFlags, Entry, EventNow, Journal, JournalEntry, Kind, Machine, Stamp, pos,
-};
+use sleep_base::Mem;
+use sleep_model::{Actor, Entry, EventNow, Journal, JournalEntry, Kind, Machine, Stamp};
 use sleep_state::{Devices, Path, Tasks};
 use std::alloc::{AllocError, Global};
 use std::marker::Model;
@@ -31,15 +21,7 @@ pub struct History<'m> {
     journal: Journal,
     last: Stamp,
     time: u64,
-    guard: Guard<24>,
-    path: Path,
-    devices: Devices,
-    board: Board,
-    tasks: Tasks,
-    freezer: Freezer<'m>,
-    autosleep: Autosleep,
-    platform: Platform,
-    syscore: Syscore,
+    components: Components<'m>,
 }
 
 impl<'m> Model for History<'m> {
@@ -54,74 +36,6 @@ impl<'m> Model for History<'m> {
     ghost invariant = { IsHistory };
 }
 
-/// Which devices are asynchronous.
-fn asynchronous(alloc: Global, devices: &[Device]) -> Result<Vec<bool>, Mem>
-    ensures { IfOk result (λ v. v.items ≡ map is_async devices.now) }
-{
-    let mut asynchronous = Vec::with_capacity(alloc, devices.len())?;
-    for device in devices {
-        asynchronous.push(device.flags.has(DeviceFlags::ASYNC))?;
-    }
-    Ok(asynchronous)
-}
-
-/// The board of these devices and links, on which nobody is prepared.
-fn first_board(alloc: Global, devices: &[Device], links: Links) -> Result<Board, Mem>
-    ensures { IfOk result (λ b. b ≡ first_board links.parents links.links (map is_async devices.now)) }
-{
-    let asynchronous = asynchronous(alloc, devices)?;
-    Board::wired(alloc, links, asynchronous)
-}
-
-/// An entry that is of no device moves the board where it changes links: it begins anew. `Mem` if there is
-/// no memory for a link more; nothing has changed then.
-fn move_links(board: &mut Board, kind: Kind) -> Result<(), Mem>
-    requires { IsOfNone kind }
-    ensures ok { OnOk result (board.new ≡ moved_board kind board.old) }
-    ensures err { OnErr result (IsCounted kind × (board.new ≡ board.old)) }
-{
-    match kind {
-        Kind::LinkAdd {
-            supplier,
-            consumer,
-            r: None,
-        } => board.add_link(supplier, consumer),
-        Kind::LinkState {
-            supplier,
-            consumer,
-            active,
-            r: None,
-        } => board.set_link(supplier, consumer, active),
-        _ => Ok(()),
-    }
-}
-
-/// The guard takes down an entry that is of a device: it knows skips alone, which may drop the count in force.
-#[inline(always)]
-fn move_guard(guard: &mut Guard<24>, kind: Kind, now: EventNow)
-    requires { IsOfDevice kind }
-    ensures { guard.new ≡ guarded_after 24 kind now guard.old }
-{
-    match kind {
-        Kind::Skip(phase, device, cause) => guard.note(Kind::Skip(phase, device, cause), now),
-        _ => {}
-    }
-}
-
-/// The autosleep work takes down its own sleeps alone.
-#[inline(always)]
-#[tactic(auto, using(crate::proofs::Parting::work_stays))]
-fn move_work(autosleep: &mut Autosleep, kind: Kind, actor: Actor)
-    requires task { IsOfTask kind }
-    requires runs { runs_after kind autosleep.old.runs < 2 ^ 32 }
-    ensures { autosleep.new ≡ autosleep_after kind actor autosleep.old }
-{
-    match actor {
-        Actor::Auto => autosleep.note(kind, actor),
-        _ => {}
-    }
-}
-
 /// An entry of that time, in ms, with its stamp.
 #[inline(always)]
 fn made_at(time: u64, stamp: Stamp, now: EventNow, actor: Actor, kind: Kind) -> JournalEntry
@@ -134,45 +48,6 @@ fn made_at(time: u64, stamp: Stamp, now: EventNow, actor: Actor, kind: Kind) -> 
         kind,
     };
     JournalEntry { stamp, entry }
-}
-
-/// The parts that take memory, but for the board.
-#[derive(Drop)]
-struct Components<'m> {
-    devices: Devices,
-    tasks: Tasks,
-    freezer: Freezer<'m>,
-    platform: Platform,
-    syscore: Syscore,
-}
-
-impl<'m> Components<'m> {
-    /// The parts of a machine before any entry. `Mem` if there is no memory.
-    fn new(alloc: Global, machine: &'m Machine) -> Result<Self, Mem>
-        requires { IsAccepted machine.now }
-        ensures { IfOk result (AreFirst machine.now) }
-    {
-        let syscore = Syscore::new(alloc, machine.syscore.len() as u32)?;
-        let Ok(platform) = Platform::new(alloc, machine) else {
-            return Err(lost(syscore));
-        };
-        let Ok(freezer) = Freezer::new(alloc, machine.actors.as_slice()) else {
-            return Err(lost((syscore, platform)));
-        };
-        let Ok(tasks) = Tasks::new(alloc, machine.actors.len(), machine.marks.len()) else {
-            return Err(lost((syscore, platform, freezer)));
-        };
-        let Ok(devices) = Devices::new(alloc, machine.devices.as_slice()) else {
-            return Err(lost((syscore, platform, freezer, tasks)));
-        };
-        Ok(Components {
-            devices,
-            tasks,
-            freezer,
-            platform,
-            syscore,
-        })
-    }
 }
 
 impl<'m> History<'m> {
@@ -190,59 +65,24 @@ impl<'m> History<'m> {
     ghost use Rattle.sleep_core.specs.Numbered.{IsCounted};
     ghost use Rattle.sleep_core.specs.Histories.{Admits, Settles, IsOfDevice, IsOfNone, IsOfTask, after_entry, entry_now, after_made, room_for, HasRoom, last_stamp, guard_of, path_of, devices_of, board_of, tasks_of, freezer_of, autosleep_of, steps_of, syscore_of};
 
-    /// The empty journal of a machine, and its parts before any entry.
-    fn of_components(
-        machine: &'m Machine,
-        journal: Journal,
-        components: Components<'m>,
-        board: Board,
-    ) -> Self
-        requires accepted { IsAccepted machine.now }
-        requires journal { journal ≡ record { past = []; room = 0 } }
-        requires components { AreFirst machine.now components }
-        requires board { board ≡ first_board (parents_of machine.now.devices) (reverse machine.now.links) (map is_async machine.now.devices) }
-        ensures { result ≡ record { machine = machine.now; past = []; room = 0 } }
-    {
-        let Components {
-            devices,
-            tasks,
-            freezer,
-            platform,
-            syscore,
-        } = components;
-        History {
-            machine,
-            journal,
-            last: Stamp { pos: 0, tick: 0 },
-            time: 0,
-            guard: Guard::new(),
-            path: Path::new(),
-            devices,
-            board,
-            tasks,
-            freezer,
-            autosleep: Autosleep::new(),
-            platform,
-            syscore,
-        }
-    }
-
     /// The empty journal of a machine, whose links these are. `Mem` if there is no memory.
     pub fn new(alloc: Global, machine: &'m Machine, links: Links) -> Result<Self, Mem>
         requires accepted { IsAccepted machine.now }
         requires links { links ≡ record { parents = parents_of machine.now.devices; links = reverse machine.now.links } }
         ensures { IfOk result (λ h. h ≡ record { machine = machine.now; past = []; room = 0 }) }
     {
-        let board = first_board(alloc, machine.devices.as_slice(), links)?;
-        let Ok(components) = Components::new(alloc, machine) else {
-            return Err(lost(board));
-        };
-        let journal = Journal::new(alloc);
-        Ok(History::of_components(machine, journal, components, board))
+        let components = Components::new(alloc, machine, links)?;
+        Ok(History {
+            machine,
+            journal: Journal::new(alloc),
+            last: Stamp { pos: 0, tick: 0 },
+            time: 0,
+            components,
+        })
     }
 
-    /// Appends an entry in a reserved place. `Mem` if it adds a link, for which there is no memory; nothing
-    /// has changed then.
+    /// Appends an entry that is of no device, in a reserved place. `Mem` if it adds a link, for which there is no memory;
+    /// nothing has changed then.
     #[inline(always)]
     pub fn append(
         &mut self,
@@ -251,21 +91,13 @@ impl<'m> History<'m> {
         actor: Actor,
         kind: Kind,
     ) -> Result<(), Mem>
+        requires other { IsOfNone kind }
         requires admits { Admits self.old (entry_now self.old now actor kind) }
         requires board { Settles self.old.machine (entries self.old.past) (entry_now self.old now actor kind) }
         ensures ok { OnOk result (self.new ≡ after_made self.old stamp now actor kind) }
         ensures err { OnErr result (IsCounted kind × (self.new ≡ self.old)) }
     {
         match kind {
-            Kind::Prepare { .. }
-            | Kind::Complete(_)
-            | Kind::Schedule(..)
-            | Kind::Begin(..)
-            | Kind::End(..)
-            | Kind::Skip(..) => {
-                self.append_device(stamp, now, actor, kind);
-                Ok(())
-            }
             Kind::Sleep(_)
             | Kind::SleepD(_)
             | Kind::Slept
@@ -275,36 +107,31 @@ impl<'m> History<'m> {
                 self.append_task(stamp, now, actor, kind);
                 Ok(())
             }
-            _ => self.append_other(stamp, now, actor, kind),
+            other => self.append_other(stamp, now, actor, other),
         }
     }
 
-    /// Appends an entry that is of a device. It concerns the board, what the phases of devices keep, and the
-    /// count in force, which a skip may drop; the other parts know no such entry.
+    /// Appends an entry that is of a device.
     #[inline(always)]
-    fn append_device(&mut self, stamp: Stamp, now: EventNow, actor: Actor, kind: Kind)
+    pub fn append_device(&mut self, stamp: Stamp, now: EventNow, actor: Actor, kind: Kind)
         requires room { 0 < self.old.room }
         requires device { IsOfDevice kind }
         ensures { self.new ≡ after_made self.old stamp now actor kind }
     {
-        self.board.note(kind);
-        move_guard(&mut self.guard, kind, now);
-        self.devices.note(kind, actor);
+        self.components.note_device(now, actor, kind);
         self.last = stamp;
         self.journal
             .put(made_at(self.time, stamp, now, actor, kind));
     }
 
     /// Appends an entry by which a task, or the autosleep work, sleeps, has slept, passes, or posts or takes a mark.
-    /// It concerns where that task or the work stands, and the marks; the other parts know no such entry.
     #[inline(always)]
     fn append_task(&mut self, stamp: Stamp, now: EventNow, actor: Actor, kind: Kind)
         requires task { IsOfTask kind }
         requires admits { Admits self.old (entry_now self.old now actor kind) }
         ensures { self.new ≡ after_made self.old stamp now actor kind }
     {
-        self.tasks.note(actor, kind);
-        move_work(&mut self.autosleep, kind, actor);
+        self.components.note_task(now, actor, kind);
         self.last = stamp;
         self.journal
             .put(made_at(self.time, stamp, now, actor, kind));
@@ -324,8 +151,8 @@ impl<'m> History<'m> {
             .put(made_at(to, stamp, seen, Actor::Time, Kind::Jump));
     }
 
-    /// Appends an entry that is of no device. `Mem` if it adds a link, for which there is no memory; nothing
-    /// has changed then.
+    /// Appends an entry that is of neither. `Mem` if it adds a link, for which there is no memory; nothing has changed
+    /// then.
     #[inline(never)]
     fn append_other(
         &mut self,
@@ -340,18 +167,15 @@ impl<'m> History<'m> {
         ensures ok { OnOk result (self.new ≡ after_made self.old stamp now actor kind) }
         ensures err { OnErr result (IsCounted kind × (self.new ≡ self.old)) }
     {
-        move_links(&mut self.board, kind)?;
-        self.guard.note(kind, now);
-        self.path.note(kind, actor, pos(now), self.time);
-        self.devices.note(kind, actor);
-        self.tasks.note(actor, kind);
-        self.freezer.note(actor, kind);
-        self.autosleep.note(kind, actor);
-        self.platform.note(kind);
-        self.syscore.note(kind);
+        let entry = Entry {
+            time: self.time,
+            now,
+            actor,
+            kind,
+        };
+        self.components.note_other(entry)?;
         self.last = stamp;
-        self.journal
-            .put(made_at(self.time, stamp, now, actor, kind));
+        self.journal.put(JournalEntry { stamp, entry });
         Ok(())
     }
 
@@ -383,7 +207,7 @@ impl<'m> History<'m> {
     {
         match kind {
             Kind::Attempt { .. } => self.attempt_room(),
-            _ if self.path.maker().is_none() => 1,
+            _ if self.components.path.maker().is_none() => 1,
             _ => self.journal.room() + 1,
         }
     }
@@ -434,63 +258,63 @@ impl<'m> History<'m> {
     pub fn guard(&self) -> &Guard<24>
         ensures { result.now ≡ guard_of (entries self.now.past) }
     {
-        &self.guard
+        &self.components.guard
     }
 
     /// Where the open attempt stands.
     pub fn path(&self) -> &Path
         ensures { result.now ≡ path_of (entries self.now.past) }
     {
-        &self.path
+        &self.components.path
     }
 
     /// What the phases of devices keep.
     pub fn devices(&self) -> &Devices
         ensures { result.now ≡ devices_of self.now.machine (entries self.now.past) }
     {
-        &self.devices
+        &self.components.devices
     }
 
     /// Where each device stands.
     pub fn board(&self) -> &Board
         ensures { result.now ≡ board_of self.now.machine (entries self.now.past) }
     {
-        &self.board
+        &self.components.board
     }
 
     /// Where each script stands.
     pub fn tasks(&self) -> &Tasks
         ensures { result.now ≡ tasks_of self.now.machine (entries self.now.past) }
     {
-        &self.tasks
+        &self.components.tasks
     }
 
     /// What the freezer has come to with each script.
     pub fn freezer(&self) -> &Freezer<'m>
         ensures { result.now ≡ freezer_of self.now.machine (entries self.now.past) }
     {
-        &self.freezer
+        &self.components.freezer
     }
 
     /// The autosleep lock, its setting, and the work.
     pub fn autosleep(&self) -> &Autosleep
         ensures { result.now ≡ autosleep_of (entries self.now.past) }
     {
-        &self.autosleep
+        &self.components.autosleep
     }
 
     /// The notifiers and the other processors.
     pub fn platform(&self) -> &Platform
         ensures { result.now ≡ steps_of self.now.machine (entries self.now.past) }
     {
-        &self.platform
+        &self.components.platform
     }
 
     /// The core's parts.
     pub fn syscore(&self) -> &Syscore
         ensures { result.now ≡ syscore_of self.now.machine (entries self.now.past) }
     {
-        &self.syscore
+        &self.components.syscore
     }
 
     /// How many places are reserved.
@@ -507,21 +331,10 @@ impl<'m> History<'m> {
     {
         let History {
             journal,
-            guard,
-            path,
-            devices,
-            board,
-            tasks,
-            freezer,
-            autosleep,
-            platform,
-            syscore,
+            components,
             ..
         } = self;
-        // As one value: a proof that follows each part's end takes long.
-        drop((
-            guard, path, devices, board, tasks, freezer, autosleep, platform, syscore,
-        ));
+        drop(components);
         journal
     }
 }

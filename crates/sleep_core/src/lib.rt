@@ -11,6 +11,7 @@
 
 mod attempt;
 mod auto;
+mod components;
 mod due;
 mod history;
 mod linking;

@@ -16,7 +16,7 @@ ghost use Rattle.sleep_state.specs.TaskStates.{MarksAreSmall};
 ghost use Rattle.sleep_model.specs.Word.{position};
 ghost use Rattle.sleep_state.specs.JournalRooms.{entries};
 ghost use Rattle.sleep_core.specs.Cores.{IsActor, with_entry, next_stamp, jump_entry};
-ghost use Rattle.sleep_core.specs.Histories.{last_stamp};
+ghost use Rattle.sleep_core.specs.Histories.{IsOfDevice, IsOfNone, last_stamp};
 ghost use Rattle.event_word.specs.Looks.{IsShown, GrewTo};
 ghost use Rattle.sleep_core.specs.Numbered.{Leaves, IsCounted};
 ghost use Rattle.sleep_core.specs.Turned.{AfterTurn};
@@ -132,8 +132,63 @@ impl<'m> Core<'m> {
         }
     }
 
+    /// Makes an entry of a device that is due. Its place is reserved, and of its numbers only that of reports grows.
+    #[inline(always)]
+    fn make_device(&mut self, who: Actor, now: EventNow, kind: Kind, stamp: Stamp)
+        requires device { IsOfDevice kind }
+        requires actor { IsActor self.old.machine who }
+        requires due { due self.old.machine (entries self.old.past) who now ≡ Makes kind }
+        requires calls { calls_due self.old.machine who (entries self.old.past) < 2 ^ 32 }
+        ensures { self.new ≡ with_entry self.old (record {
+          stamp = stamp;
+          entry = record { time = time_of (entries self.old.past); now = now; actor = who; kind = kind };
+        }) }
+    {
+        let reports = self.reports_in(kind);
+        self.history.append_device(stamp, now, who, kind);
+        self.reports.add(who, reports);
+    }
+
+    /// Makes another entry that is due. `Mem` if there is no memory for it, or no number; never for the maker
+    /// of the open attempt, nor for a device.
+    #[inline(always)]
+    fn make_other(
+        &mut self,
+        makes: bool,
+        who: Actor,
+        now: EventNow,
+        kind: Kind,
+        stamp: Stamp,
+    ) -> Result<(), CoreFault>
+        requires other { IsOfNone kind }
+        requires makes { makes ≡ is_actor who (maker (entries self.old.past)) }
+        requires actor { IsActor self.old.machine who }
+        requires due { due self.old.machine (entries self.old.past) who now ≡ Makes kind }
+        ensures ok { OnOk result (self.new ≡ with_entry self.old (record {
+          stamp = stamp;
+          entry = record { time = time_of (entries self.old.past); now = now; actor = who; kind = kind };
+        })) }
+        ensures err { OnErr result ((is_actor who (maker (entries self.old.past)) ≡ false) × (is_device who ≡ false) × (self.new ≡ self.old)) }
+    {
+        let own = self.is_own(makes, who);
+        if !self.leaves(kind) {
+            return Err(CoreFault::Mem);
+        }
+        match self.history.make_room(own, kind) {
+            Ok(()) => {}
+            Err(_) => return Err(CoreFault::Mem),
+        }
+        // A journal is shorter than 2^63, so no script's steps run over.
+        let _made = self.history.len();
+        let Ok(()) = self.history.append(stamp, now, who, kind) else {
+            return Err(CoreFault::Mem);
+        };
+        Ok(())
+    }
+
     /// Makes the entry that is due. `Mem` if there is no memory for it, or no number; never for the maker
     /// of the open attempt, nor for a device.
+    #[inline(always)]
     fn make(
         &mut self,
         makes: bool,
@@ -152,23 +207,17 @@ impl<'m> Core<'m> {
         })) }
         ensures err { OnErr result ((is_actor who (maker (entries self.old.past)) ≡ false) × (is_device who ≡ false) × (self.new ≡ self.old)) }
     {
-        let own = self.is_own(makes, who);
-        if !self.leaves(kind) {
-            return Err(CoreFault::Mem);
-        }
-        let reports = self.reports_in(kind);
-        match self.history.make_room(own, kind) {
-            Ok(()) => {}
-            Err(_) => return Err(CoreFault::Mem),
-        }
-        // A journal is shorter than 2^63, so no script's steps run over.
-        let _made = self.history.len();
-        match self.history.append(stamp, now, who, kind) {
-            Ok(()) => {
-                self.reports.add(who, reports);
+        match kind {
+            Kind::Prepare { .. }
+            | Kind::Complete(_)
+            | Kind::Schedule(..)
+            | Kind::Begin(..)
+            | Kind::End(..)
+            | Kind::Skip(..) => {
+                self.make_device(who, now, kind, stamp);
                 Ok(())
             }
-            Err(_) => Err(CoreFault::Mem),
+            other => self.make_other(makes, who, now, other, stamp),
         }
     }
 
@@ -182,9 +231,12 @@ impl<'m> Core<'m> {
     ) -> Result<CoreTurn, CoreFault>
         requires actor { IsActor self.old.machine who }
         requires calls { calls_due self.old.machine who (entries self.old.past) < 2 ^ 32 }
-        ensures { AfterTurn self.old self.new who word floor result }
+        ensures turn { AfterTurn self.old self.new who word floor result }
+        ensures legal { JournalPart self.new.machine (entries self.new.past) }
     {
         let makes = self.is_maker(who);
+        // A look at the field makes the invariant known here: the journal is legal.
+        let _ = &self.history;
         match self.due_of(makes, who, word) {
             Due::Waits(why) => Ok(CoreTurn::NotYet(why)),
             Due::Nothing => Ok(CoreTurn::Done),
@@ -194,8 +246,9 @@ impl<'m> Core<'m> {
                     pos: pos(word),
                     tick,
                 };
-                self.make(makes, who, word, kind, stamp)?;
+                let made = self.make(makes, who, word, kind, stamp);
                 let attempt = self.history.path().attempts();
+                made?;
                 Ok(CoreTurn::Did {
                     stamp,
                     kind,
@@ -235,9 +288,6 @@ impl<'m> Core<'m> {
     {
         let _ = (calls, now);
         let word = look_from(rt, events, floor.pos);
-        let answer = self.step(rt, who, word, floor);
-        // A look at the field makes the invariant known here: the journal is legal.
-        let _ = &self.history;
-        answer
+        self.step(rt, who, word, floor)
     }
 }

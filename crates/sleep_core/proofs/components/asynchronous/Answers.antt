@@ -1,6 +1,6 @@
 use Rattle.std.proofs.Common.{arith}
 use Rattle.std.proofs.lemmas.Grind.{common_steps}
-use Rattle.sleep_core.proofs.history.asynchronous.Goals as goal
+use Rattle.sleep_core.proofs.components.asynchronous.Goals as goal
 
 pub loop-device-preserved : goal.loop-device-preserved
 loop-device-preserved c = grind (arith, common_steps)

@@ -1,6 +1,6 @@
 use Rattle.std.proofs.Common.{◌≡◌, map, take}
 use Rattle.sleep_model.specs.Runtime.{is_async}
-use Rattle.sleep_core.proofs.history.asynchronous.Given as goal
+use Rattle.sleep_core.proofs.components.asynchronous.Given as goal
 
 abbrev pub invariant-loop-device : goal.invariant-loop-device
 invariant-loop-device l = l.asynchronous.items ≡ map is_async (take l.device-index l.devices)
