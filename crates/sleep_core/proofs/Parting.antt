@@ -19,7 +19,7 @@ use Rattle.sleep_core.proofs.Freezing.{freezer_moves}
 abbrev entry_of : ℕ → EventNow → Actor → Kind → Entry
 entry_of time now who k = record { time = time; now = now; actor = who; kind = k }
 
--- each of these parts stands as before the entry
+-- each of these parts is as before the entry
 pub record Stays (m : Machine) (past : List Entry) (e : Entry) : Type 0 where
   pub guard : guard_of past ≡ guard_of (e ∷ past)
   pub path : path_of past ≡ path_of (e ∷ past)
@@ -90,7 +90,7 @@ by_kind m past time now who k h = absurd h
 pub stays : (m : Machine) (past : List Entry) (time : ℕ) (now : EventNow) (who : Actor) (k : Kind) → IsOfTask k → Stays m past (entry_of time now who k)
 stays m past time now who k h = by_kind m past time now who k h
 
--- where time jumps, so do the tasks and the autosleep work
+-- when time jumps, so are the tasks and the autosleep work
 pub record Jumps (m : Machine) (past : List Entry) (e : Entry) : Type 0 where
   pub tasks : tasks_of m past ≡ tasks_of m (e ∷ past)
   pub autosleep : autosleep_of past ≡ autosleep_of (e ∷ past)
@@ -111,12 +111,12 @@ jumps m past time now = record {
   };
 }
 
--- the time stays where an entry is made at the time that is
+-- the time stays if an entry is made at the present time
 pub time_stays : (k : Kind) (time before : ℕ) → time ≡ before → time ≡ time_after k time before
 time_stays kind.Jump time before h = refl
 time_stays _ time before h = h
 
--- the work is where it was after such an entry of another actor
+-- the work is as it was after such an entry of another actor
 pub work_stays : (k : Kind) (who : Actor) (a : AutosleepState) → IsOfTask k → work_after who k a.work ≡ a.work → a ≡ autosleep_after k who a
 work_stays (kind.Sleep until) who a h same = ap (λ (w : Work). record a { work = w }) (sym same)
 work_stays (kind.SleepD until) who a h same = ap (λ (w : Work). record a { work = w }) (sym same)

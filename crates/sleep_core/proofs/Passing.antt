@@ -19,7 +19,7 @@ use Rattle.async_board.proofs.Agreement.{board_next}
 use Rattle.async_board.specs.Boards.{board_after}
 use Rattle.sleep_core.specs.Histories.{IsOfDevice, board_of, path_of, tasks_of, freezer_of, autosleep_of, steps_of, syscore_of, exits}
 
--- such an entry moves its device, and each of these parts stands as before
+-- such an entry moves its device, and each of these parts is as before
 pub record Passes (m : Machine) (past : List Entry) (e : Entry) : Type 0 where
   pub board : board_after e.kind (board_of m past) ≡ board_of m (e ∷ past)
   pub path : path_of past ≡ path_of (e ∷ past)
@@ -33,7 +33,7 @@ pub record Passes (m : Machine) (past : List Entry) (e : Entry) : Type 0 where
 abbrev entry_of : ℕ → EventNow → Actor → Kind → Entry
 entry_of time now who k = record { time = time; now = now; actor = who; kind = k }
 
--- it leaves each script where it stands
+-- it leaves the position of each script
 positions_stay : (who : Actor) (ss : List ScriptPosition) → positions_after who Stays ss ≡ ss
 positions_stay (actor.Script i) ss = set-get_or ss i first_position
 positions_stay _ ss = refl

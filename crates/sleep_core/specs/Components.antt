@@ -1,4 +1,4 @@
--- What a history keeps beside its journal: what the definitions read from its entries.
+-- What a history has besides its journal: what the definitions read from its entries.
 use Rattle.std.specs.Prelude.{◌≡◌, ℕ, List, ◌∷◌}
 use Rattle.sleep_model.specs.declared.entry.Actor.{Actor}
 use Rattle.sleep_model.specs.declared.entry.Entry.{Entry}
@@ -24,6 +24,6 @@ pub record AreRead (m : Machine) (past : List Entry) (c : Components) : Type 0 w
 abbrev pub Follow : EventNow → Actor → Kind → Components → Components → Type 0
 Follow now who k old new = (m : Machine) (past : List Entry) (time : ℕ) → AreRead m past old → AreRead m (record { time = time; now = now; actor = who; kind = k } ∷ past) new
 
--- so it is after this entry, if no device is prepared where it changes links
+-- so it is after this entry, if no device is prepared when it changes links
 abbrev pub FollowSettled : Entry → Components → Components → Type 0
 FollowSettled e old new = (m : Machine) (past : List Entry) → Settles m past e → AreRead m past old → AreRead m (e ∷ past) new

@@ -1,3 +1,4 @@
+-- The definitions of this crate.
 pub mod Components
 pub mod CoreFields
 pub mod Cores

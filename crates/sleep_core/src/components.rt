@@ -1,4 +1,4 @@
-//! What a history keeps beside its journal.
+//! What a history has besides its journal.
 
 ghost use Rattle.std.specs.Prelude.{◌≡◌, ◌<◌, ◌^◌, map, IfOk, OnOk, OnErr};
 ghost use Rattle.sleep_model.specs.Runtime.{is_async};
@@ -40,8 +40,8 @@ fn first_board(alloc: Global, devices: &[Device], links: Links) -> Result<Board,
     Board::wired(alloc, links, asynchronous)
 }
 
-/// An entry that is of no device moves the board where it changes links: it begins anew. `Mem` if there is
-/// no memory for a link more; nothing has changed then.
+/// An entry that is of no device changes the board if it changes links: it begins anew. `Mem` if there is no
+/// memory for a link more; nothing has changed then.
 fn move_links(board: &mut Board, kind: Kind) -> Result<(), Mem>
     requires { IsOfNone kind }
     ensures ok { OnOk result (board.new ≡ moved_board kind board.old) }
@@ -63,7 +63,8 @@ fn move_links(board: &mut Board, kind: Kind) -> Result<(), Mem>
     }
 }
 
-/// The guard takes down an entry that is of a device: it knows skips alone, which may drop the count in force.
+/// The guard takes note of an entry that is of a device: it knows only skips, which may drop the count in
+/// force.
 #[inline(always)]
 fn move_guard(guard: &mut Guard<24>, kind: Kind, now: EventNow)
     requires { IsOfDevice kind }
@@ -75,7 +76,7 @@ fn move_guard(guard: &mut Guard<24>, kind: Kind, now: EventNow)
     }
 }
 
-/// The autosleep work takes down its own sleeps alone.
+/// The autosleep work takes note only of its own sleeps.
 #[inline(always)]
 #[tactic(auto, using(crate::proofs::Parting::work_stays))]
 fn move_work(autosleep: &mut Autosleep, kind: Kind, actor: Actor)
@@ -92,7 +93,7 @@ fn move_work(autosleep: &mut Autosleep, kind: Kind, actor: Actor)
     }
 }
 
-/// What the definitions read from a journal's entries, kept up to date entry by entry.
+/// What the definitions read from a journal's entries, brought up to date by each entry.
 #[derive(Drop)]
 pub(crate) struct Components<'m> {
     pub(crate) guard: Guard<24>,
@@ -152,8 +153,8 @@ impl<'m> Components<'m> {
         })
     }
 
-    /// Takes down an entry that is of a device. It concerns the board, what the phases of devices keep, and the
-    /// count in force, which a skip may drop.
+    /// Takes note of an entry that is of a device. It concerns the board, the state of the devices' phases,
+    /// and the count in force, which a skip may drop.
     #[inline(always)]
     pub(crate) fn note_device(&mut self, now: EventNow, actor: Actor, kind: Kind)
         requires { IsOfDevice kind }
@@ -164,8 +165,8 @@ impl<'m> Components<'m> {
         self.devices.note(kind, actor);
     }
 
-    /// Takes down an entry by which a task, or the autosleep work, sleeps, has slept, passes, or posts or takes a
-    /// mark. It concerns where that task or the work stands, and the marks.
+    /// Takes note of an entry by which a task, or the autosleep work, sleeps, has slept, passes, or posts or
+    /// takes a mark. It concerns the position of that task or the state of the work, and the marks.
     #[inline(always)]
     pub(crate) fn note_task(&mut self, now: EventNow, actor: Actor, kind: Kind)
         requires task { IsOfTask kind }
@@ -179,8 +180,8 @@ impl<'m> Components<'m> {
         move_work(&mut self.autosleep, kind, actor);
     }
 
-    /// Takes down an entry that is of no device. `Mem` if it adds a link, for which there is no memory; nothing has
-    /// changed then.
+    /// Takes note of an entry that is of no device. `Mem` if it adds a link, for which there is no memory;
+    /// nothing has changed then.
     #[inline(always)]
     pub(crate) fn note_other(&mut self, entry: Entry) -> Result<(), Mem>
         requires other { IsOfNone entry.kind }

@@ -24,8 +24,8 @@ impl<'m> Core<'m> {
         }
     }
 
-    /// What is due of an actor that sees this word, and that makes the open attempt or not. A walk over devices always
-    /// has something to do, or waits, so that the stage after it is not asked.
+    /// What is due of an actor that sees this word, and that makes the open attempt or not. A walk over
+    /// devices always has something to do, or waits, so that the stage after it is not asked.
     #[inline(always)]
     pub(crate) fn due_of(&self, makes: bool, who: Actor, now: EventNow) -> Due
         requires makes { makes ≡ is_actor who (maker (entries self.now.past)) }

@@ -1,3 +1,4 @@
+//! The history of a machine: its journal, and what the definitions read from it.
 ghost use Rattle.std.specs.Prelude.{◌≡◌};
 
 use crate::components::Components;
@@ -14,7 +15,7 @@ use syscore_ops::Syscore;
 use task_freezer::Freezer;
 use wakeup_guard::Guard;
 
-/// The journal of a machine, and what the definitions read from it, kept up to date entry by entry.
+/// The journal of a machine, and what the definitions read from it, brought up to date by each entry.
 #[derive(Drop)]
 pub struct History<'m> {
     machine: &'m Machine,
@@ -81,8 +82,8 @@ impl<'m> History<'m> {
         })
     }
 
-    /// Appends an entry that is of no device, in a reserved place. `Mem` if it adds a link, for which there is no memory;
-    /// nothing has changed then.
+    /// Appends an entry that is of no device, in a reserved place. `Mem` if it adds a link, for which there
+    /// is no memory; nothing has changed then.
     #[inline(always)]
     pub fn append(
         &mut self,
@@ -124,7 +125,8 @@ impl<'m> History<'m> {
             .put(made_at(self.time, stamp, now, actor, kind));
     }
 
-    /// Appends an entry by which a task, or the autosleep work, sleeps, has slept, passes, or posts or takes a mark.
+    /// Appends an entry by which a task, or the autosleep work, sleeps, has slept, passes, or posts or takes
+    /// a mark.
     #[inline(always)]
     fn append_task(&mut self, stamp: Stamp, now: EventNow, actor: Actor, kind: Kind)
         requires task { IsOfTask kind }
@@ -137,7 +139,7 @@ impl<'m> History<'m> {
             .put(made_at(self.time, stamp, now, actor, kind));
     }
 
-    /// Appends a jump of time to `to` ms, as seen at that word. It concerns the time alone.
+    /// Appends a jump of time to `to` ms, as seen at that word. It concerns only the time.
     pub fn append_jump(&mut self, stamp: Stamp, seen: EventNow, to: u64)
         requires { 0 < self.old.room }
         ensures { self.new ≡ after_entry self.old (record {
@@ -151,8 +153,8 @@ impl<'m> History<'m> {
             .put(made_at(to, stamp, seen, Actor::Time, Kind::Jump));
     }
 
-    /// Appends an entry that is of neither. `Mem` if it adds a link, for which there is no memory; nothing has changed
-    /// then.
+    /// Appends an entry that is of neither. `Mem` if it adds a link, for which there is no memory; nothing
+    /// has changed then.
     #[inline(never)]
     fn append_other(
         &mut self,
@@ -212,8 +214,8 @@ impl<'m> History<'m> {
         }
     }
 
-    /// Makes room for an entry: one of the open attempt's own has its place reserved, another wants one
-    /// beside those. After an error nothing has changed.
+    /// Makes room for an entry: one of the open attempt's own has its room reserved, another needs one more.
+    /// After an error nothing has changed.
     pub fn make_room(&mut self, own: bool, kind: Kind) -> Result<(), AllocError>
         ensures ok { OnOk result (HasRoom own kind self.old self.new) }
         ensures err { OnErr result ((own ≡ false) × (self.new ≡ self.old)) }
@@ -261,7 +263,7 @@ impl<'m> History<'m> {
         &self.components.guard
     }
 
-    /// Where the open attempt stands.
+    /// The state of the open attempt.
     pub fn path(&self) -> &Path
         ensures { result.now ≡ path_of (entries self.now.past) }
     {
@@ -275,14 +277,14 @@ impl<'m> History<'m> {
         &self.components.devices
     }
 
-    /// Where each device stands.
+    /// The state of each device.
     pub fn board(&self) -> &Board
         ensures { result.now ≡ board_of self.now.machine (entries self.now.past) }
     {
         &self.components.board
     }
 
-    /// Where each script stands.
+    /// The position of each script.
     pub fn tasks(&self) -> &Tasks
         ensures { result.now ≡ tasks_of self.now.machine (entries self.now.past) }
     {

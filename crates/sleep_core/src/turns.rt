@@ -132,7 +132,8 @@ impl<'m> Core<'m> {
         }
     }
 
-    /// Makes an entry of a device that is due. Its place is reserved, and of its numbers only that of reports grows.
+    /// Makes an entry of a device that is due. Its place is reserved, and of its numbers only that of reports
+    /// grows.
     #[inline(always)]
     fn make_device(&mut self, who: Actor, now: EventNow, kind: Kind, stamp: Stamp)
         requires device { IsOfDevice kind }

@@ -1,3 +1,4 @@
+-- The invariant of the loop of `asynchronous`.
 use Rattle.std.proofs.Common.{◌≡◌, map, take}
 use Rattle.sleep_model.specs.Runtime.{is_async}
 use Rattle.sleep_core.proofs.components.asynchronous.Given as goal

@@ -1,3 +1,4 @@
+-- Proof that `Components::note_device` meets its contract.
 use Rattle.std.proofs.Common.{◌∙◌, ap}
 use Rattle.async_board.specs.Boards.{board_after}
 use Rattle.sleep_state.specs.DeviceStates.{devices_after}

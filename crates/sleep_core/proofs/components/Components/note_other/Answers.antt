@@ -1,3 +1,4 @@
+-- Proof that `Components::note_other` meets its contract.
 use Rattle.std.proofs.Common.{◌∙◌, ap}
 use Rattle.sleep_model.specs.Word.{position}
 use Rattle.autosleep_loop.specs.Autosleeps.{autosleep_after}

@@ -1,3 +1,4 @@
+-- Proof that `Components::note_task` meets its contract.
 use Rattle.std.proofs.Common.{◌∙◌, ap}
 use Rattle.autosleep_loop.specs.Autosleeps.{autosleep_after}
 use Rattle.sleep_state.specs.TaskStates.{tasks_after}

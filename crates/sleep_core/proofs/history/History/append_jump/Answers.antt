@@ -1,3 +1,4 @@
+-- Proof that `History::append_jump` keeps the invariant of its type.
 use Rattle.std.proofs.Common.{◌∙◌, refl}
 use Rattle.sleep_state.specs.JournalRooms.{entries}
 use Rattle.sleep_core.proofs.Parting.{jumps}

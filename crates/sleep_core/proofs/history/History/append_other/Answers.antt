@@ -1,3 +1,4 @@
+-- Proof that `History::append_other` keeps the invariant of its type.
 use Rattle.std.proofs.Common.{ℕ, refl, sym, subst}
 use Rattle.sleep_model.specs.declared.entry.Entry.{Entry}
 use Rattle.sleep_model.specs.Numbers.{time_of}

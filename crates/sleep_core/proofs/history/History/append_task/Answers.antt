@@ -1,3 +1,4 @@
+-- Proof that `History::append_task` keeps the invariant of its type.
 use Rattle.std.proofs.Common.{refl}
 use Rattle.sleep_model.specs.Numbers.{time_of}
 use Rattle.sleep_state.specs.JournalRooms.{entries}
