@@ -25,5 +25,5 @@ loop-source-preserved c =
         at = at_more c.args.moment is.rest one is.at c.new.ensures.1;
       },
       (subst (λ (l : List SeatedSourceState). AreTimely c.args.moment l) c.in-Some.ensures.steps.0 c.loop-source.invariant.1).1,
-      preserved_more c.loop-source.yielded c.in-Some.source c.loop-source.invariant.2 c.source-kept.ensures.kept,
+      preserved_more c.loop-source.yielded c.in-Some.source c.loop-source.invariant.2 c.source-preserved.ensures.kept,
     )
