@@ -1,4 +1,5 @@
-//! Bursts: the actors' turns on worker threads, between the caller's own rounds.
+//! Bursts: the actors' turns on worker threads, between the caller's own rounds. A stretch is a number of rounds,
+//! and what the run does after a round that made nothing.
 
 ghost use Rattle.std.specs.Prelude.{◌≡◌, ◌≤◌, IfOk};
 ghost use Rattle.machine_rounds.specs.declared.run.RunFault.TheVariants as fault;
@@ -29,11 +30,12 @@ const MOST_JOURNAL: usize = 1 << 62;
 struct DuringBurst<'m> {
     machine: &'m Machine,
     table: EventTable,
+    /// A stamp that all actors may know.
     floor: Stamp,
     waiters: Waiters,
 }
 
-/// The most entries that a log has, whatever the accepted machine is.
+/// The most entries that a log has, whatever the accepted machine is (`end_laws`, `all_logs_are_bounded`).
 const MOST_LOG: u64 = 37_585_025;
 
 /// A run that was brought on, and what came of it: how it is over, if it is, or why it gives nothing.
@@ -94,8 +96,8 @@ impl<'m> DuringBurst<'m> {
         make_burst(rt, alloc, &plan, contents)
     }
 
-    /// The run again, of what came back from a burst, if all actors may know that stamp. Everybody is to be
-    /// asked.
+    /// Puts the run together again from what came back from a burst. `floor` is a stamp that all actors may know.
+    /// Everybody who waits is to be asked again.
     fn joined(
         self,
         core: SeatedCore<'m>,
@@ -125,7 +127,7 @@ impl<'m> DuringBurst<'m> {
         }
     }
 
-    /// The run again, with what came back from a burst.
+    /// Turns the tasks of a burst back into jobs, raises the floor to what they know, and puts the run together.
     fn come_back(self, alloc: Global, contents: BurstContents<'m>) -> Result<Run<'m>, Mem>
         requires { IsBack self.machine.now self.table.cells.shared.table_id self.floor
             contents.core contents.sources.items contents.tasks.items }
@@ -227,7 +229,7 @@ impl<'m> Run<'m> {
     }
 
     /// A burst by this number of workers: each actor of the machine, and each source's timer, makes turns as
-    /// long as it can. `Mem` if there is no memory, for the burst or for one of them.
+    /// long as it can. `Mem` if there is no memory, or if the journal is too long for a burst (`is_short`).
     fn burst<R: Threads + Wait + Sync, G: Gate + Sync>(
         self,
         rt: &R,
@@ -256,7 +258,7 @@ impl<'m> Run<'m> {
         }
     }
 
-    /// Why the run gives nothing if a worker stopped: if it is out of memory, or at a source that is full.
+    /// The fault of the run, if a worker stopped: it was out of memory, or it met a full source.
     fn refused(&self, stop: Option<Stop>) -> Option<RunFault>
         ensures { IfSome result (IsRefused self.now) }
     {
@@ -267,7 +269,7 @@ impl<'m> Run<'m> {
         }
     }
 
-    /// Makes `stretches` stretches of the caller's own rounds. Answers how the run is over, if it is.
+    /// Makes that many stretches of the caller's own rounds. Answers how the run is over, if it is.
     fn alone<R: Wait>(&mut self, rt: &R, stretches: u32) -> Result<Option<AfterIdleRound>, RunFault>
         ensures machine { self.new.machine ≡ self.old.machine }
         ensures after { AfterStretches stretches self.old self.new result }
@@ -280,8 +282,8 @@ impl<'m> Run<'m> {
         Ok(None)
     }
 
-    /// Stretches of the caller's own rounds. The run stays in its place meanwhile, since it is large and most
-    /// stretches make a few entries.
+    /// Makes that many stretches of the caller's own rounds. `alone` changes the run in place, since it is large
+    /// and most stretches make a few entries.
     fn advance_alone<R: Wait>(self, rt: &R, stretches: u32) -> Advance<'m>
         ensures machine { result.run.machine ≡ self.entry.machine }
         ensures after { AfterStretches stretches self.entry result.run result.came }

@@ -49,7 +49,8 @@ fn is_direct(env: &DownEnv<'_>, p: Phase, device: u32) -> bool
     }
 }
 
-/// What a device makes at its turn: a pending wakeup skips it, it is direct-complete, or its callback begins.
+/// What a device makes at its turn. In a phase that checks for wakeups a pending one skips it; else it is
+/// direct-complete, or its callback begins.
 fn taken(env: &DownEnv<'_>, p: Phase, device: u32) -> Kind
     ensures { (down : Down) → result ≡ taken_on (down_state down env.now) p device }
 {
@@ -73,11 +74,10 @@ impl Down {
         }
     }
 
-    /// What the walk of a phase on the way down does next while it is inside no callback (`dpm_suspend`,
-    /// `dpm_suspend_late`, `dpm_noirq_suspend_devices`). It takes the devices from the last to the first,
-    /// schedules the asynchronous ones, waits for all below a synchronous one before it begins, is
-    /// direct-complete or is skipped. It ends once all that were scheduled are done: at an error, or if no
-    /// device is left.
+    /// What the walk of a phase on the way down does next while it runs no callback (`dpm_suspend`,
+    /// `dpm_suspend_late`, `dpm_noirq_suspend_devices`). It goes from the last device to the first. It schedules
+    /// an asynchronous one. For a synchronous one it waits for all below it, then skips it or begins its
+    /// callback. At an error, or once no device is left, it waits for all that were scheduled, and ends.
     pub fn walk_due(&self, env: &DownEnv<'_>, p: Phase) -> Due
         ensures { result ≡ walk_down_due_on (down_state self.now env.now) p }
     {
@@ -87,8 +87,8 @@ impl Down {
         }
     }
 
-    /// What a device does next that a phase on the way down has scheduled (`__device_suspend`): it waits for
-    /// all below it. Then it is skipped by an error or a wakeup, is direct-complete, or begins.
+    /// What a device does next on the way down (`__device_suspend`), in its own work or inside the walk. It waits
+    /// for all below it. Then it is skipped, after an error or for a wakeup, is direct-complete, or begins.
     pub fn device_due(&self, env: &DownEnv<'_>, p: Phase, device: u32) -> Due
         ensures { result ≡ scheduled_down_on (down_state self.now env.now) p device }
     {
@@ -98,7 +98,7 @@ impl Down {
         }
     }
 
-    /// What a device makes that waits for none: an error lets it do nothing.
+    /// What a device makes once it waits for no other: after an error it is skipped.
     fn made(&self, env: &DownEnv<'_>, p: Phase, device: u32) -> Kind
         ensures { result ≡ unless_failed self.now.failed p device
             (taken_on (down_state self.now env.now) p device) }
@@ -109,7 +109,7 @@ impl Down {
         }
     }
 
-    /// The walk at a device if there is no error: an asynchronous one is scheduled.
+    /// The walk at a device if there is no error: it schedules an asynchronous one, and suspends another itself.
     fn take(&self, env: &DownEnv<'_>, p: Phase, device: u32) -> Due
         requires { self.now.failed ≡ None }
         ensures { result ≡ take_down_on (down_state self.now env.now) p device }
