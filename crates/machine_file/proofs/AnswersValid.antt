@@ -43,7 +43,7 @@ either_none : {A : Type 0} (o q : Option A) → option_or o q ≡ None → (o �
 either_none None q e = (refl, e)
 either_none (Some x) q e = cc
 
--- each list's items have their form, where none is the first that has not
+-- each list's items have their form, if none is the first that has not
 pub lists_pass : (rows : List (Named (Data → Bool))) (r : Named (Data → Bool)) (file : Data) (i : ℕ) → i < length rows → first_in_lists rows file ≡ None →
     list_all (get_or rows i r).is (list_in (get_or rows i r).name file) ≡ true
 lists_pass [] r file i h e = absurd (omega arith)
@@ -61,7 +61,7 @@ abbrev of_kind : Bool → Bool → Bool → (devices syscore notifiers others : 
 of_kind is_device is_syscore is_notifier devices syscore notifiers others =
     if is_device then devices else if is_syscore then syscore else if is_notifier then notifiers else others
 
--- the thing is there, where its name is one of its kind's
+-- the thing is there, if its name is one of its kind's
 thing_case : (m : Machine) (is_device is_syscore is_notifier : Bool) (devices syscore notifiers others : List (List ℕ)) (name : List ℕ) (p : Phase) (s : PlatDo) →
     length devices ≡ length m.devices → length syscore ≡ length m.syscore → length notifiers ≡ length m.notifiers →
     is_among_names (of_kind is_device is_syscore is_notifier devices syscore notifiers others) name ≡ true →

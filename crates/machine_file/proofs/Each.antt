@@ -15,7 +15,7 @@ seen_each f P xs i x within is all =
 pub value_each : (P : Data → Type 0) (vs : List Value) (i : ℕ) (v : Value) → i < length vs → v ≡ get_or vs i v → All P (map view vs) → P (view v)
 value_each P vs i v within is all = seen_each view P vs i v within is all
 
--- of a text behind a reference
+-- of a text that is borrowed
 pub text_each : (P : List ℕ → Type 0) (names : List (Bor (List ℕ))) (i : ℕ) (d : Bor (List ℕ)) → i < length names → All P (texts names) → P (get_or names i d).now
 text_each P names i d within all =
     subst P (get_or-map (λ (b : Bor (List ℕ)). b.now) names i d d.now within)

@@ -39,7 +39,7 @@ no_member names k (member l d ms) h n =
     let both = and_parts (list_any (bytes_eq l) names) (are_named names ms) h in
     passed k l (slice_cmp nat_cmp k l) d (get_member k ms) (is_eq-slice_cmp k l ∙ apart k l names n both.0) (no_member names k ms both.1 n)
 
--- nothing stands at a name that is none of those that are allowed
+-- a name that is none of those that are allowed has no value
 pub absent : (names : List (List ℕ)) (k : List ℕ) (d : Data) → has_only names d ≡ true → list_any (bytes_eq k) names ≡ false → get k d ≡ None
 absent names k null h n = refl
 absent names k (boolean b) h n = refl
@@ -68,7 +68,7 @@ bounded : (least most bound : ℕ) (o : Option ℕ) → most < bound → is_some
 bounded least most bound None b e = absurd (false≢true e)
 bounded least most bound (Some n) b e = let h = leb-true n most (and_parts (nat_le least n) (nat_le n most) e).1 in omega arith
 
--- a number that may be given, and is of its range where it is
+-- a number that may be given, and is of its range if it is
 pub within_fits : (least most : ℕ) (k : List ℕ) (d : Data) → most < 4294967296 → may_have k (is_within least most) d ≡ true → FitsAt k d
 within_fits least most k d b h = record { below = by (get k d) h }
   where

@@ -57,7 +57,7 @@ one_more before ds d =
     ∙ ap (λ xs. xs ++ map name_of ds) (map-append name_of (reverse before) (d ∷ []))
     ∙ append_assoc (map name_of (reverse before)) (name_of d ∷ []) (map name_of ds))
 
--- each device's parent stands before it, where none is an orphan
+-- each device's parent comes before it, if none is an orphan
 after_from : (names : List (List ℕ)) (before ds : List Data) → names ≡ map name_of (reverse before) ++ map name_of ds →
     first_not_after has_parent_before before (length before) ds ≡ None → EachAfterParent (length before) (map (parent_of names) ds)
 after_from names before [] e h = tt
@@ -79,7 +79,7 @@ each_after ds h = after_from (map name_of ds) [] ds refl h
 
 -- ---- links
 
--- each passes, where none is the first that does not
+-- each passes, if none is the first that does not
 later_at : {X : Type 0} (test : List X → X → Bool) (xs : List X) (d : X) (i : ℕ) → i ≤ length xs → later_from test xs 0 ≡ None → later_from test xs i ≡ None
 later_at test xs d zero h e = e
 later_at test xs d (suc i) h e =
@@ -100,7 +100,7 @@ first_case true None e = (refl, refl)
 first_case true (Some j) e = (refl, cc)
 first_case false o e = cc
 
--- all pass, where none is the first that does not
+-- all pass, if none is the first that does not
 pub all_pass : {X : Type 0} (test : X → Bool) (xs : List X) → first_not test xs ≡ None → list_all test xs ≡ true
 all_pass test [] e = refl
 all_pass test (x ∷ xs) e =

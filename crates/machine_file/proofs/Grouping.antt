@@ -52,7 +52,7 @@ none_left f (Some x) e = cc
 valid_rule : (r : Rule) (rs : List Rule) (d : Data) → first_of (r ∷ rs) d ≡ None → (r.broken d ≡ None) × (first_of rs d ≡ None)
 valid_rule r rs d e = let both = or_none (option_map (broken_at r.number) (r.broken d)) (first_of rs d) e in (none_left (broken_at r.number) (r.broken d) both.0, both.1)
 
--- the lists are few where the rule on their numbers is kept
+-- the lists are few if the file obeys the rule on their numbers
 valid_row : {A : Type 0} (test : Named A → Bool) (r : Named A) (rs : List (Named A)) → first_row test (r ∷ rs) ≡ None → (test r ≡ true) × (first_row test rs ≡ None)
 valid_row test r rs e = by (test r) e
   where
@@ -121,7 +121,7 @@ few_known k d h e =
     count : (names : List (Bor (List ℕ))) (those : List (List ℕ)) (n most : ℕ) → texts names ≡ those → length those ≡ n → n ≤ most → length names ≤ most
     count names those n most e f h = let g : length (texts names) ≡ length names = length-map names (λ s. s.now) in let i : length (texts names) ≡ length those = ap length e in omega arith
 
--- no link closes a cycle where the rule on them is kept
+-- no link closes a cycle if the file obeys the rule on them
 pub no_cycle : (d : Data) → broken_cycle d ≡ None → first_not_after (closes_no_cycle d) [] 0 (list_in (codes "links") d) ≡ None
 unfolding broken_cycle
 no_cycle d e = none_left (item_place (codes "links")) _ (none_left (broken_at 12) (cyclic_link d) e)

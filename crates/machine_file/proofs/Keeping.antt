@@ -1,4 +1,4 @@
--- Operations that keep each rule on one operation: one pass tells of all these rules.
+-- Operations that obey each rule on one operation: one pass decides all these rules.
 use Rattle.std.proofs.Common.{◌≡◌, ◌∙◌, ◌&&◌, ◌||◌, ℕ, suc, Bool, true, false, not, cond, List, [], ◌∷◌, bytes_eq, codes, drop, Option, Some, None, refl, sym, ap}
 use Rattle.std.specs.List.{list_any}
 use Rattle.std.specs.Option.{option_map, option_or}
@@ -50,7 +50,7 @@ or_end : {A : Type 0} (o : Option A) → option_or o None ≡ o
 or_end None = refl
 or_end (Some x) = refl
 
--- where each operation keeps each of them, the first rule on operations that is broken is that on the sources of reports
+-- if each operation obeys each of them, the first rule on operations that is broken is that on the sources of reports
 pub operations_valid : (file : Data) → first_operation (is_in_journal (is_second file) (sources_named file) (devices_named file)) file ≡ None
     → first_of operation_rules file ≡ option_map (broken_at 18) (sourceless_report file)
 operations_valid file e =
@@ -139,7 +139,7 @@ deviceless word.Awake o names h e = nowhere word.Awake o h names refl refl refl
 deviceless word.Relax o names h e = nowhere word.Relax o h names refl refl refl
 deviceless word.Event o names h e = nowhere word.Event o h names refl refl refl
 
--- what is kept is the row's form, a maker of the row, and names that are known
+-- an operation obeys them if it has the row's form, a maker of the row, and names that are known
 pub valid_as : (second : Bool) (w : Word) (a o : Data) (sources devices : List (List ℕ)) → Some (operation_of_word w) ≡ row_of o
     → ((second || not (changes_links o)) && fits_row o (operation_of_word w)) ≡ true
     → (is_among_names (operation_of_word w).makers (text_at (codes "kind") a) && (names_source sources o && names_device devices o)) ≡ is_in_journal second sources devices a o
@@ -153,7 +153,7 @@ valid_as second w a o sources devices e h =
     regrouped true false c = refl
     regrouped false b c = refl
 
--- one that is not in form is not kept
+-- one that is not in form does not obey them
 pub unformed_as : (second : Bool) (w : Word) (a o : Data) (sources devices : List (List ℕ)) → Some (operation_of_word w) ≡ row_of o
     → ((second || not (changes_links o)) && fits_row o (operation_of_word w)) ≡ false → false ≡ is_in_journal second sources devices a o
 unformed_as second w a o sources devices e h =

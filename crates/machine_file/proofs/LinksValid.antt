@@ -28,7 +28,7 @@ some_unless : {X : Type 0} (b : Bool) (x : X) (o : Option X) → (if not b then 
 some_unless true x o e = (refl, e)
 some_unless false x o e = cc
 
--- each row passes, where none is the first that does not
+-- each row passes, if none is the first that does not
 pub rows_pass : {X : Type 0} (test : X → Bool) (xs : List X) → find (λ x. not (test x)) xs ≡ None → list_all test xs ≡ true
 rows_pass test [] e = refl
 rows_pass test (x ∷ xs) e =

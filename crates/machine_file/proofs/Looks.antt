@@ -21,7 +21,7 @@ pub position_view : (p : Data → Bool) (vs : List Value) → position p (map vi
 position_view p [] = refl
 position_view p (v ∷ vs) = grind (arith, common_steps, position_view p vs)
 
--- all of a list's items pass where all of its values do
+-- all of a list's items pass if all of its values do
 pub list_all_items : (p : Data → Bool) (vs : List Value) → list_all p (items_of (items_view vs)) ≡ list_all (λ v. p (view v)) vs
 list_all_items p [] = refl
 list_all_items p (v ∷ vs) = ap (λ b. p (view v) && b) (list_all_items p vs)

@@ -36,7 +36,7 @@ module _ (vs : List Value) (i : ℕ) (v : Value) (within : i < length vs) (is : 
         ∙ append_assoc first (marks_of (map view (take i vs))) (m.now ∷ [])
         ∙ ap (λ ns. first ++ ns) (ap (λ (w : Option (List ℕ)). marks_of (map view (take i vs)) ++ cons_option w []) is_mark ∙ sym next_mark)
 
-    -- nothing is put where none was
+    -- nothing is put if none was there
     pub no_mark_added : None ≡ word_at (codes "mark") (view v) → texts ms ≡ first ++ marks_of (map view (take (i + 1) vs))
     no_mark_added none =
         so_far ∙ ap (λ ns. first ++ ns) (sym (nothing_after (marks_of (map view (take i vs)))) ∙ ap (λ (w : Option (List ℕ)). marks_of (map view (take i vs)) ++ cons_option w []) none ∙ sym next_mark)
@@ -61,7 +61,7 @@ any_joined p (s ∷ found) name = ap (λ b. p s || b) (any_joined p found name) 
     by true b c = refl
     by false b c = refl
 
--- the same names stand at first places
+-- the same names are in the list of first occurrences
 pub same_names : (s : List ℕ) (found names : List (List ℕ)) → is_among_names (first_occurrences found names) s ≡ (is_among_names found s || is_among_names names s)
 same_names s found [] = by (is_among_names found s)
   where
@@ -107,7 +107,7 @@ module _ (keys names : List (Bor (List ℕ))) (same : keys ≡ names) (i : ℕ) 
       (same_names name.now [] (texts (take i names)) ∙ sym (any_map (bytes_eq name.now) (λ (k : Bor (List ℕ)). k.now) (take i names)) ∙ e)
 
   module _ (first : List (Bor (List ℕ))) (so_far : texts first ≡ first_occurrences [] (texts (take i names))) where
-    -- a name that stands before is passed
+    -- a name that was there before is passed
     pub first_again : list_any (λ (k : Bor (List ℕ)). bytes_eq name.now k.now) (take i names) ≡ true → texts first ≡ first_occurrences [] (texts (take (i + 1) names))
     first_again e = so_far ∙ sym (first_next true e)
 

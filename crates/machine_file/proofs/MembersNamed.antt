@@ -10,7 +10,7 @@ use Rattle.borrowed_json.specs.View.{Member, view, data_members, members_view}
 use Rattle.machine_file.specs.Look.{are_named}
 use Rattle.machine_file.proofs.Looks.{list_any_texts}
 
--- what stands after a member that is put in its place
+-- a member that is put into its position has its name, and the others keep theirs
 put_named : (names : List (List ℕ)) (k : List ℕ) (d : Data) (found : Members) → are_named names (put k d found) ≡ (list_any (bytes_eq k) names && are_named names found)
 put_named names k d no_members = refl
 put_named names k d (member l e ms) = by (slice_cmp nat_cmp k l) refl (put_named names k d ms)
@@ -52,7 +52,7 @@ members_named names (m ∷ ms) found =
     turned false true c = refl
     turned false false c = refl
 
--- the members have these names where each of them has one
+-- the members have these names if each of them has one
 pub are_named_all : (names : List (Bor (List ℕ))) (ms : List Member) → list_all (λ m. list_any (λ s. bytes_eq m.0.now s.now) names) ms ≡ are_named (map (λ s. s.now) names) (members_view ms)
 are_named_all names ms = and_all (list_all (λ m. list_any (λ s. bytes_eq m.0.now s.now) names) ms) ∙ members_named names ms no_members
   where

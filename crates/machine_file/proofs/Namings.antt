@@ -32,13 +32,13 @@ module _ {X : Type 0} (word : X → List ℕ) where
       by true e rest = absurd (h x ((bytes_decides t (word x)).0 e))
       by false e rest = ap (λ b. cond b (Some x) (find (λ y. bytes_eq t (word y)) xs)) e ∙ rest
 
-  -- what has the name is found, and where nothing has it, nothing is
+  -- what has the name is found, and if nothing has it, nothing is
   pub named : (xs : List X) → ((x : X) → find (λ y. bytes_eq (word x) (word y)) xs ≡ Some x) → (t : List ℕ) (o : Option X)
       → IfSome o (λ x. t ≡ word x) → IfNone o ((x : X) → t ≢ word x) → o ≡ find (λ x. bytes_eq t (word x)) xs
   named xs each t (Some x) found none = sym (ap (λ (s : List ℕ). find (λ y. bytes_eq s (word y)) xs) found ∙ each x)
   named xs each t None found none = sym (unnamed xs t none)
 
-  -- the same of a value, where it is that text
+  -- the same of a value, if it is that text
   pub named_in : (xs : List X) (d : Data) (t : List ℕ) (o : Option X) → o ≡ find (λ x. bytes_eq t (word x)) xs → Some t ≡ as_str d → o ≡ find (λ x. is_text (word x) d) xs
   named_in xs d t o e same = e ∙ ap (λ (s : Option (List ℕ)). find (λ x. is_some_and (λ u. bytes_eq u (word x)) s) xs) same
 
@@ -50,7 +50,7 @@ module _ {X : Type 0} (word : X → List ℕ) where
   pub textless : (xs : List X) (d : Data) → None ≡ as_str d → None ≡ find (λ x. is_text (word x) d) xs
   textless xs d same = nowhere xs ∙ ap (λ (s : Option (List ℕ)). find (λ x. is_some_and (λ u. bytes_eq u (word x)) s) xs) same
 
-  -- something has the name where the text is one of the names
+  -- something has the name if the text is one of the names
   pub some_text : (xs : List X) (t : List ℕ) → is_some (find (λ x. bytes_eq t (word x)) xs) ≡ list_any (bytes_eq t) (map word xs)
   some_text [] t = refl
   some_text (x ∷ xs) t = by (bytes_eq t (word x)) (some_text xs t)
@@ -64,7 +64,7 @@ module _ {X : Type 0} (word : X → List ℕ) where
   none_some [] = refl
   none_some (x ∷ xs) = none_some xs
 
-  -- something is named where the text is one of the names
+  -- something is named if the text is one of the names
   pub some_named : (xs : List X) (d : Data) → is_some (find (λ x. is_text (word x) d) xs) ≡ is_one_of (map word xs) d
   some_named xs d = by (as_str d)
     where

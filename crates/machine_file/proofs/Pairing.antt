@@ -1,4 +1,4 @@
--- The ends of links beside those before.
+-- The ends of links that have to differ from the earlier ones.
 use Rattle.std.proofs.Common.{◌≡◌, ◌<◌, ◌+◌, ◌∙◌, ◌&&◌, ◌||◌, ℕ, suc, Bool, true, false, not, cond, List, [], ◌∷◌, ◌++◌, length, get_or, map, take, reverse, bytes_eq, codes, Option, Some, is_some, position, refl, sym, ap, arith}
 use Rattle.std.specs.List.{list_any}
 use Rattle.std.specs.Option.{option_map}
@@ -26,7 +26,7 @@ pub kept : (b : Bool) → false ≡ not b → b ≡ true
 kept true e = refl
 kept false e = e
 
--- the same ends as those that are kept
+-- the same two ends
 abbrev pub twin : LinkEnds → LinkEnds → Bool
 twin e f = same_ends (ends_seen e) (ends_seen f)
 
@@ -52,7 +52,7 @@ seen_more ends i e within is at more h update k =
     taken : take (i + 1) ends ≡ take i ends ++ e ∷ []
     taken = ap (λ (n : ℕ). take n ends) next ∙ take-suc ends i e within ∙ ap (λ x. take i ends ++ x ∷ []) (sym is)
 
--- whether the ends stand before, where those before are found
+-- whether the ends were there before, if those before are found
 pub again_test : (ends : List LinkEnds) (e : LinkEnds) (i : ℕ) (o : Option ℕ) → is_some o ≡ list_any (twin e) (take i ends) →
     (differ (ends_seen e) && not (list_any (twin e) (reverse (take i ends)))) ≡ (differ (ends_seen e) && not (is_some o))
 again_test ends e i o h = ap (λ b. differ (ends_seen e) && not b) (any_reverse (twin e) (take i ends) ∙ sym h)
@@ -112,7 +112,7 @@ loose_in_file names (d ∷ ds) =
         ap (λ b. b && is_some (position (bytes_eq (text_at (codes "consumer") d)) names)) (some_position (bytes_eq (text_at (codes "supplier") d)) names)
         ∙ ap (λ b. is_among_names names (text_at (codes "supplier") d) && b) (some_position (bytes_eq (text_at (codes "consumer") d)) names)
 
--- the first link again, by the ends that are kept
+-- the first link again, by its ends
 pub links_again : (ends : List LinkEnds) (ds : List Data) → map ends_seen ends ≡ map ends_written ds →
     first_not_after (λ before e. differ (ends_seen e) && not (list_any (λ f. same_ends (ends_seen e) (ends_seen f)) before)) [] 0 ends ≡ first_not_after is_new_link [] 0 ds
 links_again ends ds e =

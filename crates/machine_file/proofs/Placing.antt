@@ -1,4 +1,4 @@
--- Where keys stand in a list, and the first that stands a second time.
+-- The positions of keys in a list, and the first that comes a second time.
 use Rattle.std.proofs.Common.{◌≡◌, ◌<◌, ◌≤◌, ◌+◌, ◌-◌, ◌∙◌, ◌||◌, ◌&&◌, ℕ, zero, suc, Bool, true, false, not, cond, nat_lt, if◌then◌else◌, List, [], ◌∷◌, ◌++◌, length, map, take, drop, reverse, get_or, position, Option, Some, None, is_some, refl, sym, ap, arith, drop-cons}
 use Rattle.std.specs.List.{list_any}
 use Rattle.std.specs.Option.{option_map}
@@ -15,7 +15,7 @@ before_case true r i o e = let z : nat_lt 0 (suc i) ≡ true = grind (arith, nat
 before_case false r i None e = e
 before_case false r i (Some j) e = e ∙ (grind (arith, nat_tests))
 
--- one of the first i passes where the first place of all that pass is before i
+-- one of the first i passes if the first position of all that pass is before i
 pub any_before : {X : Type 0} (p : X → Bool) (i : ℕ) (xs : List X) → list_any p (take i xs) ≡ is_some_and (λ j. nat_lt j i) (position p xs)
 any_before p i [] = nothing i
   where
@@ -45,7 +45,7 @@ pub any_reverse : {X : Type 0} (p : X → Bool) (xs : List X) → list_any p (re
 any_reverse p [] = refl
 any_reverse p (x ∷ xs) = ap (list_any p) (reverse-append (x ∷ []) xs) ∙ any_append p (reverse xs) x ∙ ap (λ b. p x || b) (any_reverse p xs)
 
--- the search for a key that stands before, at its next key
+-- the search for a key that comes before, at its next key
 module _ {K : Type 0} (eq : K → K → Bool) where
   abbrev pub is_new : List K → K → Bool
   is_new before k = not (list_any (eq k) before)
@@ -84,7 +84,7 @@ pub any_map : {X Y : Type 0} (p : Y → Bool) (f : X → Y) (xs : List X) → li
 any_map p f [] = refl
 any_map p f (x ∷ xs) = ap (λ b. p (f x) || b) (any_map p f xs)
 
--- what is told apart by what is seen of it
+-- items that differ exactly if what is seen of them does
 pub repeated_map : {X Y : Type 0} (same : Y → Y → Bool) (f : X → Y) (before : List X) (n : ℕ) (xs : List X) →
     first_not_after (λ b k. not (list_any (λ x. same (f k) (f x)) b)) before n xs ≡ first_not_after (λ b y. not (list_any (same y) b)) (map f before) n (map f xs)
 repeated_map same f before n [] = refl
@@ -92,13 +92,13 @@ repeated_map same f before n (x ∷ xs) =
     ap (λ t. if not t then first_not_after (λ b k. not (list_any (λ x. same (f k) (f x)) b)) (x ∷ before) (suc n) xs else Some n) (any_map (same (f x)) f before)
     ∙ ap (λ o. if not (list_any (same (f x)) (map f before)) then o else Some n) (repeated_map same f (x ∷ before) (suc n) xs)
 
--- a search beside those before: of what is seen of each
+-- a search among the earlier ones: of what is seen of each
 pub later_map : {X Y : Type 0} (test : List Y → Y → Bool) (f : X → Y) (before : List X) (n : ℕ) (xs : List X) →
     first_not_after test (map f before) n (map f xs) ≡ first_not_after (λ b x. test (map f b) (f x)) before n xs
 later_map test f before n [] = refl
 later_map test f before n (x ∷ xs) = ap (λ o. if test (map f before) (f x) then o else Some n) (later_map test f (x ∷ before) (suc n) xs)
 
--- a search beside those before, item by item
+-- a search among the earlier ones, item by item
 module _ {X : Type 0} (test : List X → X → Bool) where
   abbrev pub later_from : List X → ℕ → Option ℕ
   later_from xs i = first_not_after test (reverse (take i xs)) i (drop i xs)
@@ -135,7 +135,7 @@ some_case true r o e = refl
 some_case false r None e = e
 some_case false r (Some j) e = e
 
--- one of them passes where there is a first place
+-- one of them passes if there is a first position
 pub some_position : {X : Type 0} (p : X → Bool) (xs : List X) → is_some (position p xs) ≡ list_any p xs
 some_position p [] = refl
 some_position p (x ∷ xs) = ap is_some (position_cons p x xs) ∙ some_case (p x) (list_any p xs) (position p xs) (some_position p xs)
@@ -153,7 +153,7 @@ reserved_first eq a before n (x ∷ xs) =
     by true o = refl
     by false o = let z : n ≡ suc n - 1 = omega arith in ap Some z
 
--- the same, where each has also to pass a test of its own
+-- the same, if each has also to pass a test of its own
 pub seen_map : {X Y : Type 0} (own : Y → Bool) (same : Y → Y → Bool) (f : X → Y) (before : List X) (n : ℕ) (xs : List X) →
     first_not_after (λ b x. own (f x) && not (list_any (λ z. same (f x) (f z)) b)) before n xs ≡ first_not_after (λ b y. own y && not (list_any (same y) b)) (map f before) n (map f xs)
 seen_map own same f before n [] = refl

@@ -1,4 +1,4 @@
--- Devices that are registered in turn: what holds while none is refused, and what a refusal tells.
+-- Devices that are registered in turn: what holds while none is refused, and what a refusal means.
 use Rattle.std.proofs.Common.{◌≡◌, ◌<◌, ◌≤◌, ◌+◌, ◌∙◌, ◌++◌, ◌||◌, ℕ, zero, suc, Bool, true, false, not, cond, nat_le, List, [], ◌∷◌, length, map, take, reverse, get_or, position, bytes_eq, codes, is_some, unwrap_or, option_and_then, drop, IfSome, Option, Some, None, Ok, Err, refl, sym, ap, subst, arith}
 use Rattle.std.specs.List.{list_any}
 use Rattle.std.specs.Option.{option_map, option_or}
@@ -132,7 +132,7 @@ module _ (ds : List Data) (i : ℕ) (d : Data) (within : i < length ds) (at : d 
   flipped true e = absurd (true≢false (sym e))
   flipped false e = refl
 
-  -- the device as the whole file spells it, where its parent stands before
+  -- the device as the whole file spells it, if its parent comes before it
   same : has_parent_before (reverse (take i ds)) d ≡ true → device_after (names devices) d ≡ whole_device all d
   same h =
       ap (λ ns. device_after ns d) so_far
@@ -193,19 +193,19 @@ pub name_broken : (file : Data) (n : ℕ) → Stops fault.NameTaken n (list_in (
 unfolding broken_devices
 name_broken file n h = ap (λ o. option_or (option_map (broken_at 8) (option_map (item_place (codes "devices")) o)) (first_of (drop 1 device_rules) file)) h
 
--- a name that stands again, anywhere
+-- a name that comes again, anywhere
 pub again_broken : (file : Data) (place : List ℕ) → repeated_device file ≡ Some place → broken_devices file ≡ Some (broken_at 8 place)
 unfolding broken_devices
 again_broken file place h = ap (λ o. option_or (option_map (broken_at 8) o) (first_of (drop 1 device_rules) file)) h
 
--- a parent that is not registered, where no name stands again
+-- a parent that is not registered, if no name comes again
 pub parent_broken : (file : Data) (n : ℕ) → repeated_device file ≡ None → Stops fault.NoParent n (list_in (codes "devices") file) → broken_devices file ≡ Some (broken_at 9 (item_place (codes "devices") n))
 unfolding broken_devices
 parent_broken file n free h =
     ap (λ o. option_or (option_map (broken_at 8) o) (first_of (drop 1 device_rules) file)) free
     ∙ ap (λ o. option_or (option_map (broken_at 9) (option_map (item_place (codes "devices")) o)) None) h
 
--- where all are registered, both rules are kept
+-- if all are registered, the file obeys both rules
 pub none_broken : (file : Data) (devices : List Device) → AreRegistered (list_in (codes "devices") file) devices → broken_devices file ≡ None
 unfolding broken_devices
 none_broken file devices r =

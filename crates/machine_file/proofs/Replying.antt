@@ -13,7 +13,7 @@ use Rattle.machine_file.specs.Spelled.{index_among}
 use Rattle.machine_file.specs.Answering.{is_of_device, platform_steps, phase_of, step_of, ret_of, whole_report, whole_answer}
 use Rattle.machine_file.specs.AnswerTests.{answer_made}
 
--- an answer beside these names
+-- an answer, with these names known
 abbrev made : List (List ℕ) → List (List ℕ) → List (List ℕ) → List (List ℕ) → Data → Answer
 made devices syscore notifiers sources a =
     let names = (if is_of_device a then devices else if has_text (codes "what") (codes "syscore") a then syscore else if has_text (codes "what") (codes "notifier") a then notifiers else map down_word platform_steps) in

@@ -30,7 +30,7 @@ use Rattle.machine_file.specs.Limits.{times_of, repeat_of, times_if, script_step
 use Rattle.machine_file.specs.Whole.{whole_machine}
 use Rattle.machine_file.proofs.Freshly.{all_pass, place_within}
 
--- ---- what passes where no place is the first that does not
+-- ---- what passes if no place is the first that does not
 
 none_map : {X Y : Type 0} (f : X → Y) (o : Option X) → option_map f o ≡ None → o ≡ None
 none_map f None e = refl
@@ -74,7 +74,7 @@ in_range : (least most : ℕ) (o : Option ℕ) → is_some_and (λ n. nat_le lea
 in_range least most None e = tt
 in_range least most (Some n) e = let both = and_parts (nat_le least n) (nat_le n most) e in (leb-true least n both.0, leb-true n most both.1)
 
--- a number that may be given, where it is
+-- a number that may be given, if it is
 pub number_in : (least most : ℕ) (o : Option Data) → is_none_or (is_within least most) o ≡ true →
     IfSome (option_and_then as_u64 (option_and_then as_number o)) (λ n. (least ≤ n) × (n ≤ most))
 number_in least most None e = tt
@@ -125,7 +125,7 @@ word_within names (Some s) e h = place_within names s h
 
 -- ---- an operation
 
--- what each row's word spells holds, where the row's form is kept
+-- what each row's word spells holds, if it has the row's form
 abbrev Along : (Operation → Bool) → (Op → Type 0) → List Operation → List (List ℕ × Op) → Type 0
 Along form P [] ops = Unit {0}
 Along form P (r ∷ rows) [] = Unit {0}
@@ -476,7 +476,7 @@ length_count (x ∷ xs) = ap suc (length_count xs) ∙ by (count_by (λ y. true)
     by : (n : ℕ) → suc n ≡ 1 + n
     by n = omega arith
 
--- operations that are told apart by their data are counted by it
+-- operations that differ by their data are counted by it
 module _ (known : Known) (p : Op → Bool) (test : Data → Bool) (told : (o : Data) → p (whole_op known o) ≡ test o) where
   count_script : (a : Data) → count_by p (made (whole_script known a)) ≡ script_steps test a
   count_script a =

@@ -55,7 +55,7 @@ find_same p q (x ∷ xs) e = ap (λ b. cond b (Some x) (find p xs)) (e x) ∙ ap
 word_there : (w : Word) (o : Data) → Some (operation_of_word w) ≡ row_of o → has_text (codes "op") (operation_of_word w).word o ≡ true
 word_there w o e = passes (λ r. has_text (codes "op") r.word o) (operation_of_word w) operations (sym e)
 
--- the word alone tells whether links are changed
+-- the word by itself decides whether links are changed
 pub changes : (w : Word) (o : Data) → Some (operation_of_word w) ≡ row_of o → word_changes_links w ≡ changes_links o
 changes w o e =
     by w ∙ ap (λ b. b || bytes_eq (operation_of_word w).word (codes "link_state")) (sym (member_apart (get (codes "op") o) (operation_of_word w).word (codes "link") there))

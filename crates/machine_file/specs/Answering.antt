@@ -56,13 +56,13 @@ has_its_phase a = if is_of_device a then is_some (get (codes "phase") a) else is
 abbrev pub names_thing : Data → Data → Bool
 names_thing file a = is_among_names (names_of_kind file a) (name_of a) && has_its_phase a
 
--- where an answer is of nothing that is there
+-- the place of an answer that is of nothing there
 abbrev pub thingless_answer : Data → Option (List ℕ)
 thingless_answer file = first_item (codes "answers") (names_thing file) file
 
 -- ---- what is answered
 
--- it is of a device's prepare, which alone may answer 1 (device_prepare)
+-- it is of a device's prepare, and only that may answer 1 (device_prepare)
 abbrev pub is_of_prepare : Data → Bool
 is_of_prepare a = is_of_device a && has_text (codes "phase") (codes "prepare") a
 
@@ -70,11 +70,11 @@ is_of_prepare a = is_of_device a && has_text (codes "phase") (codes "prepare") a
 abbrev pub common_errors : List (List ℕ)
 common_errors = map error_name (EIO ∷ EBUSY ∷ ENODEV ∷ EINVAL ∷ [])
 
--- 0 and the common errors; beside them prepare may answer 1, and the others EAGAIN
+-- 0 and the common errors; besides these prepare may answer 1, and the others EAGAIN
 abbrev pub is_ret_allowed : Data → Data → Bool
 is_ret_allowed a ret = is_number 0 ret || is_one_of common_errors ret || (if is_of_prepare a then is_number 1 ret else is_text (error_name EAGAIN) ret)
 
--- where an answer's number or error is not allowed
+-- the place of an answer whose number or error is not allowed
 abbrev pub forbidden_ret : Data → Option (List ℕ)
 forbidden_ret file = first_item (codes "answers") (λ a. may_have (codes "ret") (is_ret_allowed a) a) file
 
@@ -82,11 +82,11 @@ forbidden_ret file = first_item (codes "answers") (λ a. may_have (codes "ret") 
 abbrev pub may_report : Data → Bool
 may_report a = nat_le (length (list_in (codes "reports") a)) (if is_of_device a && not (is_of_prepare a) then 16 else 0)
 
--- where an answer has reports that it may not have
+-- the place of an answer with reports that it may not have
 abbrev pub forbidden_reports : Data → Option (List ℕ)
 forbidden_reports file = first_item (codes "answers") may_report file
 
--- where a report names a source that is not there
+-- the place of a report that names a source which is not there
 abbrev pub sourceless_report : Data → Option (List ℕ)
 sourceless_report file = first_item (codes "answers") (λ a. list_all (names_source (sources_named file)) (list_in (codes "reports") a)) file
 
@@ -99,17 +99,17 @@ abbrev pub is_same_answer : Data → Data → Bool
 is_same_answer a b =
     is_same_at (codes "what") a b && is_same_at (codes "name") a b && is_same_at (codes "phase") a b && is_for (number_at (codes "attempt") a) (number_at (codes "attempt") b)
 
--- where an answer stands a second time
+-- the place of an answer that comes a second time
 abbrev pub repeated_answer : Data → Option (List ℕ)
 repeated_answer file = first_later_item (codes "answers") (λ before a. not (list_any (is_same_answer a) before)) file
 
 -- ---- the answers that are spelled
 
--- the phase that a word is; Prepare where it is none, which the rules refuse
+-- the phase that a word is; Prepare if it is none, which the rules refuse
 abbrev pub phase_of : Data → Phase
 phase_of a = unwrap_or (find (λ p. has_text (codes "phase") (phase_name p) a) answering_phases) phase.Prepare
 
--- the platform's step that a name is; Begin where it is none, which the rules refuse
+-- the platform's step that a name is; Begin if it is none, which the rules refuse
 abbrev pub step_of : Data → PlatDo
 step_of a = unwrap_or (find (λ s. has_text (codes "name") (down_word s) a) platform_steps) step.Begin
 
@@ -130,7 +130,7 @@ ret_of a =
 abbrev pub call_of : Data → SourceCall
 call_of r = if has_text (codes "call") (codes "awake") r then call.Awake else if has_text (codes "call") (codes "relax") r then call.Relax else call.Event (ms_of r) (says (codes "hard") r)
 
--- a report beside the sources of these names
+-- a report, if the sources have these names
 abbrev pub whole_report : List (List ℕ) → Data → Report
 whole_report sources r = record { source = index_among sources (text_at (codes "source") r); call = call_of r }
 

@@ -24,7 +24,7 @@ abbrev pub flags_of : Data → DeviceFlags
 flags_of d =
     record { 0 = bit (unwrap_or (truth_at (codes "async") d) false) 1 + bit (unwrap_or (truth_at (codes "wakeup") d) false) 2 + bit (has_text (codes "runtime") (codes "suspended") d) 4 }
 
--- a device beside the devices of these names
+-- a device, if the devices have these names
 abbrev pub whole_device : List (List ℕ) → Data → Device
 whole_device names d = record { name = name_of d; parent = parent_of names d; flags = flags_of d }
 
@@ -38,11 +38,11 @@ whole_links file = map (link_of (devices_named file)) (list_in (codes "links") f
 
 -- ---- the rules
 
--- its parent, where it has one, is one of the devices before it (device_add)
+-- its parent, if it has one, is one of the devices before it (device_add)
 abbrev pub has_parent_before : List Data → Data → Bool
 has_parent_before before d = is_none_or (is_among_names (map name_of before)) (word_at (codes "parent") d)
 
--- where a parent is no earlier device
+-- the place of a parent that is no earlier device
 abbrev pub orphan : Data → Option (List ℕ)
 orphan file = first_later_item (codes "devices") has_parent_before file
 
@@ -50,7 +50,7 @@ orphan file = first_later_item (codes "devices") has_parent_before file
 abbrev pub has_ends : List (List ℕ) → Data → Bool
 has_ends names d = is_among_names names (text_at (codes "supplier") d) && is_among_names names (text_at (codes "consumer") d)
 
--- where an end of a link is no device (device_link_add)
+-- the place of a link with an end that is no device (device_link_add)
 abbrev pub loose_link : Data → Option (List ℕ)
 loose_link file = first_item (codes "links") (has_ends (devices_named file)) file
 
@@ -58,11 +58,11 @@ loose_link file = first_item (codes "links") (has_ends (devices_named file)) fil
 abbrev pub is_same_link : Data → Data → Bool
 is_same_link l k = bytes_eq (text_at (codes "supplier") l) (text_at (codes "supplier") k) && bytes_eq (text_at (codes "consumer") l) (text_at (codes "consumer") k)
 
--- its ends differ, and it does not stand before
+-- its ends differ, and it does not come before
 abbrev pub is_new_link : List Data → Data → Bool
 is_new_link before l = not (bytes_eq (text_at (codes "supplier") l) (text_at (codes "consumer") l)) && not (list_any (is_same_link l) before)
 
--- where a link has one end, or stands a second time (device_link_add)
+-- the place of a link that has only one end, or comes a second time (device_link_add)
 abbrev pub repeated_link : Data → Option (List ℕ)
 repeated_link file = first_later_item (codes "links") is_new_link file
 
@@ -74,6 +74,6 @@ closes_no_cycle file before l =
     let below = moved (length parents) (dependents parents (map (link_of names) before)) (index_among names (text_at (codes "consumer") l)) in
     not (is_among below (index_among names (text_at (codes "supplier") l)))
 
--- where a link closes a cycle
+-- the place of a link that closes a cycle
 abbrev pub cyclic_link : Data → Option (List ℕ)
 cyclic_link file = first_later_item (codes "links") (closes_no_cycle file) file

@@ -1,4 +1,4 @@
--- The form of values: their types, ranges and words. What stands in a script has a module of its own.
+-- The form of values: their types, ranges and words. The operations of scripts have a module of their own.
 use Rattle.std.specs.Prelude.{ℕ, List, [], ◌∷◌, codes, Bool, not, nat_abs, ◌&&◌, ◌||◌, is_some, bytes_eq, nat_le, map, Option, None, option_map, option_and_then}
 use Rattle.std.specs.List.{list_any, list_all, find}
 use Rattle.std.specs.Option.{option_or}
@@ -109,7 +109,7 @@ is_answer_form d =
 
 -- ---- the file's members
 
--- a row of a table: a name, and what stands beside it
+-- a row of a table: a name, and what belongs to it
 pub record Named (A : Type 0) : Type 0 where
   pub name : List ℕ
   pub is : A
@@ -154,10 +154,10 @@ abbrev pub first_in_lists : List (Named (Data → Bool)) → Data → Option (Li
 first_in_lists [] file = None
 first_in_lists (r ∷ rows) file = option_or (first_item r.name r.is file) (first_in_lists rows file)
 
--- where a member has not its form
+-- the place of a member that has not its form
 abbrev pub unformed_member : Data → Option (List ℕ)
 unformed_member file = first_row (λ r. may_have r.name r.is file) member_forms
 
--- where an item has not its form
+-- the place of an item that has not its form
 abbrev pub unformed_item : Data → Option (List ℕ)
 unformed_item file = first_in_lists (item_forms (is_second file)) file

@@ -1,3 +1,4 @@
+-- The definitions of this crate.
 pub mod Look
 pub mod Rules
 pub mod Spelled

@@ -35,7 +35,7 @@ times_of o = unwrap_or (number_at (codes "times") o) 1
 abbrev pub repeat_of : Data → ℕ
 repeat_of a = unwrap_or (number_at (codes "repeat") a) 1
 
--- an operation counts as often as it is made, where it passes
+-- an operation counts as often as it is made, if it passes
 abbrev pub times_if : (Data → Bool) → Data → ℕ
 times_if test o = if test o then times_of o else 0
 
@@ -80,6 +80,6 @@ are_steps_few file = nat_le (all_steps (λ o. true) file) 200000 && nat_le (most
 abbrev pub are_reports_few : Data → Bool
 are_reports_few file = nat_le (sum_by (λ a. length (list_in (codes "reports") a)) (list_in (codes "answers") file)) 10000
 
--- where too much may happen
+-- the place at which too much may happen
 abbrev pub too_much : Data → Option (List ℕ)
 too_much file = option_or (unless (are_steps_few file) (codes "actors")) (unless (are_reports_few file) (codes "answers"))

@@ -1,4 +1,4 @@
--- Tests of one JSON value, and what of it stands at a name.
+-- Tests of one JSON value, and what it has at a name.
 use Rattle.std.specs.Prelude.{ℕ, suc, ◌==◌, ◌&&◌, List, [], ◌∷◌, Bool, true, false, not, Option, Some, None, is_some, bytes_eq, unwrap_or, option_and_then}
 use Rattle.std.specs.List.{list_any}
 use Rattle.serde_json.specs.Data.{Data, Items, no_items, item, Members, no_members, member}
@@ -48,7 +48,7 @@ are_named names (member k d ms) = list_any (bytes_eq k) names && are_named names
 abbrev pub has_only : List (List ℕ) → Data → Bool
 has_only names d = is_some_and (are_named names) (as_object d)
 
--- the text that it is; no bytes where it is none
+-- the text that it is; no bytes if it is none
 abbrev pub text_of : Data → List ℕ
 text_of d = unwrap_or (as_str d) []
 
@@ -57,11 +57,11 @@ abbrev pub texts_of : Items → List (List ℕ)
 texts_of no_items = []
 texts_of (item d ds) = text_of d ∷ texts_of ds
 
--- the text at this name; no bytes where there is none
+-- the text at this name; no bytes if there is none
 abbrev pub text_at : List ℕ → Data → List ℕ
 text_at name d = unwrap_or (option_and_then as_str (get name d)) []
 
--- the list at this name; the empty one where there is none
+-- the list at this name; the empty one if there is none
 abbrev pub list_at : List ℕ → Data → Items
 list_at name d = unwrap_or (option_and_then as_array (get name d)) no_items
 

@@ -1,4 +1,4 @@
--- Which members the objects of a machine file have, and what stands at them.
+-- Which members the objects of a machine file have, and their values.
 use Rattle.std.specs.Prelude.{ℕ, List, [], ◌∷◌, codes, Bool, true, false, Option, option_and_then}
 use Rattle.serde_json.specs.Data.{Data, Items, no_items, item}
 use Rattle.serde_json.specs.Find.{get, as_number, as_u64, as_str, as_bool}
@@ -36,7 +36,7 @@ answer_members = codes "what" ∷ codes "name" ∷ codes "phase" ∷ codes "atte
 abbrev pub report_members : List (List ℕ)
 report_members = codes "call" ∷ codes "source" ∷ codes "ms" ∷ codes "hard" ∷ []
 
--- ---- what stands at a member
+-- ---- the value of a member
 
 -- the member is there, and passes
 abbrev pub must_have : List ℕ → (Data → Bool) → Data → Bool
@@ -55,18 +55,18 @@ abbrev pub items_of : Items → List Data
 items_of no_items = []
 items_of (item d ds) = d ∷ items_of ds
 
--- the list at this member; the empty one where there is none
+-- the list at this member; the empty one if there is none
 abbrev pub list_in : List ℕ → Data → List Data
 list_in name d = items_of (list_at name d)
 
--- the whole number at this member, where there is one
+-- the whole number at this member, if there is one
 abbrev pub number_at : List ℕ → Data → Option ℕ
 number_at name d = option_and_then as_u64 (option_and_then as_number (get name d))
 
--- the text at this member, where there is one
+-- the text at this member, if there is one
 abbrev pub word_at : List ℕ → Data → Option (List ℕ)
 word_at name d = option_and_then as_str (get name d)
 
--- the truth value at this member, where there is one
+-- the truth value at this member, if there is one
 abbrev pub truth_at : List ℕ → Data → Option Bool
 truth_at name d = option_and_then as_bool (get name d)

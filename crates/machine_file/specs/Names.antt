@@ -41,7 +41,7 @@ item_names =
     ∷ row (codes "answers") own_name
     ∷ []
 
--- where a name is misspelled
+-- the place of a misspelled name
 abbrev pub misspelled_item : Data → Option (List ℕ)
 misspelled_item file = first_in_lists item_names file
 
@@ -67,23 +67,23 @@ devices_named file = names_in (codes "devices") file
 abbrev pub sources_named : Data → List (List ℕ)
 sources_named file = texts_in (codes "sources") file
 
--- the place of a list's first name that stands there before
+-- the place of a list's first name that it has before
 abbrev pub repeated : List ℕ → List (List ℕ) → Option (List ℕ)
 repeated list names = option_map (item_place list) (first_not_after (λ before name. not (is_among_names before name)) [] 0 names)
 
--- where a device has another's name (device_add)
+-- the place of a device with another's name (device_add)
 abbrev pub repeated_device : Data → Option (List ℕ)
 repeated_device file = repeated (codes "devices") (devices_named file)
 
--- where a syscore callback or a notifier has another's name (own)
+-- the place of a syscore callback or a notifier with another's name (own)
 abbrev pub repeated_callback : Data → Option (List ℕ)
 repeated_callback file = option_or (repeated (codes "syscore") (texts_in (codes "syscore") file)) (repeated (codes "notifiers") (names_in (codes "notifiers") file))
 
--- where a source has another's name, or that of autosleep's own (pm_autosleep_init)
+-- the place of a source with another's name, or that of autosleep's own (pm_autosleep_init)
 abbrev pub repeated_source : Data → Option (List ℕ)
 repeated_source file =
     option_map (item_place (codes "sources")) (first_not_after (λ before name. not (is_among_names (codes "autosleep" ∷ before) name)) [] 0 (sources_named file))
 
--- where an actor has another's name (own)
+-- the place of an actor with another's name (own)
 abbrev pub repeated_actor : Data → Option (List ℕ)
 repeated_actor file = repeated (codes "actors") (names_in (codes "actors") file)

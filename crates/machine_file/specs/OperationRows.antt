@@ -83,11 +83,11 @@ word_names_device word.Link = true
 word_names_device word.LinkState = true
 word_names_device _ = false
 
--- it keeps each rule on one operation, beside its actor and the names of sources and devices
+-- it obeys each rule on one operation, for its actor and the names of sources and devices
 abbrev pub is_in_journal : Bool → List (List ℕ) → List (List ℕ) → Data → Data → Bool
 is_in_journal second sources devices actor o = is_formed second actor o && is_allowed actor o && names_source sources o && names_device devices o
 
--- a test of an operation beside its actor
+-- a test of an operation of that actor
 abbrev pub operation_test : OperationTest → Known → Data → Data → Bool
 operation_test (test.Kept second) k actor = is_in_journal second (texts k.sources) (names k.devices) actor
 operation_test (test.Formed second) k actor = is_formed second actor

@@ -30,7 +30,7 @@ pub record Operation : Type 0 where
 abbrev pub operation : List ℕ → List (List ℕ) → (Data → Bool) → List (List ℕ) → Operation
 operation word members form makers = record { word = word; members = members; form = form; makers = makers }
 
--- user space alone
+-- only user space
 abbrev pub users : List (List ℕ)
 users = codes "user" ∷ []
 
@@ -42,11 +42,11 @@ tasks = codes "user" ∷ codes "kthread" ∷ codes "nofreeze" ∷ []
 abbrev pub everyone : List (List ℕ)
 everyone = codes "user" ∷ codes "kthread" ∷ codes "nofreeze" ∷ codes "irq" ∷ []
 
--- nothing more is said
+-- it has no other member
 abbrev pub plain : Data → Bool
 plain o = true
 
--- a number to be saved, where it is given (pm_save_wakeup_count)
+-- a number to be saved, if it is given (pm_save_wakeup_count)
 abbrev pub has_count : Data → Bool
 has_count o = may_have (codes "count") (is_within 0 4294967295) o
 
@@ -116,7 +116,7 @@ row_of o = find (λ r. has_text (codes "op") r.word o) operations
 abbrev pub fits_row : Data → Operation → Bool
 fits_row o r = has_only (codes "op" ∷ codes "times" ∷ r.members) o && may_have (codes "times") (is_within 1 20000) o && r.form o
 
--- it changes links, which a file of version 2 alone may ask for (device_link_add)
+-- it changes links, which only a file of version 2 may ask for (device_link_add)
 abbrev pub changes_links : Data → Bool
 changes_links o = has_text (codes "op") (codes "link") o || has_text (codes "op") (codes "link_state") o
 
@@ -142,19 +142,19 @@ names_device devices o =
     names_device_at (codes "device") devices o && names_device_at (codes "supplier") devices o
     && names_device_at (codes "consumer") devices o
 
--- where an operation is none of the table, or has not its form
+-- the place of an operation that is none of the table, or has not its form
 abbrev pub unformed_operation : Data → Option (List ℕ)
 unformed_operation file = first_operation (is_formed (is_second file)) file
 
--- where an operation is not allowed to its maker
+-- the place of an operation that is not allowed to its maker
 abbrev pub forbidden_operation : Data → Option (List ℕ)
 forbidden_operation file = first_operation is_allowed file
 
--- where an operation names a source that is not there
+-- the place of an operation that names a source which is not there
 abbrev pub sourceless_operation : Data → Option (List ℕ)
 sourceless_operation file = first_operation (λ actor. names_source (sources_named file)) file
 
--- where an operation names a device that is not there
+-- the place of an operation that names a device which is not there
 abbrev pub deviceless_operation : Data → Option (List ℕ)
 deviceless_operation file = first_operation (λ actor. names_device (devices_named file)) file
 
@@ -164,7 +164,7 @@ deviceless_operation file = first_operation (λ actor. names_device (devices_nam
 abbrev pub marks_of : List Data → List (List ℕ)
 marks_of script = filter_map (word_at (codes "mark")) script
 
--- each name at its first place alone, after these
+-- each name only at its first position, after these
 abbrev pub first_occurrences : List (List ℕ) → List (List ℕ) → List (List ℕ)
 first_occurrences found [] = found
 first_occurrences found (name ∷ names) = first_occurrences (if is_among_names found name then found else found ++ name ∷ []) names
@@ -215,7 +215,7 @@ spelled_op known o =
     ∷ (codes "event", Event (thing_at (codes "source") known.sources o) (ms_of o) (says (codes "hard") o))
     ∷ []
 
--- the operation that is spelled; Read where it is none of the table, which the rules refuse
+-- the operation that is spelled; Read if it is none of the table, which the rules refuse
 abbrev pub whole_op : Known → Data → Op
 whole_op known o = unwrap_or (option_map (λ r. r.1) (find (λ r. has_text (codes "op") r.0 o) (spelled_op known o))) Read
 
@@ -223,7 +223,7 @@ whole_op known o = unwrap_or (option_map (λ r. r.1) (find (λ r. has_text (code
 abbrev pub whole_step : Known → Data → Step
 whole_step known o = record { op = whole_op known o; times = unwrap_or (number_at (codes "times") o) 1 }
 
--- the kind that a word is; User where it is none, which the rules refuse
+-- the kind that a word is; User if it is none, which the rules refuse
 abbrev pub kind_of : Data → TaskKind
 kind_of a = if has_text (codes "kind") (codes "kthread") a then Kthread else if has_text (codes "kind") (codes "nofreeze") a then NoFreeze else if has_text (codes "kind") (codes "irq") a then Irq else User
 

@@ -12,7 +12,7 @@ item_place name n = name ++ codes "[" ++ decimal n ++ codes "]"
 abbrev pub operation_place : ℕ → ℕ → List ℕ
 operation_place actor n = item_place (codes "actors") actor ++ codes "." ++ item_place (codes "script") n
 
--- no place where the rule holds, and else this one
+-- no place if the rule holds, and else this one
 abbrev pub unless : Bool → List ℕ → Option (List ℕ)
 unless holds place = if holds then None else Some place
 
@@ -20,7 +20,7 @@ unless holds place = if holds then None else Some place
 abbrev pub first_not : {X : Type 0} → (X → Bool) → List X → Option ℕ
 first_not test xs = position (λ x. not (test x)) xs
 
--- the number, from n on, of the first that does not pass beside those before it, of which the last stands first
+-- the number, from n on, of the first that does not pass after those before it, of which the last comes first
 abbrev pub first_not_after : {X : Type 0} → (List X → X → Bool) → List X → ℕ → List X → Option ℕ
 first_not_after test before n [] = None
 first_not_after test before n (x ∷ xs) = if test before x then first_not_after test (x ∷ before) (suc n) xs else Some n
@@ -29,7 +29,7 @@ first_not_after test before n (x ∷ xs) = if test before x then first_not_after
 abbrev pub first_item : List ℕ → (Data → Bool) → Data → Option (List ℕ)
 first_item name test file = option_map (item_place name) (first_not test (list_in name file))
 
--- the place of a list's first item that does not pass beside those before it
+-- the place of a list's first item that does not pass after those before it
 abbrev pub first_later_item : List ℕ → (List Data → Data → Bool) → Data → Option (List ℕ)
 first_later_item name test file = option_map (item_place name) (first_not_after test [] 0 (list_in name file))
 

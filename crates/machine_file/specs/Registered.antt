@@ -15,7 +15,7 @@ use Rattle.machine_file.specs.Rules.{name_of}
 abbrev pub AreShort : List Device → Type 0
 AreShort devices = All (λ d. IsShort d.name) devices
 
--- the number of a device's parent among those of these names; where it is none of them, a number that none of them has
+-- the number of a device's parent among those of these names; if it is none of them, a number that none of them has
 abbrev pub parent_after : List (List ℕ) → Data → Option ℕ
 parent_after names d = option_map (λ p. unwrap_or (position (bytes_eq p) names) (length names)) (word_at (codes "parent") d)
 
@@ -23,7 +23,7 @@ parent_after names d = option_map (λ p. unwrap_or (position (bytes_eq p) names)
 abbrev pub device_after : List (List ℕ) → Data → Device
 device_after names d = record { name = name_of d; parent = parent_after names d; flags = flags_of d }
 
--- all these devices are registered: each name is new, and each parent stands before
+-- all these devices are registered: each name is new, and each parent comes before
 pub record AreRegistered (ds : List Data) (devices : List Device) : Type 0 where
   pub is : devices ≡ map (whole_device (map name_of ds)) ds
   pub apart : first_not_after (λ before name. not (is_among_names before name)) [] 0 (map name_of ds) ≡ None

@@ -1,4 +1,4 @@
--- By what links and answers are told apart.
+-- What of links and answers has to differ.
 use Rattle.std.specs.Prelude.{◌≡◌, ℕ, List, [], ◌∷◌, map, Bool, not, ◌&&◌, bytes_eq, codes, is_some, position, unwrap_or, Option}
 use Rattle.serde_json.specs.Data.{Data}
 use Rattle.sleep_model.specs.Answers.{is_for}
@@ -15,7 +15,7 @@ pub record SeenEnds : Type 0 where
   pub supplier : List ℕ
   pub consumer : List ℕ
 
--- the ends as they are kept
+-- the ends as they are compared
 abbrev pub ends_seen : LinkEnds → SeenEnds
 ends_seen e = record { supplier = e.supplier.now; consumer = e.consumer.now }
 
@@ -68,7 +68,7 @@ pub record SeenAnswer : Type 0 where
   pub phase : List ℕ
   pub attempt : Option ℕ
 
--- an answer as it is kept
+-- an answer as it is compared
 abbrev pub answer_seen : Given → SeenAnswer
 answer_seen a = record { what = a.what.now; name = a.name.now; phase = a.phase.now; attempt = a.attempt }
 

@@ -1,4 +1,4 @@
--- What names in a machine file stand for.
+-- What names in a machine file mean.
 use Rattle.std.specs.Prelude.{ℕ, List, codes, not, Option, option_and_then, unwrap_or, position, bytes_eq}
 use Rattle.sleep_model.specs.declared.machine.Link.{Link}
 use Rattle.serde_json.specs.Data.{Data}

@@ -22,7 +22,7 @@ broken_devices d = first_of device_rules d
 unfoldable pub broken_ends : Data → Option Broken
 broken_ends d = first_of end_rules d
 
--- the rule on cycles, where it is broken
+-- the rule on cycles, if it is broken
 unfoldable pub broken_cycle : Data → Option Broken
 broken_cycle d = option_map (broken_at 12) (cyclic_link d)
 

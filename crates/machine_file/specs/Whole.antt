@@ -75,7 +75,7 @@ first_of (r ∷ rest) d = option_or (option_map (broken_at r.number) (r.broken d
 abbrev pub first_broken : Data → Option Broken
 first_broken d = first_of rules d
 
--- the first rule that a value breaks; where there is no value, the one on reading
+-- the first rule that a value breaks; if there is no value, the one on reading
 abbrev pub broken_by : Option Data → Option Broken
 broken_by None = Some (broken_at 1 (codes "json"))
 broken_by (Some d) = first_broken d
@@ -84,7 +84,7 @@ broken_by (Some d) = first_broken d
 abbrev pub broken_in : List ℕ → Option Broken
 broken_in bytes = broken_by (tree bytes)
 
--- what is said of a file that is refused
+-- the text on a file that is refused
 abbrev pub refusal_text : Broken → List ℕ
 refusal_text b = codes "machine: rule " ++ decimal b.rule ++ codes ": " ++ b.place ++ newline
 
@@ -98,7 +98,7 @@ priority_of d = unwrap_or (option_and_then as_integer (option_and_then as_number
 abbrev pub whole_notifier : Data → Notifier
 whole_notifier d = record { name = name_of d; priority = priority_of d }
 
--- the machine that a value spells, where it keeps the rules
+-- the machine that a value spells, if it obeys the rules
 abbrev pub whole_machine : Data → Machine
 whole_machine d = record {
   alarm_ms = unwrap_or (number_at (codes "alarm_ms") d) 1000;
@@ -114,7 +114,7 @@ whole_machine d = record {
   answers = whole_answers d;
 }
 
--- the machine, where no rule is broken
+-- the machine, if no rule is broken
 abbrev pub unless_broken : Option Broken → Machine → Option Machine
 unless_broken None m = Some m
 unless_broken (Some b) m = None

@@ -1,3 +1,4 @@
+//! Why a machine file gives no machine.
 ghost use Rattle.std.specs.Prelude.{◌≡◌};
 ghost use Rattle.machine_file.specs.declared.fault.MachineFault.TheVariants as fault;
 

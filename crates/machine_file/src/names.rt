@@ -1,4 +1,4 @@
-//! The names of things, and where one stands a second time.
+//! The names of things, and the first that comes a second time.
 pub(crate) mod devices;
 pub(crate) mod known;
 pub(crate) mod marks;
@@ -63,7 +63,7 @@ fn texts_of<'v>(alloc: Global, list: &[Value<'v>]) -> Result<Vec<&'v str>, Mem>
     Ok(names)
 }
 
-/// The first name that stands before.
+/// The first name that comes before.
 pub(crate) fn first_repeated(names: &KeyIndex<&str>) -> Option<usize>
     ensures { result ≡ first_not_after (λ before name. not (is_among_names before name)) [] 0 (map (λ s. s.now) names.now) }
 {

@@ -1,3 +1,4 @@
+//! A machine file is read, or refused by the first rule that it breaks.
 pub(crate) mod machine;
 pub(crate) mod replies;
 pub(crate) mod scripts;
@@ -73,8 +74,8 @@ fn read_tree(alloc: Global, tree: &Value<'_>) -> Result<ReadMachine, MachineFaul
     }
 }
 
-/// Reads a file that keeps the rules on form: its devices are registered in turn, which decides the rules on their names and
-/// parents.
+/// Reads a file that keeps the rules on form: its devices are registered in turn, which decides the rules on
+/// their names and parents.
 fn read_formed(alloc: Global, tree: &Value<'_>) -> Result<ReadMachine, MachineFault>
     requires { broken_form (view tree.now) ≡ None }
     ensures ok { IfOk result (Reads (view tree.now)) }
@@ -86,7 +87,7 @@ fn read_formed(alloc: Global, tree: &Value<'_>) -> Result<ReadMachine, MachineFa
     }
 }
 
-/// Reads a file with these devices. It alone owns the names of its things, and drops them at one exit.
+/// Reads a file with these devices. Only it owns the names of its things, and drops them at one exit.
 fn read_registered(
     alloc: Global,
     tree: &Value<'_>,
@@ -135,6 +136,7 @@ fn fault_of(alloc: Global, broken: Broken) -> MachineFault
     }
 }
 
+/// The text of a place.
 fn text_of_place(alloc: Global, place: Place) -> Result<String, AllocError>
     ensures { IfOk result (λ s. string_bytes s ≡ place_text place) }
 {
@@ -151,6 +153,7 @@ fn text_of_place(alloc: Global, place: Place) -> Result<String, AllocError>
     }
 }
 
+/// The text of the place of an item.
 fn text_of_item(alloc: Global, list: &str, number: usize) -> Result<String, AllocError>
     ensures { IfOk result (λ s. string_bytes s ≡ item_place list.now number) }
 {

@@ -57,7 +57,7 @@ pub(crate) struct Broken {
     pub(crate) place: Place,
 }
 
-/// The rule of that number, where a place breaks it.
+/// The rule of that number, if a place breaks it.
 pub(crate) fn breaks(rule: u8, place: Option<Place>) -> Option<Broken>
     ensures { option_map broken_view result ≡ option_map (broken_at rule) (place_of place) }
 {
@@ -115,7 +115,7 @@ pub(crate) fn end_broken(
     Ok(end.or(breaks(11, again)))
 }
 
-/// The first rule that tells things apart that is broken.
+/// The first broken rule of those by which things differ.
 pub(crate) fn thing_broken(
     alloc: Global,
     tree: &Value<'_>,
@@ -174,8 +174,8 @@ fn sourceless(tree: &Value<'_>, known: &Known<'_>) -> Option<Place>
     }
 }
 
-/// The first rule of operations that is broken: it is searched for rule by rule only if one pass finds an operation that
-/// breaks any of them.
+/// The first rule of operations that is broken: it is searched for rule by rule only if one pass finds an
+/// operation that breaks any of them.
 pub(crate) fn operation_broken(tree: &Value<'_>, known: &Known<'_>) -> Option<Broken>
     requires { Knows known.now (view tree.now) }
     ensures { option_map broken_view result ≡ first_of operation_rules (view tree.now) }

@@ -28,7 +28,8 @@ use sleep_model::{Device, Name};
 use std::alloc::Global;
 use std::marker::Model;
 
-/// The devices of a file, of which each is found by its name of 1 to 32 bytes. Contracts see the list of the devices.
+/// The devices of a file, of which each is found by its name of 1 to 32 bytes. Contracts see the list of the
+/// devices.
 #[derive(Drop)]
 pub(crate) struct Devices {
     tree: Tree,
@@ -105,8 +106,8 @@ pub(crate) fn device_named(value: &Value<'_>, member: &str, devices: &Devices) -
     devices.find(text_at(value, member)).unwrap_or(0)
 }
 
-/// The number of a device's parent. Where the parent is none of these devices, it is one that none of them has, and the
-/// tree refuses it.
+/// The number of a device's parent. If the parent is none of these devices, it is one that none of them has,
+/// and the tree refuses it.
 fn parent_of(device: &Value<'_>, devices: &Devices) -> Option<u32>
     ensures { result ≡ parent_after (names devices.now) (view device.now) }
 {
@@ -161,8 +162,8 @@ fn at(rule: u8, number: usize) -> Broken
     Broken { rule, place }
 }
 
-/// The rule that is broken where a device was refused: one whose parent is not registered leaves those after it unasked for
-/// their names.
+/// The rule that is broken if a device was refused: one whose parent is not registered leaves those after it
+/// unasked for their names.
 fn rule_broken(alloc: Global, tree: &Value<'_>, refused: Refused) -> Result<Broken, Mem>
     requires { Stops refused.fault refused.number (list_in (codes "devices") (view tree.now)) }
     ensures { IfOk result (λ b. broken_devices (view tree.now) ≡ Some (broken_view b)) }

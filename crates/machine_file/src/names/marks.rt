@@ -16,6 +16,7 @@ use key_index::KeyIndex;
 use sleep_base::Mem;
 use std::alloc::Global;
 
+/// Adds the marks that a script names.
 fn add_marks<'v>(marks: &mut Vec<&'v str>, script: &[Value<'v>]) -> Result<(), Mem>
     ensures { OnOk result (texts marks.new.items ≡ texts marks.old.items ++ marks_of (map view script.now)) }
 {
@@ -27,7 +28,7 @@ fn add_marks<'v>(marks: &mut Vec<&'v str>, script: &[Value<'v>]) -> Result<(), M
     Ok(())
 }
 
-// The marks of actors, one for each time that one is named.
+/// The marks of actors, one for each time that one is named.
 fn marks_of<'v>(alloc: Global, actors: &[Value<'v>]) -> Result<Vec<&'v str>, Mem>
     ensures { IfOk result (λ v. texts v.items ≡ flat_map marks_of_script (map view actors.now)) }
 {
@@ -38,7 +39,7 @@ fn marks_of<'v>(alloc: Global, actors: &[Value<'v>]) -> Result<Vec<&'v str>, Mem
     Ok(marks)
 }
 
-// Each name at its first place alone.
+/// Each name only at its first position.
 fn first_occurrences<'v>(alloc: Global, names: &KeyIndex<&'v str>) -> Result<Vec<&'v str>, Mem>
     ensures { IfOk result (λ v. texts v.items ≡ first_occurrences [] (texts names.now)) }
 {

@@ -1,4 +1,4 @@
-//! The rules of a machine file in their order, and its links where it breaks none.
+//! The rules of a machine file in their order, and its links if it breaks none.
 
 ghost use Rattle.std.specs.Prelude.{◌≡◌, [], option_map, codes, Some, None, IfOk, IfErr};
 ghost use Rattle.std.specs.Option.{option_or};
@@ -44,6 +44,7 @@ fn first_of_ends(
     end_broken(alloc, tree, ends, places)
 }
 
+/// The rule on cycles, if a link closes one.
 #[tactic(auto, unfolding(crate::specs::ValidFiles::broken_cycle))]
 fn first_cycle(cycle: Option<usize>, _tree: &Value<'_>) -> Option<Broken>
     requires { cycle ≡ first_not_after (closes_no_cycle (view _tree.now)) [] 0 (list_in (codes "links") (view _tree.now)) }

@@ -54,6 +54,7 @@ fn step_of(answer: &Value<'_>) -> PlatDo
     step_at(answer).unwrap_or(PlatDo::Begin)
 }
 
+/// The thing that an answer is of.
 fn thing_of(answer: &Value<'_>, known: &Known<'_>) -> What
     requires { AreFew known.now }
     ensures { result ≡ thing_seen known.now (view answer.now) }
@@ -108,6 +109,7 @@ fn ret_of(answer: &Value<'_>) -> i32
     }
 }
 
+/// The call that a report makes.
 fn call_of(report: &Value<'_>) -> SourceCall
     requires { FitsAt (codes "ms") (view report.now) }
     ensures { result ≡ call_of (view report.now) }
@@ -151,6 +153,7 @@ fn reports_of(
     Ok(all)
 }
 
+/// The answer that a value spells.
 fn answer_of(alloc: Global, answer: &Value<'_>, known: &Known<'_>) -> Result<Answer, Mem>
     requires few { AreFew known.now }
     requires fits { FitsAnswer (view answer.now) }

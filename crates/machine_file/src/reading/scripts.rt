@@ -26,7 +26,7 @@ use sleep_base::Mem;
 use sleep_model::{ListOf, Op, Script, Step, TaskKind, Text, link_word, runtime_word};
 use std::alloc::Global;
 
-/// The number at a member, where there is one.
+/// The number at a member, if there is one.
 pub(crate) fn small_at(value: &Value<'_>, name: &str) -> Option<u32>
     requires { FitsAt name.now (view value.now) }
     ensures { result ≡ number_at name.now (view value.now) }
@@ -37,7 +37,7 @@ pub(crate) fn small_at(value: &Value<'_>, name: &str) -> Option<u32>
     }
 }
 
-/// The number at a member, and this one where there is none.
+/// The number at a member, and this one if there is none.
 pub(crate) fn small_or(value: &Value<'_>, name: &str, default: u32) -> u32
     requires { FitsAt name.now (view value.now) }
     ensures { result ≡ unwrap_or (number_at name.now (view value.now)) default }
@@ -117,7 +117,7 @@ fn event_of(operation: &Value<'_>, known: &Known<'_>) -> Op
     }
 }
 
-// What the operation of that word is.
+/// What the operation of that word is.
 fn op_as(alloc: Global, word: Word, operation: &Value<'_>, known: &Known<'_>) -> Result<Op, Mem>
     requires few { AreFew known.now }
     requires marks { length known.now.marks ≤ 200000 }
@@ -181,6 +181,7 @@ fn kind_of(actor: &Value<'_>) -> TaskKind
     kind_at(actor).unwrap_or(TaskKind::User)
 }
 
+/// The script that an actor spells.
 fn script_of(alloc: Global, actor: &Value<'_>, known: &Known<'_>) -> Result<Script, Mem>
     requires few { AreFew known.now }
     requires marks { length known.now.marks ≤ 200000 }

@@ -33,7 +33,7 @@ pub(crate) fn flags_of(device: &Value<'_>) -> DeviceFlags
     DeviceFlags::from_bits_retain(flag(asynchronous, 1) + flag(wakeup, 2) + flag(suspended, 4))
 }
 
-// A number from -1000 to 1000.
+/// A number from -1000 to 1000.
 fn bounded_of(value: &Value<'_>) -> i32
     requires { is_bounded 1000 (view value.now) ≡ true }
     ensures { option_and_then as_integer (as_number (view value.now)) ≡ Some result }

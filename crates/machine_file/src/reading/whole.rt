@@ -1,4 +1,4 @@
-//! The machine that a file spells, where it keeps the rules.
+//! The machine that a file spells, if it obeys the rules.
 
 ghost use Rattle.std.specs.Prelude.{◌≡◌, map, codes, IfOk};
 ghost use Rattle.borrowed_json.specs.View.{view};

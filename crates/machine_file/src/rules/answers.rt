@@ -62,7 +62,7 @@ fn is_of_prepare(answer: &Value<'_>) -> bool
     is_of_device(answer) && has_text(answer, "phase", Phase::Prepare.name())
 }
 
-// Whether a name is that of a step of the platform that answers.
+/// Whether a name is that of a step of the platform that answers.
 #[tactic(auto, using(crate::proofs::Namings::some_step_text))]
 fn is_step(name: &str) -> bool
     ensures { result ≡ is_among_names (map down_word platform_steps) name.now }
@@ -70,7 +70,8 @@ fn is_step(name: &str) -> bool
     step_named(name).is_some()
 }
 
-// Whether the thing's name is one of its kind's.
+/// Whether the thing that an answer names is there.
+/// Whether the thing's name is one of its kind's.
 fn is_there(answer: &Value<'_>, known: &Known<'_>) -> bool
     ensures { result ≡ is_among_names (kind_names known.now (view answer.now)) (own_name (view answer.now)) }
 {
@@ -99,7 +100,7 @@ fn is_error(ret: &Value<'_>, error: Errno) -> bool
     is_text(ret, error.name())
 }
 
-// Whether it is an error that everything may answer.
+/// Whether it is an error that everything may answer.
 #[tactic(auto, using(crate::proofs::Namings::common_named))]
 fn is_common_error(ret: &Value<'_>) -> bool
     ensures { result ≡ is_one_of common_errors (view ret.now) }
@@ -110,7 +111,7 @@ fn is_common_error(ret: &Value<'_>) -> bool
         || is_error(ret, Errno::EINVAL)
 }
 
-// 1 of a device's prepare, EAGAIN of all else.
+/// 1 of a device's prepare, EAGAIN of all else.
 fn is_own_ret(answer: &Value<'_>, ret: &Value<'_>) -> bool
     ensures { result ≡ (if is_of_prepare (view answer.now) then is_number 1 (view ret.now)
         else is_text (codes "EAGAIN") (view ret.now)) }
@@ -148,7 +149,7 @@ fn most_reports(answer: &Value<'_>) -> usize
     }
 }
 
-// Whether each report's source is one of these.
+/// Whether each report's source is one of these.
 fn has_sources(answer: &Value<'_>, known: &Known<'_>) -> bool
     ensures { result ≡ list_all (names_source (texts known.now.sources)) (list_in (codes "reports") (view answer.now)) }
 {
@@ -163,6 +164,7 @@ fn have_sources(reports: &[Value<'_>], known: &Known<'_>) -> bool
         .all(|report| names_one_of(report, "source", &known.sources))
 }
 
+/// Whether an answer passes a test.
 fn passes(test: AnswerTest, known: &Known<'_>, answer: &Value<'_>) -> bool
     ensures { result ≡ answer_test test known.now (view answer.now) }
 {
@@ -207,6 +209,7 @@ pub(crate) struct Given<'v> {
     attempt: Option<u64>,
 }
 
+/// What of an answer has to differ.
 fn given_of<'v>(answer: &Value<'v>) -> Given<'v>
     ensures { answer_seen result ≡ answer_written (view answer.now) }
 {
@@ -235,7 +238,7 @@ fn first_again(answers: &KeyIndex<Given>) -> Option<usize>
     first_repeated(answers)
 }
 
-/// The first answer that stands a second time.
+/// The first answer that comes a second time.
 pub(crate) fn repeated_answer(alloc: Global, tree: &Value<'_>) -> Result<Option<Place>, Mem>
     ensures { IfOk result (λ p. place_of p ≡ repeated_answer (view tree.now)) }
 {

@@ -42,7 +42,7 @@ fn link_of(link: &Value<'_>, places: EndNumbers) -> Link
     }
 }
 
-/// The links of a file, whose ends stand at these places.
+/// The links of a file, whose ends have these numbers.
 pub(crate) fn links_of(
     alloc: Global,
     links: &[Value<'_>],
@@ -65,8 +65,8 @@ pub(crate) struct Added {
     pub(crate) cycle: Option<usize>,
 }
 
-/// Adds links, up to the first that closes a cycle. Links of which none does are made at once; only
-/// for others are they added in turn, to tell which is the first.
+/// Adds links, up to the first that closes a cycle. Links of which none does are made at once; only for
+/// others are they added in turn, to find which is the first.
 pub(crate) fn add_links(
     alloc: Global,
     parents: &[Option<u32>],

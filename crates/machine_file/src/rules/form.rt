@@ -74,6 +74,7 @@ pub(crate) fn unformed_member(tree: &Value<'_>) -> Option<Place>
     None
 }
 
+/// Whether a value has the form of a device.
 pub(crate) fn is_device_form(value: &Value<'_>) -> bool
     ensures { result ≡ is_device_form (view value.now) }
 {
@@ -85,7 +86,7 @@ pub(crate) fn is_device_form(value: &Value<'_>) -> bool
         && may_be_one_of(value, "runtime", &statuses())
 }
 
-// Whether a link has none but its members: with a state in a file of version 2.
+/// Whether a link has none but its members: with a state in a file of version 2.
 fn has_link_members(value: &Value<'_>, second: bool) -> bool
     ensures { result ≡ has_only (link_members second) (view value.now) }
 {
@@ -119,7 +120,7 @@ pub(crate) fn is_notifier_form(value: &Value<'_>) -> bool
         && may_be_bounded(value, "priority", 1000)
 }
 
-// Whether a kind of task is given.
+/// Whether a kind of task is given.
 #[tactic(auto, using(crate::proofs::Namings::some_kind))]
 fn has_kind(value: &Value<'_>) -> bool
     ensures { result ≡ must_have (codes "kind") (is_one_of kinds) (view value.now) }
@@ -202,7 +203,7 @@ fn may_have_reports(value: &Value<'_>) -> bool
     }
 }
 
-// Whether no phase is given, or one in which devices answer.
+/// Whether no phase is given, or one in which devices answer.
 #[tactic(auto, using(crate::proofs::Namings::some_phase))]
 fn may_have_phase(value: &Value<'_>) -> bool
     ensures { result ≡ may_have (codes "phase") (is_one_of phases) (view value.now) }
@@ -213,6 +214,7 @@ fn may_have_phase(value: &Value<'_>) -> bool
     }
 }
 
+/// Whether a value has the form of an answer.
 pub(crate) fn is_answer_form(value: &Value<'_>) -> bool
     ensures { result ≡ is_answer_form (view value.now) }
 {

@@ -109,7 +109,7 @@ fn first_not(values: &[Value<'_>], test: ItemTest) -> Option<usize>
     values.iter().position(|value| !passes(test, value))
 }
 
-// The first link that has not its form, in a file of that version.
+/// The first link that has not its form, in a file of that version.
 fn unformed_link(tree: &Value<'_>) -> Option<Place>
     ensures { place_of result ≡ first_item (codes "links") (is_link_form (is_second (view tree.now))) (view tree.now) }
 {

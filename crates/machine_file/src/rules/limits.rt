@@ -49,7 +49,7 @@ const MOST_SYSCORE: u64 = 32;
 // The most notifiers.
 const MOST_NOTIFIERS: u64 = 32;
 
-// The most sources, beside that of autosleep.
+// The most sources, not counting that of autosleep.
 const MOST_SOURCES: u64 = 255;
 
 // The most actors.
@@ -99,14 +99,14 @@ pub(crate) fn too_many(tree: &Value<'_>) -> Option<Place>
     None
 }
 
-// A sum, of at most the cap.
+/// A sum, of at most the cap.
 fn capped_sum(one: u64, other: u64) -> u64
     ensures { result ≡ min (one + other) 1000000 }
 {
     one.saturating_add(other).min(CAP)
 }
 
-// A product, of at most the cap.
+/// A product, of at most the cap.
 fn capped_product(one: u64, other: u64) -> u64
     ensures { result ≡ min (one * other) 1000000 }
 {
@@ -125,14 +125,15 @@ fn repeat_of(actor: &Value<'_>) -> u64
     number_at(actor, "repeat").unwrap_or(1)
 }
 
-// What counts where it is asked for, and 0 else.
+/// What counts if it is asked for, and 0 else.
 fn times_if(counted: bool, times: u64) -> u64
     ensures { result ≡ (if counted then times else 0) }
 {
     if counted { times } else { 0 }
 }
 
-// The steps and an operation of that word more, which is made so often.
+/// The steps with those of one operation more.
+/// The steps and an operation of that word more, which is made so often.
 fn with_operation(steps: Steps, word: &str, times: u64) -> Steps
     ensures { result ≡ with_operation steps word.now times }
 {
@@ -146,7 +147,7 @@ fn with_operation(steps: Steps, word: &str, times: u64) -> Steps
     }
 }
 
-// The steps of a script that is made once.
+/// The steps of a script that is made once.
 fn script_steps(script: &[Value<'_>]) -> Steps
     ensures { result ≡ steps_of_script (map view script.now) }
 {
@@ -157,7 +158,8 @@ fn script_steps(script: &[Value<'_>]) -> Steps
     steps
 }
 
-// The steps that are made so often.
+/// The steps that many times.
+/// The steps that are made so often.
 fn repeated(repeat: u64, steps: Steps) -> Steps
     ensures { result ≡ repeated_steps repeat steps }
 {
@@ -175,6 +177,7 @@ fn actor_steps(actor: &Value<'_>) -> Steps
     repeated(repeat_of(actor), script_steps(list_in(actor, "script")))
 }
 
+/// The steps of both.
 fn joined(one: Steps, other: Steps) -> Steps
     ensures { result ≡ joined_steps one other }
 {
@@ -186,7 +189,7 @@ fn joined(one: Steps, other: Steps) -> Steps
     }
 }
 
-// The steps of all scripts.
+/// The steps of all scripts.
 fn all_steps(actors: &[Value<'_>]) -> Steps
     ensures { result ≡ steps_of_actors (map view actors.now) }
 {
@@ -214,7 +217,7 @@ fn autosleep_attempts(tree: &Value<'_>, automatic: bool) -> u64
     }
 }
 
-// How many attempts may be begun, of at most the cap.
+/// How many attempts may be begun, of at most the cap.
 fn most_attempts(tree: &Value<'_>, steps: Steps) -> u64
     requires { steps ≡ steps_of_actors (list_in (codes "actors") (view tree.now)) }
     ensures { result ≡ min (most_attempts (view tree.now)) 1000000 }
@@ -255,7 +258,7 @@ fn are_reports_few(tree: &Value<'_>) -> bool
     reports_of(items(tree, Member::Answers)) <= MOST_REPORTS
 }
 
-/// The place where too much may happen.
+/// The place at which too much may happen.
 pub(crate) fn too_much(tree: &Value<'_>) -> Option<Place>
     ensures { place_of result ≡ too_much (view tree.now) }
 {

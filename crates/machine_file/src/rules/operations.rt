@@ -50,7 +50,7 @@ pub(crate) enum Word {
 /// The most times that an operation is made.
 const MOST_TIMES: u64 = 20_000;
 
-/// A test of an operation beside its actor.
+/// A test of an operation of an actor.
 #[derive(Clone, Copy)]
 pub(crate) enum OperationTest {
     /// Each of the others, in a file of version 2, or of version 1.
@@ -193,7 +193,7 @@ macro_rules! by_operation {
 
 pub(crate) use by_operation;
 
-// User space alone.
+// Only user space.
 const USERS: [TaskKind; 1] = [TaskKind::User];
 
 // Every task.
@@ -233,7 +233,7 @@ impl Word {
     }
 }
 
-/// The word of an operation, where it is of the table.
+/// The word of an operation, if it is of the table.
 pub(crate) fn word_of(operation: &Value<'_>) -> Option<Word>
     ensures { option_map operation_of_word result ≡ row_of (view operation.now) }
 {
@@ -243,14 +243,14 @@ pub(crate) fn word_of(operation: &Value<'_>) -> Option<Word>
     }
 }
 
-// Whether the operation has no members but those of its word.
+/// Whether the operation has no members but those of its word.
 fn has_members(operation: &Value<'_>, word: Word) -> bool
     ensures { result ≡ has_only (codes "op" ∷ codes "times" ∷ (operation_of_word word).members) (view operation.now) }
 {
     has_only(operation, by_operation!(members of word))
 }
 
-// Whether a text of at most 32 bytes is given.
+/// Whether a text of at most 32 bytes is given.
 fn has_short_text(operation: &Value<'_>) -> bool
     ensures { result ≡ has_short_text (view operation.now) }
 {
@@ -269,21 +269,21 @@ fn is_short_text(value: &Value<'_>) -> bool
     }
 }
 
-// The first version of the file that has operations of that word.
+/// The first version of the file that has operations of that word.
 fn first_version(word: Word) -> u64
     ensures { result ≡ first_version word }
 {
     by_operation!(version of word)
 }
 
-// Whether a file of version 2, or of version 1, may have an operation of that word.
+/// Whether a file of version 2, or of version 1, may have an operation of that word.
 fn is_of_version(second: bool, word: Word) -> bool
     ensures { result ≡ (second || not (word_changes_links word)) }
 {
     second || first_version(word) == 1
 }
 
-// Whether the devices that it names, if it names any, are of these.
+/// Whether the devices that it names, if it names any, are of these.
 fn names_devices(operation: &Value<'_>, devices: &Devices) -> bool
     ensures { result ≡ names_device (names devices.now) (view operation.now) }
 {
@@ -292,7 +292,7 @@ fn names_devices(operation: &Value<'_>, devices: &Devices) -> bool
         && names_one_device(operation, "consumer", devices)
 }
 
-// Whether the device that it names there, if it names one, is of these.
+/// Whether the device that it names there, if it names one, is of these.
 fn names_one_device(operation: &Value<'_>, member: &str, devices: &Devices) -> bool
     ensures { result ≡ is_none_or (is_among_names (names devices.now)) (word_at member.now (view operation.now)) }
 {
@@ -302,7 +302,7 @@ fn names_one_device(operation: &Value<'_>, member: &str, devices: &Devices) -> b
     }
 }
 
-// Whether what the word asks for is given.
+/// Whether what the word asks for is given.
 fn has_form(operation: &Value<'_>, word: Word) -> bool
     ensures { result ≡ (operation_of_word word).form (view operation.now) }
 {
@@ -317,7 +317,7 @@ fn is_formed(operation: &Value<'_>, word: Word) -> bool
         && has_form(operation, word)
 }
 
-// Whether the operation, of that word, is one of the table, in form, in a file of version 2 or of version 1.
+/// Whether the operation, of that word, is one of the table, in form, in a file of version 2 or of version 1.
 #[tactic(auto, using(crate::proofs::Worded::changes))]
 fn is_formed_as(second: bool, word: Word, operation: &Value<'_>) -> bool
     requires { Some (operation_of_word word) ≡ row_of (view operation.now) }
@@ -326,7 +326,7 @@ fn is_formed_as(second: bool, word: Word, operation: &Value<'_>) -> bool
     is_of_version(second, word) && is_formed(operation, word)
 }
 
-// Whether the operation is one of the table, in form, in a file of version 2 or of version 1.
+/// Whether the operation is one of the table, in form, in a file of version 2 or of version 1.
 fn is_of_table(second: bool, operation: &Value<'_>) -> bool
     ensures { result ≡ ((second || not (changes_links (view operation.now))) && is_some_and (fits_row (view operation.now)) (row_of (view operation.now))) }
 {
@@ -336,14 +336,14 @@ fn is_of_table(second: bool, operation: &Value<'_>) -> bool
     }
 }
 
-// Whether the text is the word of one of these kinds.
+/// Whether the text is the word of one of these kinds.
 fn names_kind(text: &str, kinds: &[TaskKind]) -> bool
     ensures { result ≡ list_any (λ k. bytes_eq text.now (kind_word k)) kinds.now }
 {
     kinds.iter().any(|kind| is_same(text, kind.name()))
 }
 
-// Whether an actor of that kind may make the operation.
+/// Whether an actor of that kind may make the operation.
 fn is_allowed(kind: &str, word: Word) -> bool
     ensures { result ≡ is_among_names (operation_of_word word).makers kind.now }
 {
@@ -360,21 +360,21 @@ pub(crate) fn names_one_of(operation: &Value<'_>, member: &str, names: &KeyIndex
     }
 }
 
-// Whether operations of that word name a source.
+/// Whether operations of that word name a source.
 fn word_names_source(word: Word) -> bool
     ensures { result ≡ word_names_source word }
 {
     matches!(word, Word::Awake | Word::Relax | Word::Event)
 }
 
-// Whether operations of that word name devices.
+/// Whether operations of that word name devices.
 fn word_names_device(word: Word) -> bool
     ensures { result ≡ word_names_device word }
 {
     matches!(word, Word::Runtime | Word::Link | Word::LinkState)
 }
 
-// Whether the source that an operation of that word names, if it names one, is known.
+/// Whether the source that an operation of that word names, if it names one, is known.
 fn names_its_source(word: Word, operation: &Value<'_>, sources: &KeyIndex<&str>) -> bool
     requires { fits_row (view operation.now) (operation_of_word word) ≡ true }
     ensures { result ≡ names_source (texts sources.now) (view operation.now) }
@@ -385,7 +385,7 @@ fn names_its_source(word: Word, operation: &Value<'_>, sources: &KeyIndex<&str>)
     names_one_of(operation, "source", sources)
 }
 
-// Whether the devices that an operation of that word names, if it names any, are known.
+/// Whether the devices that an operation of that word names, if it names any, are known.
 fn names_its_devices(word: Word, operation: &Value<'_>, devices: &Devices) -> bool
     requires { fits_row (view operation.now) (operation_of_word word) ≡ true }
     ensures { result ≡ names_device (names devices.now) (view operation.now) }
@@ -396,7 +396,8 @@ fn names_its_devices(word: Word, operation: &Value<'_>, devices: &Devices) -> bo
     names_devices(operation, devices)
 }
 
-// Whether an operation keeps each rule on one operation.
+/// Whether an operation obeys each rule on one operation.
+/// Whether an operation keeps each rule on one operation.
 fn is_in_journal(second: bool, known: &Known<'_>, actor: &Value<'_>, operation: &Value<'_>) -> bool
     ensures { result ≡ is_in_journal second (texts known.now.sources) (names known.now.devices) (view actor.now) (view operation.now) }
 {
@@ -411,6 +412,7 @@ fn is_in_journal(second: bool, known: &Known<'_>, actor: &Value<'_>, operation: 
         && names_its_devices(word, operation, &known.devices)
 }
 
+/// Whether an operation passes a test.
 fn passes(test: OperationTest, known: &Known<'_>, actor: &Value<'_>, operation: &Value<'_>) -> bool
     ensures { result ≡ operation_test test known.now (view actor.now) (view operation.now) }
 {
@@ -426,7 +428,7 @@ fn passes(test: OperationTest, known: &Known<'_>, actor: &Value<'_>, operation: 
     }
 }
 
-// The first operation of an actor that does not pass.
+/// The first operation of an actor that does not pass.
 fn first_in_script(test: OperationTest, known: &Known<'_>, actor: &Value<'_>) -> Option<usize>
     ensures { result ≡ first_not (operation_test test known.now (view actor.now)) (list_in (codes "script") (view actor.now)) }
 {
@@ -457,6 +459,7 @@ pub(crate) fn first_operation(
     first_of_actors(test, known, items(tree, Member::Actors))
 }
 
+/// The place of the first operation that fails a test.
 fn first_of_actors(test: OperationTest, known: &Known<'_>, actors: &[Value<'_>]) -> Option<Place>
     ensures { place_of result ≡ first_operation_of (operation_test test known.now) 0 (map view actors.now) }
 {

@@ -26,6 +26,7 @@ pub(crate) struct LinkEnds<'v> {
     pub(crate) consumer: &'v str,
 }
 
+/// The ends of links, as texts.
 fn ends_of<'v>(alloc: Global, links: &[Value<'v>]) -> Result<Vec<LinkEnds<'v>>, Mem>
     ensures { IfOk result (λ v. map ends_seen v.items ≡ map ends_written (map view links.now)) }
 {
@@ -47,7 +48,7 @@ pub(crate) fn ends_in<'v>(alloc: Global, tree: &Value<'v>) -> Result<Vec<LinkEnd
     Ok(ends)
 }
 
-/// The numbers of the devices that are a link's ends, where they are devices.
+/// The numbers of the devices that are a link's ends, if they are devices.
 #[derive(Clone, Copy)]
 pub(crate) struct EndNumbers {
     pub(crate) supplier: Option<u32>,
@@ -112,14 +113,14 @@ pub(crate) fn loose_link(_tree: &Value<'_>, places: &[EndNumbers]) -> Option<Pla
     item(Member::Links, first_loose(places))
 }
 
-// Whether the ends are one, or have been seen before.
+/// Whether the ends are one, or have been seen before.
 fn is_again(key: &LinkEnds, before: Option<usize>) -> bool
     ensures { result ≡ not (differ (ends_seen key.now) && not (is_some before)) }
 {
     key.supplier == key.consumer || before.is_some()
 }
 
-// The first ends that are one, or that stand before.
+/// The first ends that are the same one, or that come before.
 fn first_again(alloc: Global, ends: &[LinkEnds]) -> Result<Option<usize>, Mem>
     ensures { IfOk result (λ n. n ≡ first_not_after (λ before e. differ (ends_seen e)
         && not (list_any (λ f. same_ends (ends_seen e) (ends_seen f)) before)) [] 0 ends.now) }
@@ -139,7 +140,7 @@ fn first_again(alloc: Global, ends: &[LinkEnds]) -> Result<Option<usize>, Mem>
     Ok(None)
 }
 
-/// The first link that has one end, or that stands before.
+/// The first link that has only one end, or that comes before.
 pub(crate) fn repeated_link(
     alloc: Global,
     _tree: &Value<'_>,

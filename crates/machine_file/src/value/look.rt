@@ -1,4 +1,4 @@
-//! Tests of one JSON value, and what of it stands at a name.
+//! Tests of one JSON value, and what it has at a name.
 
 ghost use Rattle.std.specs.Prelude.{◌≡◌, ◌≤◌, ◌==◌, map, bytes_eq, option_and_then, option_copied, option_map};
 ghost use Rattle.std.specs.List.{list_all, list_any};
@@ -45,6 +45,7 @@ pub(crate) fn is_within(value: &Value<'_>, least: u64, most: u64) -> bool
     }
 }
 
+/// Whether a value is a whole number of at most that size.
 fn is_bounded(value: &Value<'_>, most: u64) -> bool
     ensures { result ≡ is_bounded most (view value.now) }
 {
@@ -57,7 +58,7 @@ fn is_bounded(value: &Value<'_>, most: u64) -> bool
     }
 }
 
-// Whether a text is this one. Lengths are told apart first, since most texts differ in theirs.
+// Whether a text is this one. Lengths are compared first, since most texts differ in theirs.
 #[inline]
 pub(crate) fn is_same(text: &str, other: &str) -> bool
     ensures { result ≡ bytes_eq text.now other.now }
@@ -95,7 +96,7 @@ fn is_any(text: &str, words: &[&str]) -> bool
     words.iter().any(|word| is_same(text, *word))
 }
 
-// ---- what stands at a name
+// ---- what it has at a name
 
 // Whether a text is at the name.
 pub(crate) fn must_be_text(value: &Value<'_>, name: &str) -> bool
@@ -223,7 +224,7 @@ pub(crate) fn text_at<'v>(value: &Value<'v>, name: &str) -> &'v str
     word_at(value, name).unwrap_or("")
 }
 
-// The text at the name, where there is one.
+// The text at the name, if there is one.
 pub(crate) fn word_at<'v>(value: &Value<'v>, name: &str) -> Option<&'v str>
     ensures { option_copied result ≡ word_at name.now (view value.now) }
 {

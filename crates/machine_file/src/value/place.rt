@@ -1,3 +1,4 @@
+//! The members of a machine file, and the places that a rule names.
 ghost use Rattle.std.specs.Prelude.{◌≡◌, map};
 ghost use Rattle.borrowed_json.specs.View.{view};
 ghost use Rattle.machine_file.specs.Members.{list_in};

@@ -85,7 +85,7 @@ fn phase_named(name: &str) -> Option<Phase>
     }
 }
 
-// The phase, where devices answer in it.
+/// The phase, if devices answer in it.
 fn if_answering(phase: Phase) -> Option<Phase>
     ensures { result ≡ find (λ p. bytes_eq (phase_name phase) (phase_name p)) answering_phases }
 {

@@ -1,3 +1,4 @@
+-- Proof that `sourceless_report` meets its contract.
 use Rattle.std.proofs.Common.{◌∙◌, List, ℕ, ap, codes}
 use Rattle.std.specs.List.{list_all}
 use Rattle.borrowed_json.specs.View.{view}

@@ -1,3 +1,4 @@
+-- Proof that `thingless_answer` meets its contract.
 use Rattle.std.proofs.Common.{◌∙◌, ◌&&◌, List, ℕ, Bool, ap, codes, map, if◌then◌else◌}
 use Rattle.borrowed_json.specs.View.{view}
 use Rattle.serde_json.specs.Data.{Data}
@@ -10,7 +11,7 @@ use Rattle.machine_file.specs.Rules.{name_of}
 use Rattle.machine_file.specs.Answering.{is_of_device, has_its_phase, platform_steps}
 use Rattle.machine_file.proofs.rules.thingless_answer.Goals as goal
 
--- the test beside these names
+-- the test, with these names known
 abbrev is_there : List (List ℕ) → List (List ℕ) → List (List ℕ) → Data → Bool
 is_there devices syscore notifiers a =
     is_among_names (if is_of_device a then devices else if has_text (codes "what") (codes "syscore") a then syscore else if has_text (codes "what") (codes "notifier") a then notifiers else map down_word platform_steps) (name_of a)

@@ -1,3 +1,4 @@
+-- Proof that `rule_broken` meets its contract.
 use Rattle.std.proofs.Common.{◌∙◌, ap, sym, subst, codes, Some}
 use Rattle.borrowed_json.specs.View.{view}
 use Rattle.device_tree.specs.declared.fault.TreeFault.{TreeFault}

@@ -1,3 +1,4 @@
+-- Proof that `known_in` meets its contract.
 use Rattle.std.proofs.Common.{◌∙◌, ap, codes}
 use Rattle.borrowed_json.specs.View.{view}
 use Rattle.machine_file.specs.Knows.{names}

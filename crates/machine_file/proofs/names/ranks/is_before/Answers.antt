@@ -1,3 +1,4 @@
+-- Proof that `is_before` meets its contract.
 use Rattle.std.proofs.Common.{◌∙◌, sym, ap, nat_lt}
 use Rattle.machine_file.specs.Look.{is_some_and}
 use Rattle.machine_file.proofs.Placing.{any_before}

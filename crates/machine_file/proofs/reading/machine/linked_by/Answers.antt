@@ -1,3 +1,4 @@
+-- Proof that `linked_by` meets its contract, and that it meets what `linking_of` requires.
 use Rattle.std.proofs.Common.{◌≡◌, ◌∙◌, Option, None, sym, ap}
 use Rattle.std.specs.Option.{option_or, option_map}
 use Rattle.borrowed_json.specs.View.{view}

@@ -1,3 +1,4 @@
+-- Proof that `op_of` meets its contract.
 use Rattle.std.proofs.Common.{◌≡◌, ◌∙◌, IfOk, option_map, sym, ap, subst}
 use Rattle.borrowed_json.specs.View.{view}
 use Rattle.sleep_model.specs.declared.machine.Op.{Op}

@@ -1,3 +1,4 @@
+-- Proof that the loop of `scripts_of` keeps its invariant, and that it meets what `script_of` requires.
 use Rattle.std.proofs.Common.{arith}
 use Rattle.std.proofs.lemmas.Grind.{common_steps}
 use Rattle.machine_file.specs.Fitting.{FitsScript}

@@ -1,3 +1,4 @@
+-- The invariant of the loop of `steps_of`.
 use Rattle.std.proofs.Common.{◌≡◌, map, take}
 use Rattle.borrowed_json.specs.View.{view}
 use Rattle.machine_file.specs.Operations.{whole_step}

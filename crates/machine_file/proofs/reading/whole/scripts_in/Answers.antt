@@ -1,3 +1,4 @@
+-- Proof that `scripts_in` meets its contract.
 use Rattle.std.proofs.Common.{◌≡◌, ◌∙◌, List, ℕ, ap, map}
 use Rattle.borrowed_json.specs.View.{view}
 use Rattle.machine_file.specs.Knows.{known_seen, texts}

@@ -1,3 +1,4 @@
+-- Proof that `links_in` meets its contract, and that it meets what `links_of` requires.
 use Rattle.std.proofs.Common.{◌∙◌, List, length, sym, ap, codes}
 use Rattle.std.proofs.lemmas.List.{length-map}
 use Rattle.machine_file.specs.declared.rules.pairs.EndNumbers.{EndNumbers}

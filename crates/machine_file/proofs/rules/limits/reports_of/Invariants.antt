@@ -1,3 +1,4 @@
+-- The invariant of the loop of `reports_of`.
 use Rattle.std.proofs.Common.{◌≡◌, min, map, take, sum_by, length, codes}
 use Rattle.borrowed_json.specs.View.{view}
 use Rattle.machine_file.specs.Members.{list_in}

@@ -1,3 +1,4 @@
+-- Proof that `is_in_journal` meets its contract, and that it meets what `names_its_source` and `names_its_devices` require.
 use Rattle.std.proofs.Common.{◌≡◌, ◌∙◌, ◌||◌, ◌&&◌, Some, option_map, not, true, false, sym, ap, arith}
 use Rattle.borrowed_json.specs.View.{view}
 use Rattle.machine_file.specs.Knows.{names, texts}

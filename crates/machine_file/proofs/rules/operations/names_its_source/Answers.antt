@@ -1,3 +1,4 @@
+-- Proof that `names_its_source` meets its contract.
 use Rattle.std.proofs.Common.{◌≡◌, false, sym, arith}
 use Rattle.borrowed_json.specs.View.{view}
 use Rattle.machine_file.specs.Knows.{texts}

@@ -1,3 +1,4 @@
+-- Proof that `loose_link` meets its contract.
 use Rattle.std.proofs.Common.{◌∙◌, ap, not, position, codes}
 use Rattle.std.specs.Option.{option_map}
 use Rattle.borrowed_json.specs.View.{view}

@@ -1,3 +1,4 @@
+-- Proof that `numbers_in` meets its contract.
 use Rattle.std.proofs.Common.{◌∙◌, List, ℕ, ap, map, codes}
 use Rattle.borrowed_json.specs.View.{view}
 use Rattle.machine_file.specs.Members.{list_in}

@@ -1,3 +1,4 @@
+-- Proof that `has_only` meets its contract.
 use Rattle.std.proofs.Common.{◌≡◌, ◌∙◌, Some, map, ap, arith}
 use Rattle.serde_json.specs.Find.{as_object}
 use Rattle.borrowed_json.specs.View.{view, members_view}

@@ -1,3 +1,4 @@
+-- Proof that `is_among` meets its contract.
 use Rattle.std.proofs.Common.{◌∙◌}
 use Rattle.machine_file.proofs.Looks.{list_any_texts}
 use Rattle.machine_file.proofs.value.look.is_among.Goals as goal

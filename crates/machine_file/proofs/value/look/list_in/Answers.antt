@@ -1,3 +1,4 @@
+-- Proof that `list_in` meets its contract.
 use Rattle.std.proofs.Common.{◌∙◌, sym, ap}
 use Rattle.machine_file.specs.Members.{items_of}
 use Rattle.machine_file.proofs.Looks.{items_of_view}
