@@ -31,7 +31,7 @@ swapped m journal sources others jobs floors are same g =
     record {
       accepted = g.accepted;
       own = g.own;
-      held = subst (RunInvariant m) made_is g.held;
+      invariant = subst (RunInvariant m) made_is g.invariant;
       sources_are = are;
       jobs_are = λ who a.
           subst (λ (of : ℕ → List JournalEntry). IsJobOf m who (entries journal) (made (length m.sources + 1) (λ s. unstamped (of s)) who) (jobs who)) lists (g.jobs_are who a);

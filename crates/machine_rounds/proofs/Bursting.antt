@@ -202,7 +202,7 @@ module _ (m : Machine) (jobs : JobsState) (floor : Stamp) (all : AreAllJobs m jo
       turns.raised m journal (plain_sources sources_then) (job_at back.back) on.floors (λ who. top) (λ who. (all_below who).tick) (λ who. (all_below who).pos) (λ who. top_low) (record {
         accepted = going.accepted;
         own = going.own;
-        held = going.held;
+        invariant = going.invariant;
         sources_are = going.sources_are;
         jobs_are = jobs_are;
         floors_know = going.floors_know;

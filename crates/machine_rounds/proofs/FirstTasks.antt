@@ -294,7 +294,7 @@ module _ (m : Machine) (journal : List JournalEntry) (sources : List SourceState
   told_jobs = record {
     accepted = r.accepted;
     own = r.own;
-    held = r.held;
+    invariant = r.invariant;
     sources_are = r.sources_are;
     jobs_are = jobs_are;
     floors_know = r.floors_know;

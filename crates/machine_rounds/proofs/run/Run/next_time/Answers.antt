@@ -26,5 +26,5 @@ returns-clause-closed c word none rests =
 pub returns-clause-ahead : goal.returns-clause-ahead
 returns-clause-ahead c word rests going =
     let s = c.args.self.now in
-    let legal = subst (JournalPart s.machine) (sym (entries_unstamped s.journal)) c.core.ensures.kept.running.held.of_journal in
+    let legal = subst (JournalPart s.machine) (sym (entries_unstamped s.journal)) c.core.ensures.kept.running.invariant.of_journal in
     subst (λ (o : Option ℕ). IfSome o (λ at. time_of (entries s.journal) < at)) (sym (returns-clause-is c)) (lie_ahead s.machine (entries s.journal) (histories s.sources) word legal rests going)
