@@ -29,7 +29,7 @@ impl MovingWord {
 impl Events for MovingWord {
     ghost use Rattle.std.specs.Prelude.{None, false};
 
-    ghost tells = { λ _. None };
+    ghost shows = { λ _. None };
 
     ghost looked = { λ _. None };
 

@@ -8,7 +8,7 @@ use crate::links::parents_in;
 use crate::parts::{CaseRunner, answer_all};
 use crate::reply::{CaseReply, NO_REPLY, Out, maybe, noted, one, two};
 use async_board::{
-    Board, board_tells, is_direct_complete, is_down_in, is_not_down, is_not_up, is_prepared,
+    Board, board_agrees, is_direct_complete, is_down_in, is_not_down, is_not_up, is_prepared,
     is_ready, is_taken,
 };
 use device_links::Links;
@@ -102,7 +102,7 @@ fn reply_of(board: &Board, asks: BoardQuestion, words: Words) -> CaseReply {
             0,
         )))),
         BoardQuestion::Laws => {
-            board_tells();
+            board_agrees();
             prepare_follows();
             down_follows();
             up_follows();
