@@ -237,7 +237,8 @@ class Outputs(unittest.TestCase):
 
     def test_ended_while_it_writes(self):
         """A signal that ends the process leaves the old file, and nothing beside it."""
-        killed = "import os, signal, sys; os.fsync = lambda _: os.kill(os.getpid(), signal.%s); " \
+        # whoever began the tests may have it ignore a hangup (nohup)
+        killed = "import os, signal, sys; signal.signal(signal.SIGHUP, signal.SIG_DFL); os.fsync = lambda _: os.kill(os.getpid(), signal.%s); " \
                  "sys.path.insert(0, sys.argv.pop(1)); from julampok.cli import main; sys.exit(main())"
         for name in ("SIGTERM", "SIGHUP", "SIGINT"):
             old = self.at / "x.log"
@@ -248,9 +249,11 @@ class Outputs(unittest.TestCase):
 
     def test_signals_are_as_before(self):
         """Only while something is written: processes that sweep makes would lose a signal that ends them."""
+        numbers = signal.SIGTERM, signal.SIGHUP
+        before = [signal.getsignal(number) for number in numbers]
         for words in (("run", MACHINE, "-o", self.at / "x.log"), ("replay", TRACE, "-o", self.at / "folder"), ("run", MACHINE)):
             julampok(*words)
-            self.assertEqual([signal.getsignal(number) for number in (signal.SIGTERM, signal.SIGHUP)], [signal.SIG_DFL] * 2)
+            self.assertEqual([signal.getsignal(number) for number in numbers], before)
 
     def test_streams(self):
         """A reader that goes away is no fault; a closed or full output is one."""
