@@ -15,9 +15,7 @@ class Sample(unittest.TestCase):
         words = [f"{RECORDING}.trace", *(word for name in ("devices", "links", "dmesg") for word in (f"--{name}", f"{RECORDING}.{name}"))]
         done = julampok("replay", *words)
         self.assertEqual(done.status, 0)
-        said = done.out.replace(f"{ROOT}/", "").splitlines()
-        for line in shown:
-            self.assertIn(line, said)
+        self.assertEqual(shown, done.out.replace(f"{ROOT}/", "").splitlines())
 
 
 if __name__ == "__main__":
