@@ -6,8 +6,8 @@
 //! every list of lines: each line is cut, read and carried out as its definition says, over the names of
 //! `wake_locks`. The first line of no form is named before any is carried out. A full source is named exactly
 //! if a call meets it first. After all lines each name is as its source's entries say: it is active exactly
-//! if an event is in progress, and until when that ends. By the clauses of `answer_lines`, `locks_of`:
-//! `outcome`, `refused`, `agree`.
+//! if an event is in progress, and until when that ends. By the clauses of `answer_lines`: `text`, `refused`,
+//! `agree`; `locks_of`: `text_answer`, `refused`, `agree`.
 //!
 //! Begin reading in `src/answer.rt`, `src/state.rt`; `specs/Steps.antt`, `specs/Verbs.antt`,
 //! `specs/TextAnswers.antt`.

@@ -4,7 +4,6 @@ docs/CRATES.md has the groups of crates.txt in their order. Each crate has its h
 wrong bodies that its contracts refuse, by the names of their files. A crate without a head is refused.
 """
 
-import pathlib
 import re
 import textwrap
 
