@@ -102,9 +102,9 @@ side from middle pos to f u = by (nat_le from pos) refl (nat_lt pos middle) refl
         let not_high : nat_le middle pos ≡ false = grind (arith, nat_tests) in
         Low (is _ _ true true a before) (is _ _ true true a b) (is _ _ false true not_high before) below
     by true a false b true d =
-        let behind : middle ≤ pos = grind (arith, nat_tests) in
+        let after : middle ≤ pos = grind (arith, nat_tests) in
         let high : nat_le middle pos ≡ true = grind (arith, nat_tests) in
-        High (is _ _ true true a d) (is _ _ true false a b) (is _ _ true true high d) behind
+        High (is _ _ true true a d) (is _ _ true false a b) (is _ _ true true high d) after
     by true a false b false d =
         let high : nat_le middle pos ≡ true = grind (arith, nat_tests) in
         Out (is _ _ true false a d) (is _ _ true false a b) (is _ _ true false high d)
@@ -157,9 +157,9 @@ module _ (from middle : ℕ) (to : Option ℕ) (f : from ≤ middle) (u : IsUpTo
           ap (one x xs whole) w ∙ (ap (put_in_order x) rest
           ∙ (put_front middle x (in_order (filter (is_in low) xs)) (in_order (filter (is_in high) xs)) below (order_from middle (filter (is_in high) xs) (all_from xs))
           ∙ sym (ap₂ (λ (a b : Bool). one x xs low a ++ one x xs high b) l h)))
-      by (High w l h behind) rest =
+      by (High w l h after) rest =
           ap (one x xs whole) w ∙ (ap (put_in_order x) rest
-          ∙ (put_after middle x (in_order (filter (is_in low) xs)) (in_order (filter (is_in high) xs)) behind (order_below middle (filter (is_in low) xs) (all_below xs))
+          ∙ (put_after middle x (in_order (filter (is_in low) xs)) (in_order (filter (is_in high) xs)) after (order_below middle (filter (is_in low) xs) (all_below xs))
           ∙ sym (ap₂ (λ (a b : Bool). one x xs low a ++ one x xs high b) l h)))
 
   -- their lines too

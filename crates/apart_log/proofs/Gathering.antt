@@ -69,9 +69,9 @@ pub told_of_range : (m : Machine) (range : Range) (past : List JournalEntry) (hi
     → map of_source kept ≡ filter (is_in range) past → among ≡ kept
     → slice_lines m range (all_entries (map of_source among) histories) ≡ slice_lines m range (all_entries past histories)
 told_of_range m range past histories kept among of_preserved is_in_journal =
-    let behind = sources_entries histories in
+    let after = sources_entries histories in
     let test = is_in range in
     let journal : filter test (map of_source among) ≡ filter test past =
     ap (λ (l : List SourceEntry). filter test (map of_source l)) is_in_journal ∙ (ap (filter test) of_preserved ∙ filter_again test past) in
     ap (λ (l : List JournalEntry). flat_map (entry_line m) (map (λ e. e.entry) (in_order l)))
-    (filter_both test (map of_source among) behind ∙ (ap (λ (l : List JournalEntry). l ++ filter test behind) journal ∙ sym (filter_both test past behind)))
+    (filter_both test (map of_source among) after ∙ (ap (λ (l : List JournalEntry). l ++ filter test after) journal ∙ sym (filter_both test past after)))

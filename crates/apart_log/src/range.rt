@@ -59,7 +59,7 @@ impl Range {
     /// A position that halves them, if the log ends at `last`.
     pub(crate) fn middle(self, last: u64) -> u64
         requires { IsUpTo self.from self.to }
-        ensures behind { self.from ≤ result }
+        ensures after { self.from ≤ result }
         ensures before { IsUpTo result self.to }
     {
         let end = match self.to {

@@ -18,7 +18,7 @@ use std::thread::Threads;
 pub struct SlicedText {
     slices: Vec<Vec<u8>>,
     /// The lines after those of the entries.
-    behind: Vec<u8>,
+    after: Vec<u8>,
 }
 
 impl Model for SlicedText {
@@ -27,7 +27,7 @@ impl Model for SlicedText {
 
     ghost Value = { List ℕ };
 
-    ghost view = { λ t. joined_texts t.slices.items ++ t.behind.items };
+    ghost view = { λ t. joined_texts t.slices.items ++ t.after.items };
 }
 
 /// How often the log is halved, so that each worker has a piece of it.
@@ -86,8 +86,8 @@ impl SlicedText {
     {
         let slices = log.texts(rt, alloc, machine, halvings(workers))?;
         let (stats, end) = log.into_ending();
-        let behind = closing_lines(alloc, machine, stats, end)?;
-        Ok(SlicedText { slices, behind })
+        let after = closing_lines(alloc, machine, stats, end)?;
+        Ok(SlicedText { slices, after })
     }
 
     /// Writes the text. `Failed` at the first write that fails: a front of the text was written.
@@ -97,6 +97,6 @@ impl SlicedText {
         ensures faults { K.faults sink.old ≤ K.faults sink.new }
     {
         write_texts(sink, self.slices.as_slice())?;
-        write_all(sink, self.behind.as_slice())
+        write_all(sink, self.after.as_slice())
     }
 }

@@ -17,7 +17,7 @@ use Rattle.sleep_model.specs.Runtime.{is_async}
 use Rattle.sleep_model.specs.PhaseStates.{phase_states, state_at, is_ready, is_not_down, is_going_down, is_down_in, is_not_up}
 use Rattle.sleep_model.specs.Walk.{first_where, last_where}
 use Rattle.async_board.specs.Boards.{states_on, first_board, board_after}
-use Rattle.async_board.specs.AtPoints.{board_at, Agrees}
+use Rattle.async_board.specs.AtPoints.{board_at, BoardAgrees}
 
 -- the states of a phase on the way down
 pub states_down : (m : Machine) (past : List Entry) (p : Phase) → is_down p ≡ true → states_on (board_at m past) p ≡ phase_states (length m.devices) p past
@@ -34,7 +34,7 @@ board_first m =
 
 module _ (m : Machine) (past : List Entry) where
   -- what the board answers is what the definitions say
-  pub agrees : Agrees m past (board_at m past)
+  pub agrees : BoardAgrees m past (board_at m past)
   agrees = record {
     asynchronous = λ d. refl;
     works = λ d. refl;

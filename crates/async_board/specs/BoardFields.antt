@@ -4,8 +4,8 @@ use Rattle.async_board.specs.Walks.{IsLayout, IsWalk}
 use Rattle.async_board.specs.declared.board.Board.TheInside.{Inside}
 
 -- a board is seen as its links and the states of its walks
-abbrev pub board_of : Inside → BoardState
-board_of b = record {
+abbrev pub board_view : Inside → BoardState
+board_view b = record {
   parents = b.layout.links.parents;
   links = b.layout.links.links;
   asynchronous = b.layout.asynchronous.items;

@@ -107,8 +107,8 @@ abbrev pub waits_up_on : BoardState → Phase → Option ℕ
 waits_up_on board p = first_where (λ d. is_not_up (state_at (states_on board p) d)) (order_on board)
 
 -- the first device below d that is not done (dpm_wait_for_subordinate)
-abbrev pub waits_below_on : BoardState → Phase → ℕ → Option ℕ
-waits_below_on board p d =
+abbrev pub waits_for_subordinates_on : BoardState → Phase → ℕ → Option ℕ
+waits_for_subordinates_on board p d =
     first_where (λ e. is_not_down (state_at (states_on board p) e)) (dependents board.parents (active_of board.links) d)
 
 -- the first device above d that is not yet up (dpm_wait_for_superior)
@@ -117,8 +117,8 @@ waits_above_on board p d =
     first_where (λ e. is_not_up (state_at (states_on board p) e)) (superiors board.parents (active_of board.links) d)
 
 -- all devices below d are direct-complete (direct_complete)
-abbrev pub all_direct_complete_on : BoardState → ℕ → Bool
-all_direct_complete_on board d =
+abbrev pub all_below_direct_complete_on : BoardState → ℕ → Bool
+all_below_direct_complete_on board d =
     list_all (λ e. is_direct_complete (state_at board.suspend e)) (dependents board.parents (active_of board.links) d)
 
 -- the work of its own of device d: a synchronous one has none (async_schedule_dev)

@@ -10,10 +10,10 @@ ghost use Rattle.async_board.specs.Walks.{IsWalk, IsBelow, IsAbove, MayRestart};
 use crate::moves::put;
 use crate::phase_state::{ended_by, is_at_work, skipped_for, work_in};
 use crate::pick::{Pick, WalkLook, first_picked, is_so, last_picked, state_at};
-use crate::rows::{all_direct_complete, count_at, first_not_down, first_not_up, is_none};
+use crate::rows::{all_below_direct_complete, count_at, first_not_down, first_not_up, is_none};
 use crate::walk::{Layout, Walk, indices_of, refill_indices};
 use device_links::Links;
-use sleep_base::{Mem, lost};
+use sleep_base::{Mem, drop_for_mem};
 use sleep_model::{AsyncWork, Kind, Phase, PhaseState};
 use std::alloc::Global;
 use std::marker::Model;
@@ -37,9 +37,9 @@ impl Model for Board {
 
     ghost Value = { BoardState };
 
-    ghost use Rattle.async_board.specs.BoardFields.{board_of, BoardInvariant};
+    ghost use Rattle.async_board.specs.BoardFields.{board_view, BoardInvariant};
 
-    ghost view = { board_of };
+    ghost view = { board_view };
 
     ghost invariant = { BoardInvariant };
 }
@@ -64,7 +64,7 @@ fn begin_anew(layout: &Layout, supplier: u32, suspend: &mut Walk, late: &mut Wal
 impl Board {
     ghost use Rattle.std.specs.Prelude.{◌≡◌, ◌<◌, IfOk, OnOk, OnErr, None, is_none, length};
     ghost use Rattle.sleep_model.specs.Order.{links_added, links_set};
-    ghost use Rattle.async_board.specs.Boards.{first_board, board_after, put_in_all, put_in, skip_in, states_on, order_on, next_prepared_on, next_completed_on, next_down_on, waits_down_on, next_to_schedule_on, next_up_on, waits_up_on, waits_below_on, waits_above_on, all_direct_complete_on, work_on};
+    ghost use Rattle.async_board.specs.Boards.{first_board, board_after, put_in_all, put_in, skip_in, states_on, order_on, next_prepared_on, next_completed_on, next_down_on, waits_down_on, next_to_schedule_on, next_up_on, waits_up_on, waits_for_subordinates_on, waits_above_on, all_below_direct_complete_on, work_on};
 
     /// A board over these links, on which no device is prepared; `asynchronous` says for each device
     /// whether it is asynchronous. `Mem` if there is no memory for it.
@@ -72,7 +72,7 @@ impl Board {
         ensures { IfOk result (λ b. b ≡ first_board links.parents links.links asynchronous.items) }
     {
         let Ok(indices) = indices_of(alloc, links.order()) else {
-            return Err(lost((links, asynchronous)));
+            return Err(drop_for_mem((links, asynchronous)));
         };
         let layout = Layout {
             links,
@@ -80,13 +80,13 @@ impl Board {
             asynchronous,
         };
         let Ok(suspend) = Walk::new(alloc, &layout) else {
-            return Err(lost(layout));
+            return Err(drop_for_mem(layout));
         };
         let Ok(late) = Walk::new(alloc, &layout) else {
-            return Err(lost((layout, suspend)));
+            return Err(drop_for_mem((layout, suspend)));
         };
         let Ok(noirq) = Walk::new(alloc, &layout) else {
-            return Err(lost((layout, suspend, late)));
+            return Err(drop_for_mem((layout, suspend, late)));
         };
         Ok(Board {
             layout,
@@ -324,8 +324,8 @@ impl Board {
 
     /// The first device right below one that is not done with a phase on the way down
     /// (`dpm_wait_for_subordinate`).
-    pub fn waits_below(&self, p: Phase, device: u32) -> Option<u32>
-        ensures { result ≡ waits_below_on self.now p device }
+    pub fn waits_for_subordinates(&self, p: Phase, device: u32) -> Option<u32>
+        ensures { result ≡ waits_for_subordinates_on self.now p device }
     {
         let walk = self.walk(p);
         if is_none(&walk.open_below, device) {
@@ -352,7 +352,7 @@ impl Board {
     /// already.
     #[tactic(auto, using(crate::proofs::Searched::free))]
     pub fn is_free_below(&self, p: Phase, device: u32) -> bool
-        ensures { result ≡ is_none (waits_below_on self.now p device) }
+        ensures { result ≡ is_none (waits_for_subordinates_on self.now p device) }
     {
         let walk = self.walk(p);
         if (device as usize) < walk.open_below.len() {
@@ -377,10 +377,10 @@ impl Board {
     }
 
     /// Whether all devices right below one are direct-complete (`power.direct_complete`).
-    pub fn all_direct_complete(&self, device: u32) -> bool
-        ensures { result ≡ all_direct_complete_on self.now device }
+    pub fn all_below_direct_complete(&self, device: u32) -> bool
+        ensures { result ≡ all_below_direct_complete_on self.now device }
     {
-        all_direct_complete(&self.suspend.states, &self.layout.links, device)
+        all_below_direct_complete(&self.suspend.states, &self.layout.links, device)
     }
 
     /// Whether a device is asynchronous (`power.async_suspend`); false if there is no such device.

@@ -4,7 +4,7 @@
 //! Promises: After an entry each device is in the state that `phase_states_after` says. Each question is its
 //! search over the order, or over what is right below or above. A change of links leaves the board of the
 //! changed links; a refused change changes nothing. By the clauses of `Board::wired`, `note`, `add_link`,
-//! `set_link`, `next_down`, `waits_below` and the others.
+//! `set_link`, `next_down`, `waits_for_subordinates` and the others.
 //!
 //! Begin reading in `specs/Boards.antt`, `src/board.rt`, `src/moves.rt`.
 #![tactic(auto)]

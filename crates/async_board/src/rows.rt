@@ -74,7 +74,7 @@ pub(crate) fn first_not_up(states: &[PhaseState], links: &Links, device: u32) ->
 }
 
 /// Whether all devices right below one are direct-complete.
-pub(crate) fn all_direct_complete(states: &[PhaseState], links: &Links, device: u32) -> bool
+pub(crate) fn all_below_direct_complete(states: &[PhaseState], links: &Links, device: u32) -> bool
     ensures { result ≡ list_all (λ e. is_direct_complete (state_at states.now e))
         (dependents links.now.parents (active_of links.now.links) device) }
 {

@@ -102,8 +102,8 @@ module _ (m : Machine) (past : List Entry) (time : ℕ) (now : EventNow) where
   ahead_less stage.Prepares x true h = refl
   ahead_less stage.Prepares true false h = absurd (true≢false (sym (h refl)))
   ahead_less stage.Prepares false false h = refl
-  ahead_less (stage.PlatformDown down.Begin) x y h = refl
-  ahead_less (stage.PlatformDown _) x y h = refl
+  ahead_less (stage.PlatformDo down.Begin) x y h = refl
+  ahead_less (stage.PlatformDo _) x y h = refl
   ahead_less _ x y h = refl
 
   -- a device's own entry leaves all but the devices

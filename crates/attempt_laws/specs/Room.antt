@@ -41,33 +41,33 @@ abbrev pub rows_from : Stage → Bool → Bool → ℕ
 rows_from stage.Notifies freezes sleeps = 26
 rows_from (stage.Freezes group.User) freezes sleeps = 25 + one_unless freezes
 rows_from (stage.Freezes group.Kernel) freezes sleeps = 23 + one_unless freezes
-rows_from (stage.PlatformDown down.Begin) freezes sleeps = 22
+rows_from (stage.PlatformDo down.Begin) freezes sleeps = 22
 rows_from stage.Prepares freezes sleeps = 21
 rows_from (stage.Downs phase.Suspend) freezes sleeps = 20
-rows_from (stage.PlatformDown down.Prepare) freezes sleeps = 19
+rows_from (stage.PlatformDo down.Prepare) freezes sleeps = 19
 rows_from (stage.Downs phase.Late) freezes sleeps = 18
 rows_from (stage.Downs phase.Noirq) freezes sleeps = 17
-rows_from (stage.PlatformDown down.PrepareLate) freezes sleeps = 16
+rows_from (stage.PlatformDo down.PrepareLate) freezes sleeps = 16
 rows_from stage.StopsCpus freezes sleeps = 15
 rows_from stage.StopsIrqs freezes sleeps = 15
-rows_from stage.Checks freezes sleeps = 14
+rows_from stage.ChecksWakeup freezes sleeps = 14
 rows_from stage.StopsSyscore freezes sleeps = 13
 rows_from stage.Enters freezes sleeps = 12 + one_unless sleeps
 rows_from stage.StartsSyscore freezes sleeps = 11
 rows_from stage.StartsIrqs freezes sleeps = 11
 rows_from stage.StartsCpus freezes sleeps = 10
-rows_from (stage.PlatformUp undo.Wake) freezes sleeps = 10
+rows_from (stage.PlatformUndo undo.Wake) freezes sleeps = 10
 rows_from (stage.Ups phase.ResumeNoirq) freezes sleeps = 9
 rows_from (stage.Ups phase.Early) freezes sleeps = 8
-rows_from (stage.PlatformUp undo.Finish) freezes sleeps = 7
-rows_from (stage.PlatformUp undo.Recover) freezes sleeps = 7
+rows_from (stage.PlatformUndo undo.Finish) freezes sleeps = 7
+rows_from (stage.PlatformUndo undo.Recover) freezes sleeps = 7
 rows_from (stage.Ups phase.Resume) freezes sleeps = 6
 rows_from stage.Completes freezes sleeps = 5
-rows_from (stage.PlatformUp undo.End) freezes sleeps = 4
-rows_from stage.Clears freezes sleeps = 3
+rows_from (stage.PlatformUndo undo.End) freezes sleeps = 4
+rows_from stage.ClearsSavedCount freezes sleeps = 3
 rows_from (stage.Thaws thaw.Kernel) freezes sleeps = 3
 rows_from (stage.Thaws thaw.All) freezes sleeps = 2
-rows_from stage.Posts freezes sleeps = 1
+rows_from stage.NotifiesPost freezes sleeps = 1
 rows_from stage.Ends freezes sleeps = 1
 rows_from _ freezes sleeps = 0
 
@@ -93,7 +93,7 @@ notifies_ahead _ = false
 abbrev pub cpus_ahead : Stage → Bool
 cpus_ahead stage.Notifies = true
 cpus_ahead (stage.Freezes g) = true
-cpus_ahead (stage.PlatformDown step) = true
+cpus_ahead (stage.PlatformDo step) = true
 cpus_ahead stage.Prepares = true
 cpus_ahead (stage.Downs p) = true
 cpus_ahead stage.StopsCpus = true
@@ -102,7 +102,7 @@ cpus_ahead _ = false
 -- the way down to the suspending of syscore operations (syscore_suspend)
 abbrev pub syscore_ahead : Stage → Bool
 syscore_ahead stage.StopsIrqs = true
-syscore_ahead stage.Checks = true
+syscore_ahead stage.ChecksWakeup = true
 syscore_ahead stage.StopsSyscore = true
 syscore_ahead here = cpus_ahead here
 
@@ -142,7 +142,7 @@ devices_need m ahead past = sum_below (length m.devices) (λ d. device_need m ah
 abbrev pub prepares_ahead : Stage → Bool → Bool
 prepares_ahead stage.Notifies error = true
 prepares_ahead (stage.Freezes g) error = true
-prepares_ahead (stage.PlatformDown down.Begin) error = true
+prepares_ahead (stage.PlatformDo down.Begin) error = true
 prepares_ahead stage.Prepares error = not error
 prepares_ahead _ error = false
 

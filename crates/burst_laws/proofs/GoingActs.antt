@@ -27,7 +27,7 @@ use Rattle.merge_laws.proofs.Calling.{same_actor}
 use Rattle.turn_lock.specs.declared.view.Made.{Made}
 use Rattle.run_laws.specs.Passes.{Noted}
 use Rattle.run_world.specs.Outcomes.{IsReport, IsTurn}
-use Rattle.running_laws.specs.Running.{CallsNext, IsGoing, IsMoved, IsWith, calls_made}
+use Rattle.running_laws.specs.Running.{CallsNext, IsGoing, OneStampChanges, IsWith, calls_made}
 use Rattle.running_laws.proofs.Asked.{call_is, call_there}
 use Rattle.running_laws.proofs.Calls.{going_call, going_expire}
 use Rattle.running_laws.proofs.Invariant.{actor_told}
@@ -56,7 +56,7 @@ put_other who x of other apart = ap (λ (b : Bool). cond b x (of other)) apart
 with_put : (m : Machine) (jobs : Actor → JobState) (who : Actor) (job : JobState) → IsWith m jobs (put who job jobs) who job
 with_put m jobs who job = record { same = put_same who job jobs; others = λ other is apart. put_other who job jobs other apart }
 
-moved_put : (floors : Actor → Stamp) (who : Actor) (stamp : Stamp) → IsMoved floors (put who stamp floors) who stamp
+moved_put : (floors : Actor → Stamp) (who : Actor) (stamp : Stamp) → OneStampChanges floors (put who stamp floors) who stamp
 moved_put floors who stamp = record { same = put_same who stamp floors; others = λ other apart. put_other who stamp floors other apart }
 
 -- the tasks of the others are theirs

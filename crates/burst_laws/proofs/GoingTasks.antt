@@ -8,7 +8,7 @@ use Rattle.sleep_model.specs.Path.{is_same}
 use Rattle.sleep_script.specs.Jobs.{JobState}
 use Rattle.run_world.specs.declared.task.Task.{Task}
 use Rattle.run_world.specs.Acts.{actor_of}
-use Rattle.burst_laws.specs.Courses.{AreApart, AreTasks, IsTaskOf, has_task}
+use Rattle.burst_laws.specs.Courses.{HaveDistinctActors, AreTasks, IsTaskOf, has_task}
 
 -- ---- one of a list is another
 
@@ -75,7 +75,7 @@ module _ (m : Machine) (jobs jobs' : Actor → JobState) (floors floors' : Actor
           absurd (grind (arith, nat_tests))
       by false one = refl
 
-  apart : AreApart (slice_set tasks place is)
+  apart : HaveDistinctActors (slice_set tasks place is)
   apart j k t u at_j at_k one = by (place == j) refl (place == k) refl
     where
       by : (a : Bool) → (place == j) ≡ a → (b : Bool) → (place == k) ≡ b → j ≡ k

@@ -11,7 +11,7 @@ use Rattle.sleep_model.specs.Sources.{makes, since}
 use Rattle.sleep_model.specs.Word.{position}
 use Rattle.wakeup_source.specs.declared.call_by.CallBy.{CallBy}
 use Rattle.wakeup_source.specs.Called.{Calls, SourceView, Steps, after_note, after_step}
-use Rattle.wakeup_source.specs.SourceStates.{RiseUpTo, SourceState, unstamped, note_entry, note_tick, step_entry}
+use Rattle.wakeup_source.specs.SourceStates.{RiseUpTo, SourceState, unstamped_source, note_entry, note_tick, step_entry}
 use Rattle.burst_laws.proofs.SerialNotes.{newest}
 use Rattle.burst_laws.proofs.SerialClimbs.{Climbs}
 
@@ -64,7 +64,7 @@ call_climbs by call old new order h =
       climbs = (omega arith, omega arith, tt);
       known = omega arith;
     } in
-    steps_climb by by.floor.tick old.source.past (makes call (since (unstamped old.source.past))) h.0 new
+    steps_climb by by.floor.tick old.source.past (makes call (since (unstamped_source old.source.past))) h.0 new
     (subst (λ (s : SourceView). HasClimbed by.floor.tick old.source.past s.source) (sym h.1.6) noted) h.2
 
 -- what the source has gained is just these

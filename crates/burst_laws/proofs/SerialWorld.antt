@@ -8,7 +8,7 @@ use Rattle.running_laws.specs.Running.{of_sources}
 use Rattle.run_objects.specs.Objects.{SeatedCoreState, SeatedSourceState}
 use Rattle.run_world.specs.declared.object.WorldObject.{WorldObject}
 use Rattle.run_world.specs.declared.object.WorldObject.TheVariants as object
-use Rattle.run_world.specs.ObjectLists.{AreAll, AreThose, IsThat}
+use Rattle.run_world.specs.ObjectLists.{AreObjectsOf, AreThose, IsThat}
 use Rattle.run_world.specs.Objects.{journal_of}
 use Rattle.burst_laws.specs.Courses.{lists_of}
 use Rattle.burst_laws.specs.Serial.{plain_sources}
@@ -36,7 +36,7 @@ none_past [] s l = refl
 none_past (x ∷ sources) zero l = absurd (omega arith)
 none_past (x ∷ sources) (suc s) l = none_past sources s (omega arith)
 
-module _ (moment : ℕ) (machine : SeatedCoreState) (sources : List SeatedSourceState) (objects : List WorldObject) (all : AreAll moment machine sources objects) where
+module _ (moment : ℕ) (machine : SeatedCoreState) (sources : List SeatedSourceState) (objects : List WorldObject) (all : AreObjectsOf moment machine sources objects) where
   abbrev lists : ℕ → List JournalEntry
   lists = lists_of machine.core.past (plain_sources sources)
 

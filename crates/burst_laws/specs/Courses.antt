@@ -65,15 +65,15 @@ IsTaskOf m jobs floors (task.Fires timer) =
     (timer.source ≤ length m.sources) × (floors (actor.Timer timer.source) ≡ timer.floor)
 
 -- no two tasks are of one actor
-abbrev pub AreApart : List Task → Type 0
-AreApart tasks =
+abbrev pub HaveDistinctActors : List Task → Type 0
+HaveDistinctActors tasks =
     (j k : ℕ) (t u : Task) → slice_get tasks j ≡ Some t → slice_get tasks k ≡ Some u
     → is_same (actor_of t) (actor_of u) ≡ true → j ≡ k
 
 -- each task is one of a run's, and no two are of one actor
 pub record AreTasks (m : Machine) (jobs : Actor → JobState) (floors : Actor → Stamp) (tasks : List Task) : Type 0 where
   pub each : (k : ℕ) (t : Task) → slice_get tasks k ≡ Some t → IsTaskOf m jobs floors t
-  pub apart : AreApart tasks
+  pub apart : HaveDistinctActors tasks
 
 -- ---- a course keeps what a run keeps
 

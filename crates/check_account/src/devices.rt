@@ -7,7 +7,7 @@ use crate::pair_states::PairStates;
 use crate::phase_states::device_of;
 use device_rows::Flags;
 use phase_table::Phase;
-use sleep_base::{Mem, lost};
+use sleep_base::{Mem, drop_for_mem};
 use sleep_model::{Kind, Machine, PhaseState};
 use std::alloc::Global;
 use std::marker::Model;
@@ -50,20 +50,20 @@ impl DeviceAccount {
     {
         let asks_direct = Flags::new(alloc, machine.devices.len())?;
         let Ok(statuses) = first_statuses(alloc, machine.devices.as_slice()) else {
-            return Err(lost(asks_direct));
+            return Err(drop_for_mem(asks_direct));
         };
         let Ok(notified) = Flags::new(alloc, machine.notifiers.len()) else {
-            return Err(lost((asks_direct, statuses)));
+            return Err(drop_for_mem((asks_direct, statuses)));
         };
         let Ok(cpus_off) = Flags::new(alloc, machine.cpus as usize) else {
-            return Err(lost((asks_direct, statuses, notified)));
+            return Err(drop_for_mem((asks_direct, statuses, notified)));
         };
         let Ok(stopped) = Flags::new(alloc, machine.syscore.len()) else {
-            return Err(lost((asks_direct, statuses, notified, cpus_off)));
+            return Err(drop_for_mem((asks_direct, statuses, notified, cpus_off)));
         };
         // The largest comes last, with no exit after it.
         let Ok(pairs) = PairStates::new(alloc, machine.devices.len()) else {
-            return Err(lost((asks_direct, statuses, notified, cpus_off, stopped)));
+            return Err(drop_for_mem((asks_direct, statuses, notified, cpus_off, stopped)));
         };
         Ok(DeviceAccount {
             pairs,

@@ -39,7 +39,7 @@ fn stage_after_freeze(group: Group) -> Stage
 {
     match group {
         Group::User => Stage::Freezes(Group::Kernel),
-        Group::Kernel => Stage::PlatformDown(PlatDo::Begin),
+        Group::Kernel => Stage::PlatformDo(PlatDo::Begin),
     }
 }
 
@@ -59,7 +59,7 @@ fn stage_after_thaw(those: Thaw) -> Stage
 {
     match those {
         Thaw::Kernel => Stage::Thaws(Thaw::All),
-        Thaw::All => Stage::Posts,
+        Thaw::All => Stage::NotifiesPost,
     }
 }
 
@@ -79,9 +79,9 @@ fn failed_platform_down(step: PlatDo) -> Stage
     ensures { result ≡ failed_platform_down step }
 {
     match step {
-        PlatDo::Begin => Stage::PlatformUp(PlatUndo::End),
-        PlatDo::Prepare => Stage::PlatformUp(PlatUndo::Finish),
-        PlatDo::PrepareLate => Stage::PlatformUp(PlatUndo::Wake),
+        PlatDo::Begin => Stage::PlatformUndo(PlatUndo::End),
+        PlatDo::Prepare => Stage::PlatformUndo(PlatUndo::Finish),
+        PlatDo::PrepareLate => Stage::PlatformUndo(PlatUndo::Wake),
     }
 }
 
@@ -92,7 +92,7 @@ fn stage_after_platform_up(step: PlatUndo) -> Stage
     match step {
         PlatUndo::Recover | PlatUndo::Finish => Stage::Ups(Phase::Resume),
         PlatUndo::Wake => Stage::Ups(Phase::ResumeNoirq),
-        PlatUndo::End => Stage::Clears,
+        PlatUndo::End => Stage::ClearsSavedCount,
     }
 }
 
@@ -101,9 +101,9 @@ fn stage_after_down(phase: Phase) -> Stage
     ensures { result ≡ stage_after_down phase }
 {
     match phase {
-        Phase::Suspend => Stage::PlatformDown(PlatDo::Prepare),
+        Phase::Suspend => Stage::PlatformDo(PlatDo::Prepare),
         Phase::Late => Stage::Downs(Phase::Noirq),
-        _ => Stage::PlatformDown(PlatDo::PrepareLate),
+        _ => Stage::PlatformDo(PlatDo::PrepareLate),
     }
 }
 
@@ -113,7 +113,7 @@ fn stage_after_up(phase: Phase) -> Stage
 {
     match phase {
         Phase::ResumeNoirq => Stage::Ups(Phase::Early),
-        Phase::Early => Stage::PlatformUp(PlatUndo::Finish),
+        Phase::Early => Stage::PlatformUndo(PlatUndo::Finish),
         _ => Stage::Completes,
     }
 }
@@ -125,7 +125,7 @@ fn failed_phase(phase: Phase) -> Stage
     match phase {
         Phase::Late => Stage::Ups(Phase::Early),
         Phase::Noirq => Stage::Ups(Phase::ResumeNoirq),
-        _ => Stage::PlatformUp(PlatUndo::Recover),
+        _ => Stage::PlatformUndo(PlatUndo::Recover),
     }
 }
 
@@ -141,7 +141,7 @@ fn after_done(phase: Phase, r: Option<Errno>) -> Stage
         Phase::Syscore => Stage::Enters,
         Phase::SyscoreResume => Stage::StartsIrqs,
         Phase::ResumeNoirq | Phase::Early | Phase::Resume => stage_after_up(phase),
-        Phase::Complete => Stage::PlatformUp(PlatUndo::End),
+        Phase::Complete => Stage::PlatformUndo(PlatUndo::End),
     }
 }
 
@@ -152,7 +152,7 @@ pub(crate) fn stage_after(kind: Kind, before: Option<Stage>) -> Option<Stage>
 {
     Some(match kind {
         Kind::Attempt { .. } => Stage::Notifies,
-        Kind::NotifyPrepare(_, r) => by_error(r, Stage::Notifies, Stage::Posts),
+        Kind::NotifyPrepare(_, r) => by_error(r, Stage::Notifies, Stage::NotifiesPost),
         Kind::Freeze(group) => Stage::Freezes(group),
         Kind::Froze(group, end) => by_froze(end, stage_after_freeze(group), failed_freeze(group)),
         Kind::PlatformDo(step, r) => by_error(
@@ -163,7 +163,7 @@ pub(crate) fn stage_after(kind: Kind, before: Option<Stage>) -> Option<Stage>
         Kind::Done(phase, r) => after_done(phase, r),
         Kind::CpuOff(_) => Stage::StopsCpus,
         Kind::CpuBusy(_) | Kind::CpuOn(_) => Stage::StartsCpus,
-        Kind::Irqs { on } => by_case(on, Stage::StartsCpus, Stage::Checks),
+        Kind::Irqs { on } => by_case(on, Stage::StartsCpus, Stage::ChecksWakeup),
         Kind::SyscoreCheck(r) => by_error(r, Stage::StopsSyscore, Stage::StartsIrqs),
         Kind::SyscoreSuspend(_, r) => by_error(r, Stage::StopsSyscore, Stage::StartsSyscore),
         Kind::Enter { busy } => by_case(busy, Stage::StartsSyscore, Stage::Enters),
@@ -171,7 +171,7 @@ pub(crate) fn stage_after(kind: Kind, before: Option<Stage>) -> Option<Stage>
         Kind::PlatformUndo(step) => stage_after_platform_up(step),
         Kind::Clear => Stage::Thaws(Thaw::All),
         Kind::Thaw(those) => stage_after_thaw(those),
-        Kind::NotifyPost(_) => Stage::Posts,
+        Kind::NotifyPost(_) => Stage::NotifiesPost,
         Kind::Over { .. } => return None,
         _ => return before,
     })
@@ -184,22 +184,22 @@ pub fn next_stage(stage: Stage) -> Stage
     match stage {
         Stage::Notifies => Stage::Freezes(Group::User),
         Stage::Freezes(group) => stage_after_freeze(group),
-        Stage::PlatformDown(step) => stage_after_platform_down(step),
+        Stage::PlatformDo(step) => stage_after_platform_down(step),
         Stage::Prepares => Stage::Downs(Phase::Suspend),
         Stage::Downs(phase) => stage_after_down(phase),
         Stage::StopsCpus => Stage::StopsIrqs,
-        Stage::StopsIrqs => Stage::Checks,
-        Stage::Checks => Stage::StopsSyscore,
+        Stage::StopsIrqs => Stage::ChecksWakeup,
+        Stage::ChecksWakeup => Stage::StopsSyscore,
         Stage::StopsSyscore => Stage::Enters,
         Stage::Enters => Stage::StartsSyscore,
         Stage::StartsSyscore => Stage::StartsIrqs,
         Stage::StartsIrqs => Stage::StartsCpus,
-        Stage::StartsCpus => Stage::PlatformUp(PlatUndo::Wake),
-        Stage::PlatformUp(step) => stage_after_platform_up(step),
+        Stage::StartsCpus => Stage::PlatformUndo(PlatUndo::Wake),
+        Stage::PlatformUndo(step) => stage_after_platform_up(step),
         Stage::Ups(phase) => stage_after_up(phase),
-        Stage::Completes => Stage::PlatformUp(PlatUndo::End),
-        Stage::Clears => Stage::Thaws(Thaw::All),
+        Stage::Completes => Stage::PlatformUndo(PlatUndo::End),
+        Stage::ClearsSavedCount => Stage::Thaws(Thaw::All),
         Stage::Thaws(those) => stage_after_thaw(those),
-        Stage::Posts | Stage::Ends => Stage::Ends,
+        Stage::NotifiesPost | Stage::Ends => Stage::Ends,
     }
 }

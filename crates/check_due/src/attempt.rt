@@ -1,12 +1,12 @@
 //! What an attempt's maker does next (`kernel/power/suspend.c`).
 
 ghost use Rattle.std.specs.Prelude.{◌≡◌, IfOk};
-ghost use Rattle.sleep_model.specs.declared.progress.Stage.TheVariants.{Notifies, Posts, StartsCpus, StartsSyscore, StopsCpus, StopsSyscore};
+ghost use Rattle.sleep_model.specs.declared.progress.Stage.TheVariants.{Notifies, NotifiesPost, StartsCpus, StartsSyscore, StopsCpus, StopsSyscore};
 ghost use Rattle.sleep_model.specs.declared.word.EventNow.{EventNow};
 ghost use Rattle.sleep_model.specs.Attempt.{attempt_due, enter_due, freeze_due, freeze_since, sleep_of, stage_due, stage_or_next};
 ghost use Rattle.check_past.specs.Passing.{journal_of};
 
-use crate::row::{answered, busy_error};
+use crate::answers::{answered, busy_error};
 use crate::waits::{froze_due, wakes_due};
 use crate::walks::{complete_due, down_due, prepare_due, up_due};
 use check_account::next_stage;
@@ -38,17 +38,17 @@ fn enter_due(past: &Passed<'_>, now: EventNow) -> Result<Due, Mem>
 }
 
 /// A notifier that hears of the attempt.
-fn notify_due(past: &Passed<'_>) -> Due
+fn notify_prepare_due(past: &Passed<'_>) -> Due
     ensures { (now : EventNow) → result ≡ stage_due past.now.machine (journal_of past.now) now Notifies }
 {
-    match past.next_called() {
+    match past.next_notified() {
         None => Due::Nothing,
         Some(x) => Due::Makes(Kind::NotifyPrepare(x, answered(past, What::Notifier(x)))),
     }
 }
 
 /// A processor that is stopped.
-fn stop_due(past: &Passed<'_>, now: EventNow) -> Due
+fn cpu_off_due(past: &Passed<'_>, now: EventNow) -> Due
     ensures { result ≡ stage_due past.now.machine (journal_of past.now) now StopsCpus }
 {
     match past.next_cpu_off() {
@@ -64,20 +64,20 @@ fn stop_due(past: &Passed<'_>, now: EventNow) -> Due
 }
 
 /// A syscore operation that is suspended.
-fn core_due(past: &Passed<'_>) -> Due
+fn syscore_suspend_due(past: &Passed<'_>) -> Due
     ensures { (now : EventNow) → result ≡ stage_due past.now.machine (journal_of past.now) now StopsSyscore }
 {
-    match past.next_stopped() {
+    match past.next_syscore_suspended() {
         None => Due::Nothing,
         Some(x) => Due::Makes(Kind::SyscoreSuspend(x, answered(past, What::Syscore(x)))),
     }
 }
 
 /// A syscore operation that is resumed.
-fn resume_due(past: &Passed<'_>) -> Due
+fn syscore_resume_due(past: &Passed<'_>) -> Due
     ensures { (now : EventNow) → result ≡ stage_due past.now.machine (journal_of past.now) now StartsSyscore }
 {
-    match past.next_started() {
+    match past.next_syscore_resumed() {
         None => Due::Nothing,
         Some(x) => Due::Makes(Kind::SyscoreResume(x)),
     }
@@ -94,10 +94,10 @@ fn cpu_on_due(past: &Passed<'_>) -> Due
 }
 
 /// A notifier that hears of the attempt's end.
-fn post_due(past: &Passed<'_>) -> Due
-    ensures { (now : EventNow) → result ≡ stage_due past.now.machine (journal_of past.now) now Posts }
+fn notify_post_due(past: &Passed<'_>) -> Due
+    ensures { (now : EventNow) → result ≡ stage_due past.now.machine (journal_of past.now) now NotifiesPost }
 {
-    match past.next_posted() {
+    match past.next_post_notified() {
         None => Due::Nothing,
         Some(x) => Due::Makes(Kind::NotifyPost(x)),
     }
@@ -108,31 +108,31 @@ fn stage_due(past: &Passed<'_>, now: EventNow, stage: Stage) -> Result<Due, Mem>
     ensures { IfOk result (λ d. d ≡ stage_due past.now.machine (journal_of past.now) now stage) }
 {
     match stage {
-        Stage::Notifies => Ok(notify_due(past)),
+        Stage::Notifies => Ok(notify_prepare_due(past)),
         Stage::Freezes(group) => freeze_due(past, now, group),
-        Stage::PlatformDown(step) => {
+        Stage::PlatformDo(step) => {
             let r = answered(past, What::Platform(step));
             Ok(Due::Makes(Kind::PlatformDo(step, r)))
         }
         Stage::Prepares => Ok(prepare_due(past)),
         Stage::Downs(phase) => Ok(down_due(past, now, phase)),
-        Stage::StopsCpus => Ok(stop_due(past, now)),
+        Stage::StopsCpus => Ok(cpu_off_due(past, now)),
         Stage::StopsIrqs => Ok(Due::Makes(Kind::Irqs { on: false })),
-        Stage::Checks => {
+        Stage::ChecksWakeup => {
             let r = busy_error(past.is_pending(now));
             Ok(Due::Makes(Kind::SyscoreCheck(r)))
         }
-        Stage::StopsSyscore => Ok(core_due(past)),
+        Stage::StopsSyscore => Ok(syscore_suspend_due(past)),
         Stage::Enters => enter_due(past, now),
-        Stage::StartsSyscore => Ok(resume_due(past)),
+        Stage::StartsSyscore => Ok(syscore_resume_due(past)),
         Stage::StartsIrqs => Ok(Due::Makes(Kind::Irqs { on: true })),
         Stage::StartsCpus => Ok(cpu_on_due(past)),
-        Stage::PlatformUp(step) => Ok(Due::Makes(Kind::PlatformUndo(step))),
+        Stage::PlatformUndo(step) => Ok(Due::Makes(Kind::PlatformUndo(step))),
         Stage::Ups(phase) => Ok(up_due(past, phase)),
         Stage::Completes => Ok(complete_due(past)),
-        Stage::Clears => Ok(Due::Makes(Kind::Clear)),
+        Stage::ClearsSavedCount => Ok(Due::Makes(Kind::Clear)),
         Stage::Thaws(those) => Ok(Due::Makes(Kind::Thaw(those))),
-        Stage::Posts => Ok(post_due(past)),
+        Stage::NotifiesPost => Ok(notify_post_due(past)),
         Stage::Ends => Ok(Due::Makes(Kind::Over {
             n: past.attempts(),
             r: past.failed(),

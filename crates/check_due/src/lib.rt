@@ -9,9 +9,9 @@
 //! Begin reading in `src/next.rt`, `src/attempt.rt`, `src/walks.rt`, `src/steps.rt`.
 #![tactic(auto)]
 
+mod answers;
 mod attempt;
 mod next;
-mod row;
 mod steps;
 mod tasks;
 mod texts;
@@ -20,11 +20,11 @@ mod waits;
 mod walks;
 mod work;
 
+pub use answers::{answered, busy_error, row_now};
 pub use next::due;
-pub use row::{answered, busy_error, row_now};
 pub use steps::{
-    autosleep_due, count_due, deep_sleep_due, later_by, mark_due, read_due, saved_number,
-    sleep_due, state_due, unless_unsaved,
+    autosleep_due, count_due, later_by, mark_due, read_due, saved_number, sleep_d_due, sleep_due,
+    state_due, unless_unsaved,
 };
 pub use tasks::{
     freezes_at, is_line, is_user, link_add_due, link_state_due, next_attempt, runtime_due,

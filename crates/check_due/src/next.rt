@@ -10,7 +10,7 @@ ghost use Rattle.sleep_model.specs.Steps.{step_due, task_due};
 ghost use Rattle.check_past.specs.Passing.{journal_of};
 
 use crate::attempt::attempt_due;
-use crate::steps::{count_due, deep_sleep_due, mark_due, read_due, saved_number, sleep_due};
+use crate::steps::{count_due, mark_due, read_due, saved_number, sleep_d_due, sleep_due};
 use crate::tasks::{
     autosleep_write_due, freezes_at, is_line, is_user, link_add_due, link_state_due, runtime_due,
     write_due,
@@ -101,7 +101,7 @@ fn op_due(
         ),
         Op::Autosleep { text } => Ok(autosleep_write_due(past, position, text.as_slice())),
         Op::Sleep { ms } => sleep_due(*ms, position, past.journal_time()),
-        Op::SleepD { ms } => deep_sleep_due(*ms, position, past.journal_time()),
+        Op::SleepD { ms } => sleep_d_due(*ms, position, past.journal_time()),
         Op::FreezePoint => Ok(Due::Makes(Kind::Pass)),
         Op::Post { mark } => Ok(Due::Makes(Kind::Post(*mark))),
         Op::Wait { mark } => Ok(mark_due(*mark, past.raised(*mark))),

@@ -143,7 +143,7 @@ pub fn sleep_due(ms: u32, position: ScriptPosition, time: u64) -> Result<Due, Me
 }
 
 /// A sleep that cannot be frozen.
-pub fn deep_sleep_due(ms: u32, position: ScriptPosition, time: u64) -> Result<Due, Mem>
+pub fn sleep_d_due(ms: u32, position: ScriptPosition, time: u64) -> Result<Due, Mem>
     ensures { IfOk result (λ d. d ≡ sleep_due kind.SleepD ms position time) }
 {
     if position.waits {

@@ -73,7 +73,7 @@ fn take_down(past: &Passed<'_>, now: EventNow, phase: Phase, device: u32) -> Due
         Due::Makes(Kind::Schedule(phase, device))
     } else {
         after_device(
-            past.waits_below(phase, device),
+            past.waits_for_subordinates(phase, device),
             Due::Makes(taken(past, now, phase, device)),
         )
     }
@@ -134,7 +134,7 @@ fn scheduled_due(past: &Passed<'_>, now: EventNow, phase: Phase, device: u32) ->
 {
     if phase.is_down() {
         after_device(
-            past.waits_below(phase, device),
+            past.waits_for_subordinates(phase, device),
             Due::Makes(turn_of(past, now, phase, device)),
         )
     } else {

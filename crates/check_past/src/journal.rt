@@ -10,7 +10,7 @@ ghost use Rattle.check_past.specs.JournalStates.{MayAdd, graph_after};
 
 use check_account::{AttemptAccount, DeviceAccount, TaskAccount};
 use check_order::DeviceGraph;
-use sleep_base::{Mem, lost};
+use sleep_base::{Mem, drop_for_mem};
 use sleep_model::{Entry, Kind, Link, Machine};
 use std::alloc::Global;
 
@@ -124,10 +124,10 @@ impl JournalState {
     {
         let graph = graph_of(alloc, machine)?;
         let Ok(tasks) = TaskAccount::new(alloc, machine) else {
-            return Err(lost(graph));
+            return Err(drop_for_mem(graph));
         };
         let Ok(devices) = DeviceAccount::new(alloc, machine) else {
-            return Err(lost((graph, tasks)));
+            return Err(drop_for_mem((graph, tasks)));
         };
         Ok(JournalState {
             attempt: AttemptAccount::new(),

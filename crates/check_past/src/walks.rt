@@ -258,8 +258,8 @@ fn last_unset(flags: &Flags, count: u32) -> Option<u32>
 impl<'m> Passed<'m> {
     ghost use Rattle.std.specs.Prelude.{◌≡◌};
     ghost use Rattle.std.specs.List.{list_all};
-    ghost use Rattle.sleep_model.specs.Devices.{next_completed, next_down, next_prepared, next_to_schedule, next_up, state_in, waits_above, waits_below, waits_down, waits_up};
-    ghost use Rattle.sleep_model.specs.Notifiers.{call_order, next_called, next_cpu_off, next_cpu_on, next_posted, next_started, next_stopped};
+    ghost use Rattle.sleep_model.specs.Devices.{next_completed, next_down, next_prepared, next_to_schedule, next_up, state_in, waits_above, waits_for_subordinates, waits_down, waits_up};
+    ghost use Rattle.sleep_model.specs.Notifiers.{call_order, next_notified, next_cpu_off, next_cpu_on, next_post_notified, next_syscore_resumed, next_syscore_suspended};
     ghost use Rattle.sleep_model.specs.Order.{below};
     ghost use Rattle.sleep_model.specs.PhaseStates.{is_direct_complete};
     ghost use Rattle.phase_table.specs.declared.phase.Phase.TheVariants as phase;
@@ -306,8 +306,8 @@ impl<'m> Passed<'m> {
 
     /// The first device below one that is not done with a phase (`dpm_wait_for_subordinate`).
     #[tactic(auto, using(sleep_model::proofs::Searches::find_is_first))]
-    pub fn waits_below(&self, phase: Phase, device: u32) -> Option<u32>
-        ensures { result ≡ waits_below self.now.machine (journal_of self.now) phase device }
+    pub fn waits_for_subordinates(&self, phase: Phase, device: u32) -> Option<u32>
+        ensures { result ≡ waits_for_subordinates self.now.machine (journal_of self.now) phase device }
     {
         first_not_down(self.below(device), self.phase_states(phase))
     }
@@ -362,16 +362,16 @@ impl<'m> Passed<'m> {
 
     /// The notifier that is to be called for the attempt (`PM_SUSPEND_PREPARE`).
     #[tactic(auto, using(sleep_model::proofs::Searches::find_is_first))]
-    pub fn next_called(&self) -> Option<u32>
-        ensures { result ≡ next_called self.now.machine (journal_of self.now) }
+    pub fn next_notified(&self) -> Option<u32>
+        ensures { result ≡ next_notified self.now.machine (journal_of self.now) }
     {
         first_unset(self.notified_flags(), self.call_order())
     }
 
     /// The notifier that is to be called for its end (`PM_POST_SUSPEND`).
     #[tactic(auto, using(sleep_model::proofs::Searches::find_is_first))]
-    pub fn next_posted(&self) -> Option<u32>
-        ensures { result ≡ next_posted self.now.machine (journal_of self.now) }
+    pub fn next_post_notified(&self) -> Option<u32>
+        ensures { result ≡ next_post_notified self.now.machine (journal_of self.now) }
     {
         first_set(self.notified_flags(), self.call_order())
     }
@@ -394,15 +394,15 @@ impl<'m> Passed<'m> {
 
     /// The syscore operation that is resumed next (`syscore_resume`).
     #[tactic(auto, using(sleep_model::proofs::Searches::find_is_first))]
-    pub fn next_started(&self) -> Option<u32>
-        ensures { result ≡ next_started self.now.machine (journal_of self.now) }
+    pub fn next_syscore_resumed(&self) -> Option<u32>
+        ensures { result ≡ next_syscore_resumed self.now.machine (journal_of self.now) }
     {
         first_stopped(self.stopped(), self.machine.syscore.len() as u32)
     }
 
     /// The syscore operation that is suspended next (`syscore_suspend`).
-    pub fn next_stopped(&self) -> Option<u32>
-        ensures { result ≡ next_stopped self.now.machine (journal_of self.now) }
+    pub fn next_syscore_suspended(&self) -> Option<u32>
+        ensures { result ≡ next_syscore_suspended self.now.machine (journal_of self.now) }
     {
         last_unset(self.stopped(), self.machine.syscore.len() as u32)
     }

@@ -5,7 +5,7 @@ use Rattle.sleep_model.specs.declared.entry.Entry.{Entry}
 use Rattle.sleep_model.specs.declared.machine.Machine.{Machine}
 use Rattle.sleep_model.specs.EntryClasses.{EntryClass, OfJournal, Notes, Moves, OfTime, journal, class_of}
 use Rattle.rule_definitions.specs.Entry.{KeepsEntry, KeepsRule, OnJournal, Rule, Links, Numbers, Attempts, Reads, Walk, Skip, Runtime, Owed, Freezer, Path, Answers, Restored, Steps, Enabled, Source}
-use Rattle.rule_definitions.specs.Verdict.{BreaksFirst, number_of}
+use Rattle.rule_definitions.specs.Verdict.{BreaksFirst, rule_number}
 use Rattle.sleep_model.specs.Numbers.{numbers}
 use Rattle.rule_definitions.specs.Answers.{KeepsAnswers}
 use Rattle.rule_definitions.specs.Attempts.{KeepsAttempts}
@@ -51,7 +51,7 @@ at_index Steps = refl
 at_index Enabled = refl
 at_index Source = refl
 
-rises : (n : ℕ) → number_of (rule_at n) ≤ number_of (rule_at (suc n))
+rises : (n : ℕ) → rule_number (rule_at n) ≤ rule_number (rule_at (suc n))
 rises zero = omega arith
 rises (suc zero) = omega arith
 rises (suc (suc zero)) = omega arith
@@ -68,7 +68,7 @@ rises (suc (suc (suc (suc (suc (suc (suc (suc (suc (suc (suc (suc zero))))))))))
 rises (suc (suc (suc (suc (suc (suc (suc (suc (suc (suc (suc (suc (suc zero))))))))))))) = omega arith
 rises (suc (suc (suc (suc (suc (suc (suc (suc (suc (suc (suc (suc (suc (suc n)))))))))))))) = omega arith
 
-rising : (k n : ℕ) → number_of (rule_at n) ≤ number_of (rule_at (k + n))
+rising : (k n : ℕ) → rule_number (rule_at n) ≤ rule_number (rule_at (k + n))
 rising zero n = let e : zero + n ≡ n = omega arith in rw e (omega arith)
 rising (suc k) n =
     let e : suc k + n ≡ suc (k + n) = omega arith in
@@ -76,16 +76,16 @@ rising (suc k) n =
     let step = rises (k + n) in
     rw e (omega (arith, below, step))
 
-no_lesser : (n k : ℕ) → n ≤ k → number_of (rule_at n) ≤ number_of (rule_at k)
-no_lesser n k h = let e : (k - n) + n ≡ k = omega (arith, h) in subst (λ j. number_of (rule_at n) ≤ number_of (rule_at j)) e (rising (k - n) n)
+no_lesser : (n k : ℕ) → n ≤ k → rule_number (rule_at n) ≤ rule_number (rule_at k)
+no_lesser n k h = let e : (k - n) + n ≡ k = omega (arith, h) in subst (λ j. rule_number (rule_at n) ≤ rule_number (rule_at j)) e (rising (k - n) n)
 
 -- a rule of a lesser number has a lesser index
-before : (rule : Rule) (n : ℕ) → number_of rule < number_of (rule_at n) → rule_index rule < n
+before : (rule : Rule) (n : ℕ) → rule_number rule < rule_number (rule_at n) → rule_index rule < n
 before rule n h = ⊎_elim
     (λ below. below)
     (λ above.
     let least = no_lesser n (rule_index rule) above in
-    let same : number_of (rule_at (rule_index rule)) ≡ number_of rule = ap number_of (at_index rule) in
+    let same : rule_number (rule_at (rule_index rule)) ≡ rule_number rule = ap rule_number (at_index rule) in
     absurd (omega (arith, least, same, h)))
     (cases_lt (rule_index rule) n)
 
@@ -103,7 +103,7 @@ below_more m past e n b rule is h so below = λ other l. ⊎_elim
 pub breaks : (m : Machine) (past : List Entry) (e : Entry) (n : ℕ) (b : Bool) (rule : Rule) → rule ≡ rule_at n → (IsTrue b ↔ KeepsRule m past e (class_of e.kind) rule) → b ≡ false → KeepsBelow m past e n → BreaksFirst m past e rule
 breaks m past e n b rule is h so below = record {
   breaks = λ keeps. let yes : b ≡ true = h.1 keeps in absurd (cc);
-  lesser = λ other l. below other (before other n (subst (λ (r : Rule). number_of other < number_of r) is l));
+  lesser = λ other l. below other (before other n (subst (λ (r : Rule). rule_number other < rule_number r) is l));
 }
 
 pub all_preserved : (m : Machine) (past : List Entry) (e : Entry) → KeepsBelow m past e 15 → KeepsEntry m past e

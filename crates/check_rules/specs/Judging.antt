@@ -5,7 +5,7 @@ use Rattle.sleep_model.specs.declared.machine.Machine.{Machine}
 use Rattle.sleep_model.specs.EntryClasses.{EntryClass, OfJournal, class_of}
 use Rattle.rule_definitions.specs.Entry as model
 use Rattle.rule_definitions.specs.Entry.{KeepsEntry, KeepsRule, OnJournal}
-use Rattle.rule_definitions.specs.Verdict.{BreaksFirst, number_of}
+use Rattle.rule_definitions.specs.Verdict.{BreaksFirst, rule_number}
 use Rattle.check_rules.specs.declared.judge.Rule.{Rule}
 use Rattle.check_rules.specs.declared.judge.Rule.TheVariants as ours
 
@@ -75,7 +75,7 @@ KeepsBelow m past e n = (rule : model.Rule) → rule_index rule < n → KeepsRul
 -- it breaks none, or the rule of that number and none that has a lesser one (own)
 abbrev pub IsBroken : Machine → List Entry → Entry → Option ℕ → Type 0
 IsBroken m past e None = KeepsEntry m past e
-IsBroken m past e (Some n) = (rule : model.Rule) × ((number_of rule ≡ n) × BreaksFirst m past e rule)
+IsBroken m past e (Some n) = (rule : model.Rule) × ((rule_number rule ≡ n) × BreaksFirst m past e rule)
 
 -- it keeps the rules that also concern entries of sources and jumps (own)
 pub record KeepsTogether (m : Machine) (past : List Entry) (e : Entry) (part : EntryClass) : Type 0 where

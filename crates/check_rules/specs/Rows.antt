@@ -7,12 +7,12 @@ use Rattle.sleep_model.specs.declared.progress.Stage.TheVariants as stage
 abbrev pub is_descent : Stage → Bool
 is_descent stage.Notifies = true
 is_descent (stage.Freezes g) = true
-is_descent (stage.PlatformDown step) = true
+is_descent (stage.PlatformDo step) = true
 is_descent stage.Prepares = true
 is_descent (stage.Downs p) = true
 is_descent stage.StopsCpus = true
 is_descent stage.StopsIrqs = true
-is_descent stage.Checks = true
+is_descent stage.ChecksWakeup = true
 is_descent stage.StopsSyscore = true
 is_descent stage.Enters = true
 is_descent _ = false

@@ -4,7 +4,7 @@ ghost use Rattle.std.specs.Prelude.{◌≡◌, ◌↔◌, ◌||◌, not, true, I
 ghost use Rattle.sleep_model.specs.Fits.{fits_entry};
 ghost use Rattle.sleep_model.specs.EntryClasses.{class_of};
 ghost use Rattle.rule_definitions.specs.Entry.{KeepsEntry, KeepsRule};
-ghost use Rattle.rule_definitions.specs.Verdict.{number_of};
+ghost use Rattle.rule_definitions.specs.Verdict.{rule_number};
 ghost use Rattle.check_past.specs.Passing.{past_of};
 ghost use Rattle.check_rules.specs.Judging.{IsBroken, KeepsTogether, is_of_journal, meant, rule_at};
 
@@ -67,8 +67,8 @@ fn rule_at(place: u8) -> Rule
 }
 
 /// The number that a verdict gives a rule.
-fn number_of(rule: Rule) -> u8
-    ensures { result ≡ number_of (meant rule) }
+fn rule_number(rule: Rule) -> u8
+    ensures { result ≡ rule_number (meant rule) }
 {
     match rule {
         Rule::Links => 2,
@@ -183,7 +183,7 @@ fn least_broken(past: &Passed<'_>, e: Entry) -> Result<Option<u8>, Mem>
     for place in 0..RULES {
         let rule = rule_at(place);
         if !keeps(past, e, rule)? {
-            return Ok(Some(number_of(rule)));
+            return Ok(Some(rule_number(rule)));
         }
     }
     Ok(None)

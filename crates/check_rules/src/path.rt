@@ -2,7 +2,7 @@
 //! (`kernel/power/suspend.c`).
 
 ghost use Rattle.std.specs.Prelude.{◌≡◌, ◌↔◌, not, IsTrue};
-ghost use Rattle.sleep_model.specs.declared.progress.Stage.TheVariants.{Enters, Freezes, Notifies, PlatformDown, StopsCpus, StopsSyscore};
+ghost use Rattle.sleep_model.specs.declared.progress.Stage.TheVariants.{Enters, Freezes, Notifies, PlatformDo, StopsCpus, StopsSyscore};
 ghost use Rattle.rule_definitions.specs.Questions.{is_maker};
 ghost use Rattle.rule_definitions.specs.Path.{IsOfDown, IsOfRow, IsOfRowIf, IsOfUp, KeepsPath, ReportsOf};
 ghost use Rattle.check_past.specs.Passing.{journal_of};
@@ -81,7 +81,7 @@ fn is_of_freeze(past: &Passed<'_>, now: EventNow, group: Group, kind: Kind) -> b
 
 /// An entry of a step of the platform on the way down.
 fn is_of_platform(past: &Passed<'_>, now: EventNow, step: PlatDo, kind: Kind) -> bool
-    ensures { IsTrue result ↔ IsOfRow past.now.machine (journal_of past.now) now (PlatformDown step) kind }
+    ensures { IsTrue result ↔ IsOfRow past.now.machine (journal_of past.now) now (PlatformDo step) kind }
 {
     match kind {
         Kind::PlatformDo(asked, r) => {
@@ -108,7 +108,8 @@ fn is_of_core(past: &Passed<'_>, now: EventNow, kind: Kind) -> bool
 {
     match kind {
         Kind::SyscoreSuspend(x, r) => {
-            is_number(past.next_stopped(), x) && is_answer(r, answered(past, What::Syscore(x)))
+            is_number(past.next_syscore_suspended(), x)
+                && is_answer(r, answered(past, What::Syscore(x)))
         }
         _ => false,
     }
@@ -131,7 +132,7 @@ fn is_of_notifying(past: &Passed<'_>, now: EventNow, kind: Kind) -> bool
 {
     match kind {
         Kind::NotifyPrepare(x, r) => {
-            is_number(past.next_called(), x) && is_answer(r, answered(past, What::Notifier(x)))
+            is_number(past.next_notified(), x) && is_answer(r, answered(past, What::Notifier(x)))
         }
         _ => false,
     }
@@ -145,7 +146,7 @@ fn is_of_descent(past: &Passed<'_>, now: EventNow, row: Stage, kind: Kind) -> bo
     match row {
         Stage::Notifies => is_of_notifying(past, now, kind),
         Stage::Freezes(group) => is_of_freeze(past, now, group, kind),
-        Stage::PlatformDown(step) => is_of_platform(past, now, step, kind),
+        Stage::PlatformDo(step) => is_of_platform(past, now, step, kind),
         Stage::Prepares => match kind {
             Kind::Prepare { .. } => true,
             Kind::Done(p, _) => is_phase(p, Phase::Prepare),
@@ -154,7 +155,7 @@ fn is_of_descent(past: &Passed<'_>, now: EventNow, row: Stage, kind: Kind) -> bo
         Stage::Downs(phase) => is_of_down(phase, kind),
         Stage::StopsCpus => is_of_stop(past, now, kind),
         Stage::StopsIrqs => matches!(kind, Kind::Irqs { on: false }),
-        Stage::Checks => match kind {
+        Stage::ChecksWakeup => match kind {
             Kind::SyscoreCheck(r) => is_answer(r, busy_error(past.is_pending(now))),
             _ => false,
         },
@@ -169,19 +170,19 @@ fn is_of_ascent(past: &Passed<'_>, now: EventNow, row: Stage, kind: Kind) -> boo
     ensures { IsTrue result ↔ IsOfRow past.now.machine (journal_of past.now) now row kind }
 {
     match (row, kind) {
-        (Stage::StartsSyscore, Kind::SyscoreResume(x)) => is_number(past.next_started(), x),
+        (Stage::StartsSyscore, Kind::SyscoreResume(x)) => is_number(past.next_syscore_resumed(), x),
         (Stage::StartsIrqs, Kind::Irqs { on }) => on,
         (Stage::StartsCpus, Kind::CpuOn(x)) => is_number(past.next_cpu_on(), x),
-        (Stage::PlatformUp(step), Kind::PlatformUndo(notified_flags)) => is_undo(
+        (Stage::PlatformUndo(step), Kind::PlatformUndo(notified_flags)) => is_undo(
             notified_flags,
             step,
         ),
         (Stage::Ups(phase), _) => is_of_up(phase, kind),
         (Stage::Completes, Kind::Complete(_)) => true,
         (Stage::Completes, Kind::Done(p, _)) => is_phase(p, Phase::Complete),
-        (Stage::Clears, Kind::Clear) => true,
+        (Stage::ClearsSavedCount, Kind::Clear) => true,
         (Stage::Thaws(those), Kind::Thaw(notified_flags)) => is_thaw(notified_flags, those),
-        (Stage::Posts, Kind::NotifyPost(x)) => is_number(past.next_posted(), x),
+        (Stage::NotifiesPost, Kind::NotifyPost(x)) => is_number(past.next_post_notified(), x),
         (Stage::Ends, Kind::Over { .. }) => true,
         _ => false,
     }
@@ -195,12 +196,12 @@ fn is_descent(row: Stage) -> bool
         row,
         Stage::Notifies
             | Stage::Freezes(_)
-            | Stage::PlatformDown(_)
+            | Stage::PlatformDo(_)
             | Stage::Prepares
             | Stage::Downs(_)
             | Stage::StopsCpus
             | Stage::StopsIrqs
-            | Stage::Checks
+            | Stage::ChecksWakeup
             | Stage::StopsSyscore
             | Stage::Enters
     )

@@ -19,7 +19,7 @@ pub(crate) fn is_next_down(past: &Passed<'_>, phase: Phase, device: u32) -> bool
     past.callback().is_none()
         && past.phase_failed().is_none()
         && is_number(past.next_down(phase), device)
-        && past.waits_below(phase, device).is_none()
+        && past.waits_for_subordinates(phase, device).is_none()
 }
 
 /// Whether a device was scheduled on the way down, and all below it are done (`async_suspend`).
@@ -28,7 +28,7 @@ pub(crate) fn is_scheduled_down(past: &Passed<'_>, phase: Phase, device: u32) ->
 {
     phase.is_down()
         && matches!(past.state(phase, device), PhaseState::Scheduled)
-        && past.waits_below(phase, device).is_none()
+        && past.waits_for_subordinates(phase, device).is_none()
 }
 
 /// Whether it is a device's turn in a phase.

@@ -1,37 +1,37 @@
 //! Each actor's own steps, once and in order.
 
 ghost use Rattle.std.specs.Prelude.{◌≡◌, ◌↔◌, true, IsTrue, IfOk, option_copied, slice_get};
-ghost use Rattle.rule_definitions.specs.Steps.{IsDeviceStep, IsLinkOf, IsLinkStateOf, IsMakerStep, IsOfAutosleep, IsOfOp, IsPostOf, IsRequestOf, IsScriptStep, IsStep, IsWorkStep, KeepsSteps, is_of_write};
+ghost use Rattle.rule_definitions.specs.Steps.{IsDeviceStep, IsLinkOf, IsLinkStateOf, IsMakerStep, IsOfAutosleep, IsOfOp, IsPostOf, IsRequestOf, IsScriptStep, IsStep, IsWorkStep, KeepsSteps, is_of_state_write};
 ghost use Rattle.rule_definitions.specs.Questions.{op_of, position_of};
-ghost use Rattle.sleep_model.specs.Laws.{is_exit, is_of_read, is_of_save, is_pass};
+ghost use Rattle.sleep_model.specs.Laws.{is_exit, is_of_count_read, is_of_count_save, is_pass};
 ghost use Rattle.check_past.specs.Passing.{journal_of};
 
 use crate::same::{is_phase, is_same_number, makes};
 use check_due::{
-    async_work, deep_sleep_due, freezes_at, is_mem, is_off, is_user, later_by, mark_due,
-    seen_count, sleep_due,
+    async_work, freezes_at, is_mem, is_off, is_user, later_by, mark_due, seen_count, sleep_d_due,
+    sleep_due,
 };
 use check_past::Passed;
 use sleep_base::Mem;
 use sleep_model::{Actor, AsyncWork, EventNow, Kind, NAP_MSECS, Op, ScriptPosition, State, Work};
 
 /// An entry of a read.
-fn is_of_read(kind: Kind) -> bool
-    ensures { result ≡ is_of_read kind }
+fn is_of_count_read(kind: Kind) -> bool
+    ensures { result ≡ is_of_count_read kind }
 {
     matches!(kind, Kind::ReadWait | Kind::Read(_) | Kind::ReadIntr)
 }
 
 /// An entry of a save.
-fn is_of_save(kind: Kind) -> bool
-    ensures { result ≡ is_of_save kind }
+fn is_of_count_save(kind: Kind) -> bool
+    ensures { result ≡ is_of_count_save kind }
 {
     matches!(kind, Kind::SaveWait(_) | Kind::Saved(_) | Kind::SaveErr(..))
 }
 
 /// An entry of a write to the state, up to the beginning of its attempt.
-fn is_of_write(kind: Kind) -> bool
-    ensures { result ≡ is_of_write kind }
+fn is_of_state_write(kind: Kind) -> bool
+    ensures { result ≡ is_of_state_write kind }
 {
     matches!(
         kind,
@@ -105,15 +105,15 @@ fn is_of_op(
         return Ok(matches!(kind, Kind::Exit));
     };
     match op {
-        Op::Read => Ok(is_of_read(kind)),
-        Op::Save { .. } => Ok(is_of_save(kind)),
-        Op::State { .. } => Ok(is_of_write(kind)),
+        Op::Read => Ok(is_of_count_read(kind)),
+        Op::Save { .. } => Ok(is_of_count_save(kind)),
+        Op::State { .. } => Ok(is_of_state_write(kind)),
         Op::Autosleep { text } => {
             let text = text.as_slice();
             Ok(is_of_autosleep(position.waits, is_mem(text), is_off(text), kind))
         }
         Op::Sleep { ms } => Ok(makes(sleep_due(*ms, position, past.journal_time())?, kind)),
-        Op::SleepD { ms } => Ok(makes(deep_sleep_due(*ms, position, past.journal_time())?, kind)),
+        Op::SleepD { ms } => Ok(makes(sleep_d_due(*ms, position, past.journal_time())?, kind)),
         Op::FreezePoint => Ok(matches!(kind, Kind::Pass)),
         Op::Post { mark } => Ok(is_post_of(*mark, kind)),
         Op::Wait { mark } => Ok(makes(mark_due(*mark, past.raised(*mark)), kind)),

@@ -50,13 +50,13 @@ key_eq (what.Platform x) (what.Platform y) a b = same_attempt a b (step_rank x =
 key_eq _ _ a b = refl
 
 -- the answer at the first index of a key is the first of its thing and attempt
-behind : (a : Answer) (rest : List Answer) (o : Option ℕ) → option_and_then (slice_get (a ∷ rest)) (option_map suc o) ≡ option_and_then (slice_get rest) o
-behind a rest None = refl
-behind a rest (Some j) = refl
+after : (a : Answer) (rest : List Answer) (o : Option ℕ) → option_and_then (slice_get (a ∷ rest)) (option_map suc o) ≡ option_and_then (slice_get rest) o
+after a rest None = refl
+after a rest (Some j) = refl
 
 by_test : (a : Answer) (rest : List Answer) (b : Bool) (o : Option ℕ) (later : Option Answer) → option_and_then (slice_get rest) o ≡ later → option_and_then (slice_get (a ∷ rest)) (cond b (Some 0) (option_map suc o)) ≡ cond b (Some a) later
 by_test a rest true o later e = refl
-by_test a rest false o later e = behind a rest o ∙ e
+by_test a rest false o later e = after a rest o ∙ e
 
 pub found : (w : What) (n : Option ℕ) (answers : List Answer) → option_and_then (slice_get answers) (position (eq-value.it (key_for w n)) (map answer_key answers)) ≡ answer_for w n answers
 found w n [] = refl

@@ -145,8 +145,8 @@ turned m a who true ends is f xs t len h =
 turned m a who false ends is f xs t len h = elsewhere xs (actor_index m a) (actor_index m who) _ 0 (apart m a who f.one f.other is) ∙ h
 
 -- calls after those before the first turn
-behind : (first rest more last : List Kind) (all : List Kind) → first ++ rest ≡ all → first ++ (rest ++ more ++ last) ≡ all ++ more ++ last
-behind first rest more last all h =
+after : (first rest more last : List Kind) (all : List Kind) → first ++ rest ≡ all → first ++ (rest ++ more ++ last) ≡ all ++ more ++ last
+after first rest more last all h =
     sym (append_assoc first (rest ++ more) last)
     ∙ (ap (λ (xs : List Kind). xs ++ last) (sym (append_assoc first rest more)) ∙ ap (λ (xs : List Kind). xs ++ more ++ last) h)
 
@@ -159,7 +159,7 @@ owing m a who true ends is f xs all more t u len h turns =
     let set : slice_index_or (slice_set xs (actor_index m a) (slice_index_or xs (actor_index m a) [] ++ more ++ calls_after_turn m a ends (u + 1))) (actor_index m a) [] ≡ slice_index_or xs (actor_index m a) [] ++ more ++ calls_after_turn m a ends (u + 1) =
     at_place xs (actor_index m a) _ [] (omega (arith, l, len)) in
     subst (λ x. calls_of_turn m x 0 ++ slice_index_or xs (actor_index m x) [] ≡ all → calls_of_turn m x 0 ++ slice_index_or (slice_set xs (actor_index m a) (slice_index_or xs (actor_index m a) [] ++ more ++ calls_after_turn m a ends (u + 1))) (actor_index m x) [] ≡ all ++ more ++ calls_after_turn m x ends (t + 1)) w
-    (λ g. ap (λ (ys : List Kind). calls_of_turn m a 0 ++ ys) set ∙ (behind (calls_of_turn m a 0) (slice_index_or xs (actor_index m a) []) more (calls_after_turn m a ends (u + 1)) all g ∙ ap (λ k. all ++ more ++ calls_after_turn m a ends (k + 1)) (turns w))) h
+    (λ g. ap (λ (ys : List Kind). calls_of_turn m a 0 ++ ys) set ∙ (after (calls_of_turn m a 0) (slice_index_or xs (actor_index m a) []) more (calls_after_turn m a ends (u + 1)) all g ∙ ap (λ k. all ++ more ++ calls_after_turn m a ends (k + 1)) (turns w))) h
 owing m a who false ends is f xs all more t u len h turns =
     ap (λ (ys : List Kind). calls_of_turn m who 0 ++ ys) (elsewhere xs (actor_index m a) (actor_index m who) _ [] (apart m a who f.one f.other is)) ∙ h
 

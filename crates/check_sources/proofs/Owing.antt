@@ -15,10 +15,10 @@ nothing [] h = refl
 nothing (r ∷ rs) h = absurd (omega arith)
 
 -- no calls after those of a list leave every list as it was
-pub none_owed : (later : List (List Kind)) (place : ℕ) (reports behind : List Report) → length reports ≡ 0 → length behind ≡ 0 →
-    later ≡ slice_set later place (slice_index_or later place [] ++ map noted reports ++ map noted behind)
-none_owed later place reports behind h k =
+pub none_owed : (later : List (List Kind)) (place : ℕ) (reports after : List Report) → length reports ≡ 0 → length after ≡ 0 →
+    later ≡ slice_set later place (slice_index_or later place [] ++ map noted reports ++ map noted after)
+none_owed later place reports after h k =
     let own = slice_index_or later place [] in
-    let same : own ++ map noted reports ++ map noted behind ≡ own =
-    ap₂ (λ (a b : List Kind). own ++ a ++ b) (nothing reports h) (nothing behind k) ∙ append-nil (own ++ []) ∙ append-nil own in
+    let same : own ++ map noted reports ++ map noted after ≡ own =
+    ap₂ (λ (a b : List Kind). own ++ a ++ b) (nothing reports h) (nothing after k) ∙ append-nil (own ++ []) ∙ append-nil own in
     sym (ap (λ (calls : List Kind). slice_set later place calls) same ∙ put_same later place)

@@ -64,15 +64,15 @@ fn extend_at(
     later: &mut Vec<Calls>,
     place: usize,
     reports: &[Report],
-    behind: &[Report],
+    after: &[Report],
 ) -> Result<(), Mem>
     ensures { OnOk result (later.new.items ≡ slice_set later.old.items place
-        (slice_index_or later.old.items place [] ++ map noted reports.now ++ map noted behind.now)) }
+        (slice_index_or later.old.items place [] ++ map noted reports.now ++ map noted after.now)) }
 {
     if place < later.len() {
         let calls = &mut later[place];
         calls.extend(reports)?;
-        calls.extend(behind)?;
+        calls.extend(after)?;
     }
     Ok(())
 }
@@ -82,15 +82,15 @@ fn owe_at(
     later: &mut Vec<Calls>,
     place: usize,
     reports: &[Report],
-    behind: &[Report],
+    after: &[Report],
 ) -> Result<(), Mem>
     ensures { OnOk result (later.new.items ≡ slice_set later.old.items place
-        (slice_index_or later.old.items place [] ++ map noted reports.now ++ map noted behind.now)) }
+        (slice_index_or later.old.items place [] ++ map noted reports.now ++ map noted after.now)) }
 {
-    if reports.is_empty() && behind.is_empty() {
+    if reports.is_empty() && after.is_empty() {
         return Ok(());
     }
-    extend_at(later, place, reports, behind)
+    extend_at(later, place, reports, after)
 }
 
 /// What the callback that an entry begins reports, in the attempt after `attempts` of them.
@@ -192,8 +192,8 @@ impl<'m> Callers<'m> {
         let ended = ends_turn(e.kind);
         let turn = one_further(number_at(&self.turns, place))?;
         let reports = reports_of(self.plans.answers(), e.kind, attempts);
-        let behind = calls_after_turn(&self.plans, e.actor, ended, turn);
-        owe_at(&mut self.later, place, reports, behind)?;
+        let after = calls_after_turn(&self.plans, e.actor, ended, turn);
+        owe_at(&mut self.later, place, reports, after)?;
         if ended {
             set_at(&mut self.turns, place, turn);
         }

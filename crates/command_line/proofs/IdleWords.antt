@@ -24,12 +24,12 @@ no_number word lacks = go (bytes_eq (take (length workers_prefix) word) workers_
 
 module _ {S : Type 0} (f : S → List ℕ) where
   -- more than three words are no sizes
-  pub many_sizes : (words : List S) (behind : List (List ℕ)) (workers : ℕ) → 4 ≤ length words → None ≡ idle_sizes (map f words ++ behind) workers
-  many_sizes [] behind workers high = absurd (omega (arith, high))
-  many_sizes (w ∷ []) behind workers high = absurd (omega (arith, high))
-  many_sizes (w ∷ e ∷ []) behind workers high = absurd (omega (arith, high))
-  many_sizes (w ∷ e ∷ s ∷ []) behind workers high = absurd (omega (arith, high))
-  many_sizes (w ∷ e ∷ s ∷ more ∷ words) behind workers high = refl
+  pub many_sizes : (words : List S) (after : List (List ℕ)) (workers : ℕ) → 4 ≤ length words → None ≡ idle_sizes (map f words ++ after) workers
+  many_sizes [] after workers high = absurd (omega (arith, high))
+  many_sizes (w ∷ []) after workers high = absurd (omega (arith, high))
+  many_sizes (w ∷ e ∷ []) after workers high = absurd (omega (arith, high))
+  many_sizes (w ∷ e ∷ s ∷ []) after workers high = absurd (omega (arith, high))
+  many_sizes (w ∷ e ∷ s ∷ more ∷ words) after workers high = refl
 
   -- words that begin with another than idle
   pub few_words : (words : List S) → length words < 2 → parsed_of (map f words) ≡ command_of (map f words)

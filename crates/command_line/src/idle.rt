@@ -53,8 +53,8 @@ fn after_option(words: &[String]) -> &[String]
 {
     match words {
         [] => words,
-        [option, _, behind @ ..] if option.as_str() == "--workers" => behind,
-        [_, behind @ ..] => behind,
+        [option, _, after @ ..] if option.as_str() == "--workers" => after,
+        [_, after @ ..] => after,
     }
 }
 
@@ -89,34 +89,34 @@ fn sizes_of(words: &[String], workers: u32) -> Option<Command>
 }
 
 /// A run of the sizes, if one of them comes before the option.
-fn after_one(wakers: &str, behind: &[String], workers: u32) -> Option<Command>
-    ensures { result ≡ idle_sizes (wakers.now ∷ map string_bytes behind.now) workers }
+fn after_one(wakers: &str, after: &[String], workers: u32) -> Option<Command>
+    ensures { result ≡ idle_sizes (wakers.now ∷ map string_bytes after.now) workers }
 {
-    match behind {
+    match after {
         [events, sessions] => sized(wakers, events.as_str(), sessions.as_str(), workers),
         _ => None,
     }
 }
 
 /// A run of the sizes, if two of them come before the option.
-fn after_two(wakers: &str, events: &str, behind: &[String], workers: u32) -> Option<Command>
-    ensures { result ≡ idle_sizes (wakers.now ∷ events.now ∷ map string_bytes behind.now) workers }
+fn after_two(wakers: &str, events: &str, after: &[String], workers: u32) -> Option<Command>
+    ensures { result ≡ idle_sizes (wakers.now ∷ events.now ∷ map string_bytes after.now) workers }
 {
-    match behind {
+    match after {
         [sessions] => sized(wakers, events, sessions.as_str(), workers),
         _ => None,
     }
 }
 
 /// A run of the sizes before the option and after it.
-fn sizes_around(before: &[String], behind: &[String], workers: u32) -> Option<Command>
-    ensures { result ≡ idle_sizes (map string_bytes before.now ++ map string_bytes behind.now) workers }
+fn sizes_around(before: &[String], after: &[String], workers: u32) -> Option<Command>
+    ensures { result ≡ idle_sizes (map string_bytes before.now ++ map string_bytes after.now) workers }
 {
     match before {
-        [] => sizes_of(behind, workers),
-        [wakers] => after_one(wakers.as_str(), behind, workers),
-        [wakers, events] => after_two(wakers.as_str(), events.as_str(), behind, workers),
-        [wakers, events, sessions] if behind.is_empty() => sized(
+        [] => sizes_of(after, workers),
+        [wakers] => after_one(wakers.as_str(), after, workers),
+        [wakers, events] => after_two(wakers.as_str(), events.as_str(), after, workers),
+        [wakers, events, sessions] if after.is_empty() => sized(
             wakers.as_str(),
             events.as_str(),
             sessions.as_str(),

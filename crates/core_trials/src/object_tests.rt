@@ -2,7 +2,7 @@
 
 ghost use Rattle.std.specs.Prelude.{◌≡◌, ◌≤◌, ◌^◌, IfOk};
 ghost use Rattle.event_word.specs.Seats.{IsSeatOf};
-ghost use Rattle.wakeup_source.specs.SourceStates.{unstamped, latest, new_source};
+ghost use Rattle.wakeup_source.specs.SourceStates.{unstamped_source, latest, new_source};
 
 use event_word::{EventTable, LookSeat};
 use run_objects::{SeatedSource, seated_sources};
@@ -55,7 +55,7 @@ fn expire<R: Wait>(
     now: u64,
 ) -> Result<Stamp, Fail>
     requires table { source.old.seat.table_id ≡ table.now.cells.shared.table_id }
-    requires time { latest (unstamped source.old.source.past) ≤ now }
+    requires time { latest (unstamped_source source.old.source.past) ≤ now }
     requires small { now ≤ 2 ^ 63 }
 {
     let Some(end) = source.source().due() else {
@@ -74,7 +74,7 @@ fn call_each<R: Wait>(
     source: &mut SeatedSource,
 ) -> Result<[Stamp; 5], Fail>
     requires table { source.old.seat.table_id ≡ table.now.cells.shared.table_id }
-    requires time { latest (unstamped source.old.source.past) ≤ 0 }
+    requires time { latest (unstamped_source source.old.source.past) ≤ 0 }
 {
     let awake = source.call(rt, table, at(0), SourceCall::Awake)?;
     let relaxed = source.call(rt, table, at(1), SourceCall::Relax)?;
@@ -105,9 +105,9 @@ fn each_call_goes_through_the_seat(rt: HostRuntime) -> Result<(), Fail> {
 /// Hard events, four entries each, as many as it has room for.
 fn fill<R: Wait>(rt: &R, table: &EventTable, source: &mut SeatedSource) -> Result<(), Fail>
     requires table { source.old.seat.table_id ≡ table.now.cells.shared.table_id }
-    requires time { latest (unstamped source.old.source.past) ≤ 0 }
+    requires time { latest (unstamped_source source.old.source.past) ≤ 0 }
     ensures table { source.new.seat.table_id ≡ source.old.seat.table_id }
-    ensures time { latest (unstamped source.new.source.past) ≤ 0 }
+    ensures time { latest (unstamped_source source.new.source.past) ≤ 0 }
 {
     for _ in 0..15_000u32 {
         source.call(rt, table, at(0), HARD)?;

@@ -16,7 +16,7 @@ use Rattle.sleep_model.proofs.Acyclic.{order_ranked, order_covers, order_within,
 use Rattle.sleep_model.proofs.Dependents.{Within, among_app, among_first, among_rest, within_of, among_onto, Descends, IsClosed, visited}
 use Rattle.sleep_model.proofs.Walks.{among_drop, same_eq}
 use Rattle.device_links.specs.Walks.{IsWalked}
-use Rattle.device_links.specs.Moves.{Precedes, Leaves}
+use Rattle.device_links.specs.Moves.{Precedes, LeavesOrder}
 use Rattle.device_links.proofs.Walking.{no_path}
 use Rattle.device_links.proofs.Invariant.{by_marks}
 use Rattle.device_links.proofs.Tabulating.{newest}
@@ -156,7 +156,7 @@ newest_link links l e =
 module _ (ps : List (Option ℕ)) (after : EachAfterParent 0 ps) (ls : List Link) (linked : AreLinks ps ls) (l : Link) where
   -- if the test of the order holds, no path leads from the consumer to the supplier
   pub stays : (new : Link) (earlier : List Link) → ls ≡ new ∷ earlier → new.consumer ≡ l.consumer → (b : Bool) → OnTrue b (Precedes (order_by ps ls) l.supplier l.consumer)
-      → OnTrue b (Leaves (record { parents = ps; links = ls }) l (order_by ps ls))
+      → OnTrue b (LeavesOrder (record { parents = ps; links = ls }) l (order_by ps ls))
   stays new earlier e same false h = tt
   stays new earlier e same true h = record {
     no_path = no_path (dependents ps ls) (moved (length ps) (dependents ps ls)) (fix ps after ls linked) l.consumer l.supplier missing;
@@ -169,7 +169,7 @@ module _ (ps : List (Option ℕ)) (after : EachAfterParent 0 ps) (ls : List Link
       missing = stands_apart ps after ls linked l.supplier l.consumer h
 
   pub leaves_moved : (order found : List ℕ) (marks : List Bool) → order ≡ order_by ps ls → IsWalked (length ps) (dependents ps ls) l.consumer l.supplier found marks
-      → (r : Result (Vec ℕ Global) Mem) → IfOk r (λ v. v.items ≡ filter (λ d. not (get_or marks d false)) order ++ found) → IfOk r (λ v. Leaves (record { parents = ps; links = ls }) l v.items)
+      → (r : Result (Vec ℕ Global) Mem) → IfOk r (λ v. v.items ≡ filter (λ d. not (get_or marks d false)) order ++ found) → IfOk r (λ v. LeavesOrder (record { parents = ps; links = ls }) l v.items)
   leaves_moved order found marks e w (Err m) h = tt
   leaves_moved order found marks e w (Ok v) h = record {
     no_path = w.no_path;

@@ -38,7 +38,7 @@ pub record AreNumbered (n : ℕ) (links : List Link) (supplied consumed : List (
   pub by_consumer : IsTableOf n (λ d. numbers_of (λ l. l.consumer == d) links) consumed
 
 -- a link's supplier has room for one more number, and so has its consumer (own)
-pub record HasRoom (l : Link) (supplied consumed : Table) : Type 0 where
+pub record LinkHasRoom (l : Link) (supplied consumed : Table) : Type 0 where
   pub supplier : 0 < slice_index_or supplied.room l.supplier 0
   pub consumer : 0 < slice_index_or consumed.room l.consumer 0
 

@@ -16,7 +16,7 @@ pub record Precedes (order : List ℕ) (one other : ℕ) : Type 0 where
   pub not_yet : is_among (take place order) other ≡ false
 
 -- the link closes no cycle, and this is the order with it (device_link_add)
-pub record Leaves (l : Linked) (link : Link) (order : List ℕ) : Type 0 where
+pub record LeavesOrder (l : Linked) (link : Link) (order : List ℕ) : Type 0 where
   pub no_path : (path : List ℕ) → Closes l link.supplier link.consumer path → ⊥
   pub missing : is_dependent l.parents l.links link.consumer link.supplier ≡ false
   pub ordered : order ≡ order_by l.parents (link ∷ l.links)
@@ -28,7 +28,7 @@ after_move (Some moved) order = moved.items
 
 -- the order that a link moves its consumer in, none if that stays; or a path by which it would close a cycle (device_reorder_to_tail)
 abbrev pub Moves : Linked → Link → Result (Option (Vec ℕ Global)) LinkFault → Type 0
-Moves l link (Ok moved) = Leaves l link (after_move moved (order_by l.parents l.links))
+Moves l link (Ok moved) = LeavesOrder l link (after_move moved (order_by l.parents l.links))
 Moves l link (Err (fault.Cycle path)) = Closes l link.supplier link.consumer path
 Moves l link (Err fault.Mem) = Unit {0}
 Moves l link (Err f) = ⊥

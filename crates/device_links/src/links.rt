@@ -56,7 +56,7 @@ impl Links {
     ghost use Rattle.device_links.specs.Walks.{Finds, IsWalked};
     ghost use Rattle.device_links.specs.Adds.{Adds, IsOpen, Lacks, Refuses, Sets, outcome, with_link, with_set};
     ghost use Rattle.device_links.specs.Invariant.{active_below, active_above};
-    ghost use Rattle.device_links.specs.Moves.{Leaves, Moves, after_move};
+    ghost use Rattle.device_links.specs.Moves.{LeavesOrder, Moves, after_move};
     ghost use Rattle.device_links.specs.Passes.{Makes};
     ghost use Rattle.std.specs.Bool.{OnTrue};
 
@@ -301,7 +301,7 @@ impl Links {
     /// Whether a link leaves the order as it is: the newest one has moved this consumer to its end, and the
     /// supplier comes before it. A device's driver mostly adds the links to all its suppliers in a row.
     fn stays_by(&self, link: Link) -> bool
-        ensures { OnTrue result (Leaves self.now link (order_by self.now.parents self.now.links)) }
+        ensures { OnTrue result (LeavesOrder self.now link (order_by self.now.parents self.now.links)) }
     {
         match self.links.last() {
             Some(newest) if newest.consumer == link.consumer => {
@@ -332,7 +332,7 @@ impl Links {
     fn moved_last(&self, link: Link, below: &[u32], marks: &[bool]) -> Result<Vec<u32>, Mem>
         requires { IsWalked (length self.now.parents)
             (dependents self.now.parents self.now.links) link.consumer link.supplier below.now marks.now }
-        ensures { IfOk result (λ order. Leaves self.now link order.items) }
+        ensures { IfOk result (λ order. LeavesOrder self.now link order.items) }
     {
         moved_last(*self.order.allocator(), &self.order, marks, below)
     }
@@ -340,7 +340,7 @@ impl Links {
     /// Puts the link after the others, and takes the order that it leaves if that is another.
     fn put(&mut self, link: Link, moved: Option<Vec<u32>>) -> Result<(), Mem>
         requires open { IsOpen self.old link.supplier link.consumer }
-        requires leaves { Leaves self.old link (after_move moved (order_by self.old.parents self.old.links)) }
+        requires leaves { LeavesOrder self.old link (after_move moved (order_by self.old.parents self.old.links)) }
         ensures ok { OnOk result
             (self.new ≡ record { parents = self.old.parents; links = link ∷ self.old.links }) }
         ensures err { OnErr result (self.new ≡ self.old) }

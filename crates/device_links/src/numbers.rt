@@ -2,7 +2,7 @@
 
 ghost use Rattle.std.specs.Prelude.{◌≡◌, ◌<◌, ◌≤◌, [], IfOk, OnOk, Some, length, reverse};
 ghost use Rattle.device_rows.specs.Table.{with_number};
-ghost use Rattle.device_links.specs.Invariant.{AreNumbered, HasRoom};
+ghost use Rattle.device_links.specs.Invariant.{AreNumbered, LinkHasRoom};
 ghost use Rattle.device_links.specs.Passes.{AreApart};
 
 use device_rows::Rows;
@@ -54,7 +54,7 @@ impl LinkNumbers {
         requires consumer { link.consumer < length self.old.by_consumer.rows }
         ensures by_supplier { self.new.by_supplier.rows ≡ self.old.by_supplier.rows }
         ensures by_consumer { self.new.by_consumer.rows ≡ self.old.by_consumer.rows }
-        ensures room { OnOk result (HasRoom link self.new.by_supplier self.new.by_consumer) }
+        ensures room { OnOk result (LinkHasRoom link self.new.by_supplier self.new.by_consumer) }
     {
         self.by_supplier.make_room(link.supplier)?;
         self.by_consumer.make_room(link.consumer)?;
@@ -64,7 +64,7 @@ impl LinkNumbers {
     /// Puts the number of a link, for which there is room, after those of the other links of both its
     /// devices.
     pub(crate) fn push(&mut self, link: Link, number: u32)
-        requires { HasRoom link self.old.by_supplier self.old.by_consumer }
+        requires { LinkHasRoom link self.old.by_supplier self.old.by_consumer }
         ensures by_supplier { self.new.by_supplier.rows ≡ with_number self.old.by_supplier.rows (Some link.supplier) number }
         ensures by_consumer { self.new.by_consumer.rows ≡ with_number self.old.by_consumer.rows (Some link.consumer) number }
     {

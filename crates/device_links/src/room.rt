@@ -1,7 +1,7 @@
 //! Room for one more link in all tables of links.
 
 ghost use Rattle.std.specs.Prelude.{◌≡◌, ◌<◌, OnOk, length, vec_len, vec_capacity};
-ghost use Rattle.device_links.specs.Invariant.{HasRoom};
+ghost use Rattle.device_links.specs.Invariant.{LinkHasRoom};
 ghost use Rattle.device_links.specs.Rooms.{AreRoomier, HaveEnds, HaveRoom};
 
 use crate::numbers::LinkNumbers;
@@ -26,7 +26,7 @@ pub(crate) fn make_room(
     ensures by_consumer { numbers.new.by_consumer.rows ≡ numbers.old.by_consumer.rows }
     ensures place { OnOk result (vec_len links.new < vec_capacity links.new) }
     ensures room { OnOk result (HaveRoom link tables.new) }
-    ensures numbers { OnOk result (HasRoom link numbers.new.by_supplier numbers.new.by_consumer) }
+    ensures numbers { OnOk result (LinkHasRoom link numbers.new.by_supplier numbers.new.by_consumer) }
 {
     links.reserve(1)?;
     tables.make_room(link)?;

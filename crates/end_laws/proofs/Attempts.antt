@@ -28,7 +28,7 @@ use Rattle.source_laws.proofs.Attempting.{attempts_is}
 use Rattle.source_laws.proofs.Trying.{is_over, maker_is, moved_free}
 use Rattle.attempt_laws.specs.Room.{enough, is_attempt, needed}
 use Rattle.attempt_laws.proofs.Needing.{attempt_needs_few, device_entry_spends, none_needed_outside, others_need_nothing, own_entry_spends}
-use Rattle.end_laws.specs.Attempts.{AttemptsAreShort, AttemptsEnd, attempts_end, ends_among, ends_after, is_end_of, is_own, own_after, own_entries}
+use Rattle.end_laws.specs.Attempts.{AttemptsAreShort, AttemptsEnd, attempts_end, ends_among, ends_after, is_end_of, is_own, own_entry_count_after, own_entry_count}
 use Rattle.end_laws.proofs.Waking.{both, journal_rest}
 
 -- ---- the number of an attempt
@@ -148,21 +148,21 @@ or_left_false true b e = e
 or_left_false false b e = refl
 
 -- with what the attempt may still need they are no more
-spent : (m : Machine) → IsAccepted m → (past : List Entry) → JournalPart m past → own_entries past + needed m past ≤ enough m
+spent : (m : Machine) → IsAccepted m → (past : List Entry) → JournalPart m past → own_entry_count past + needed m past ≤ enough m
 spent m acc [] h = omega (arith, none_needed_outside m [] h refl)
 spent m acc (e ∷ past) h = by_attempt (is_attempt e.kind) refl (spent m acc past h.1)
   where
-    by_own : (b : Bool) → is_own past e ≡ b → is_attempt e.kind ≡ false → own_entries past + needed m past ≤ enough m → own_after false b (own_entries past) + needed m (e ∷ past) ≤ enough m
+    by_own : (b : Bool) → is_own past e ≡ b → is_attempt e.kind ≡ false → own_entry_count past + needed m past ≤ enough m → own_entry_count_after false b (own_entry_count past) + needed m (e ∷ past) ≤ enough m
     by_own true o t before = by_who (or_cases (is_actor e.actor (maker past)) (is_device e.actor) o)
       where
-        by_who : (is_actor e.actor (maker past) ≡ true) ⊎ (is_device e.actor ≡ true) → own_entries past + 1 + needed m (e ∷ past) ≤ enough m
+        by_who : (is_actor e.actor (maker past) ≡ true) ⊎ (is_device e.actor ≡ true) → own_entry_count past + 1 + needed m (e ∷ past) ≤ enough m
         by_who (inl a) = omega (arith, before, own_entry_spends m past e acc h a)
         by_who (inr d) = omega (arith, before, device_entry_spends m past e h d)
     by_own false o t before =
         let same = others_need_nothing m past e h (or_left_false (is_actor e.actor (maker past)) (is_device e.actor) o) (or_right_false (is_actor e.actor (maker past)) (is_device e.actor) o) t in
         omega (arith, before, same)
 
-    by_attempt : (b : Bool) → is_attempt e.kind ≡ b → own_entries past + needed m past ≤ enough m → own_after b (is_own past e) (own_entries past) + needed m (e ∷ past) ≤ enough m
+    by_attempt : (b : Bool) → is_attempt e.kind ≡ b → own_entry_count past + needed m past ≤ enough m → own_entry_count_after b (is_own past e) (own_entry_count past) + needed m (e ∷ past) ≤ enough m
     by_attempt true t before = omega (arith, attempt_needs_few m past e h t)
     by_attempt false t before = by_own (is_own past e) refl t before
 

@@ -36,14 +36,14 @@ use Rattle.sleep_model.specs.declared.progress.Work.TheVariants.{Resting, Readin
 use Rattle.sleep_model.specs.declared.word.EventNow.{EventNow}
 use Rattle.sleep_model.specs.Attempt.{answered, attempt_due, cpu_kind, due_at, enter_due, freeze_due, freeze_since, froze_due, gives_up_at, if_left, or_next, sleep_of, sleeps_now, stage_due, stage_or_next}
 use Rattle.sleep_model.specs.Autosleep.{may_run, work, work_due}
-use Rattle.sleep_model.specs.Devices.{after_device, async_work, callback, complete_due, device_due, down_due, is_async_device, next_completed, next_down, next_prepared, next_to_schedule, next_up, phase_error, phase_failed, prepare_due, take_down, taken, unless_failed, up_due, waits_above, waits_below, waits_down, waits_up, walk_down, walk_up}
+use Rattle.sleep_model.specs.Devices.{after_device, async_work, callback, complete_due, device_due, down_due, is_async_device, next_completed, next_down, next_prepared, next_to_schedule, next_up, phase_error, phase_failed, prepare_due, take_down, taken, unless_failed, up_due, waits_above, waits_for_subordinates, waits_down, waits_up, walk_down, walk_up}
 use Rattle.sleep_model.specs.Due.{due, is_over, own_due}
 use Rattle.sleep_model.specs.Freezer.{freezing, left}
 use Rattle.sleep_model.specs.Guard.{pending}
 use Rattle.sleep_model.specs.Legal.{JournalPart, is_made, none_enabled, put_waiting, waiting, waiting_from}
 use Rattle.sleep_model.specs.Lock.{holder, is_on}
 use Rattle.sleep_model.specs.Marks.{mark_at, raised}
-use Rattle.sleep_model.specs.Notifiers.{next_called, next_cpu_off, next_cpu_on, next_posted, next_started, next_stopped}
+use Rattle.sleep_model.specs.Notifiers.{next_notified, next_cpu_off, next_cpu_on, next_post_notified, next_syscore_resumed, next_syscore_suspended}
 use Rattle.sleep_model.specs.Numbers.{numbers, time_of}
 use Rattle.sleep_model.specs.EntryClasses.{journal}
 use Rattle.sleep_model.specs.Path.{is_actor, is_same, maker, maker_after}
@@ -108,7 +108,7 @@ module _ (m : Machine) (past : List Entry) (now : EventNow) where
   enter_determined (Some s) = if_determined (nat_lt s.pos (position now)) _ _ (λ e. tt) (λ e. if_determined (nat_le (s.since + m.alarm_ms) (time_of past)) _ _ (λ f. tt) (λ f. tt))
 
   take_determined : (p : Phase) (d : ℕ) → Determined (take_down m past now p d)
-  take_determined p d = if_determined (is_async_device m d) _ _ (λ e. tt) (λ e. after_determined (waits_below m past p d) (Makes (taken m past now p d)) tt)
+  take_determined p d = if_determined (is_async_device m d) _ _ (λ e. tt) (λ e. after_determined (waits_for_subordinates m past p d) (Makes (taken m past now p d)) tt)
 
   walk_down_determined : (p : Phase) (error : Option Errno) (next : Option ℕ) → Determined (walk_down m past now p error next)
   walk_down_determined p None (Some d) = take_determined p d
@@ -140,25 +140,25 @@ module _ (m : Machine) (past : List Entry) (now : EventNow) where
   complete_determined (Some d) = tt
 
   stage_determined : (here : Stage) → Determined (stage_or_next m past now here)
-  stage_determined stage.Notifies = left_determined (λ x. kind.NotifyPrepare x (answered m past (what.Notifier x))) (next_called m past) (stage_due m past now (next_stage stage.Notifies)) (freeze_determined group.User (freeze_since past))
+  stage_determined stage.Notifies = left_determined (λ x. kind.NotifyPrepare x (answered m past (what.Notifier x))) (next_notified m past) (stage_due m past now (next_stage stage.Notifies)) (freeze_determined group.User (freeze_since past))
   stage_determined (stage.Freezes g) = first_determined (stage_due m past now (stage.Freezes g)) (stage_due m past now (next_stage (stage.Freezes g))) (freeze_determined g (freeze_since past))
-  stage_determined (stage.PlatformDown step) = tt
+  stage_determined (stage.PlatformDo step) = tt
   stage_determined stage.Prepares = first_determined (stage_due m past now stage.Prepares) (stage_due m past now (next_stage stage.Prepares)) (prepare_determined (phase_failed past) (next_prepared m past))
   stage_determined (stage.Downs p) = first_determined (stage_due m past now (stage.Downs p)) (stage_due m past now (next_stage (stage.Downs p))) (down_determined p (callback past))
   stage_determined stage.StopsCpus = left_determined (cpu_kind (pending past now)) (next_cpu_off m past) (stage_due m past now stage.StopsIrqs) tt
   stage_determined stage.StopsIrqs = tt
-  stage_determined stage.Checks = tt
-  stage_determined stage.StopsSyscore = left_determined (λ x. kind.SyscoreSuspend x (answered m past (what.Syscore x))) (next_stopped m past) (stage_due m past now stage.Enters) (enter_determined (sleep_of past))
+  stage_determined stage.ChecksWakeup = tt
+  stage_determined stage.StopsSyscore = left_determined (λ x. kind.SyscoreSuspend x (answered m past (what.Syscore x))) (next_syscore_suspended m past) (stage_due m past now stage.Enters) (enter_determined (sleep_of past))
   stage_determined stage.Enters = first_determined (stage_due m past now stage.Enters) (stage_due m past now (next_stage stage.Enters)) (enter_determined (sleep_of past))
-  stage_determined stage.StartsSyscore = left_determined kind.SyscoreResume (next_started m past) (stage_due m past now stage.StartsIrqs) tt
+  stage_determined stage.StartsSyscore = left_determined kind.SyscoreResume (next_syscore_resumed m past) (stage_due m past now stage.StartsIrqs) tt
   stage_determined stage.StartsIrqs = tt
   stage_determined stage.StartsCpus = left_determined kind.CpuOn (next_cpu_on m past) (stage_due m past now (next_stage stage.StartsCpus)) tt
-  stage_determined (stage.PlatformUp step) = tt
+  stage_determined (stage.PlatformUndo step) = tt
   stage_determined (stage.Ups p) = first_determined (stage_due m past now (stage.Ups p)) (stage_due m past now (next_stage (stage.Ups p))) (up_determined p (callback past))
   stage_determined stage.Completes = first_determined (stage_due m past now stage.Completes) (stage_due m past now (next_stage stage.Completes)) (complete_determined (next_completed m past))
-  stage_determined stage.Clears = tt
+  stage_determined stage.ClearsSavedCount = tt
   stage_determined (stage.Thaws those) = tt
-  stage_determined stage.Posts = left_determined kind.NotifyPost (next_posted m past) (stage_due m past now stage.Ends) tt
+  stage_determined stage.NotifiesPost = left_determined kind.NotifyPost (next_post_notified m past) (stage_due m past now stage.Ends) tt
   stage_determined stage.Ends = tt
 
   at_determined : (o : Option Stage) (w : Option Actor) (who : Actor) → is_actor who w ≡ true → StageMaker w o → Determined (due_at m past now o)
@@ -218,7 +218,7 @@ module _ (m : Machine) (past : List Entry) (now : EventNow) where
   device_determined : (d : ℕ) (w : AsyncWork) → Determined (device_due m past now d w)
   device_determined d Idle = tt
   device_determined d (Scheduled p) =
-      if_determined (is_down p) _ _ (λ e. after_determined (waits_below m past p d) (Makes (unless_failed (phase_failed past) p d (taken m past now p d))) tt)
+      if_determined (is_down p) _ _ (λ e. after_determined (waits_for_subordinates m past p d) (Makes (unless_failed (phase_failed past) p d (taken m past now p d))) tt)
       (λ e. after_determined (waits_above m past (mirror p) d) (Makes (kind.Begin p d)) tt)
   device_determined d (Inside p) = tt
 

@@ -30,7 +30,7 @@ use Rattle.sleep_laws.proofs.MakingOwn.{entry_made}
 use Rattle.sleep_laws.proofs.Telling.{none≢some, some_is}
 use Rattle.source_laws.proofs.Trying.{same_actor}
 use Rattle.fit_laws.proofs.Fitting.{fit_rest}
-use Rattle.end_laws.specs.Makers.{MakersDetermineEntries, MakersDetermineLogs, call_next, call_or_turn, entry_by, entry_if, first_step, is_inside, kind_next, last_source, source_in, step_kind, step_next, time_next}
+use Rattle.end_laws.specs.Makers.{MakersDetermineEntries, MakersDetermineLogs, call_next, call_or_turn, entry_by, entry_if, first_step, is_inside_call, kind_next, last_source, source_in, step_kind, step_next, time_next}
 use Rattle.end_laws.proofs.Waking.{journal_rest}
 
 -- ---- small facts
@@ -212,14 +212,14 @@ module _ (m : Machine) (past : List Entry) where
   time_is actor.Time n = absurd n
   time_is _ n = refl
 
-  inside : (who : Actor) → IsNoTime who → is_inside m past who ≡ true → kind_next m past who ≡ step_next past (last_source who past)
+  inside : (who : Actor) → IsNoTime who → is_inside_call m past who ≡ true → kind_next m past who ≡ step_next past (last_source who past)
   inside actor.Time n c = absurd n
   inside (actor.Timer s) n c = ap (λ b. cond b (step_next past (last_source (actor.Timer s) past)) (Some (kind.Expire s))) c
   inside (actor.Script i) n c = ap (λ b. cond b (step_next past (last_source (actor.Script i) past)) (call_or_turn (call_next m past (actor.Script i)) (due m (journal past) (actor.Script i) (numbers past)))) c
   inside actor.Auto n c = ap (λ b. cond b (step_next past (last_source actor.Auto past)) (call_or_turn (call_next m past actor.Auto) (due m (journal past) actor.Auto (numbers past)))) c
   inside (actor.Dev d) n c = ap (λ b. cond b (step_next past (last_source (actor.Dev d) past)) (call_or_turn (call_next m past (actor.Dev d)) (due m (journal past) (actor.Dev d) (numbers past)))) c
 
-  outside : (who : Actor) → IsTask who → is_inside m past who ≡ false → kind_next m past who ≡ call_or_turn (call_next m past who) (due m (journal past) who (numbers past))
+  outside : (who : Actor) → IsTask who → is_inside_call m past who ≡ false → kind_next m past who ≡ call_or_turn (call_next m past who) (due m (journal past) who (numbers past))
   outside actor.Time n c = absurd n
   outside (actor.Timer s) n c = absurd n
   outside (actor.Script i) n c = ap (λ b. cond b (step_next past (last_source (actor.Script i) past)) (call_or_turn (call_next m past (actor.Script i)) (due m (journal past) (actor.Script i) (numbers past)))) c
@@ -227,7 +227,7 @@ module _ (m : Machine) (past : List Entry) where
   outside (actor.Dev d) n c = ap (λ b. cond b (step_next past (last_source (actor.Dev d) past)) (call_or_turn (call_next m past (actor.Dev d)) (due m (journal past) (actor.Dev d) (numbers past)))) c
 
   -- a note is the next call of its actor
-  noted : (who : Actor) (k : Kind) → is_inside m past who ≡ false → IsOwnCall m (journal past) (λ t. history t past) who k → IsNoTime who → kind_next m past who ≡ Some k
+  noted : (who : Actor) (k : Kind) → is_inside_call m past who ≡ false → IsOwnCall m (journal past) (λ t. history t past) who k → IsNoTime who → kind_next m past who ≡ Some k
   noted actor.Time k c h n = absurd n
   noted (actor.Timer s) k c h n = ap (λ b. cond b (step_next past (last_source (actor.Timer s) past)) (Some (kind.Expire s))) c ∙ ap Some (sym h)
   noted (actor.Script i) k c h n = outside (actor.Script i) tt c ∙ ap (λ o. call_or_turn o (due m (journal past) (actor.Script i) (numbers past))) h
@@ -261,7 +261,7 @@ determined m e past h = by_class (class_of e.kind) refl h.journal h.joint.0 h.so
         let off_attempt : IsNoTime e.actor = no_time e.actor (λ a. true≢false (sym t ∙ (ap (λ (w : Actor). last_is_of s w past) a ∙ time_outside m past before s))) in
         let next = first_is s move (owed (history s past)) o.0 in
         let within : s < length m.sources + 1 = grind (arith, nat_tests) in
-        let calling : is_inside m past e.actor ≡ true = calling_at (length m.sources + 1) (λ y. history y past) e.actor s within next.1 o.1 in
+        let calling : is_inside_call m past e.actor ≡ true = calling_at (length m.sources + 1) (λ y. history y past) e.actor s within next.1 o.1 in
         filled e past (time_next m past e.actor) (kind_next m past e.actor) (time_is m past e.actor off_attempt ∙ ap Some (sym at))
         (inside m past e.actor off_attempt calling ∙ (ap (step_next past) (source_is e.actor past s t) ∙ (next.0 ∙ ap Some (move_kind e.kind s move x)))) h.placed.0
     by_class OfTime x j t o at there =

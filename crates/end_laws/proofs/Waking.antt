@@ -109,12 +109,12 @@ sleeps_entering m past s h e = by_stage (stage_of past) refl (at_stage m Side (s
     by_stage (Some stage.Enters) x h = x
     by_stage (Some stage.Notifies) x h = awake h.2
     by_stage (Some (stage.Freezes g)) x h = awake h.2
-    by_stage (Some (stage.PlatformDown step)) x h = awake h.2
+    by_stage (Some (stage.PlatformDo step)) x h = awake h.2
     by_stage (Some stage.Prepares) x h = awake h.2
     by_stage (Some (stage.Downs p)) x h = awake h.2
     by_stage (Some stage.StopsCpus) x h = awake h.2
     by_stage (Some stage.StopsIrqs) x h = awake h.2
-    by_stage (Some stage.Checks) x h = awake h.2
+    by_stage (Some stage.ChecksWakeup) x h = awake h.2
     by_stage (Some stage.StopsSyscore) x h = awake h.2
     by_stage (Some _) x h = awake h.1
 

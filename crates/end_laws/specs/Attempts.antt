@@ -51,15 +51,15 @@ one_more true before = before + 1
 one_more false before = before
 
 -- an attempt's first entry is 1; each that counts is one more
-abbrev pub own_after : Bool → Bool → ℕ → ℕ
-own_after true own before = 1
-own_after false own before = one_more own before
+abbrev pub own_entry_count_after : Bool → Bool → ℕ → ℕ
+own_entry_count_after true own before = 1
+own_entry_count_after false own before = one_more own before
 
 -- how many entries the newest attempt's maker and its devices have made in it (enter_state)
-abbrev pub own_entries : List Entry → ℕ
-own_entries [] = 0
-own_entries (e ∷ past) = own_after (is_attempt e.kind) (is_own past e) (own_entries past)
+abbrev pub own_entry_count : List Entry → ℕ
+own_entry_count [] = 0
+own_entry_count (e ∷ past) = own_entry_count_after (is_attempt e.kind) (is_own past e) (own_entry_count past)
 
 -- at each place of a legal journal of an accepted machine they are no more than are enough for an attempt (enter_state)
 abbrev pub AttemptsAreShort : Type 0
-AttemptsAreShort = (m : Machine) → IsAccepted m → (past : List Entry) → JournalPart m past → own_entries past ≤ enough m
+AttemptsAreShort = (m : Machine) → IsAccepted m → (past : List Entry) → JournalPart m past → own_entry_count past ≤ enough m

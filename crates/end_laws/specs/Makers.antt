@@ -52,8 +52,8 @@ step_next past (Some s) = first_step s (owed (history s past))
 -- ---- the next entry of an actor
 
 -- the actor is inside a call (wakeup_source_report_event)
-abbrev pub is_inside : Machine → List Entry → Actor → Bool
-is_inside m past who = is_calling (length m.sources + 1) (λ s. history s past) who
+abbrev pub is_inside_call : Machine → List Entry → Actor → Bool
+is_inside_call m past who = is_calling (length m.sources + 1) (λ s. history s past) who
 
 -- the next call, if one is owed, else what is due
 abbrev pub call_or_turn : Option Kind → Due → Option Kind
@@ -71,10 +71,10 @@ call_next m past who =
 abbrev pub kind_next : Machine → List Entry → Actor → Option Kind
 kind_next m past actor.Time = Some kind.Jump
 kind_next m past (actor.Timer s) =
-    if is_inside m past (actor.Timer s) then step_next past (last_source (actor.Timer s) past)
+    if is_inside_call m past (actor.Timer s) then step_next past (last_source (actor.Timer s) past)
     else Some (kind.Expire s)
 kind_next m past who =
-    if is_inside m past who then step_next past (last_source who past)
+    if is_inside_call m past who then step_next past (last_source who past)
     else call_or_turn (call_next m past who) (due m (journal past) who (numbers past))
 
 -- when it makes that: time jumps to the least pending moment

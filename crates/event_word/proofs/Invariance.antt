@@ -11,7 +11,7 @@ use Rattle.sleep_model.specs.declared.word.WordKind.{WordKind}
 use Rattle.sleep_model.specs.Word.{position}
 use Rattle.event_word.specs.declared.view.WordView.{WordView}
 use Rattle.event_word.specs.Steps.{MadeStep, is_active, fits}
-use Rattle.event_word.specs.Histories.{SourceStep, word_after, steps_of, AreBelow, IsSeen, AreSeen, AllSeen, NeverRise, IsInOrder, AllInOrder, AreClosed, packed, unpacked, weight}
+use Rattle.event_word.specs.Histories.{SourceStep, word_after, steps_of, AreBelow, IsSeen, AreSeen, AllSeen, NeverRise, IsInOrder, AreInOrder, AreClosed, packed, unpacked, weight}
 use Rattle.event_word.specs.Counting.{Knows, TableInvariant, look_view, with_one_source, source_view, took_in, spent, stepped_by, looked_at}
 use Rattle.event_word.specs.Counting as shown
 use Rattle.event_word.proofs.Totals.{apart_again, added}
@@ -80,7 +80,7 @@ in_order : (most : ℕ) (words : List EventNow) → NeverRise most words → IsI
 in_order most [] order = tt
 in_order most (w ∷ ws) order = order.1
 
-order_end : (lists : List (List EventNow)) (words : List EventNow) → AllInOrder lists → IsInOrder words → AllInOrder (lists ++ words ∷ [])
+order_end : (lists : List (List EventNow)) (words : List EventNow) → AreInOrder lists → IsInOrder words → AreInOrder (lists ++ words ∷ [])
 order_end [] words all more = (more, tt)
 order_end (ws ∷ rest) words all more = (all.0, order_end rest words all.1 more)
 

@@ -12,7 +12,7 @@ use Rattle.sleep_model.specs.declared.word.WordKind.{WordKind}
 use Rattle.event_word.specs.declared.table.EventSeat.{EventSeat}
 use Rattle.event_word.specs.Steps.{MadeStep, active_after, fits, can_make}
 use Rattle.event_word.specs.Counting.{with_one_source, source_view}
-use Rattle.event_word.specs.Seats.{Token, IsSeatOf, IsUntouched, AreAll, AreNew, sources_of, made_of, number_of}
+use Rattle.event_word.specs.Seats.{WordToken, IsSeatOf, IsUntouched, AreAllSeats, AreNew, source_count, made_of, number_of}
 use Rattle.event_word.specs.Lists.{tokens, made_lists}
 use Rattle.event_word.proofs.Invariance.{at_end}
 
@@ -34,28 +34,28 @@ can_now kind count active room fit = let t : nat_lt count 60000 ≡ true = grind
     ([], ap (λ b. b && fits kind active && true) t ∙ (ap (λ b. b && true) fit))
 
 -- seats that come back in their order, each with its number, are all seats
-pub all_back : (look : Token) (before after : List Token) → AreAll look before → length after ≡ length before
-    → ((k : ℕ) (t : Token) → get_elem? after k ≡ some t → (old : Token) × (get_elem? before k ≡ some old) × (t.table_id ≡ old.table_id) × (number_of t ≡ number_of old)) → AreAll look after
+pub all_back : (look : WordToken) (before after : List WordToken) → AreAllSeats look before → length after ≡ length before
+    → ((k : ℕ) (t : WordToken) → get_elem? after k ≡ some t → (old : WordToken) × (get_elem? before k ≡ some old) × (t.table_id ≡ old.table_id) × (number_of t ≡ number_of old)) → AreAllSeats look after
 all_back look before after are same each = record {
   counted = same ∙ are.counted;
   each_is = λ k t at. let e = each k t at in let was = are.each_is k e.0 e.1 in (e.2 ∙ was.0, e.3 ∙ was.1);
 }
 
 -- a seat of a new table
-new_seat : (look : Token) (seats : List EventSeat) (k : ℕ) (seat : EventSeat) → AreNew look (tokens seats) → get_elem? seats k ≡ some seat → (seat.token.table_id ≡ look.table_id) × (made_of seat.token ≡ [])
+new_seat : (look : WordToken) (seats : List EventSeat) (k : ℕ) (seat : EventSeat) → AreNew look (tokens seats) → get_elem? seats k ≡ some seat → (seat.token.table_id ≡ look.table_id) × (made_of seat.token ≡ [])
 new_seat look seats k seat are at =
     let there = at_map (λ (s : EventSeat). s.token) seats k seat at in
     ((are.all_are.each_is k seat.token there).0, (are.untouched k seat.token there).made)
 
 -- the same, by an index in the list
-pub new_at : (look : Token) (z : TableId) (seats : List EventSeat) (k : ℕ) (seat : EventSeat) → look.table_id ≡ z → AreNew look (tokens seats) → k < length seats → seat ≡ get_or seats k seat
+pub new_at : (look : WordToken) (z : TableId) (seats : List EventSeat) (k : ℕ) (seat : EventSeat) → look.table_id ≡ z → AreNew look (tokens seats) → k < length seats → seat ≡ get_or seats k seat
     → (seat.token.table_id ≡ z) × (made_of seat.token ≡ [])
 new_at look z seats k seat table are low e =
     let new = new_seat look seats k seat are (at_index seats k seat low e) in
     (subst (λ (y : TableId). seat.token.table_id ≡ y) table new.0, new.1)
 
 -- the last two seats of a new table
-pub last_two : (look : Token) (seats front rest : List EventSeat) (first second : EventSeat) → AreNew look (tokens seats) → seats ≡ front ++ second ∷ [] → front ≡ rest ++ first ∷ []
+pub last_two : (look : WordToken) (seats front rest : List EventSeat) (first second : EventSeat) → AreNew look (tokens seats) → seats ≡ front ++ second ∷ [] → front ≡ rest ++ first ∷ []
     → ((first.token.table_id ≡ look.table_id) × (made_of first.token ≡ [])) × ((second.token.table_id ≡ look.table_id) × (made_of second.token ≡ []))
 last_two look seats front rest first second are is was = (
   new_seat look seats (length rest) first are
@@ -63,31 +63,31 @@ last_two look seats front rest first second are is was = (
   new_seat look seats (length front) second are (ap (λ l. get_elem? l (length front)) is ∙ at_last front second (length front) refl),
 )
 
-pub none_new : (look : Token) → sources_of look ≡ 0 → AreNew look []
+pub none_new : (look : WordToken) → source_count look ≡ 0 → AreNew look []
 none_new look e = record {
   all_are = record { counted = sym e; each_is = λ k t at. absurd (some-ne-none t (sym at)) };
   untouched = λ k t at. absurd (some-ne-none t (sym at));
 }
 
-one_new : (look look' : Token) (ts : List Token) (t : Token) → look'.table_id ≡ look.table_id → look'.me ≡ (with_one_source look.me.0, []) → t.table_id ≡ look.table_id → t.me ≡ (source_view (sources_of look), [])
+one_new : (look look' : WordToken) (ts : List WordToken) (t : WordToken) → look'.table_id ≡ look.table_id → look'.me ≡ (with_one_source look.me.0, []) → t.table_id ≡ look.table_id → t.me ≡ (source_view (source_count look), [])
     → AreNew look ts → AreNew look' (ts ++ t ∷ [])
 one_new look look' ts t same me table mine are =
-    let next : sources_of look' ≡ suc (sources_of look) = ap (λ m. m.0.next) me in
+    let next : source_count look' ≡ suc (source_count look) = ap (λ m. m.0.next) me in
     let counted = are.all_are.counted in
     let long = length-append ts (t ∷ []) in
     record {
       all_are = record {
         counted = omega arith;
         each_is = λ k q at. ⊎_elim (λ old. let b = are.all_are.each_is k q old in (b.0 ∙ sym same, b.1))
-            (λ (p : (k ≡ length ts) × (t ≡ q)). subst (λ (z : ℕ × Token). IsSeatOf look'.table_id z.0 z.1) (λ i. ((sym p.0 i), p.1 i))
+            (λ (p : (k ≡ length ts) × (t ≡ q)). subst (λ (z : ℕ × WordToken). IsSeatOf look'.table_id z.0 z.1) (λ i. ((sym p.0 i), p.1 i))
             (table ∙ sym same, ap (λ m. m.0.number) mine ∙ ap (λ (n : ℕ). Some n) (sym counted))) (at_end ts t q k at);
       };
       untouched = λ k q at. ⊎_elim (λ old. are.untouched k q old)
           (λ (p : (k ≡ length ts) × (t ≡ q)). subst IsUntouched p.1 (record { made = ap (λ m. m.0.made) mine; looked = ap (λ m. m.0.looked) mine; floor = ap (λ m. m.0.floor) mine })) (at_end ts t q k at);
     }
 
-pub seats_more : (look look' : Token) (seats : List EventSeat) (seat : EventSeat) → look'.table_id ≡ look.table_id → look'.me ≡ (with_one_source look.me.0, []) → seat.token.table_id ≡ look.table_id
-    → seat.token.me ≡ (source_view (sources_of look), []) → AreNew look (tokens seats) → AreNew look' (tokens (seats ++ seat ∷ []))
+pub seats_more : (look look' : WordToken) (seats : List EventSeat) (seat : EventSeat) → look'.table_id ≡ look.table_id → look'.me ≡ (with_one_source look.me.0, []) → seat.token.table_id ≡ look.table_id
+    → seat.token.me ≡ (source_view (source_count look), []) → AreNew look (tokens seats) → AreNew look' (tokens (seats ++ seat ∷ []))
 seats_more look look' seats seat same me table mine are =
     subst (AreNew look') (sym (map-append (λ (s : EventSeat). s.token) seats (seat ∷ []))) (one_new look look' (tokens seats) seat.token same me table mine are)
 
@@ -97,7 +97,7 @@ module _ {A : Type 0} where
   at_middle (x ∷ xs) rest a = at_middle xs rest a
 
 -- the seat that comes next has the number of its index
-pub came : (look : Token) (seats yielded left rest : List EventSeat) (seat : EventSeat) → AreAll look (tokens seats) → yielded ++ left ≡ seats → left ≡ seat ∷ rest
+pub came : (look : WordToken) (seats yielded left rest : List EventSeat) (seat : EventSeat) → AreAllSeats look (tokens seats) → yielded ++ left ≡ seats → left ≡ seat ∷ rest
     → (seat.token.table_id ≡ look.table_id) × (number_of seat.token ≡ Some (length yielded))
 came look seats yielded left rest seat are whole next = are.each_is (length yielded) seat.token
     (at_map (λ (s : EventSeat). s.token) seats (length yielded) seat (ap (λ l. get_elem? l (length yielded)) (sym whole ∙ ap (λ l. yielded ++ l) next) ∙ at_middle yielded rest seat))
@@ -106,5 +106,5 @@ pub known_length : (yielded : List EventSeat) (known : List (List MadeStep)) →
 known_length yielded known e = ap length e ∙ length-map yielded (λ (s : EventSeat). made_of s.token)
 
 -- once all seats came back, as many are known as there are
-pub all_in : (look look' : Token) (seats : List EventSeat) → AreAll look (tokens seats) → sources_of look' ≡ sources_of look → look'.me.0.known ≡ made_lists seats → sources_of look' ≡ length look'.me.0.known
+pub all_in : (look look' : WordToken) (seats : List EventSeat) → AreAllSeats look (tokens seats) → source_count look' ≡ source_count look → look'.me.0.known ≡ made_lists seats → source_count look' ≡ length look'.me.0.known
 all_in look look' seats are same known = same ∙ (sym are.counted ∙ (length-map seats (λ (s : EventSeat). s.token) ∙ sym (known_length seats look'.me.0.known known)))

@@ -9,7 +9,7 @@ use Rattle.sleep_model.specs.Sources.{most_entries}
 use Rattle.sleep_model.specs.Word.{position}
 use Rattle.event_word.specs.declared.view.WordView.{WordView}
 use Rattle.event_word.specs.Histories.{SourceStep, word_after, steps_of, AreBelow, AreInTurn, packed, unpacked}
-use Rattle.event_word.specs.Histories.{AreSeen, AllSeen, NeverRise, AllInOrder}
+use Rattle.event_word.specs.Histories.{AreSeen, AllSeen, NeverRise, AreInOrder}
 
 module _ (log : List SourceStep) (next boss : ℕ) (seat_of : ℕ → ℕ) (seat : ℕ) (v : WordView) where
   -- what one seat's view says
@@ -20,7 +20,7 @@ module _ (log : List SourceStep) (next boss : ℕ) (seat_of : ℕ → ℕ) (seat
     pub keeps : v.keeps ≡ true → (seat ≡ boss) × (v.next ≡ next) × (length v.known ≤ next)
     pub known : v.keeps ≡ true → (k : ℕ) → k < length v.known
         → (seat_of k ≡ seat) × (slice_index_or v.known k [] ≡ steps_of k log)
-    pub heard : v.keeps ≡ true → AllSeen log v.heard × AllInOrder v.heard
+    pub heard : v.keeps ≡ true → AllSeen log v.heard × AreInOrder v.heard
 
 -- the rule: there is one history, which leaves the word; each source's seat has its steps; what a seat saw was there
 pub record TableInvariant (s : State (Unit {0}) WordView) : Type 0 where

@@ -65,9 +65,9 @@ IsInOrder [] = Unit {0}
 IsInOrder (word ∷ words) = NeverRise (position word) words
 
 -- the same of lists of looks
-abbrev pub AllInOrder : List (List EventNow) → Type 0
-AllInOrder [] = Unit {0}
-AllInOrder (words ∷ rest) = IsInOrder words × AllInOrder rest
+abbrev pub AreInOrder : List (List EventNow) → Type 0
+AreInOrder [] = Unit {0}
+AreInOrder (words ∷ rest) = IsInOrder words × AreInOrder rest
 
 -- the steps of all sources are at the positions from 0 on, each once, and chain; the closing shows the last word; every look of a seat saw
 -- one of these words, and no look went back
@@ -78,7 +78,7 @@ pub record AreClosed (made : List (List MadeStep)) (looked : List (List EventNow
   pub turns : AreInTurn history
   pub placed : ArePositions history
   pub last : (answer ≡ word_after history) × (position answer ≡ length history)
-  pub seen : AllSeen history looked × AllInOrder looked
+  pub seen : AllSeen history looked × AreInOrder looked
 
 -- the word as one number: 16 bits in progress, 24 of count, 24 hard (MAX_IN_PROGRESS; hard and the widths are own)
 abbrev pub packed : EventNow → ℕ

@@ -3,10 +3,10 @@ use Rattle.std.specs.Prelude.{List, map}
 use Rattle.sleep_model.specs.declared.word.EventNow.{EventNow}
 use Rattle.event_word.specs.Steps.{MadeStep}
 use Rattle.event_word.specs.declared.table.EventSeat.{EventSeat}
-use Rattle.event_word.specs.Seats.{Token, made_of, looked_of}
+use Rattle.event_word.specs.Seats.{WordToken, made_of, looked_of}
 
 -- the token of each seat
-abbrev pub tokens : List EventSeat → List Token
+abbrev pub tokens : List EventSeat → List WordToken
 tokens seats = map (λ (s : EventSeat). s.token) seats
 
 -- what each source made

@@ -26,8 +26,8 @@ abbrev pub CanMake : (List WordKind → Bool) → WordKind → Type 0
 CanMake can step = (rest : List WordKind) × (can (step ∷ rest) ≡ true)
 
 -- what could be made after that step can be made once it is made
-abbrev pub CanGoOn : WordKind → (List WordKind → Bool) → (List WordKind → Bool) → Type 0
-CanGoOn step old new = (rest : List WordKind) → old (step ∷ rest) ≡ true → new rest ≡ true
+abbrev pub RestCanFollow : WordKind → (List WordKind → Bool) → (List WordKind → Bool) → Type 0
+RestCanFollow step old new = (rest : List WordKind) → old (step ∷ rest) ≡ true → new rest ≡ true
 
 -- a word has room for the step: no counter of it overflows or falls below 0 (24 bits of each: own)
 abbrev pub has_room : WordKind → EventNow → Bool

@@ -6,7 +6,7 @@ ghost use Rattle.sleep_model.specs.declared.word.WordKind.{WordKind};
 ghost use Rattle.sleep_model.specs.declared.word.WordKind.TheVariants.{Start, Finish, Hard};
 ghost use Rattle.sleep_model.specs.Word.{position};
 ghost use Rattle.event_word.specs.Looks.{IsShown, GainsLook, GrewTo};
-ghost use Rattle.event_word.specs.Steps.{MadeStep, shown_after, made_after, CanMake, CanGoOn};
+ghost use Rattle.event_word.specs.Steps.{MadeStep, shown_after, made_after, CanMake, RestCanFollow};
 
 use sleep_model::{EventNow, pos};
 use std::sync::Wait;
@@ -54,7 +54,7 @@ pub trait Bump: Events {
         ensures shows { Self.shows self.new ≡ shown_after Start (Self.shows self.old) }
         ensures looked { Self.looked self.new ≡ Self.looked self.old }
         ensures made { Self.made self.new ≡ made_after Start result (Self.made self.old) }
-        ensures can { CanGoOn Start (Self.can self.old) (Self.can self.new) }
+        ensures can { RestCanFollow Start (Self.can self.old) (Self.can self.new) }
         ensures root { Self.root self.new ≡ Self.root self.old }
         ensures low { Self.floor self.old ≤ position result }
         ensures floor { Self.floor self.new ≡ position result + 1 };
@@ -66,7 +66,7 @@ pub trait Bump: Events {
         ensures shows { Self.shows self.new ≡ shown_after Finish (Self.shows self.old) }
         ensures looked { Self.looked self.new ≡ Self.looked self.old }
         ensures made { Self.made self.new ≡ made_after Finish result (Self.made self.old) }
-        ensures can { CanGoOn Finish (Self.can self.old) (Self.can self.new) }
+        ensures can { RestCanFollow Finish (Self.can self.old) (Self.can self.new) }
         ensures root { Self.root self.new ≡ Self.root self.old }
         ensures low { Self.floor self.old ≤ position result }
         ensures floor { Self.floor self.new ≡ position result + 1 };
@@ -78,7 +78,7 @@ pub trait Bump: Events {
         ensures shows { Self.shows self.new ≡ shown_after Hard (Self.shows self.old) }
         ensures looked { Self.looked self.new ≡ Self.looked self.old }
         ensures made { Self.made self.new ≡ made_after Hard result (Self.made self.old) }
-        ensures can { CanGoOn Hard (Self.can self.old) (Self.can self.new) }
+        ensures can { RestCanFollow Hard (Self.can self.old) (Self.can self.new) }
         ensures root { Self.root self.new ≡ Self.root self.old }
         ensures low { Self.floor self.old ≤ position result }
         ensures floor { Self.floor self.new ≡ position result + 1 };

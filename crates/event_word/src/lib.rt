@@ -26,5 +26,5 @@ pub use closing::close;
 pub use events::{Bump, Events, look_from};
 pub use plain::PlainEvents;
 pub use seats::{TableLook, TableSeat};
-pub use table::{EventSeat, EventTable, LookSeat, SharedWord, Token};
+pub use table::{EventSeat, EventTable, LookSeat, SharedWord, WordToken};
 pub use view::{MadeStep, WordView};

@@ -1,6 +1,6 @@
 //! How a table of the event word is made.
 ghost use Rattle.std.specs.Prelude.{◌≡◌, ◌≤◌, vec_len, IfOk};
-ghost use Rattle.event_word.specs.Seats.{IsUntouched, AreNew, sources_of, made_of, looked_of, floor_of};
+ghost use Rattle.event_word.specs.Seats.{IsUntouched, AreNew, source_count, made_of, looked_of, floor_of};
 ghost use Rattle.event_word.specs.Lists.{tokens};
 
 use crate::table::{EventSeat, EventTable, LookSeat};
@@ -11,7 +11,7 @@ impl EventTable {
     /// The seats of that many new sources, in the order of their numbers.
     fn sources(&self, alloc: Global, look: &mut LookSeat, count: u32) -> Result<Vec<EventSeat>, Mem>
         requires table { look.old.token.table_id ≡ self.now.cells.shared.table_id }
-        requires none { sources_of look.old.token ≡ 0 }
+        requires none { source_count look.old.token ≡ 0 }
         requires count { count ≤ 256 }
         ensures table { look.new.token.table_id ≡ look.old.token.table_id }
         ensures looked { IfOk result (λ _. looked_of look.new.token ≡ looked_of look.old.token) }

@@ -2,11 +2,11 @@
 ghost use Rattle.std.specs.Prelude.{◌≡◌, true, false, [], length, Some, None};
 ghost use Rattle.event_word.specs.Histories.{unpacked};
 ghost use Rattle.event_word.specs.Steps.{can_make, is_active};
-ghost use Rattle.event_word.specs.Seats.{IsSourceSeat, IsLook, IsUnused, sources_of, number_of, made_of, looked_of, floor_of};
+ghost use Rattle.event_word.specs.Seats.{IsSourceSeat, IsLook, IsUnused, source_count, number_of, made_of, looked_of, floor_of};
 
 use crate::events::{Bump, Events};
 use crate::plays::{Finish, Hard, Look, Start};
-use crate::table::{EventSeat, EventTable, LookSeat, Token};
+use crate::table::{EventSeat, EventTable, LookSeat, WordToken};
 use sleep_model::EventNow;
 
 /// What a start adds to the word: one more in progress.
@@ -22,7 +22,7 @@ const HARD: u64 = 1 << 40;
 #[derive(Drop)]
 pub struct TableSeat<'t> {
     pub table: &'t EventTable,
-    pub token: Token,
+    pub token: WordToken,
     ghost seated: { IsSourceSeat token },
     ghost fits: { token.table_id ≡ table.now.cells.shared.table_id },
 }
@@ -31,7 +31,7 @@ pub struct TableSeat<'t> {
 #[derive(Drop)]
 pub struct TableLook<'t> {
     pub table: &'t EventTable,
-    pub token: Token,
+    pub token: WordToken,
     ghost seated: { IsLook token },
     ghost unused: { IsUnused token },
     ghost fits: { token.table_id ≡ table.now.cells.shared.table_id },
@@ -146,7 +146,7 @@ impl Events for TableLook<'_> {
 
     ghost Root = { TableId × ℕ };
 
-    ghost root = { λ s. (s.token.table_id, sources_of s.token) };
+    ghost root = { λ s. (s.token.table_id, source_count s.token) };
 
     fn look(&mut self) -> EventNow {
         let cells = &self.table.cells;

@@ -1,7 +1,7 @@
 //! The table of the event word, and its seats while they are off it.
 ghost use Rattle.std.specs.Prelude.{◌≡◌, ◌<◌, [], IfOk};
 ghost use Rattle.event_word.specs.Counting.{look_view, with_one_source, source_view};
-ghost use Rattle.event_word.specs.Seats.{IsSourceSeat, IsLook, IsUnused, sources_of};
+ghost use Rattle.event_word.specs.Seats.{IsSourceSeat, IsLook, IsUnused, source_count};
 
 use crate::plays::{Counting, NewSource};
 use crate::view::WordView;
@@ -10,7 +10,7 @@ use sleep_base::Mem;
 use std::alloc::Global;
 
 /// A seat at the table.
-pub type Token = Seat<(), WordView>;
+pub type WordToken = Seat<(), WordView>;
 
 /// The word, which threads share.
 pub type SharedWord = Table<(), WordView, (), Counting, Global>;
@@ -25,14 +25,14 @@ pub struct EventTable {
 /// The seat of one source: it knows which steps the source made.
 #[derive(Drop)]
 pub struct EventSeat {
-    pub token: Token,
+    pub token: WordToken,
     ghost seated: { IsSourceSeat token },
 }
 
 /// The seat that only looks, and that is needed to close the table.
 #[derive(Drop)]
 pub struct LookSeat {
-    pub token: Token,
+    pub token: WordToken,
     ghost seated: { IsLook token },
     ghost unused: { IsUnused token },
 }
@@ -50,11 +50,11 @@ impl EventTable {
     /// One more source's seat, with the next number.
     pub(crate) fn source(&self, look: &mut LookSeat) -> EventSeat
         requires table { look.old.token.table_id ≡ self.now.cells.shared.table_id }
-        requires room { sources_of look.old.token < 256 }
+        requires room { source_count look.old.token < 256 }
         ensures table { look.new.token.table_id ≡ look.old.token.table_id }
         ensures look { look.new.token.me ≡ (with_one_source look.old.token.me.0, []) }
         ensures seat { result.token.table_id ≡ look.old.token.table_id }
-        ensures view { result.token.me ≡ (source_view (sources_of look.old.token), []) }
+        ensures view { result.token.me ≡ (source_view (source_count look.old.token), []) }
     {
         let token = self.cells.shared.split_seat::<NewSource>(&mut look.token);
         EventSeat { token }

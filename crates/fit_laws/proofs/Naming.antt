@@ -41,14 +41,14 @@ use Rattle.sleep_model.specs.Accepted.{IsAccepted, IsOp, AreAnswers, is_ret_of, 
 use Rattle.sleep_model.specs.Answers.{answer, answer_for, answer_number, own_or, is_thing, is_for}
 use Rattle.sleep_model.specs.Attempt.{due_at, enter_due, freeze_due, freeze_since, froze_due, if_left, cpu_kind, gives_up_at, or_next, sleep_of, sleeps_now, stage_due}
 use Rattle.sleep_model.specs.Autosleep.{may_run, work, work_due}
-use Rattle.sleep_model.specs.Devices.{after_device, callback, callback_after, close_down, complete_due, device_due, down_due, is_async_device, is_device, is_direct, next_completed, next_down, next_prepared, next_to_schedule, next_up, phase_failed, prepare_due, state_in, taken, unless_failed, up_due, waits_above, waits_below, waits_down, waits_up, walk_down, walk_up, work_by}
+use Rattle.sleep_model.specs.Devices.{after_device, callback, callback_after, close_down, complete_due, device_due, down_due, is_async_device, is_device, is_direct, next_completed, next_down, next_prepared, next_to_schedule, next_up, phase_failed, prepare_due, state_in, taken, unless_failed, up_due, waits_above, waits_for_subordinates, waits_down, waits_up, walk_down, walk_up, work_by}
 use Rattle.sleep_model.specs.Due.{due, is_over, own_due, script_due}
 use Rattle.sleep_model.specs.Fits.{fits_kind, is_answer}
 use Rattle.sleep_model.specs.Freezer.{freezing, freezings, keeps_waiting, left, left_from}
 use Rattle.sleep_model.specs.Guard.{pending}
 use Rattle.sleep_model.specs.Legal.{JournalPart, JournalStep}
 use Rattle.sleep_model.specs.Lock.{holder, is_on}
-use Rattle.sleep_model.specs.Notifiers.{Ranked, call_order, next_called, next_cpu_off, next_cpu_on, next_posted, next_started, next_stopped, numbers_of, put_ranked, ranked_from}
+use Rattle.sleep_model.specs.Notifiers.{Ranked, call_order, next_notified, next_cpu_off, next_cpu_on, next_post_notified, next_syscore_resumed, next_syscore_suspended, numbers_of, put_ranked, ranked_from}
 use Rattle.sleep_model.specs.Numbers.{time_of}
 use Rattle.sleep_model.specs.Order.{is_among, links_at, order, parents_of}
 use Rattle.sleep_model.specs.EntryClasses.{OfJournal, class_of}
@@ -253,7 +253,7 @@ module _ (m : Machine) (acc : IsAccepted m) (past : List Entry) (j : JournalPart
   walk_down_fits p None (Some d) e =
       let l : d < length m.devices = in_order d (last_among _ (order m past) d e) in
       only_if (FitsIf m) (is_async_device m d) _ _ (λ r. less d (length m.devices) l)
-      (only_after (FitsIf m) (waits_below m past p d) _ (taken_fits p d l (tests_wakeup p && pending past now) (is_direct m past p d)))
+      (only_after (FitsIf m) (waits_for_subordinates m past p d) _ (taken_fits p d l (tests_wakeup p && pending past now) (is_direct m past p d)))
   walk_down_fits p None None e = close_fits p
   walk_down_fits p (Some r) None e = close_fits p
   walk_down_fits p (Some r) (Some d) e = close_fits p
@@ -290,25 +290,25 @@ module _ (m : Machine) (acc : IsAccepted m) (past : List Entry) (j : JournalPart
   cpu_fits false k = λ r. r
 
   stage_fits : (s : Stage) → OnlyMade (FitsIf m) (stage_due m past now s)
-  stage_fits stage.Notifies = only_left (FitsIf m) _ (next_called m past) (λ x e r. less x (length m.notifiers) (called_in x (first_among _ (call_order m) x e)))
+  stage_fits stage.Notifies = only_left (FitsIf m) _ (next_notified m past) (λ x e r. less x (length m.notifiers) (called_in x (first_among _ (call_order m) x e)))
   stage_fits (stage.Freezes g) = freeze_fits g (freeze_since past)
-  stage_fits (stage.PlatformDown step) = λ r. refl
+  stage_fits (stage.PlatformDo step) = λ r. refl
   stage_fits stage.Prepares = prepare_fits (phase_failed past) (next_prepared m past) refl
   stage_fits (stage.Downs p) = down_fits p (callback past) runs
   stage_fits stage.StopsCpus = only_left (FitsIf m) _ (next_cpu_off m past) (λ k e. cpu_fits (pending past now) k)
   stage_fits stage.StopsIrqs = λ r. refl
-  stage_fits stage.Checks = λ r. refl
-  stage_fits stage.StopsSyscore = only_left (FitsIf m) _ (next_stopped m past) (λ x e r. less x (length m.syscore) (class_in x (last_among _ (range_with_len 0 (length m.syscore)) x e)))
+  stage_fits stage.ChecksWakeup = λ r. refl
+  stage_fits stage.StopsSyscore = only_left (FitsIf m) _ (next_syscore_suspended m past) (λ x e r. less x (length m.syscore) (class_in x (last_among _ (range_with_len 0 (length m.syscore)) x e)))
   stage_fits stage.Enters = enter_fits (sleep_of past)
-  stage_fits stage.StartsSyscore = only_left (FitsIf m) _ (next_started m past) (λ x e r. less x (length m.syscore) (class_in x (first_among _ (range_with_len 0 (length m.syscore)) x e)))
+  stage_fits stage.StartsSyscore = only_left (FitsIf m) _ (next_syscore_resumed m past) (λ x e r. less x (length m.syscore) (class_in x (first_among _ (range_with_len 0 (length m.syscore)) x e)))
   stage_fits stage.StartsIrqs = λ r. refl
   stage_fits stage.StartsCpus = only_left (FitsIf m) kind.CpuOn (next_cpu_on m past) (λ k e r. r)
-  stage_fits (stage.PlatformUp step) = λ r. refl
+  stage_fits (stage.PlatformUndo step) = λ r. refl
   stage_fits (stage.Ups p) = up_fits p (callback past) runs
   stage_fits stage.Completes = complete_fits (next_completed m past) refl
-  stage_fits stage.Clears = λ r. refl
+  stage_fits stage.ClearsSavedCount = λ r. refl
   stage_fits (stage.Thaws those) = λ r. refl
-  stage_fits stage.Posts = only_left (FitsIf m) kind.NotifyPost (next_posted m past) (λ x e r. less x (length m.notifiers) (called_in x (first_among _ (call_order m) x e)))
+  stage_fits stage.NotifiesPost = only_left (FitsIf m) kind.NotifyPost (next_post_notified m past) (λ x e r. less x (length m.notifiers) (called_in x (first_among _ (call_order m) x e)))
   stage_fits stage.Ends = λ r. r
 
   attempt_fits : (o : Option Stage) → OnlyMade (FitsIf m) (due_at m past now o)
@@ -394,7 +394,7 @@ module _ (m : Machine) (acc : IsAccepted m) (past : List Entry) (j : JournalPart
   device_fits d l Idle = tt
   device_fits d l (Scheduled p) =
       only_if (FitsIf m) (is_down p) _ _
-      (only_after (FitsIf m) (waits_below m past p d) _ (unless_failed_fits (phase_failed past) p d (taken m past now p d) l (taken_fits p d l (tests_wakeup p && pending past now) (is_direct m past p d))))
+      (only_after (FitsIf m) (waits_for_subordinates m past p d) _ (unless_failed_fits (phase_failed past) p d (taken m past now p d) l (taken_fits p d l (tests_wakeup p && pending past now) (is_direct m past p d))))
       (only_after (FitsIf m) (waits_above m past (mirror p) d) _ (λ r. less d (length m.devices) l))
   device_fits d l (Inside p) = λ r. less d (length m.devices) l
 

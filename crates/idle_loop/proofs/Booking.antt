@@ -16,7 +16,7 @@ use Rattle.idle_loop.proofs.Races.{own_adds, other_adds}
 use Rattle.std.proofs.lemmas.Bool.{false≢true}
 use Rattle.idle_gate.specs.Gates as gates
 use Rattle.idle_gate.specs.Gates.{Gate, left}
-use Rattle.idle_loop.specs.GateLogs.{IsGateLog, AreCounted, Forgot, most_of}
+use Rattle.idle_loop.specs.GateLogs.{IsGateLog, WakesAreCounted, Forgot, most_of}
 use Rattle.idle_loop.specs.Merging.{SeesInOrder, SeeMore, MayEnter, IsJournal, forgot_by, forgotten}
 
 -- all wakes of a journal
@@ -364,22 +364,22 @@ items_in_order seen items sees = subst (SeeMore 0 seen) (reverse-reverse items) 
 back_more : (items more : List IdleEntry) (e : IdleEntry) → more ≡ items ++ e ∷ [] → e ∷ reverse items ≡ reverse more
 back_more items more e grown = sym (ap (λ (es : List IdleEntry). reverse es) grown ∙ reverse-append items (e ∷ []))
 
-pub counted_none : (z : IdleSizes) (n : ℕ) (items : List IdleEntry) → n ≡ z.wakers → items ≡ [] → AreCounted z (replicate n 0) (reverse items)
-counted_none z n items is none = subst (λ (es : List IdleEntry). AreCounted z (replicate n 0) (reverse es)) (sym none)
+pub counted_none : (z : IdleSizes) (n : ℕ) (items : List IdleEntry) → n ≡ z.wakers → items ≡ [] → WakesAreCounted z (replicate n 0) (reverse items)
+counted_none z n items is none = subst (λ (es : List IdleEntry). WakesAreCounted z (replicate n 0) (reverse es)) (sym none)
     (record { count = length-replicate n 0 ∙ is; each = λ who low. get_or-replicate n who 0 0 (subst (λ (k : ℕ). who < k) (sym is) low) })
 
 -- another entry than a wake leaves the counts
-pub counted_soft : (z : IdleSizes) (woke : List ℕ) (items more : List IdleEntry) (e : IdleEntry) → is_wake e.what ≡ 0 → more ≡ items ++ e ∷ [] → AreCounted z woke (reverse items) → AreCounted z woke (reverse more)
-counted_soft z woke items more e soft grown are = subst (AreCounted z woke) (back_more items more e grown)
+pub counted_soft : (z : IdleSizes) (woke : List ℕ) (items more : List IdleEntry) (e : IdleEntry) → is_wake e.what ≡ 0 → more ≡ items ++ e ∷ [] → WakesAreCounted z woke (reverse items) → WakesAreCounted z woke (reverse more)
+counted_soft z woke items more e soft grown are = subst (WakesAreCounted z woke) (back_more items more e grown)
     (record { count = are.count; each = λ who low. are.each who low ∙ sym (none_add (wakes_of who (reverse items)) (if e.who == who then is_wake e.what else 0) (if_none (e.who == who) (is_wake e.what) soft)) })
 
 -- a wake counts for its waker
 pub counted_wake : (z : IdleSizes) (woke : List ℕ) (x : ℕ) (items more : List IdleEntry) (e : IdleEntry) → e.what ≡ Wake → e.who < z.wakers → x ≡ get_or woke e.who x → more ≡ items ++ e ∷ []
-    → AreCounted z woke (reverse items) → AreCounted z (set woke e.who (x + 1)) (reverse more)
+    → WakesAreCounted z woke (reverse items) → WakesAreCounted z (set woke e.who (x + 1)) (reverse more)
 counted_wake z woke x items more e wake low read grown are =
     let inside : e.who < length woke = subst (λ (n : ℕ). e.who < n) (sym are.count) low in
     let one : is_wake e.what ≡ 1 = ap is_wake wake in
-    subst (AreCounted z (set woke e.who (x + 1))) (back_more items more e grown) (record {
+    subst (WakesAreCounted z (set woke e.who (x + 1))) (back_more items more e grown) (record {
       count = length-set woke e.who (x + 1) ∙ are.count;
       each = λ who lower. dite (ℕ_discrete e.who who)
           (λ (same : e.who ≡ who).

@@ -13,19 +13,19 @@ use Rattle.sleep_pool.specs.Turns.{AllWent, Went}
 use Rattle.turn_lock.specs.declared.table.LockTable.{LockTable}
 use Rattle.turn_lock.specs.declared.table.Pass.{Pass}
 use Rattle.turn_lock.specs.declared.view.Made.{Made}
-use Rattle.turn_lock.specs.Passes.{Token, AreNew, IsPass, first_of, made_of, number_of}
+use Rattle.turn_lock.specs.Passes.{LockToken, AreNew, IsPass, first_of, made_of, number_of}
 use Rattle.turn_lock.specs.Passing.{tokens}
 use Rattle.idle_loop.specs.declared.burst.WorkerPool.{WorkerPool}
 use Rattle.idle_loop.specs.declared.roles.Role.{Role}
 use Rattle.idle_loop.specs.declared.worker.IdleWorker.{IdleWorker}
-use Rattle.idle_loop.specs.Turns.{own_of, AreBy}
-use Rattle.idle_loop.specs.Roles.{IsIn, IsRole, IsSame, IsWorker, firsts_of}
-use Rattle.idle_loop.specs.WorkerPools.{AreAt, AreWorkersOf, AreRoles, HasEnded, IsAt, IsWorkerPool}
+use Rattle.idle_loop.specs.Turns.{gate_entries, AreBy}
+use Rattle.idle_loop.specs.Roles.{IsIn, IsRole, IsSameWorker, IsWorker, firsts_of}
+use Rattle.idle_loop.specs.WorkerPools.{AreWorkersAt, AreNewWorkers, AreRoles, WorkersHaveEnded, IsWorkerAt, IsWorkerPool}
 
 -- ---- workers are made
 
-pub workers_more : (from who : ℕ) (qs : List Role) (ps : List (Pass GateLogState IdleEntry)) (ws : List IdleWorker) (q : Role) (p : Pass GateLogState IdleEntry) (w : IdleWorker) → AreWorkersOf from qs ps ws → who ≡ from + length ws
-    → w ≡ record { who = who; pass = Some p; role = q; left = 1000 } → AreWorkersOf from (qs ++ q ∷ []) (ps ++ p ∷ []) (ws ++ w ∷ [])
+pub workers_more : (from who : ℕ) (qs : List Role) (ps : List (Pass GateLogState IdleEntry)) (ws : List IdleWorker) (q : Role) (p : Pass GateLogState IdleEntry) (w : IdleWorker) → AreNewWorkers from qs ps ws → who ≡ from + length ws
+    → w ≡ record { who = who; pass = Some p; role = q; left = 1000 } → AreNewWorkers from (qs ++ q ∷ []) (ps ++ p ∷ []) (ws ++ w ∷ [])
 workers_more from who [] [] [] q p w are number is = (is ∙ ap (λ (n : ℕ). record { who = n; pass = Some p; role = q; left = 1000 }) (let e : who ≡ from = omega (arith, number) in e), tt)
 workers_more from who [] [] (x ∷ ws) q p w are number is = absurd are
 workers_more from who [] (r ∷ ps) ws q p w are number is = absurd are
@@ -33,7 +33,7 @@ workers_more from who (s ∷ qs) [] ws q p w are number is = absurd are
 workers_more from who (s ∷ qs) (r ∷ ps) [] q p w are number is = absurd are
 workers_more from who (s ∷ qs) (r ∷ ps) (x ∷ ws) q p w are number is = (are.0, workers_more (from + 1) who qs ps ws q p w are.1 (omega (arith, number)) is)
 
-pub workers_long : (from : ℕ) (qs : List Role) (ps : List (Pass GateLogState IdleEntry)) (ws : List IdleWorker) → AreWorkersOf from qs ps ws → (length ws ≡ length qs) × (length ps ≡ length qs)
+pub workers_long : (from : ℕ) (qs : List Role) (ps : List (Pass GateLogState IdleEntry)) (ws : List IdleWorker) → AreNewWorkers from qs ps ws → (length ws ≡ length qs) × (length ps ≡ length qs)
 workers_long from [] [] [] are = (refl, refl)
 workers_long from [] [] (x ∷ ws) are = absurd are
 workers_long from [] (r ∷ ps) ws are = absurd are
@@ -41,7 +41,7 @@ workers_long from (s ∷ qs) [] ws are = absurd are
 workers_long from (s ∷ qs) (r ∷ ps) [] are = absurd are
 workers_long from (s ∷ qs) (r ∷ ps) (x ∷ ws) are = let rest = workers_long (from + 1) qs ps ws are.1 in (ap suc rest.0, ap suc rest.1)
 
-pub workers_left : (from : ℕ) (qs : List Role) (ps : List (Pass GateLogState IdleEntry)) (ws : List IdleWorker) → AreWorkersOf from qs ps ws → (k : ℕ) (d : IdleWorker) → k < length ws → 1000 ≤ (slice_index_or ws k d).left
+pub workers_left : (from : ℕ) (qs : List Role) (ps : List (Pass GateLogState IdleEntry)) (ws : List IdleWorker) → AreNewWorkers from qs ps ws → (k : ℕ) (d : IdleWorker) → k < length ws → 1000 ≤ (slice_index_or ws k d).left
 workers_left from [] [] [] are k d low = absurd (omega (arith, low))
 workers_left from [] [] (x ∷ ws) are k d low = absurd are
 workers_left from [] (r ∷ ps) ws are k d low = absurd are
@@ -54,19 +54,19 @@ workers_left from (s ∷ qs) (r ∷ ps) (x ∷ ws) are (suc k) d low = workers_l
 pub record IsManning (roles ahead : List Role) (passes behind : List (Pass GateLogState IdleEntry)) (ws : List IdleWorker) : Type 0 where
   pub qs : List Role
   pub ps : List (Pass GateLogState IdleEntry)
-  pub are : AreWorkersOf 0 qs ps ws
+  pub are : AreNewWorkers 0 qs ps ws
   pub roles_are : qs ++ ahead ≡ roles
   pub passes_are : ps ++ behind ≡ passes
 
 pub manning_none : (roles ahead : List Role) (passes behind : List (Pass GateLogState IdleEntry)) (ws : List IdleWorker) → ws ≡ [] → ahead ≡ roles → behind ≡ passes → IsManning roles ahead passes behind ws
-manning_none roles ahead passes behind ws none same same' = record { qs = []; ps = []; are = subst (AreWorkersOf 0 [] []) (sym none) tt; roles_are = same; passes_are = same' }
+manning_none roles ahead passes behind ws none same same' = record { qs = []; ps = []; are = subst (AreNewWorkers 0 [] []) (sym none) tt; roles_are = same; passes_are = same' }
 
 pub manning_more : (roles ahead ahead' : List Role) (passes behind behind' : List (Pass GateLogState IdleEntry)) (ws ws' : List IdleWorker) (q : Role) (p : Pass GateLogState IdleEntry) (w : IdleWorker) → IsManning roles ahead passes behind ws → ahead ≡ q ∷ ahead' → behind ≡ p ∷ behind'
     → ws' ≡ ws ++ w ∷ [] → w ≡ record { who = length ws; pass = Some p; role = q; left = 1000 } → IsManning roles ahead' passes behind' ws'
 manning_more roles ahead ahead' passes behind behind' ws ws' q p w so next next' grown is = record {
   qs = so.qs ++ q ∷ [];
   ps = so.ps ++ p ∷ [];
-  are = subst (AreWorkersOf 0 (so.qs ++ q ∷ []) (so.ps ++ p ∷ [])) (sym grown) (workers_more 0 (length ws) so.qs so.ps ws q p w so.are (let e : length ws ≡ 0 + length ws = omega arith in e) is);
+  are = subst (AreNewWorkers 0 (so.qs ++ q ∷ []) (so.ps ++ p ∷ [])) (sym grown) (workers_more 0 (length ws) so.qs so.ps ws q p w so.are (let e : length ws ≡ 0 + length ws = omega arith in e) is);
   roles_are = append_assoc so.qs (q ∷ []) ahead' ∙ (ap (λ (l : List Role). so.qs ++ l) (sym next) ∙ so.roles_are);
   passes_are = append_assoc so.ps (p ∷ []) behind' ∙ (ap (λ (l : List (Pass GateLogState IdleEntry)). so.ps ++ l) (sym next') ∙ so.passes_are);
 }
@@ -82,7 +82,7 @@ none_left [] none = refl
 none_left (x ∷ xs) none = absurd (omega (arith, none))
 
 -- all are made, once either list is at its end
-pub manning_all : (roles ahead : List Role) (passes behind : List (Pass GateLogState IdleEntry)) (ws : List IdleWorker) → IsManning roles ahead passes behind ws → length passes ≡ length roles → (ahead ≡ []) ⊎ (behind ≡ []) → AreWorkersOf 0 roles passes ws
+pub manning_all : (roles ahead : List Role) (passes behind : List (Pass GateLogState IdleEntry)) (ws : List IdleWorker) → IsManning roles ahead passes behind ws → length passes ≡ length roles → (ahead ≡ []) ⊎ (behind ≡ []) → AreNewWorkers 0 roles passes ws
 manning_all roles ahead passes behind ws so same ended =
     let long = workers_long 0 so.qs so.ps ws so.are in
     let front : length so.qs + length ahead ≡ length roles = sym (length-append so.qs ahead) ∙ ap length so.roles_are in
@@ -92,7 +92,7 @@ manning_all roles ahead passes behind ws so same ended =
     let none' : length behind ≡ 0 = omega arith in
     let all : so.qs ≡ roles = sym (append-nil so.qs) ∙ (ap (λ (l : List Role). so.qs ++ l) (sym (none_left ahead none)) ∙ so.roles_are) in
     let all' : so.ps ≡ passes = sym (append-nil so.ps) ∙ (ap (λ (l : List (Pass GateLogState IdleEntry)). so.ps ++ l) (sym (none_left behind none')) ∙ so.passes_are) in
-    subst (λ (l : List Role). AreWorkersOf 0 l passes ws) all (subst (λ (l : List (Pass GateLogState IdleEntry)). AreWorkersOf 0 so.qs l ws) all' so.are)
+    subst (λ (l : List Role). AreNewWorkers 0 l passes ws) all (subst (λ (l : List (Pass GateLogState IdleEntry)). AreNewWorkers 0 so.qs l ws) all' so.are)
 
 -- ---- they go with the burst
 
@@ -118,25 +118,25 @@ at_token [] k p at = absurd (some-ne-none p (sym at))
 at_token (q ∷ ps) zero p at = ap (λ (r : Pass GateLogState IdleEntry). some r.token) (some-injective q p at)
 at_token (q ∷ ps) (suc k) p at = at_token ps k p at
 
-fresh : (own : Token GateLogState IdleEntry) (first : GateLogState) (ps : List (Pass GateLogState IdleEntry)) → first_of own ≡ first ∷ [] → AreNew own (tokens ps) → AreFresh own.table_id first 0 ps
+fresh : (own : LockToken GateLogState IdleEntry) (first : GateLogState) (ps : List (Pass GateLogState IdleEntry)) → first_of own ≡ first ∷ [] → AreNew own (tokens ps) → AreFresh own.table_id first 0 ps
 fresh own first ps firsts new = fresh_from own.table_id first 0 ps (λ k p at.
     let there : get_elem? (tokens ps) k ≡ some p.token = at_token ps k p at in
     let is = new.all_are.each_is k p.token there in
     (subst (λ (l : List GateLogState). IsPass own.table_id l p.token) firsts is.0, is.1 ∙ ap (λ (n : ℕ). Some n) (let e : k ≡ 0 + k = omega arith in e), new.empty k p.token there))
 
-in_first : (z : IdleSizes) (locks : TableId) (who : ℕ) (first : GateLogState) (p : Token GateLogState IdleEntry) (q : Role) → AreSizes z → first.sizes ≡ z → IsPass locks (first ∷ []) p → number_of p ≡ Some who → made_of p ≡ [] → IsRole z who first.journal q
+in_first : (z : IdleSizes) (locks : TableId) (who : ℕ) (first : GateLogState) (p : LockToken GateLogState IdleEntry) (q : Role) → AreSizes z → first.sizes ≡ z → IsPass locks (first ∷ []) p → number_of p ≡ Some who → made_of p ≡ [] → IsRole z who first.journal q
     → IsIn z locks who first p q
 in_first z locks who first p q sizes first_sizes pass number made is = record {
   sizes = sizes;
   first_sizes = first_sizes;
   pass = pass;
   number = number;
-  own = subst (λ (l : List (Made IdleEntry)). AreBy who (own_of l)) (sym made) tt;
-  role = subst (λ (l : List (Made IdleEntry)). IsRole z who (own_of l ++ first.journal) q) (sym made) is;
+  own = subst (λ (l : List (Made IdleEntry)). AreBy who (gate_entries l)) (sym made) tt;
+  role = subst (λ (l : List (Made IdleEntry)). IsRole z who (gate_entries l ++ first.journal) q) (sym made) is;
 }
 
-at_first : (z : IdleSizes) (locks table : TableId) (first : GateLogState) (from : ℕ) (qs : List Role) (ps : List (Pass GateLogState IdleEntry)) (ws : List IdleWorker) → AreSizes z → first.sizes ≡ z → AreWorkersOf from qs ps ws → AreRoles z table first.journal from qs → AreFresh locks first from ps
-    → AreAt z locks table first from ws
+at_first : (z : IdleSizes) (locks table : TableId) (first : GateLogState) (from : ℕ) (qs : List Role) (ps : List (Pass GateLogState IdleEntry)) (ws : List IdleWorker) → AreSizes z → first.sizes ≡ z → AreNewWorkers from qs ps ws → AreRoles z table first.journal from qs → AreFresh locks first from ps
+    → AreWorkersAt z locks table first from ws
 unfolding AreFresh
 at_first z locks table first from [] [] [] sizes first_sizes are roles new = tt
 at_first z locks table first from [] [] (x ∷ ws) sizes first_sizes are roles new = absurd are
@@ -144,19 +144,19 @@ at_first z locks table first from [] (r ∷ ps) ws sizes first_sizes are roles n
 at_first z locks table first from (s ∷ qs) [] ws sizes first_sizes are roles new = absurd are
 at_first z locks table first from (s ∷ qs) (r ∷ ps) [] sizes first_sizes are roles new = absurd are
 at_first z locks table first from (s ∷ qs) (r ∷ ps) (x ∷ ws) sizes first_sizes are roles new = (
-  subst (IsAt z locks table first from) (sym are.0) (record { named = refl; seat = roles.1; pass = r; has = refl; is = in_first z locks from first r.token s sizes first_sizes new.0 new.1 new.2 roles.0 }),
+  subst (IsWorkerAt z locks table first from) (sym are.0) (record { named = refl; seat = roles.1; pass = r; has = refl; is = in_first z locks from first r.token s sizes first_sizes new.0 new.1 new.2 roles.0 }),
   at_first z locks table first (from + 1) qs ps ws sizes first_sizes are.1 roles.2 new.3,
 )
 
 -- the workers at a burst's begin
-pub began_at : (z : IdleSizes) (table : TableId) (own : Token GateLogState IdleEntry) (first : GateLogState) (qs : List Role) (ps : List (Pass GateLogState IdleEntry)) (ws : List IdleWorker) → AreSizes z → first.sizes ≡ z → first_of own ≡ first ∷ [] → AreNew own (tokens ps)
-    → AreWorkersOf 0 qs ps ws → AreRoles z table first.journal 0 qs → AreAt z own.table_id table first 0 ws
+pub began_at : (z : IdleSizes) (table : TableId) (own : LockToken GateLogState IdleEntry) (first : GateLogState) (qs : List Role) (ps : List (Pass GateLogState IdleEntry)) (ws : List IdleWorker) → AreSizes z → first.sizes ≡ z → first_of own ≡ first ∷ [] → AreNew own (tokens ps)
+    → AreNewWorkers 0 qs ps ws → AreRoles z table first.journal 0 qs → AreWorkersAt z own.table_id table first 0 ws
 began_at z table own first qs ps ws sizes first_sizes firsts new are roles = at_first z own.table_id table first 0 qs ps ws sizes first_sizes are roles (fresh own first ps firsts new)
 
 -- ---- over the burst
 
 -- they can be workers of it
-pub at_go : (z : IdleSizes) (locks table : TableId) (first : GateLogState) (from : ℕ) (ws : List IdleWorker) → AreAt z locks table first from ws → (k : ℕ) (d : IdleWorker) → k < length ws → IsWorker z locks (slice_index_or ws k d)
+pub at_go : (z : IdleSizes) (locks table : TableId) (first : GateLogState) (from : ℕ) (ws : List IdleWorker) → AreWorkersAt z locks table first from ws → (k : ℕ) (d : IdleWorker) → k < length ws → IsWorker z locks (slice_index_or ws k d)
 at_go z locks table first from [] are k d low = absurd (omega (arith, low))
 at_go z locks table first from (w ∷ ws) are zero d low = record { first = first; pass = are.0.pass; has = are.0.has; is = subst (λ (n : ℕ). IsIn z locks n first are.0.pass.token w.role) (sym are.0.named) are.0.is }
 at_go z locks table first from (w ∷ ws) are (suc k) d low = at_go z locks table first (from + 1) ws are.1 k d (omega (arith, low))
@@ -165,7 +165,7 @@ head_same : (a b : GateLogState) → (a ∷ []) ≡ (b ∷ []) → a ≡ b
 head_same a b is = some-injective a b (ap (λ (l : List GateLogState). get_elem? l 0) is)
 
 -- one worker, after its turns
-at_now : (z : IdleSizes) (locks table : TableId) (first : GateLogState) (who : ℕ) (old new : IdleWorker) → IsAt z locks table first who old → IsSame old new → IsWorker z locks new → IsAt z locks table first who new
+at_now : (z : IdleSizes) (locks table : TableId) (first : GateLogState) (who : ℕ) (old new : IdleWorker) → IsWorkerAt z locks table first who old → IsSameWorker old new → IsWorker z locks new → IsWorkerAt z locks table first who new
 at_now z locks table first who old new was same is =
     let firsts : is.first ∷ [] ≡ first ∷ [] = sym is.is.pass.first_is ∙ (ap firsts_of (sym is.has) ∙ (same.firsts ∙ (ap firsts_of was.has ∙ was.is.pass.first_is))) in
     let first_is : is.first ≡ first = head_same is.first first firsts in
@@ -179,8 +179,8 @@ at_now z locks table first who old new was same is =
     }
 
 -- all workers, after the burst
-pub at_end : (z : IdleSizes) (locks table : TableId) (first : GateLogState) (from count most : ℕ) (stop : Bool) (left : IdleWorker → ℕ) (olds news : List IdleWorker) → AllWent (Went (λ (a : IdleWorker) (turns : List Turn) (b : IdleWorker). IsSame a b) left stop most) olds news count
-    → AreAt z locks table first from olds → ((k : ℕ) (d : IdleWorker) → k < length news → IsWorker z locks (slice_index_or news k d)) → AreAt z locks table first from news
+pub at_end : (z : IdleSizes) (locks table : TableId) (first : GateLogState) (from count most : ℕ) (stop : Bool) (left : IdleWorker → ℕ) (olds news : List IdleWorker) → AllWent (Went (λ (a : IdleWorker) (turns : List Turn) (b : IdleWorker). IsSameWorker a b) left stop most) olds news count
+    → AreWorkersAt z locks table first from olds → ((k : ℕ) (d : IdleWorker) → k < length news → IsWorker z locks (slice_index_or news k d)) → AreWorkersAt z locks table first from news
 at_end z locks table first from count most stop left [] [] went are all = tt
 at_end z locks table first from count most stop left [] (w ∷ news) went are all = absurd went
 at_end z locks table first from count most stop left (v ∷ olds) [] went are all = absurd went
@@ -195,7 +195,7 @@ went_long R count (v ∷ olds) (w ∷ news) went = ap suc (went_long R went.1 ol
 
 -- a pool at its burst's end
 pub has_ended : (z : IdleSizes) (table : TableId) (c : WorkerPool) (locks : LockTable GateLogState IdleEntry) (ws olds : List IdleWorker) → IsWorkerPool z table c → first_of locks.own ≡ c.gate_log ∷ [] → locks.own.me.0.known ≡ [] → locks.own.me.0.next ≡ z.wakers + 1
-    → length olds ≡ z.wakers + 1 → length ws ≡ length olds → AreAt z locks.own.table_id table c.gate_log 0 ws → HasEnded z table c.gate_log locks ws
+    → length olds ≡ z.wakers + 1 → length ws ≡ length olds → AreWorkersAt z locks.own.table_id table c.gate_log 0 ws → WorkersHaveEnded z table c.gate_log locks ws
 has_ended z table c locks ws olds pool firsts unused count long same at = record {
   sizes = pool.sizes;
   first_sizes = pool.gate_log;

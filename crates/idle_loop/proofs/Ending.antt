@@ -9,7 +9,7 @@ use Rattle.sleep_model.specs.declared.word.EventNow.{EventNow}
 use Rattle.event_word.specs.declared.table.EventSeat.{EventSeat}
 use Rattle.event_word.specs.Histories.{AllSeen, AreClosed, IsSeen, SourceStep, steps_of}
 use Rattle.event_word.specs.Lists.{looked_lists, made_lists, tokens}
-use Rattle.event_word.specs.Seats.{Token, AreAll, looked_of, made_of, number_of}
+use Rattle.event_word.specs.Seats.{WordToken, AreAllSeats, looked_of, made_of, number_of}
 use Rattle.event_word.specs.Steps.{MadeStep}
 use Rattle.idle_gate.specs.declared.state.IdleState.{IdleState}
 use Rattle.idle_gate.specs.declared.state.IdleState.TheVariants as state
@@ -27,7 +27,7 @@ use Rattle.idle_loop.proofs.Booking.{forgot_none}
 use Rattle.idle_loop.proofs.Merges.{Merged, merged, merges_to_legal, open_none}
 use Rattle.idle_loop.specs.declared.closing.RunLeft.{RunLeft}
 use Rattle.idle_loop.specs.Turns.{InTurn, befores, seen_by}
-use Rattle.idle_loop.specs.Ends.{AreLeft, IsIdle, IsLeft}
+use Rattle.idle_loop.specs.Ends.{AreLeft, IsIdle, IsRunLeft}
 use Rattle.idle_loop.specs.Makers.{HaveRanks, AreMade, AllBelow, AreMakers, ranks}
 use Rattle.idle_loop.proofs.Histories.{AllHard, all_hard, befores_places, hard_steps, makers_below, makers_in, seen_low, turns_at_places, word_hard}
 use Rattle.idle_loop.proofs.Premises.{hards_in_turn, wakes_in_turn, woke_is}
@@ -64,18 +64,18 @@ left_long z table journal from [] (v ∷ vs) are = absurd are
 left_long z table journal from (s ∷ ss) [] are = absurd are
 left_long z table journal from (s ∷ ss) (v ∷ vs) are = ap suc (left_long z table journal (from + 1) ss vs are.1)
 
-seat_at : (z : IdleSizes) (table : TableId) (journal : List IdleEntry) (from : ℕ) (ss : List EventSeat) (vs : List (Vec ℕ Global)) → AreLeft z table journal from ss vs → (k : ℕ) (t : Token) → get_elem? (tokens ss) k ≡ some t → (t.table_id ≡ table) × (number_of t ≡ Some (from + k))
+seat_at : (z : IdleSizes) (table : TableId) (journal : List IdleEntry) (from : ℕ) (ss : List EventSeat) (vs : List (Vec ℕ Global)) → AreLeft z table journal from ss vs → (k : ℕ) (t : WordToken) → get_elem? (tokens ss) k ≡ some t → (t.table_id ≡ table) × (number_of t ≡ Some (from + k))
 seat_at z table journal from [] [] are k t at = absurd (some-ne-none t (sym at))
 seat_at z table journal from [] (v ∷ vs) are k t at = absurd are
 seat_at z table journal from (s ∷ ss) [] are k t at = absurd are
 seat_at z table journal from (s ∷ ss) (v ∷ vs) are zero t at =
     let same : s.token ≡ t = some-injective s.token t at in
-    (ap (λ (u : Token). u.table_id) (sym same) ∙ are.0.at, ap number_of (sym same) ∙ (are.0.number ∙ ap (λ (n : ℕ). Some n) (let e : from ≡ from + 0 = omega arith in e)))
+    (ap (λ (u : WordToken). u.table_id) (sym same) ∙ are.0.at, ap number_of (sym same) ∙ (are.0.number ∙ ap (λ (n : ℕ). Some n) (let e : from ≡ from + 0 = omega arith in e)))
 seat_at z table journal from (s ∷ ss) (v ∷ vs) are (suc k) t at =
     let is = seat_at z table journal (from + 1) ss vs are.1 k t at in (is.0, is.1 ∙ ap (λ (n : ℕ). Some n) (let e : from + 1 + k ≡ from + suc k = omega arith in e))
 
 -- all seats are back
-pub all_seats : (z : IdleSizes) (table : TableId) (l : RunLeft) → IsLeft z table l → AreAll l.look.token (tokens l.seats.items)
+pub all_seats : (z : IdleSizes) (table : TableId) (l : RunLeft) → IsRunLeft z table l → AreAllSeats l.look.token (tokens l.seats.items)
 all_seats z table l is = record {
   counted = length-map l.seats.items (λ (s : EventSeat). s.token) ∙ (is.count ∙ sym is.sources);
   each_is = λ k t at. let one = seat_at z table l.gate_log.journal 0 l.seats.items l.ranks.items is.each k t at in (one.0 ∙ sym is.look, one.1 ∙ ap (λ (n : ℕ). Some n) (let e : 0 + k ≡ k = omega arith in e));
@@ -111,7 +111,7 @@ places_at z table journal from history (s ∷ ss) (v ∷ vs) all are each =
 all_less : (a b n : ℕ) → a ≡ b → b ≤ n → a ≤ n
 all_less a b n same low = omega (arith, same, low)
 
-module _ (z : IdleSizes) (table : TableId) (l : RunLeft) (is : IsLeft z table l) (looks : List (List EventNow)) (now : EventNow) (closed : AreClosed (made_lists l.seats.items) looks now) where
+module _ (z : IdleSizes) (table : TableId) (l : RunLeft) (is : IsRunLeft z table l) (looks : List (List EventNow)) (now : EventNow) (closed : AreClosed (made_lists l.seats.items) looks now) where
   long : length (made_lists l.seats.items) ≡ z.wakers
   long = length-map l.seats.items (λ (s : EventSeat). made_of s.token) ∙ is.count
 
@@ -163,7 +163,7 @@ last_seen history [] word more seen = seen.0.0
 last_seen history (w ∷ ws) word more seen = last_seen history ws word more seen.1
 
 -- the journal saw no more than all hard events
-pub left_seen : (z : IdleSizes) (table : TableId) (l : RunLeft) (is : IsLeft z table l) (now : EventNow) (closed : AreClosed (made_lists l.seats.items) (looked_lists l.seats.items ++ looked_of l.look.token ∷ []) now) → (makers : List ℕ)
+pub left_seen : (z : IdleSizes) (table : TableId) (l : RunLeft) (is : IsRunLeft z table l) (now : EventNow) (closed : AreClosed (made_lists l.seats.items) (looked_lists l.seats.items ++ looked_of l.look.token ∷ []) now) → (makers : List ℕ)
     → makers ≡ reverse (makers_in closed.history) → l.gate_log.seen ≤ length makers
 left_seen z table l is now closed makers same =
     let there : AllSeen closed.history (looked_lists l.seats.items ++ (is.last ∷ is.more) ∷ []) = subst (λ (ws : List EventNow). AllSeen closed.history (looked_lists l.seats.items ++ ws ∷ [])) is.looked closed.seen.0 in

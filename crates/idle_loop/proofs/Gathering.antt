@@ -14,15 +14,15 @@ use Rattle.turn_lock.specs.declared.table.LockTable.{LockTable}
 use Rattle.turn_lock.specs.declared.view.Made.{Made}
 use Rattle.turn_lock.specs.Bookings.{AreBelow, empty, made, made_by, of_object}
 use Rattle.turn_lock.specs.Locks.{AreClosed}
-use Rattle.turn_lock.specs.Passes.{Token, AreAll, IsPass, first_of, made_of, number_of}
+use Rattle.turn_lock.specs.Passes.{LockToken, AreAll, IsPass, first_of, made_of, number_of}
 use Rattle.turn_lock.specs.Passing.{made_lists, tokens}
 use Rattle.idle_loop.specs.declared.burst.WorkerPool.{WorkerPool}
 use Rattle.idle_loop.specs.declared.roles.Role.{Role}
 use Rattle.idle_loop.specs.declared.roles.Role.TheVariants as role
 use Rattle.idle_loop.specs.declared.worker.IdleWorker.{IdleWorker}
-use Rattle.idle_loop.specs.Turns.{AreBy, entries_in, own_of, seen_after, seen_by}
+use Rattle.idle_loop.specs.Turns.{AreBy, entries_in, gate_entries, seen_after, seen_by}
 use Rattle.idle_loop.specs.Roles.{IsRole, IsWaker, table_of}
-use Rattle.idle_loop.specs.WorkerPools.{AreAt, AreRoles, HasEnded, AreSplit, HavePasses, IsWorkerPool, IsThere}
+use Rattle.idle_loop.specs.WorkerPools.{AreWorkersAt, AreRoles, WorkersHaveEnded, AreSplit, HavePasses, IsWorkerPool, IsThere}
 use Rattle.idle_loop.proofs.Acting.{same_pass}
 use Rattle.idle_loop.proofs.Alternate.{passed_if, taken_if}
 use Rattle.idle_loop.proofs.Premises.{seen_both}
@@ -33,7 +33,7 @@ use Rattle.idle_loop.proofs.Stepping.{entries_of, sizes_of}
 is_there : (o : Option (Pass GateLogState IdleEntry)) (p : Pass GateLogState IdleEntry) → o ≡ Some p → IsThere o
 is_there o p is = subst IsThere (sym is) tt
 
-pub have_passes : (z : IdleSizes) (locks table : TableId) (first : GateLogState) (from : ℕ) (ws : List IdleWorker) → AreAt z locks table first from ws → HavePasses ws
+pub have_passes : (z : IdleSizes) (locks table : TableId) (first : GateLogState) (from : ℕ) (ws : List IdleWorker) → AreWorkersAt z locks table first from ws → HavePasses ws
 have_passes z locks table first from [] are = tt
 have_passes z locks table first from (w ∷ ws) are = (is_there w.pass are.0.pass are.0.has, have_passes z locks table first (from + 1) ws are.1)
 
@@ -54,8 +54,8 @@ split_long (x ∷ ws) (s ∷ qs) [] have = absurd have
 split_long (x ∷ ws) (s ∷ qs) (r ∷ ps) have = let rest = split_long ws qs ps have.2 in (ap suc rest.0, ap suc rest.1)
 
 -- what the pass at an index is
-back_at : (z : IdleSizes) (locks table : TableId) (first : GateLogState) (from : ℕ) (ws : List IdleWorker) (qs : List Role) (ps : List (Pass GateLogState IdleEntry)) → AreAt z locks table first from ws → AreSplit ws qs ps
-    → (k : ℕ) (t : Token GateLogState IdleEntry) → get_elem? (tokens ps) k ≡ some t → IsPass locks (first ∷ []) t × (number_of t ≡ Some (from + k)) × AreBy (from + k) (own_of (made_of t))
+back_at : (z : IdleSizes) (locks table : TableId) (first : GateLogState) (from : ℕ) (ws : List IdleWorker) (qs : List Role) (ps : List (Pass GateLogState IdleEntry)) → AreWorkersAt z locks table first from ws → AreSplit ws qs ps
+    → (k : ℕ) (t : LockToken GateLogState IdleEntry) → get_elem? (tokens ps) k ≡ some t → IsPass locks (first ∷ []) t × (number_of t ≡ Some (from + k)) × AreBy (from + k) (gate_entries (made_of t))
 back_at z locks table first from [] [] [] are have k t at = absurd (some-ne-none t (sym at))
 back_at z locks table first from [] [] (r ∷ ps) are have k t at = absurd have
 back_at z locks table first from [] (s ∷ qs) ps are have k t at = absurd have
@@ -64,18 +64,18 @@ back_at z locks table first from (x ∷ ws) (s ∷ qs) [] are have k t at = absu
 back_at z locks table first from (x ∷ ws) (s ∷ qs) (r ∷ ps) are have zero t at =
     let same : are.0.pass.token ≡ t = ap (λ (p : Pass GateLogState IdleEntry). p.token) (same_pass x.pass are.0.pass r are.0.has have.1) ∙ some-injective r.token t at in
     let number : from ≡ from + 0 = omega arith in
-    subst (λ (u : Token GateLogState IdleEntry). IsPass locks (first ∷ []) u × (number_of u ≡ Some (from + 0)) × AreBy (from + 0) (own_of (made_of u))) same
-    (subst (λ (n : ℕ). IsPass locks (first ∷ []) are.0.pass.token × (number_of are.0.pass.token ≡ Some n) × AreBy n (own_of (made_of are.0.pass.token))) number (are.0.is.pass, are.0.is.number, are.0.is.own))
+    subst (λ (u : LockToken GateLogState IdleEntry). IsPass locks (first ∷ []) u × (number_of u ≡ Some (from + 0)) × AreBy (from + 0) (gate_entries (made_of u))) same
+    (subst (λ (n : ℕ). IsPass locks (first ∷ []) are.0.pass.token × (number_of are.0.pass.token ≡ Some n) × AreBy n (gate_entries (made_of are.0.pass.token))) number (are.0.is.pass, are.0.is.number, are.0.is.own))
 back_at z locks table first from (x ∷ ws) (s ∷ qs) (r ∷ ps) are have (suc k) t at =
     let next : from + 1 + k ≡ from + suc k = omega arith in
-    subst (λ (n : ℕ). IsPass locks (first ∷ []) t × (number_of t ≡ Some n) × AreBy n (own_of (made_of t))) next (back_at z locks table first (from + 1) ws qs ps are.1 have.2 k t at)
+    subst (λ (n : ℕ). IsPass locks (first ∷ []) t × (number_of t ≡ Some n) × AreBy n (gate_entries (made_of t))) next (back_at z locks table first (from + 1) ws qs ps are.1 have.2 k t at)
 
 same_from : (k : ℕ) → 0 + k ≡ k
 same_from k = omega arith
 
 -- all passes are back
-pub all_back : (z : IdleSizes) (table : TableId) (first : GateLogState) (own : Token GateLogState IdleEntry) (ws : List IdleWorker) (qs : List Role) (ps : List (Pass GateLogState IdleEntry)) → first_of own ≡ first ∷ [] → own.me.0.known ≡ [] → own.me.0.next ≡ length ws
-    → AreAt z own.table_id table first 0 ws → AreSplit ws qs ps → AreAll own (tokens ps)
+pub all_back : (z : IdleSizes) (table : TableId) (first : GateLogState) (own : LockToken GateLogState IdleEntry) (ws : List IdleWorker) (qs : List Role) (ps : List (Pass GateLogState IdleEntry)) → first_of own ≡ first ∷ [] → own.me.0.known ≡ [] → own.me.0.next ≡ length ws
+    → AreWorkersAt z own.table_id table first 0 ws → AreSplit ws qs ps → AreAll own (tokens ps)
 all_back z table first own ws qs ps firsts unused count are have = record {
   counted = length-map ps (λ (p : Pass GateLogState IdleEntry). p.token) ∙ ((split_long ws qs ps have).1 ∙ sym count);
   unused = unused;
@@ -137,9 +137,9 @@ pub record IsGathered (first y : GateLogState) (ps : List (Pass GateLogState Idl
   pub gains : List IdleEntry
   pub journal : y.journal ≡ gains ++ first.journal
   pub sizes : y.sizes ≡ first.sizes
-  pub seen : (k : ℕ) (t : Token GateLogState IdleEntry) → get_elem? (tokens ps) k ≡ some t → seen_by k gains ≡ seen_by k (own_of (made_of t))
+  pub seen : (k : ℕ) (t : LockToken GateLogState IdleEntry) → get_elem? (tokens ps) k ≡ some t → seen_by k gains ≡ seen_by k (gate_entries (made_of t))
 
-within : (ps : List (Pass GateLogState IdleEntry)) (k : ℕ) (t : Token GateLogState IdleEntry) → get_elem? (tokens ps) k ≡ some t → k < length ps
+within : (ps : List (Pass GateLogState IdleEntry)) (k : ℕ) (t : LockToken GateLogState IdleEntry) → get_elem? (tokens ps) k ≡ some t → k < length ps
 within [] k t at = absurd (some-ne-none t (sym at))
 within (p ∷ ps) zero t at = omega arith
 within (p ∷ ps) (suc k) t at = let low : k < length ps = within ps k t at in omega (arith, low)
@@ -148,7 +148,7 @@ back_to : (first y : GateLogState) (es : List IdleEntry) → reverse y.journal �
 back_to first y es is = sym (reverse-reverse y.journal) ∙ (ap (λ (l : List IdleEntry). reverse l) is ∙ (reverse-append (reverse first.journal) es ∙ ap (λ (l : List IdleEntry). reverse es ++ l) (reverse-reverse first.journal)))
 
 pub gathered : (first y : GateLogState) (ps : List (Pass GateLogState IdleEntry)) (values : List GateLogState) → get_elem? values 0 ≡ some y → AreClosed sizes_of entries_of (first ∷ []) (made_lists ps) values
-    → ((k : ℕ) (t : Token GateLogState IdleEntry) → get_elem? (tokens ps) k ≡ some t → AreBy k (own_of (made_of t))) → IsGathered first y ps
+    → ((k : ℕ) (t : LockToken GateLogState IdleEntry) → get_elem? (tokens ps) k ≡ some t → AreBy k (gate_entries (made_of t))) → IsGathered first y ps
 gathered first y ps values at closed each =
     let es = closed.log 0 in
     let o = closed.objects 0 y at in
@@ -168,7 +168,7 @@ gathered first y ps values at closed each =
           let low : k < length ps = within ps k t there in
           let m = made_at ps k low in
           let token : m.0.token ≡ t = some-injective m.0.token t (sym m.1 ∙ there) in
-          seen_own k place es own ∙ (ap (λ (l : List (Made IdleEntry)). seen_by k (entries_in l)) (sym (booked k low) ∙ ap (of_object 0) m.2) ∙ ap (λ (u : Token GateLogState IdleEntry). seen_by k (own_of (made_of u))) token);
+          seen_own k place es own ∙ (ap (λ (l : List (Made IdleEntry)). seen_by k (entries_in l)) (sym (booked k low) ∙ ap (of_object 0) m.2) ∙ ap (λ (u : LockToken GateLogState IdleEntry). seen_by k (gate_entries (made_of u))) token);
     }
 
 role_on : (z : IdleSizes) (who : ℕ) (own gains first now : List IdleEntry) (q : Role) → now ≡ gains ++ first → seen_by who gains ≡ seen_by who own → IsRole z who (own ++ first) q → IsRole z who now q
@@ -178,7 +178,7 @@ role_on z who own gains first now (role.Wakes w) is same old =
 role_on z who own gains first now (role.Idles look) is same old = old
 
 roles_on : (z : IdleSizes) (locks table : TableId) (first y : GateLogState) (gains : List IdleEntry) (from : ℕ) (ws : List IdleWorker) (qs : List Role) (ps : List (Pass GateLogState IdleEntry)) → y.journal ≡ gains ++ first.journal
-    → ((k : ℕ) (t : Token GateLogState IdleEntry) → get_elem? (tokens ps) k ≡ some t → seen_by (from + k) gains ≡ seen_by (from + k) (own_of (made_of t))) → AreAt z locks table first from ws → AreSplit ws qs ps → AreRoles z table y.journal from qs
+    → ((k : ℕ) (t : LockToken GateLogState IdleEntry) → get_elem? (tokens ps) k ≡ some t → seen_by (from + k) gains ≡ seen_by (from + k) (gate_entries (made_of t))) → AreWorkersAt z locks table first from ws → AreSplit ws qs ps → AreRoles z table y.journal from qs
 roles_on z locks table first y gains from [] [] [] is same are have = tt
 roles_on z locks table first y gains from [] [] (r ∷ ps) is same are have = absurd have
 roles_on z locks table first y gains from [] (s ∷ qs) ps is same are have = absurd have
@@ -188,26 +188,26 @@ roles_on z locks table first y gains from (x ∷ ws) (s ∷ qs) (r ∷ ps) is sa
     let at = are.0 in
     let token : at.pass.token ≡ r.token = ap (λ (p : Pass GateLogState IdleEntry). p.token) (same_pass x.pass at.pass r at.has have.1) in
     let number : from + 0 ≡ from = omega arith in
-    let seen : seen_by from gains ≡ seen_by from (own_of (made_of at.pass.token)) =
-    subst (λ (u : Token GateLogState IdleEntry). seen_by from gains ≡ seen_by from (own_of (made_of u))) (sym token) (subst (λ (n : ℕ). seen_by n gains ≡ seen_by n (own_of (made_of r.token))) number (same 0 r.token refl)) in
-    let old : IsRole z from (own_of (made_of at.pass.token) ++ first.journal) s = subst (IsRole z from (own_of (made_of at.pass.token) ++ first.journal)) have.0 at.is.role in (
-      role_on z from (own_of (made_of at.pass.token)) gains first.journal y.journal s is seen old,
+    let seen : seen_by from gains ≡ seen_by from (gate_entries (made_of at.pass.token)) =
+    subst (λ (u : LockToken GateLogState IdleEntry). seen_by from gains ≡ seen_by from (gate_entries (made_of u))) (sym token) (subst (λ (n : ℕ). seen_by n gains ≡ seen_by n (gate_entries (made_of r.token))) number (same 0 r.token refl)) in
+    let old : IsRole z from (gate_entries (made_of at.pass.token) ++ first.journal) s = subst (IsRole z from (gate_entries (made_of at.pass.token) ++ first.journal)) have.0 at.is.role in (
+      role_on z from (gate_entries (made_of at.pass.token)) gains first.journal y.journal s is seen old,
       ap table_of (sym have.0) ∙ at.seat,
-      roles_on z locks table first y gains (from + 1) ws qs ps is (λ k t there. let next : from + suc k ≡ from + 1 + k = omega arith in subst (λ (n : ℕ). seen_by n gains ≡ seen_by n (own_of (made_of t))) next (same (suc k) t there)) are.1 have.2,
+      roles_on z locks table first y gains (from + 1) ws qs ps is (λ k t there. let next : from + suc k ≡ from + 1 + k = omega arith in subst (λ (n : ℕ). seen_by n gains ≡ seen_by n (gate_entries (made_of t))) next (same (suc k) t there)) are.1 have.2,
     )
 
 -- the pool after a burst
-pub back_pool : (z : IdleSizes) (table : TableId) (first y : GateLogState) (locks : LockTable GateLogState IdleEntry) (ws : List IdleWorker) (qs : List Role) (ps : List (Pass GateLogState IdleEntry)) (values : List GateLogState) (c : WorkerPool) → HasEnded z table first locks ws → AreSplit ws qs ps
+pub back_pool : (z : IdleSizes) (table : TableId) (first y : GateLogState) (locks : LockTable GateLogState IdleEntry) (ws : List IdleWorker) (qs : List Role) (ps : List (Pass GateLogState IdleEntry)) (values : List GateLogState) (c : WorkerPool) → WorkersHaveEnded z table first locks ws → AreSplit ws qs ps
     → AreClosed sizes_of entries_of (first_of locks.own) (made_lists ps) values → get_elem? values 0 ≡ some y → c.gate_log ≡ y → c.roles.items ≡ qs → IsWorkerPool z table c
 back_pool z table first y locks ws qs ps values c ended have closed at gate_log roles =
     let g = gathered first y ps values at (subst (λ (l : List GateLogState). AreClosed sizes_of entries_of l (made_lists ps) values) ended.firsts closed)
-    (λ k t there. subst (λ (n : ℕ). AreBy n (own_of (made_of t))) (same_from k) (back_at z locks.own.table_id table first 0 ws qs ps ended.at have k t there).2) in
+    (λ k t there. subst (λ (n : ℕ). AreBy n (gate_entries (made_of t))) (same_from k) (back_at z locks.own.table_id table first 0 ws qs ps ended.at have k t there).2) in
     record {
       sizes = ended.sizes;
       gate_log = ap sizes_of gate_log ∙ (g.sizes ∙ ended.first_sizes);
       count = ap length roles ∙ ((split_long ws qs ps have).0 ∙ ended.long);
       roles = subst (λ (b : GateLogState). AreRoles z table b.journal 0 c.roles.items) (sym gate_log) (subst (AreRoles z table y.journal 0) (sym roles)
-          (roles_on z locks.own.table_id table first y g.gains 0 ws qs ps g.journal (λ k t there. subst (λ (n : ℕ). seen_by n g.gains ≡ seen_by n (own_of (made_of t))) (sym (same_from k)) (g.seen k t there)) ended.at have));
+          (roles_on z locks.own.table_id table first y g.gains 0 ws qs ps g.journal (λ k t there. subst (λ (n : ℕ). seen_by n g.gains ≡ seen_by n (gate_entries (made_of t))) (sym (same_from k)) (g.seen k t there)) ended.at have));
     }
 
 pub there_some : (o : Option (Pass GateLogState IdleEntry)) → IsThere o → IsSome o

@@ -6,7 +6,7 @@ use Rattle.sleep_model.specs.declared.word.EventNow.{EventNow}
 use Rattle.event_word.specs.declared.seats.TableLook.{TableLook}
 use Rattle.event_word.specs.declared.table.EventSeat.{EventSeat}
 use Rattle.event_word.specs.Looks.{GrewTo}
-use Rattle.event_word.specs.Seats.{Token, number_of, made_of, floor_of, looked_of, sources_of}
+use Rattle.event_word.specs.Seats.{WordToken, number_of, made_of, floor_of, looked_of, source_count}
 use Rattle.idle_loop.specs.declared.entry.IdleEntry.{IdleEntry}
 use Rattle.idle_loop.specs.declared.entry.IdleSizes.{IdleSizes}
 use Rattle.idle_loop.specs.Sizes.{owed}
@@ -19,7 +19,7 @@ use Rattle.idle_loop.specs.declared.roles.Waker.{Waker}
 use Rattle.idle_loop.specs.Turns.{InTurn, befores, seen_by}
 use Rattle.idle_loop.specs.Roles.{IsIdler, IsRole, table_of}
 use Rattle.idle_loop.specs.WorkerPools.{AreRoles, IsWorkerPool}
-use Rattle.idle_loop.specs.Ends.{AreLeft, AreOff, AreDone, AreWakes, IsIdle, IsIdles, IsLeft, IsLeftAt, IsOff, IsDone, IsWakes}
+use Rattle.idle_loop.specs.Ends.{AreLeft, AreOff, AreDone, AreWakes, IsIdle, IsIdles, IsRunLeft, IsLeftAt, IsOff, IsDone, IsWakes}
 use Rattle.idle_loop.proofs.Stepping.{step_count}
 
 -- ---- the last role is the idler's, and the others are wakers'
@@ -82,12 +82,12 @@ left_at z table who journal (role.Wakes w) s v is at done off =
     record {
       owes = w.now.owes;
       floor = floor_of w.seat.token;
-      at = ap (λ (t : Token). t.table_id) off.0 ∙ at;
+      at = ap (λ (t : WordToken). t.table_id) off.0 ∙ at;
       number = ap number_of off.0 ∙ is.number;
-      turns = subst (λ (t : Token). InTurn w.now.owes (floor_of w.seat.token) (made_of t) seen) (sym off.0) is.turns;
-      few = subst (λ (t : Token). length (made_of t) ≤ z.events) (sym off.0) (omega (arith, few, wakes, steps));
+      turns = subst (λ (t : WordToken). InTurn w.now.owes (floor_of w.seat.token) (made_of t) seen) (sym off.0) is.turns;
+      few = subst (λ (t : WordToken). length (made_of t) ≤ z.events) (sym off.0) (omega (arith, few, wakes, steps));
       done = omega (arith, few, least, wakes);
-      ranks = off.1 ∙ (is.ranks ∙ ap (λ (t : Token). reverse (befores (made_of t))) (sym off.0));
+      ranks = off.1 ∙ (is.ranks ∙ ap (λ (t : WordToken). reverse (befores (made_of t))) (sym off.0));
     }
 left_at z table who journal (role.Idles look) s v is at done off = absurd off
 
@@ -105,8 +105,8 @@ idler_of : (z : IdleSizes) (journal : List IdleEntry) (q : Role) (look : TableLo
 idler_of z journal q look is old = subst (IsRole z z.wakers journal) is old
 
 pub left_pool : (z : IdleSizes) (table : TableId) (c : WorkerPool) (qs : List Role) (q : Role) (old new : TableLook) (now : EventNow) (l : RunLeft) → IsWorkerPool z table c → c.roles.items ≡ qs ++ q ∷ [] → q ≡ role.Idles old
-    → ◌≡◌ {A = TableId × ℕ} (new.token.table_id, sources_of new.token) (old.token.table_id, sources_of old.token) → GrewTo now (Some (looked_of old.token)) (Some (looked_of new.token)) → c.gate_log.seen ≤ now.hard
-    → l.gate_log ≡ c.gate_log → l.look.token ≡ new.token → AreOff qs l.seats.items l.ranks.items → AreDone z c.roles.items → IsIdle z c.gate_log.gate.state c.gate_log.gate.in_session c.gate_log.gate.begun → IsLeft z table l
+    → ◌≡◌ {A = TableId × ℕ} (new.token.table_id, source_count new.token) (old.token.table_id, source_count old.token) → GrewTo now (Some (looked_of old.token)) (Some (looked_of new.token)) → c.gate_log.seen ≤ now.hard
+    → l.gate_log ≡ c.gate_log → l.look.token ≡ new.token → AreOff qs l.seats.items l.ranks.items → AreDone z c.roles.items → IsIdle z c.gate_log.gate.state c.gate_log.gate.in_session c.gate_log.gate.begun → IsRunLeft z table l
 left_pool z table c qs q old new now l pool roles is root grew saw gate_log look off done rest =
     let are : AreRoles z table c.gate_log.journal 0 (qs ++ q ∷ []) = subst (AreRoles z table c.gate_log.journal 0) roles pool.roles in
     let long : length qs ≡ z.wakers = front_count z table c qs q pool roles in
@@ -115,8 +115,8 @@ left_pool z table c qs q old new now l pool roles is root grew saw gate_log look
     record {
       sizes = pool.sizes;
       gate_log = ap (λ (b : GateLogState). b.sizes) gate_log ∙ pool.gate_log;
-      look = ap (λ (t : Token). t.table_id) look ∙ (ap (λ (p : TableId × ℕ). p.0) root ∙ (ap table_of (sym is) ∙ last.1));
-      sources = ap sources_of look ∙ (ap (λ (p : TableId × ℕ). p.1) root ∙ (idler_of z c.gate_log.journal q old is last.0).sources);
+      look = ap (λ (t : WordToken). t.table_id) look ∙ (ap (λ (p : TableId × ℕ). p.0) root ∙ (ap table_of (sym is) ∙ last.1));
+      sources = ap source_count look ∙ (ap (λ (p : TableId × ℕ). p.1) root ∙ (idler_of z c.gate_log.journal q old is last.0).sources);
       count = off_long qs l.seats.items l.ranks.items off ∙ long;
       each = subst (λ (b : GateLogState). AreLeft z table b.journal 0 l.seats.items l.ranks.items) (sym gate_log) (left_all z table c.gate_log.journal 0 qs q l.seats.items l.ranks.items are done' off);
       last = now;

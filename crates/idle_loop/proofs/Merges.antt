@@ -4,8 +4,8 @@ use Rattle.idle_loop.specs.declared.entry.IdleKind.{IdleKind}
 use Rattle.idle_loop.specs.declared.entry.IdleKind.TheVariants.{Hard, Begin, Wake, TryOk, TryBusy, Leave}
 use Rattle.idle_loop.specs.declared.entry.IdleEntry.{IdleEntry}
 use Rattle.idle_loop.specs.declared.entry.IdleSizes.{IdleSizes}
-use Rattle.idle_loop.specs.IdleLogs.{state_by, state_after, one_more, session_by, session_of, is_hard, is_wake, is_begin, hards, begun, hards_of, wakes_of, MayMake, IsIdleLog}
-use Rattle.idle_loop.specs.Merging.{Merges, Nothing, NextHard, NextEntry, hard_entry, made_by, forgot_by, forgotten, MayEnter, IsJournal, SawLeast, SawMost, HardsInTurn, WakesInTurn, MergesToLegal}
+use Rattle.idle_loop.specs.IdleLogs.{state_by, state_after, incremented, session_by, session_of, is_hard, is_wake, is_begin, hards, begun, hards_of, wakes_of, MayMake, IsIdleLog}
+use Rattle.idle_loop.specs.Merging.{Merges, Nothing, NextHard, NextEntry, hard_entry, made_by, forgot_by, forgotten, MayEnter, IsJournal, SawLeast, SawMost, HardsInTurn, WakesInTurn, IdleMergesToLegal}
 
 more_is : (n : ℕ) → n + 1 ≡ suc n
 more_is n = omega arith
@@ -27,7 +27,7 @@ pub record Merged (makers : List ℕ) (journal log : List IdleEntry) : Type 0 wh
   pub woke : (who : ℕ) → wakes_of who log ≡ wakes_of who journal
   pub saw : SawMost (length makers) journal
 
-more_hard : (count : ℕ) (f n : Option ℕ) → Agrees count f n → Agrees (count + 1) f (one_more n)
+more_hard : (count : ℕ) (f n : Option ℕ) → Agrees count f n → Agrees (count + 1) f (incremented n)
 more_hard count None None is = tt
 more_hard count None (Some n) is = absurd is
 more_hard count (Some f) None is = absurd is
@@ -90,7 +90,7 @@ merged_hard : (who : ℕ) (makers : List ℕ) (journal log : List IdleEntry) →
 merged_hard who makers journal log m = record {
   hard = let h = m.hard in omega arith;
   state = m.state;
-  session = subst (λ (n : ℕ). Agrees n (forgotten journal) (one_more (session_of log))) (more_is (length makers)) (more_hard (length makers) (forgotten journal) (session_of log) m.session);
+  session = subst (λ (n : ℕ). Agrees n (forgotten journal) (incremented (session_of log))) (more_is (length makers)) (more_hard (length makers) (forgotten journal) (session_of log) m.session);
   begun = add_none (begun log) 0 refl ∙ m.begun;
   made = λ k. ap (λ (n : ℕ). n + (if who == k then 1 else 0)) (m.made k);
   woke = λ k. none_more (wakes_of k log) (who == k) ∙ m.woke k;
@@ -181,5 +181,5 @@ legal_rest z all whole hard wake later makers newer journal log cut roles saw is
       legal_rest z all whole hard wake later hs (newer ++ e ∷ []) js rest cut (roles ∙ sym (append_assoc newer (e ∷ []) js)) (saw_more (length hs) newer e saw (omega (arith, at))) is.1 m,
     )
 
-pub merges_to_legal : MergesToLegal
+pub merges_to_legal : IdleMergesToLegal
 merges_to_legal z makers journal log is hard wake m = legal_rest z makers journal hard wake [] makers [] journal log refl refl tt is m

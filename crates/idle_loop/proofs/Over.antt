@@ -9,7 +9,7 @@ use Rattle.idle_loop.specs.declared.entry.IdleKind.TheVariants.{Hard, Begin, Wak
 use Rattle.idle_loop.specs.declared.entry.IdleEntry.{IdleEntry}
 use Rattle.idle_loop.specs.declared.entry.IdleLog.{IdleLog}
 use Rattle.idle_loop.specs.declared.entry.IdleSizes.{IdleSizes}
-use Rattle.idle_loop.specs.IdleLogs.{state_by, state_after, one_more, session_by, session_of, hards_of, wakes_of, since_begin, begun, MayMake, IsIdleLog, IsOver, IsIdleRun}
+use Rattle.idle_loop.specs.IdleLogs.{state_by, state_after, incremented, session_by, session_of, hards_of, wakes_of, since_begin, begun, MayMake, IsIdleLog, IsOver, IsIdleRun}
 use Rattle.idle_gate.specs.Gates.{woken, is_entered}
 use Rattle.idle_loop.proofs.Races.{Due, due_of, awake, in_turn, loses_none, sleeps_over_none}
 
@@ -20,7 +20,7 @@ IsNoSession (Some n) = ⊥
 no_session : (o : Option ℕ) → o ≡ None → IsNoSession o
 no_session o is = subst IsNoSession (sym is) tt
 
-more_is_none : (o : Option ℕ) → one_more o ≡ None → o ≡ None
+more_is_none : (o : Option ℕ) → incremented o ≡ None → o ≡ None
 more_is_none None is = refl
 more_is_none (Some n) is = absurd (no_session (Some (n + 1)) is)
 

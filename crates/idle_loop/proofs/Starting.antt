@@ -8,7 +8,7 @@ use mathlib.Core.Option.{some}
 use Rattle.atomic_table.specs.Seated.{TableId}
 use Rattle.event_word.specs.declared.table.EventSeat.{EventSeat}
 use Rattle.event_word.specs.Lists.{tokens}
-use Rattle.event_word.specs.Seats.{Token, AreNew, IsUntouched, floor_of, made_of, number_of, sources_of}
+use Rattle.event_word.specs.Seats.{WordToken, AreNew, IsUntouched, floor_of, made_of, number_of, source_count}
 use Rattle.event_word.specs.Steps.{MadeStep}
 use Rattle.event_word.proofs.Seating.{came}
 use Rattle.atomic_table.proofs.Lists.{at_map}
@@ -52,7 +52,7 @@ first_waker z who w low number none now ranks room = record {
 }
 
 -- a new waker comes to the others
-pub waker_more : (z : IdleSizes) (table : TableId) (look : Token) (seats yielded left rest : List EventSeat) (seat : EventSeat) (qs qs' : List Role) (w : Waker) → look.table_id ≡ table → AreNew look (tokens seats) → length seats ≡ z.wakers → yielded ++ left ≡ seats
+pub waker_more : (z : IdleSizes) (table : TableId) (look : WordToken) (seats yielded left rest : List EventSeat) (seat : EventSeat) (qs qs' : List Role) (w : Waker) → look.table_id ≡ table → AreNew look (tokens seats) → length seats ≡ z.wakers → yielded ++ left ≡ seats
     → left ≡ seat ∷ rest → length qs ≡ length yielded → w.seat.token ≡ seat.token → w.now ≡ record { wakes = 0; owes = false } → w.ranks.items ≡ [] → z.events ≤ vec_capacity w.ranks → AreRoles z table [] 0 qs → qs' ≡ qs ++ role.Wakes w ∷ []
     → AreRoles z table [] 0 qs'
 waker_more z table look seats yielded left rest seat qs qs' w at new count whole next same token now ranks room are grown =
@@ -64,14 +64,14 @@ waker_more z table look seats yielded left rest seat qs qs' w at new count whole
     let who : 0 + length qs ≡ length yielded = omega (arith, same) in
     subst (AreRoles z table [] 0) (sym grown) (roles_more z table [] 0 qs (role.Wakes w) are
     (subst (λ (n : ℕ). IsWaker z n [] w) (sym who) (first_waker z (length yielded) w low (ap number_of token ∙ place.1) (ap made_of token ∙ fresh.made) now ranks room))
-    (ap (λ (t : Token). t.table_id) token ∙ (place.0 ∙ at)))
+    (ap (λ (t : WordToken). t.table_id) token ∙ (place.0 ∙ at)))
 
 -- and the idler after them
-pub idler_more : (z : IdleSizes) (table : TableId) (look : Token) (seats : List EventSeat) (qs qs' : List Role) (l : TableLook) → look.table_id ≡ table → AreNew look (tokens seats) → length seats ≡ z.wakers → length qs ≡ length seats → l.token ≡ look → AreRoles z table [] 0 qs
+pub idler_more : (z : IdleSizes) (table : TableId) (look : WordToken) (seats : List EventSeat) (qs qs' : List Role) (l : TableLook) → look.table_id ≡ table → AreNew look (tokens seats) → length seats ≡ z.wakers → length qs ≡ length seats → l.token ≡ look → AreRoles z table [] 0 qs
     → qs' ≡ qs ++ role.Idles l ∷ [] → AreRoles z table [] 0 qs'
 idler_more z table look seats qs qs' l at new count same token are grown =
-    let sources : sources_of look ≡ z.wakers = sym new.all_are.counted ∙ (length-map seats (λ (s : EventSeat). s.token) ∙ count) in
-    subst (AreRoles z table [] 0) (sym grown) (roles_more z table [] 0 qs (role.Idles l) are (record { number = omega (arith, same, count); sources = ap sources_of token ∙ sources }) (ap (λ (t : Token). t.table_id) token ∙ at))
+    let sources : source_count look ≡ z.wakers = sym new.all_are.counted ∙ (length-map seats (λ (s : EventSeat). s.token) ∙ count) in
+    subst (AreRoles z table [] 0) (sym grown) (roles_more z table [] 0 qs (role.Idles l) are (record { number = omega (arith, same, count); sources = ap source_count token ∙ sources }) (ap (λ (t : WordToken). t.table_id) token ∙ at))
 
 pub first_pool : (z : IdleSizes) (table : TableId) (c : WorkerPool) → AreSizes z → c.gate_log ≡ first_gate_log z → length c.roles.items ≡ z.wakers + 1 → AreRoles z table [] 0 c.roles.items → IsWorkerPool z table c
 first_pool z table c sizes gate_log count roles = record {

@@ -19,12 +19,12 @@ use Rattle.idle_loop.specs.Sizes.{AreSizes, owed}
 use Rattle.idle_loop.specs.GateLogs.{GateLogState}
 use Rattle.turn_lock.specs.declared.view.Made.{Made}
 use Rattle.turn_lock.specs.Bookings.{placed, of_object}
-use Rattle.turn_lock.specs.Passes.{Token, IsPass, HasGrown, gained, made_of as made_by_pass, number_of as number_of_pass}
+use Rattle.turn_lock.specs.Passes.{LockToken, IsPass, HasGrown, gained, made_of as made_by_pass, number_of as number_of_pass}
 use Rattle.turn_lock.proofs.Booking.{of_object_both, of_object_own}
 use Rattle.idle_loop.specs.declared.roles.Waker.{Waker}
 use Rattle.idle_loop.specs.declared.roles.Role.{Role}
 use Rattle.idle_loop.specs.declared.roles.Role.TheVariants as role
-use Rattle.idle_loop.specs.Turns.{seen_by, AreBy, entries_in, own_of, befores, InTurn, SawFewer}
+use Rattle.idle_loop.specs.Turns.{seen_by, AreBy, entries_in, gate_entries, befores, InTurn, SawFewer}
 use Rattle.idle_loop.specs.Roles.{IsIn, IsRole, IsWaker}
 use Rattle.idle_loop.specs.Steps.{Gains, HasWoken}
 use Rattle.idle_loop.proofs.Alternate.{taken_if}
@@ -153,16 +153,16 @@ entries_placed place (x ∷ xs) = ap (λ (l : List IdleEntry). l ++ x ∷ []) (e
 
 -- and the pass has made what the gate gained
 pub own_more : (who : ℕ) (had : List IdleEntry) (old new : GateLogState) (before after : List (Made IdleEntry)) → had ≡ reverse old.journal → (g : Gains who old new) → after ≡ before ++ gained sizes_of entries_of 0 had new
-    → own_of after ≡ g.gains ++ own_of before
+    → gate_entries after ≡ g.gains ++ gate_entries before
 own_more who had old new before after is g made =
     let seam : drop (length had) (reverse new.journal) ≡ reverse g.gains =
     ap (λ (l : List IdleEntry). drop (length had) l) (entries_more who old new g ∙ ap (λ (l : List IdleEntry). l ++ reverse g.gains) (sym is)) ∙ drop-append_seam had (reverse g.gains) in
     let new_made : List (Made IdleEntry) = placed 0 (length had) (reverse g.gains) in
     let whole : after ≡ before ++ new_made = made ∙ ap (λ (l : List IdleEntry). before ++ placed 0 (length had) l) seam in
-    ap own_of whole
+    ap gate_entries whole
     ∙ (ap entries_in (of_object_both 0 before new_made ∙ ap (λ (l : List (Made IdleEntry)). of_object 0 before ++ l) (of_object_own 0 (length had) (reverse g.gains)))
     ∙ (entries_both (of_object 0 before) new_made
-    ∙ ap (λ (l : List IdleEntry). l ++ own_of before) (entries_placed (length had) (reverse g.gains) ∙ reverse-reverse g.gains)))
+    ∙ ap (λ (l : List IdleEntry). l ++ gate_entries before) (entries_placed (length had) (reverse g.gains) ∙ reverse-reverse g.gains)))
 
 by_both : (who : ℕ) (xs ys : List IdleEntry) → AreBy who xs → AreBy who ys → AreBy who (xs ++ ys)
 by_both who [] ys a b = b
@@ -171,26 +171,26 @@ by_both who (x ∷ xs) ys a b = (a.0, by_both who xs ys a.1 b)
 -- ---- a turn, by what the gate gained
 
 -- a pass that made what the gate gained goes on with a role that agrees with it
-pub goes_on : (z : IdleSizes) (locks : TableId) (who : ℕ) (first : GateLogState) (p p' : Token GateLogState IdleEntry) (q q' : Role) (gains : List IdleEntry) → IsPass locks (first ∷ []) p' → number_of_pass p' ≡ number_of_pass p
-    → own_of (made_by_pass p') ≡ gains ++ own_of (made_by_pass p) → AreBy who gains → IsIn z locks who first p q → IsRole z who (gains ++ (own_of (made_by_pass p) ++ first.journal)) q' → IsIn z locks who first p' q'
+pub goes_on : (z : IdleSizes) (locks : TableId) (who : ℕ) (first : GateLogState) (p p' : LockToken GateLogState IdleEntry) (q q' : Role) (gains : List IdleEntry) → IsPass locks (first ∷ []) p' → number_of_pass p' ≡ number_of_pass p
+    → gate_entries (made_by_pass p') ≡ gains ++ gate_entries (made_by_pass p) → AreBy who gains → IsIn z locks who first p q → IsRole z who (gains ++ (gate_entries (made_by_pass p) ++ first.journal)) q' → IsIn z locks who first p' q'
 goes_on z locks who first p p' q q' gains pass number own by is role' = record {
   sizes = is.sizes;
   first_sizes = is.first_sizes;
   pass = pass;
   number = number ∙ is.number;
-  own = subst (AreBy who) (sym own) (by_both who gains (own_of (made_by_pass p)) by is.own);
-  role = subst (λ (l : List IdleEntry). IsRole z who l q') (sym (ap (λ (l : List IdleEntry). l ++ first.journal) own ∙ append_assoc gains (own_of (made_by_pass p)) first.journal)) role';
+  own = subst (AreBy who) (sym own) (by_both who gains (gate_entries (made_by_pass p)) by is.own);
+  role = subst (λ (l : List IdleEntry). IsRole z who l q') (sym (ap (λ (l : List IdleEntry). l ++ first.journal) own ∙ append_assoc gains (gate_entries (made_by_pass p)) first.journal)) role';
 }
 
 -- a waker that goes on without the gate
-pub goes_alone : (z : IdleSizes) (locks : TableId) (who : ℕ) (first : GateLogState) (p : Token GateLogState IdleEntry) (w w' : Waker) → ((seen : List ℕ) → IsWaker z who seen w → IsWaker z who seen w') → IsIn z locks who first p (role.Wakes w) → IsIn z locks who first p (role.Wakes w')
+pub goes_alone : (z : IdleSizes) (locks : TableId) (who : ℕ) (first : GateLogState) (p : LockToken GateLogState IdleEntry) (w w' : Waker) → ((seen : List ℕ) → IsWaker z who seen w → IsWaker z who seen w') → IsIn z locks who first p (role.Wakes w) → IsIn z locks who first p (role.Wakes w')
 goes_alone z locks who first p w w' keeps is = record {
   sizes = is.sizes;
   first_sizes = is.first_sizes;
   pass = is.pass;
   number = is.number;
   own = is.own;
-  role = keeps (seen_by who (own_of (made_by_pass p) ++ first.journal)) is.role;
+  role = keeps (seen_by who (gate_entries (made_by_pass p) ++ first.journal)) is.role;
 }
 
 -- a waker's role, after what it added

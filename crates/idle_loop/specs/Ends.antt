@@ -3,7 +3,7 @@ use Rattle.std.specs.Prelude.{◌≡◌, ◌≤◌, ◌+◌, ℕ, Bool, false, L
 use Rattle.atomic_table.specs.Seated.{TableId}
 use Rattle.sleep_model.specs.declared.word.EventNow.{EventNow}
 use Rattle.event_word.specs.declared.table.EventSeat.{EventSeat}
-use Rattle.event_word.specs.Seats.{number_of, made_of, looked_of, sources_of}
+use Rattle.event_word.specs.Seats.{number_of, made_of, looked_of, source_count}
 use Rattle.idle_gate.specs.declared.state.IdleState.{IdleState}
 use Rattle.idle_gate.specs.declared.state.IdleState.TheVariants as state
 use Rattle.idle_loop.specs.declared.entry.IdleEntry.{IdleEntry}
@@ -79,11 +79,11 @@ module _ {Z : Type 0} where
   AreLeft z table journal from (s ∷ ss) (v ∷ vs) = IsLeftAt z table from (seen_by from journal) s v × AreLeft z table journal (from + 1) ss vs
 
 -- what a run that is over leaves; the idler's seat has seen all that the journal saw (own)
-pub record IsLeft (z : IdleSizes) (table : TableId) (l : RunLeft) : Type 0 where
+pub record IsRunLeft (z : IdleSizes) (table : TableId) (l : RunLeft) : Type 0 where
   pub sizes : AreSizes z
   pub gate_log : l.gate_log.sizes ≡ z
   pub look : l.look.token.table_id ≡ table
-  pub sources : sources_of l.look.token ≡ z.wakers
+  pub sources : source_count l.look.token ≡ z.wakers
   pub count : length l.seats.items ≡ z.wakers
   pub each : AreLeft z table l.gate_log.journal 0 l.seats.items l.ranks.items
   pub last : EventNow

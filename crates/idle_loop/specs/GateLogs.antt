@@ -40,6 +40,6 @@ pub record IsGateLog (z : IdleSizes) (gate : Gate) (journal : List IdleEntry) : 
   pub begun : (gate.begun ≡ begun journal) × (begun journal ≤ z.sessions)
 
 -- each waker's wakes are counted (own)
-pub record AreCounted (z : IdleSizes) (woke : List ℕ) (journal : List IdleEntry) : Type 0 where
+pub record WakesAreCounted (z : IdleSizes) (woke : List ℕ) (journal : List IdleEntry) : Type 0 where
   pub count : length woke ≡ z.wakers
   pub each : (who : ℕ) → who < z.wakers → slice_index_or woke who 0 ≡ wakes_of who journal

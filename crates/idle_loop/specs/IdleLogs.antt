@@ -24,13 +24,13 @@ state_after [] = state.Idle
 state_after (e ∷ past) = state_by e.what (state_after past)
 
 -- one more
-abbrev pub one_more : Option ℕ → Option ℕ
-one_more None = None
-one_more (Some n) = Some (n + 1)
+abbrev pub incremented : Option ℕ → Option ℕ
+incremented None = None
+incremented (Some n) = Some (n + 1)
 
 -- the hard events since the open session's begin, after an entry (pm_wakeup_clear, pm_system_wakeup)
 abbrev pub session_by : IdleKind → Option ℕ → Option ℕ
-session_by Hard s = one_more s
+session_by Hard s = incremented s
 session_by Begin s = Some 0
 session_by Wake s = s
 session_by TryOk s = s

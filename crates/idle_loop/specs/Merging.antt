@@ -81,5 +81,5 @@ WakesInTurn makers journal = (later before : List ℕ) (e : IdleEntry) (newer ol
     → e.hard ≡ length before → e.what ≡ Wake → made_by e.who before ≡ wakes_of e.who older + 1
 
 -- the merge of such lists is a legal log (s2idle_loop)
-abbrev pub MergesToLegal : Type 0
-MergesToLegal = (z : IdleSizes) (makers : List ℕ) (journal log : List IdleEntry) → IsJournal z journal → HardsInTurn z makers journal → WakesInTurn makers journal → Merges makers journal log → IsIdleLog z log
+abbrev pub IdleMergesToLegal : Type 0
+IdleMergesToLegal = (z : IdleSizes) (makers : List ℕ) (journal log : List IdleEntry) → IsJournal z journal → HardsInTurn z makers journal → WakesInTurn makers journal → Merges makers journal log → IsIdleLog z log

@@ -5,7 +5,7 @@ use Rattle.idle_loop.specs.declared.entry.IdleEntry.{IdleEntry}
 use Rattle.idle_loop.specs.declared.entry.IdleSizes.{IdleSizes}
 use Rattle.idle_loop.specs.Sizes.{AreSizes}
 use Rattle.idle_loop.specs.GateLogs.{GateLogState}
-use Rattle.turn_lock.specs.Passes.{Token}
+use Rattle.turn_lock.specs.Passes.{LockToken}
 use Rattle.idle_loop.specs.declared.roles.Role.{Role}
 use Rattle.idle_loop.specs.declared.roles.Waker.{Waker}
 use Rattle.idle_loop.specs.Turns.{AreBy, seen_by}
@@ -19,7 +19,7 @@ pub record Gains (who : ℕ) (old new : GateLogState) : Type 0 where
   pub sizes : new.sizes ≡ old.sizes
 
 -- a waker that owes no wake may make a hard event (pm_system_wakeup)
-pub record IsFree (w : Waker) : Type 0 where
+pub record OwesNoWake (w : Waker) : Type 0 where
   pub sizes : IdleSizes
   pub who : ℕ
   pub seen : List ℕ
@@ -47,6 +47,6 @@ pub record HasWoken (who : ℕ) (old new : Waker) (before after : GateLogState) 
   pub table : new.seat.token.table_id ≡ old.seat.token.table_id
 
 -- a worker's pass and role after a turn agree with the burst as they did before (own)
-pub record HasActed (z : IdleSizes) (locks : TableId) (who : ℕ) (old new : Token GateLogState IdleEntry) (before after : Role) : Type 0 where
+pub record StaysInBurst (z : IdleSizes) (locks : TableId) (who : ℕ) (old new : LockToken GateLogState IdleEntry) (before after : Role) : Type 0 where
   pub keeps : (first : GateLogState) → IsIn z locks who first old before → IsIn z locks who first new after
   pub table : table_of after ≡ table_of before

@@ -34,8 +34,8 @@ entries_in [] = []
 entries_in (m ∷ ms) = entries_in ms ++ m.entry ∷ []
 
 -- the gate's entries that a pass made (own)
-abbrev pub own_of : List (Made IdleEntry) → List IdleEntry
-own_of ms = entries_in (of_object 0 ms)
+abbrev pub gate_entries : List (Made IdleEntry) → List IdleEntry
+gate_entries ms = entries_in (of_object 0 ms)
 
 -- how many hard events came before each step (pm_system_wakeup)
 abbrev pub befores : List MadeStep → List ℕ

@@ -26,7 +26,7 @@ pub record IsWorkerPool (z : IdleSizes) (table : TableId) (c : WorkerPool) : Typ
   pub roles : AreRoles z table c.gate_log.journal 0 c.roles.items
 
 -- a worker of that number, with a pass of a burst that began with that gate (own)
-pub record IsAt (z : IdleSizes) (locks table : TableId) (first : GateLogState) (who : ℕ) (w : IdleWorker) : Type 0 where
+pub record IsWorkerAt (z : IdleSizes) (locks table : TableId) (first : GateLogState) (who : ℕ) (w : IdleWorker) : Type 0 where
   pub named : w.who ≡ who
   pub seat : table_of w.role ≡ table
   pub pass : Pass GateLogState IdleEntry
@@ -34,18 +34,18 @@ pub record IsAt (z : IdleSizes) (locks table : TableId) (first : GateLogState) (
   pub is : IsIn z locks who first pass.token w.role
 
 -- the workers from that number on (own)
-abbrev pub AreAt : IdleSizes → TableId → TableId → GateLogState → ℕ → List IdleWorker → Type 0
-AreAt z locks table first from [] = Unit {0}
-AreAt z locks table first from (w ∷ ws) = IsAt z locks table first from w × AreAt z locks table first (from + 1) ws
+abbrev pub AreWorkersAt : IdleSizes → TableId → TableId → GateLogState → ℕ → List IdleWorker → Type 0
+AreWorkersAt z locks table first from [] = Unit {0}
+AreWorkersAt z locks table first from (w ∷ ws) = IsWorkerAt z locks table first from w × AreWorkersAt z locks table first (from + 1) ws
 
 -- the workers from that number on are made of roles and passes, each with 1,000 turns left (own)
-abbrev pub AreWorkersOf : ℕ → List Role → List (Pass GateLogState IdleEntry) → List IdleWorker → Type 0
-AreWorkersOf from [] [] [] = Unit {0}
-AreWorkersOf from [] [] (w ∷ ws) = ⊥
-AreWorkersOf from [] (p ∷ ps) ws = ⊥
-AreWorkersOf from (q ∷ qs) [] ws = ⊥
-AreWorkersOf from (q ∷ qs) (p ∷ ps) [] = ⊥
-AreWorkersOf from (q ∷ qs) (p ∷ ps) (w ∷ ws) = (w ≡ record { who = from; pass = Some p; role = q; left = 1000 }) × AreWorkersOf (from + 1) qs ps ws
+abbrev pub AreNewWorkers : ℕ → List Role → List (Pass GateLogState IdleEntry) → List IdleWorker → Type 0
+AreNewWorkers from [] [] [] = Unit {0}
+AreNewWorkers from [] [] (w ∷ ws) = ⊥
+AreNewWorkers from [] (p ∷ ps) ws = ⊥
+AreNewWorkers from (q ∷ qs) [] ws = ⊥
+AreNewWorkers from (q ∷ qs) (p ∷ ps) [] = ⊥
+AreNewWorkers from (q ∷ qs) (p ∷ ps) (w ∷ ws) = (w ≡ record { who = from; pass = Some p; role = q; left = 1000 }) × AreNewWorkers (from + 1) qs ps ws
 
 -- there is a pass
 abbrev pub IsThere : Option (Pass GateLogState IdleEntry) → Type 0
@@ -67,11 +67,11 @@ AreSplit (w ∷ ws) (q ∷ qs) [] = ⊥
 AreSplit (w ∷ ws) (q ∷ qs) (p ∷ ps) = (w.role ≡ q) × (w.pass ≡ Some p) × AreSplit ws qs ps
 
 -- all workers of a burst that began with that gate, at its end (own)
-pub record HasEnded (z : IdleSizes) (table : TableId) (first : GateLogState) (locks : LockTable GateLogState IdleEntry) (ws : List IdleWorker) : Type 0 where
+pub record WorkersHaveEnded (z : IdleSizes) (table : TableId) (first : GateLogState) (locks : LockTable GateLogState IdleEntry) (ws : List IdleWorker) : Type 0 where
   pub sizes : AreSizes z
   pub first_sizes : first.sizes ≡ z
   pub firsts : first_of locks.own ≡ first ∷ []
   pub unused : locks.own.me.0.known ≡ []
   pub count : locks.own.me.0.next ≡ z.wakers + 1
   pub long : length ws ≡ z.wakers + 1
-  pub at : AreAt z locks.own.table_id table first 0 ws
+  pub at : AreWorkersAt z locks.own.table_id table first 0 ws

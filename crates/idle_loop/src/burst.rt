@@ -5,7 +5,7 @@ ghost use Rattle.atomic_table.specs.Seated.{TableId};
 ghost use Rattle.idle_loop.specs.GateLogs.{GateLogState};
 ghost use Rattle.turn_lock.specs.Passes.{AreAll, AreNew, first_of};
 ghost use Rattle.turn_lock.specs.Passing.{tokens};
-ghost use Rattle.idle_loop.specs.WorkerPools.{AreAt, AreWorkersOf, AreSplit, HavePasses, HasEnded, IsWorkerPool};
+ghost use Rattle.idle_loop.specs.WorkerPools.{AreWorkersAt, AreNewWorkers, AreSplit, HavePasses, WorkersHaveEnded, IsWorkerPool};
 ghost use Rattle.idle_loop.specs.declared.entry.IdleSizes.{IdleSizes};
 
 use crate::entry::IdleSizes;
@@ -38,7 +38,7 @@ fn with_passes<'t>(
 ) -> Result<Vec<IdleWorker<'t>>, Mem>
     requires same { length passes.items ≡ length roles.items }
     requires few { length roles.items ≤ 17 }
-    ensures { IfOk result (λ workers. AreWorkersOf 0 roles.entry.items passes.items workers.items) }
+    ensures { IfOk result (λ workers. AreNewWorkers 0 roles.entry.items passes.items workers.items) }
 {
     let mut workers = Vec::with_capacity(alloc, roles.len())?;
     for (role, pass) in roles.into_iter().zip(passes) {
@@ -86,7 +86,7 @@ fn began<'t>(
     ensures first { IfOk result (λ made. first_of made.0.own ≡ pool.entry.gate_log ∷ []) }
     ensures count { IfOk result (λ made. made.0.own.me.0.next ≡ sizes.wakers + 1) }
     ensures unused { IfOk result (λ made. made.0.own.me.0.known ≡ []) }
-    ensures at { IfOk result (λ made. (table : TableId) → IsWorkerPool sizes table pool.entry → AreAt sizes made.0.own.table_id table pool.entry.gate_log 0 made.1.items) }
+    ensures at { IfOk result (λ made. (table : TableId) → IsWorkerPool sizes table pool.entry → AreWorkersAt sizes made.0.own.table_id table pool.entry.gate_log 0 made.1.items) }
     ensures left { IfOk result (λ made. All (λ w. 1000 ≤ w.left) made.1.items) }
     ensures long { IfOk result (λ made. length made.1.items ≡ sizes.wakers + 1) }
 {
@@ -106,10 +106,10 @@ fn work<R: Threads + Wait + Sync>(
     workers: u8,
 )
     requires workers { 0 < workers }
-    requires at { (table : TableId) × (first : GateLogState) × AreAt sizes locks.now.own.table_id table first 0 pool.old }
+    requires at { (table : TableId) × (first : GateLogState) × AreWorkersAt sizes locks.now.own.table_id table first 0 pool.old }
     requires left { All (λ w. 1000 ≤ w.left) pool.old }
     requires few { length pool.old ≤ 17 }
-    ensures at { (table : TableId) (first : GateLogState) → AreAt sizes locks.now.own.table_id table first 0 pool.old → AreAt sizes locks.now.own.table_id table first 0 pool.new }
+    ensures at { (table : TableId) (first : GateLogState) → AreWorkersAt sizes locks.now.own.table_id table first 0 pool.old → AreWorkersAt sizes locks.now.own.table_id table first 0 pool.new }
     ensures long { length pool.new ≡ length pool.old }
 {
     let world = IdleWorld {
@@ -126,8 +126,8 @@ fn ended<'t>(
     locks: LockTable<GateLog<24>>,
     workers: Vec<IdleWorker<'t>>,
 ) -> Result<WorkerPool<'t>, Mem>
-    requires { (z : IdleSizes) × (table : TableId) × (first : GateLogState) × HasEnded z table first locks workers.items }
-    ensures { IfOk result (λ pool. (z : IdleSizes) (table : TableId) (first : GateLogState) → HasEnded z table first locks workers.entry.items → IsWorkerPool z table pool) }
+    requires { (z : IdleSizes) × (table : TableId) × (first : GateLogState) × WorkersHaveEnded z table first locks workers.items }
+    ensures { IfOk result (λ pool. (z : IdleSizes) (table : TableId) (first : GateLogState) → WorkersHaveEnded z table first locks workers.entry.items → IsWorkerPool z table pool) }
 {
     let (roles, passes) = split(alloc, workers)?;
     let mut gate_logs = close_locks(alloc, locks, passes)?;

@@ -8,7 +8,7 @@ ghost use Rattle.idle_gate.specs.Gates.{is_entered as entered};
 ghost use Rattle.idle_loop.specs.Sizes.{AreSizes};
 ghost use Rattle.idle_loop.specs.declared.roles.Role.TheVariants as variant;
 ghost use Rattle.idle_loop.specs.WorkerPools.{IsWorkerPool};
-ghost use Rattle.idle_loop.specs.Ends.{AreOff, AreDone, AreWakes, IsIdle, IsIdles, IsLeft, IsWakes};
+ghost use Rattle.idle_loop.specs.Ends.{AreOff, AreDone, AreWakes, IsIdle, IsIdles, IsRunLeft, IsWakes};
 ghost use Rattle.idle_loop.specs.Makers.{AreMade};
 
 use crate::burst::WorkerPool;
@@ -85,7 +85,7 @@ fn wakers_of(alloc: Global, roles: Vec<Role<'_>>) -> Result<(Vec<EventSeat>, Vec
 pub(crate) fn leave<R: Wait>(rt: &R, alloc: Global, pool: WorkerPool<'_>) -> Result<RunLeft, Mem>
     requires { (z : IdleSizes) × (table : TableId) × IsWorkerPool z table pool }
     ensures { IfOk result (λ left. (z : IdleSizes) (table : TableId) → IsWorkerPool z table pool.entry → AreDone z pool.entry.roles.items
-        → IsIdle z pool.entry.gate_log.gate.state pool.entry.gate_log.gate.in_session pool.entry.gate_log.gate.begun → IsLeft z table left) }
+        → IsIdle z pool.entry.gate_log.gate.state pool.entry.gate_log.gate.in_session pool.entry.gate_log.gate.begun → IsRunLeft z table left) }
 {
     let WorkerPool { gate_log, roles } = pool;
     let (roles, last) = apart(roles);
@@ -134,7 +134,7 @@ pub(crate) fn log_of(
     sizes: IdleSizes,
     left: RunLeft,
 ) -> Result<IdleLog, Mem>
-    requires { IsLeft sizes table.cells.shared.table_id left }
+    requires { IsRunLeft sizes table.cells.shared.table_id left }
     ensures { IfOk result (IsIdleRun sizes) }
 {
     let RunLeft {

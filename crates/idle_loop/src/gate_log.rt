@@ -23,14 +23,14 @@ pub struct GateLog<const BITS: u32> {
 
 impl<const BITS: u32> Model for GateLog<BITS> {
     ghost use Rattle.std.specs.Prelude.{◌≤◌, reverse, vec_capacity};
-    ghost use Rattle.idle_loop.specs.GateLogs.{GateLogState, IsGateLog, AreCounted, most_of};
+    ghost use Rattle.idle_loop.specs.GateLogs.{GateLogState, IsGateLog, WakesAreCounted, most_of};
     ghost use Rattle.idle_loop.specs.Merging.{SeesInOrder};
 
     ghost Value = { GateLogState };
 
     ghost view = { λ b. record { sizes = b.sizes; gate = b.gate; seen = b.seen; journal = reverse b.journal.items } };
 
-    ghost invariant = { λ b. IsGateLog b.sizes b.gate (reverse b.journal.items) × (most_of b.sizes ≤ vec_capacity b.journal) × SeesInOrder b.seen (reverse b.journal.items) × AreCounted b.sizes b.woke.items (reverse b.journal.items) };
+    ghost invariant = { λ b. IsGateLog b.sizes b.gate (reverse b.journal.items) × (most_of b.sizes ≤ vec_capacity b.journal) × SeesInOrder b.seen (reverse b.journal.items) × WakesAreCounted b.sizes b.woke.items (reverse b.journal.items) };
 }
 
 impl<const BITS: u32> GateLog<BITS> {

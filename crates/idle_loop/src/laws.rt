@@ -1,7 +1,7 @@
 //! Laws of every log of suspend-to-idle, and the law of the merge.
 
 ghost use Rattle.idle_loop.specs.Laws.{LosesNone, SleepsOverNone};
-ghost use Rattle.idle_loop.specs.Merging.{MergesToLegal};
+ghost use Rattle.idle_loop.specs.Merging.{IdleMergesToLegal};
 
 /// In every legal log, if the idler has entered, each waker that made a hard event in this session still owes
 /// its wake (`kernel/power/suspend.c`, `s2idle_enter`, `s2idle_wake`).
@@ -23,5 +23,5 @@ pub fn no_hard_event_sleeps()
 /// `drivers/base/power/wakeup.c`, `pm_system_wakeup`).
 #[tactic(auto, using(crate::proofs::Merges::merges_to_legal))]
 pub fn journal_and_hard_events_merge()
-    ensures { MergesToLegal }
+    ensures { IdleMergesToLegal }
 {}

@@ -7,7 +7,7 @@ ghost use Rattle.event_word.specs.Seats.{AreNew};
 ghost use Rattle.idle_loop.specs.IdleLogs.{IsIdleRun};
 ghost use Rattle.idle_loop.specs.Sizes.{AreSizes};
 ghost use Rattle.idle_loop.specs.WorkerPools.{AreRoles};
-ghost use Rattle.idle_loop.specs.Ends.{AreDone, IsIdle, IsLeft, IsDone};
+ghost use Rattle.idle_loop.specs.Ends.{AreDone, IsIdle, IsRunLeft, IsDone};
 
 use crate::burst::{WorkerPool, go_on};
 use crate::closing::{RunLeft, leave, log_of};
@@ -99,7 +99,7 @@ fn to_end<R: Threads + Wait + Sync>(
     requires look { look.token.table_id ≡ table.now.cells.shared.table_id }
     requires seats { AreNew look.token (tokens seats.items) }
     requires count { length seats.items ≡ sizes.wakers }
-    ensures { IfOk result (IsLeft sizes table.now.cells.shared.table_id) }
+    ensures { IfOk result (IsRunLeft sizes table.now.cells.shared.table_id) }
 {
     let mut pool = WorkerPool {
         gate_log: GateLog::new(alloc, sizes)?,

@@ -2,7 +2,7 @@
 
 ghost use Rattle.std.specs.Prelude.{◌≡◌, ◌<◌, true, false};
 ghost use Rattle.idle_gate.specs.declared.state.IdleState.TheVariants as state;
-ghost use Rattle.idle_loop.specs.Steps.{Gains, HasMadeHard, HasWoken, IsFree, IsOwing};
+ghost use Rattle.idle_loop.specs.Steps.{Gains, HasMadeHard, HasWoken, OwesNoWake, IsOwing};
 
 use crate::gate_log::GateLog;
 use crate::looks::look_for;
@@ -15,7 +15,7 @@ use std::sync::Wait;
 impl Waker<'_> {
     /// A hard event, which takes no lock (`pm_system_wakeup`).
     pub(crate) fn make_hard(&mut self)
-        requires { IsFree self.old }
+        requires { OwesNoWake self.old }
         ensures { HasMadeHard self.old self.new }
     {
         let before = self.seat.hard();

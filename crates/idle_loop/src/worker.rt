@@ -3,8 +3,8 @@
 ghost use Rattle.std.specs.Prelude.{◌≡◌, ◌+◌, Some, IsSome};
 ghost use Rattle.idle_loop.specs.GateLogs.{GateLogState};
 ghost use Rattle.idle_loop.specs.declared.roles.Role.TheVariants as variant;
-ghost use Rattle.idle_loop.specs.Roles.{IsIn, IsSame, IsWorker};
-ghost use Rattle.idle_loop.specs.Steps.{HasActed};
+ghost use Rattle.idle_loop.specs.Roles.{IsIn, IsSameWorker, IsWorker};
+ghost use Rattle.idle_loop.specs.Steps.{StaysInBurst};
 
 use crate::entry::{IdleEntry, IdleSizes};
 use crate::gate_log::GateLog;
@@ -55,7 +55,7 @@ fn waker_turn<R: Wait>(
     waker: &mut Waker<'_>,
 ) -> AfterTurn
     requires { (first : GateLogState) × IsIn world.now.sizes world.now.cells.now.shared.table_id who first pass.token (variant.Wakes waker.old) }
-    ensures { HasActed world.now.sizes world.now.cells.now.shared.table_id who pass.token result.pass.token (variant.Wakes waker.old) (variant.Wakes waker.new) }
+    ensures { StaysInBurst world.now.sizes world.now.cells.now.shared.table_id who pass.token result.pass.token (variant.Wakes waker.old) (variant.Wakes waker.new) }
 {
     if waker.now.owes {
         let mut held = take(world.cells, world.rt, pass, 0);
@@ -85,7 +85,7 @@ fn idler_turn<R: Wait>(
     look: &mut TableLook<'_>,
 ) -> AfterTurn
     requires { (first : GateLogState) × IsIn world.now.sizes world.now.cells.now.shared.table_id world.now.sizes.wakers first pass.token (variant.Idles look.old) }
-    ensures { HasActed world.now.sizes world.now.cells.now.shared.table_id world.now.sizes.wakers pass.token result.pass.token (variant.Idles look.old) (variant.Idles look.new) }
+    ensures { StaysInBurst world.now.sizes world.now.cells.now.shared.table_id world.now.sizes.wakers pass.token result.pass.token (variant.Idles look.old) (variant.Idles look.new) }
 {
     let mut held = take(world.cells, world.rt, pass, 0);
     let turn = idle_step(world.rt, held.value(), look);
@@ -103,7 +103,7 @@ fn act<R: Wait>(
     role: &mut Role<'_>,
 ) -> AfterTurn
     requires { (first : GateLogState) × IsIn world.now.sizes world.now.cells.now.shared.table_id who first pass.token role.old }
-    ensures { HasActed world.now.sizes world.now.cells.now.shared.table_id who pass.token result.pass.token role.old role.new }
+    ensures { StaysInBurst world.now.sizes world.now.cells.now.shared.table_id who pass.token result.pass.token role.old role.new }
 {
     match role {
         Role::Wakes(waker) => waker_turn(world, pass, who, waker),
@@ -129,7 +129,7 @@ impl<'w, 't, R: Wait> Job<IdleWorld<'w, R>> for IdleWorker<'t> {
 
     ghost goes = { λ w world _. IsWorker world.sizes world.cells.now.shared.table_id w };
 
-    ghost made = { λ old _ new. IsSame old new };
+    ghost made = { λ old _ new. IsSameWorker old new };
 
     fn turn(&mut self, shared: &IdleWorld<'w, R>, _now: u64) -> Turn {
         self.left -= 1;

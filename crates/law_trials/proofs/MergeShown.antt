@@ -13,7 +13,7 @@ use Rattle.sleep_model.specs.Merge.{actors_of, all_entries, entries_of, in_order
 use Rattle.sleep_model.specs.EntryClasses.{class_of}
 use Rattle.sleep_model.specs.Path.{is_same}
 use Rattle.sleep_model.specs.Sources.{is_of}
-use Rattle.merge_laws.specs.Apart.{IsActor, IsSource, calls_after, is_inside, is_journals, own_entries, past_of, source_past}
+use Rattle.merge_laws.specs.Apart.{AreActorSteps, IsSource, calls_after, is_inside, is_journals, own_entries, past_of, source_past}
 use Rattle.merge_laws.specs.Fitting.{FitApart}
 use Rattle.merge_laws.specs.Merging.{AreLegalApart}
 use Rattle.merge_laws.specs.Owned.{IsOwnList}
@@ -134,8 +134,8 @@ module _ (m : Machine) (journal : List JournalEntry) (hs : List (List SourceEntr
     of_journal = l.of_journal;
     of_sources = all_sources hs l.of_sources;
     of_actors = λ who.
-        each_or_none (λ who. IsActor who (λ k. calls_after m who k (past_of journal)) (is_inside (length m.sources + 1) (source_past hs) who) (past_of (own_entries who journal hs))) (actors_of m) who (all_entries journal hs) l.of_actors t.owned
-        (λ none. subst (λ (xs : List JournalEntry). IsActor who (λ k. calls_after m who k (past_of journal)) (is_inside (length m.sources + 1) (source_past hs) who) (past_of (in_order xs))) (sym none) tt);
+        each_or_none (λ who. AreActorSteps who (λ k. calls_after m who k (past_of journal)) (is_inside (length m.sources + 1) (source_past hs) who) (past_of (own_entries who journal hs))) (actors_of m) who (all_entries journal hs) l.of_actors t.owned
+        (λ none. subst (λ (xs : List JournalEntry). AreActorSteps who (λ k. calls_after m who k (past_of journal)) (is_inside (length m.sources + 1) (source_past hs) who) (past_of (in_order xs))) (sym none) tt);
     of_jumps = l.of_jumps;
   }
 

@@ -4,7 +4,7 @@ use Rattle.std.specs.List.{list_all}
 use Rattle.sleep_model.specs.declared.entry.JournalEntry.{JournalEntry}
 use Rattle.sleep_model.specs.declared.entry.SourceEntry.{SourceEntry}
 use Rattle.sleep_model.specs.Merge.{all_entries, is_chained}
-use Rattle.merge_laws.specs.Apart.{steps_of}
+use Rattle.merge_laws.specs.Apart.{word_steps}
 use Rattle.merge_laws.specs.Fitting.{are_counted, are_raised, has_time, is_look, jumps, no_steps, is_ordered}
 use Rattle.law_trials.specs.Merging.{all_ticked, histories_among, journal_among}
 use Rattle.law_trials.specs.Timers.{event_expires_machine, event_expires_entries}
@@ -45,7 +45,7 @@ all_in entries = all_entries (journal_in entries) (histories_in entries)
 
 -- their steps on the word
 abbrev pub steps_in : List JournalEntry → List JournalEntry
-steps_in entries = steps_of (journal_in entries) (histories_in entries)
+steps_in entries = word_steps (journal_in entries) (histories_in entries)
 
 -- the steps have each position once
 abbrev pub count_fits : List JournalEntry → Bool

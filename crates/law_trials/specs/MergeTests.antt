@@ -9,7 +9,7 @@ use Rattle.sleep_model.specs.Legal.{JournalPart}
 use Rattle.sleep_model.specs.Merge.{actors_of, all_entries, is_chained, of_source, rises}
 use Rattle.sleep_model.specs.Path.{is_same}
 use Rattle.sleep_model.specs.Sources.{most_entries}
-use Rattle.merge_laws.specs.Apart.{AreJumps, IsActor, IsSource, are_of, calls_after, is_inside, is_journals, own_entries, past_of, source_past, steps_of}
+use Rattle.merge_laws.specs.Apart.{AreJumps, AreActorSteps, IsSource, are_of, calls_after, is_inside, is_journals, own_entries, past_of, source_past, word_steps}
 use Rattle.merge_laws.specs.Fitting.{FitApart, are_counted, are_raised, has_time, is_look, jumps, no_steps, is_ordered}
 use Rattle.merge_laws.specs.Merging.{AreLegalApart}
 
@@ -34,9 +34,9 @@ pub record FitTested (m : Machine) (journal : List JournalEntry) (histories : Li
   pub owned : list_all (λ e. list_any (λ who. is_same e.entry.actor who) (actors_of m)) (all_entries journal histories)
       ≡ true
   pub actors_rise : list_all (λ who. rises (own_entries who journal histories)) (actors_of m) ≡ true
-  pub counted : are_counted 0 (steps_of journal histories) ≡ true
-  pub chained : is_chained no_steps (steps_of journal histories) ≡ true
-  pub looks : list_all (is_look (steps_of journal histories)) (all_entries journal histories) ≡ true
+  pub counted : are_counted 0 (word_steps journal histories) ≡ true
+  pub chained : is_chained no_steps (word_steps journal histories) ≡ true
+  pub looks : list_all (is_look (word_steps journal histories)) (all_entries journal histories) ≡ true
   pub ticks : list_all (λ e. nat_lt 0 e.stamp.tick) (all_entries journal histories) ≡ true
   pub raised : are_raised 0 0 (filter jumps journal) ≡ true
   pub sides : list_all (λ e. list_all (is_ordered e) (all_entries journal histories)) (all_entries journal histories)
@@ -48,7 +48,7 @@ pub record LegalTested (m : Machine) (journal : List JournalEntry) (histories : 
   pub of_journal : JournalPart m (past_of journal)
   pub of_sources : Below (λ s. IsSource (source_past histories s)) (length histories)
   pub of_actors : OfEach
-      (λ who. IsActor who (λ k. calls_after m who k (past_of journal)) (is_inside (length m.sources + 1) (source_past histories) who) (past_of (own_entries who journal histories)))
+      (λ who. AreActorSteps who (λ k. calls_after m who k (past_of journal)) (is_inside (length m.sources + 1) (source_past histories) who) (past_of (own_entries who journal histories)))
       (actors_of m)
   pub of_jumps : AreJumps m (past_of journal) (source_past histories)
 

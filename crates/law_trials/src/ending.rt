@@ -2,7 +2,7 @@
 //! `end_laws` refuses.
 
 ghost use Rattle.std.specs.Prelude.{◌≡◌, false, true, reverse};
-ghost use Rattle.end_laws.specs.Attempts.{attempts_end, own_entries};
+ghost use Rattle.end_laws.specs.Attempts.{attempts_end, own_entry_count};
 ghost use Rattle.end_laws.specs.Bounds.{but_jumps};
 ghost use Rattle.end_laws.specs.Waking.{events_wake_first, time_goes_forward};
 ghost use Rattle.law_trials.specs.Ending.{another_ends, ends, never_ends, sleeps_on, slept_by_time, slept_through, stays, steps_back, woken, woken_late};
@@ -39,7 +39,7 @@ pub fn attempts_are_over()
 
 /// How many entries an attempt has, and how many of a log are no jumps.
 pub fn entries_are_counted()
-    ensures own { own_entries (reverse ends) ≡ 3 }
-    ensures beside { own_entries (reverse woken) ≡ 0 }
+    ensures own { own_entry_count (reverse ends) ≡ 3 }
+    ensures beside { own_entry_count (reverse woken) ≡ 0 }
     ensures but_jumps { but_jumps (reverse slept_by_time) ≡ 2 }
 {}

@@ -32,5 +32,5 @@ pub fn broken_stamps_do_not_merge()
     // An entry counts a step that it did not see.
     ensures position { Merges calls_of_a_line_machine (with_stamp 1 2 2 two_workers) calls_of_a_line_entries → ⊥ }
     // A step is at a position that another has taken.
-    ensures behind { Merges calls_of_a_line_machine (with_stamp 5 0 4 two_workers) calls_of_a_line_entries → ⊥ }
+    ensures after { Merges calls_of_a_line_machine (with_stamp 5 0 4 two_workers) calls_of_a_line_entries → ⊥ }
 {}

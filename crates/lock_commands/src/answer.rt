@@ -23,12 +23,12 @@ fn first_bad(bytes: &[u8]) -> Option<u32>
     let mut left = bytes;
     let mut number = 1;
     while !left.is_empty() {
-        let (line, behind) = first_line(left);
+        let (line, after) = first_line(left);
         if verb_of(line).is_none() {
             return Some(number);
         }
         number += 1;
-        left = behind;
+        left = after;
     }
     None
 }

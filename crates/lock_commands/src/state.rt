@@ -160,9 +160,9 @@ impl LineRunner {
     {
         let mut left = bytes;
         while !left.is_empty() {
-            let (line, behind) = first_line(left);
+            let (line, after) = first_line(left);
             self.carry_line(rt, line)?;
-            left = behind;
+            left = after;
         }
         Ok(())
     }

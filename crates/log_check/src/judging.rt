@@ -11,7 +11,7 @@ ghost use Rattle.log_check.specs.Verdicts.{IsVerdict};
 use crate::ending::{Verdict, bad, judge_end};
 use check_past::Passed;
 use check_rules::{first_broken, is_next_entry};
-use sleep_base::{Mem, lost};
+use sleep_base::{Mem, drop_for_mem};
 use sleep_model::{Entry, Log, Machine};
 use std::alloc::Global;
 
@@ -48,7 +48,7 @@ pub fn check(alloc: Global, machine: &Machine, log: &Log) -> Result<Verdict, Mem
                 drop(past);
                 return verdict;
             }
-            Err(_) => return Err(lost(past)),
+            Err(_) => return Err(drop_for_mem(past)),
         }
     }
     let verdict = judge_end(&past, log);

@@ -16,7 +16,7 @@ use Rattle.sleep_model.specs.declared.word.EventNow.{EventNow}
 use Rattle.phase_table.specs.declared.phase.Phase.{Phase}
 use Rattle.phase_table.specs.Phases.{is_down, mirror}
 use Rattle.sleep_model.specs.Attempt.{attempt_due, freeze_since, sleep_of}
-use Rattle.sleep_model.specs.Devices.{after_device, async_work, device_due, device_error, is_async_device, waits_above, waits_below}
+use Rattle.sleep_model.specs.Devices.{after_device, async_work, device_due, device_error, is_async_device, waits_above, waits_for_subordinates}
 use Rattle.sleep_model.specs.Legal.{JournalPart}
 use Rattle.sleep_model.specs.Numbers.{time_of}
 use Rattle.sleep_model.specs.Path.{maker, is_actor}
@@ -52,7 +52,7 @@ works_beside : (b : Bool) (x w : AsyncWork) → cond b x Idle ≡ w → HasWork 
 works_beside true x w e h = refl
 works_beside false x w e h = absurd (subst HasWork (sym e) h)
 
-begin_back : (m : Machine) (past : List Entry) (now : EventNow) (p : Phase) (d : ℕ) (b : Bool) → BeginsAsync m past now p d b → cond b (after_device (waits_below m past p d) (Makes (turn_of m past now p d))) (after_device (waits_above m past (mirror p) d) (Makes (kind.Begin p d))) ≡ Makes (kind.Begin p d)
+begin_back : (m : Machine) (past : List Entry) (now : EventNow) (p : Phase) (d : ℕ) (b : Bool) → BeginsAsync m past now p d b → cond b (after_device (waits_for_subordinates m past p d) (Makes (turn_of m past now p d))) (after_device (waits_above m past (mirror p) d) (Makes (kind.Begin p d))) ≡ Makes (kind.Begin p d)
 begin_back m past now p d true h = rw h.0.waits (ap Makes h.1)
 begin_back m past now p d false h = rw h.1 refl
 

@@ -8,7 +8,7 @@ use Rattle.sleep_model.specs.declared.machine.Machine.{Machine}
 use Rattle.sleep_model.specs.Legal.{stats_of}
 use Rattle.sleep_model.specs.EntryClasses.{class_of}
 use Rattle.rule_definitions.specs.Entry.{Rule, Links, Numbers, Attempts, Reads, Walk, Skip, Runtime, Owed, Freezer, Path, Answers, Restored, Steps, Enabled, Source, KeepsRule, KeepsEntry, KeepsEach}
-use Rattle.rule_definitions.specs.Verdict.{number_of, BreaksFirst, IsFirstBad, AtEntry, AtStats, AtEnd, IsGood, GoodHasNone, FirstBadIsOne}
+use Rattle.rule_definitions.specs.Verdict.{rule_number, BreaksFirst, IsFirstBad, AtEntry, AtStats, AtEnd, IsGood, GoodHasNone, FirstBadIsOne}
 use Rattle.log_rules.proofs.Legal.{lists}
 
 -- what keeps each rule keeps the rule of that name
@@ -62,12 +62,12 @@ apart (x ∷ later) past [] past' e f h = Earlier later (let same : later ++ e �
 apart (x ∷ later) past (y ∷ later') past' e f h = apart later past later' past' e f (cc)
 
 -- of two rules that an entry breaks first the numbers are one
-one_number : (m : Machine) (past : List Entry) (e : Entry) (r q : Rule) → BreaksFirst m past e r → BreaksFirst m past e q → number_of r ≡ number_of q
-one_number m past e r q b c = by_less (nat_lt (number_of r) (number_of q)) refl (nat_lt (number_of q) (number_of r)) refl
+one_number : (m : Machine) (past : List Entry) (e : Entry) (r q : Rule) → BreaksFirst m past e r → BreaksFirst m past e q → rule_number r ≡ rule_number q
+one_number m past e r q b c = by_less (nat_lt (rule_number r) (rule_number q)) refl (nat_lt (rule_number q) (rule_number r)) refl
   where
-    by_less : (x : Bool) → nat_lt (number_of r) (number_of q) ≡ x → (y : Bool) → nat_lt (number_of q) (number_of r) ≡ y → number_of r ≡ number_of q
-    by_less true f y g = absurd (b.breaks (c.lesser r (let less : number_of r < number_of q = grind (arith, nat_tests) in less)))
-    by_less false f true g = absurd (c.breaks (b.lesser q (let less : number_of q < number_of r = grind (arith, nat_tests) in less)))
+    by_less : (x : Bool) → nat_lt (rule_number r) (rule_number q) ≡ x → (y : Bool) → nat_lt (rule_number q) (rule_number r) ≡ y → rule_number r ≡ rule_number q
+    by_less true f y g = absurd (b.breaks (c.lesser r (let less : rule_number r < rule_number q = grind (arith, nat_tests) in less)))
+    by_less false f true g = absurd (c.breaks (b.lesser q (let less : rule_number q < rule_number r = grind (arith, nat_tests) in less)))
     by_less false f false g = grind (arith, nat_tests)
 
 get_take : {A : Type 0} (xs : List A) (k n : ℕ) → k < n → slice_get (take n xs) k ≡ slice_get xs k
@@ -89,7 +89,7 @@ one_place xs ys k n t d u e = by_less (nat_lt k n) refl (nat_lt n k) refl
         absurd (e (sym (get_take xs n k less) ∙ ap (λ (z : List Stats). slice_get z n) t ∙ get_take ys n k less))
     by_less false f false g = grind (arith, nat_tests)
 
-by_entries : (m : Machine) (past past' : List Entry) (e f : Entry) (r q : Rule) → Apart past past' e f → KeepsEach m past → BreaksFirst m past e r → KeepsEach m past' → BreaksFirst m past' f q → (length past + 1 ≡ length past' + 1) × (number_of r ≡ number_of q)
+by_entries : (m : Machine) (past past' : List Entry) (e f : Entry) (r q : Rule) → Apart past past' e f → KeepsEach m past → BreaksFirst m past e r → KeepsEach m past' → BreaksFirst m past' f q → (length past + 1 ≡ length past' + 1) × (rule_number r ≡ rule_number q)
 by_entries m past past' e f r q (Same s t) k b l c = (ap (λ (x : List Entry). length x + 1) s, one_number m past e r q b (subst (λ (x : Entry). BreaksFirst m past x q) (sym t) (subst (λ (x : List Entry). BreaksFirst m x f q) (sym s) c)))
 by_entries m past past' e f r q (Later mid s) k b l c = absurd (among m past mid past' f q s k c)
 by_entries m past past' e f r q (Earlier mid s) k b l c = absurd (among m past' mid past e r s l b)

@@ -23,10 +23,10 @@ use Rattle.phase_table.specs.declared.phase.Phase.{Phase}
 use Rattle.phase_table.specs.declared.phase.Phase.TheVariants as phase
 use Rattle.phase_table.specs.Phases.{mirror, tests_wakeup}
 use Rattle.sleep_model.specs.Attempt.{answered, busy_error, cpu_kind, enter_due, failed, freeze_due, freeze_since, froze_due, gives_up_at, if_left, sleep_of, stage_due, wakes_due}
-use Rattle.sleep_model.specs.Devices.{after_device, callback, complete_due, device_error, down_due, is_async_device, is_direct, next_completed, next_down, next_prepared, next_to_schedule, next_up, phase_error, phase_failed, prepare_due, state_in, take_down, up_due, waits_above, waits_below, waits_down, waits_up, walk_down, walk_up}
+use Rattle.sleep_model.specs.Devices.{after_device, callback, complete_due, device_error, down_due, is_async_device, is_direct, next_completed, next_down, next_prepared, next_to_schedule, next_up, phase_error, phase_failed, prepare_due, state_in, take_down, up_due, waits_above, waits_for_subordinates, waits_down, waits_up, walk_down, walk_up}
 use Rattle.sleep_model.specs.Freezer.{left}
 use Rattle.sleep_model.specs.Guard.{pending}
-use Rattle.sleep_model.specs.Notifiers.{next_called, next_posted, next_cpu_off, next_cpu_on, next_stopped, next_started}
+use Rattle.sleep_model.specs.Notifiers.{next_notified, next_post_notified, next_cpu_off, next_cpu_on, next_syscore_suspended, next_syscore_resumed}
 use Rattle.sleep_model.specs.Numbers.{time_of}
 use Rattle.sleep_model.specs.Path.{attempts, maker}
 use Rattle.sleep_model.specs.PhaseStates.{is_down_in}
@@ -157,7 +157,7 @@ module _ (m : Machine) (past : List Entry) (now : EventNow) where
         let P : Kind → Type 0 = RowKeepsRules m past now (stage.Downs p) in
         only_if P (is_async_device m d) _ _
         (λ b. row (stage.Downs p) (kind.Schedule p d) refl tt (subst (SchedulesAt m past p d) (sym e) (refl, c, f, n, b)) tt tt tt tt tt tt tt)
-        (λ b. only_after P (waits_below m past p d) _ (λ w. taken_made d b (record { free = c; well = f; next = n; waits = w }) (tests_wakeup p && pending past now) (is_direct m past p d) refl refl))
+        (λ b. only_after P (waits_for_subordinates m past p d) _ (λ w. taken_made d b (record { free = c; well = f; next = n; waits = w }) (tests_wakeup p && pending past now) (is_direct m past p d) refl refl))
 
     close_made : callback past ≡ None → is_done (phase_failed past) (next_down m past p) ≡ true → OnlyMade (RowKeepsRules m past now (stage.Downs p)) (after_device (waits_down m past p) (Makes (kind.Done p (phase_error past))))
     close_made c t =
@@ -237,23 +237,23 @@ module _ (m : Machine) (past : List Entry) (now : EventNow) where
   -- ---- all rows
 
   pub row_made : (s : Stage) → Proper s → row_now m past ≡ Some s → is_some (maker past) ≡ true → CallAt m s (callback past) (three m past) → OnlyMade (RowKeepsRules m past now s) (stage_due m past now s)
-  row_made stage.Notifies i e o c = only_left (RowKeepsRules m past now stage.Notifies) _ (next_called m past) (λ x f. row stage.Notifies (kind.NotifyPrepare x (answered m past (what.Notifier x))) (f, refl) tt tt tt tt tt tt tt tt tt)
+  row_made stage.Notifies i e o c = only_left (RowKeepsRules m past now stage.Notifies) _ (next_notified m past) (λ x f. row stage.Notifies (kind.NotifyPrepare x (answered m past (what.Notifier x))) (f, refl) tt tt tt tt tt tt tt tt tt)
   row_made (stage.Freezes g) i e o c = freeze_made g (freeze_since past) refl
-  row_made (stage.PlatformDown step) i e o c = row (stage.PlatformDown step) (kind.PlatformDo step (answered m past (what.Platform step))) (refl, refl) tt tt tt tt tt tt tt tt tt
+  row_made (stage.PlatformDo step) i e o c = row (stage.PlatformDo step) (kind.PlatformDo step (answered m past (what.Platform step))) (refl, refl) tt tt tt tt tt tt tt tt tt
   row_made stage.Prepares i e o c = prepare_made e (phase_failed past) (next_prepared m past) refl refl
   row_made (stage.Downs p) i e o c = down_made p i e (callback past) refl c
   row_made stage.StopsCpus i e o c = cpus_made (pending past now) refl (next_cpu_off m past) refl
   row_made stage.StopsIrqs i e o c = row stage.StopsIrqs (kind.Irqs false) refl tt tt tt tt tt tt tt tt tt
-  row_made stage.Checks i e o c = row stage.Checks (kind.SyscoreCheck (busy_error (pending past now))) refl tt tt tt tt tt tt tt tt tt
-  row_made stage.StopsSyscore i e o c = only_left (RowKeepsRules m past now stage.StopsSyscore) _ (next_stopped m past) (λ x f. row stage.StopsSyscore (kind.SyscoreSuspend x (answered m past (what.Syscore x))) (f, refl) tt tt tt tt tt tt tt tt tt)
+  row_made stage.ChecksWakeup i e o c = row stage.ChecksWakeup (kind.SyscoreCheck (busy_error (pending past now))) refl tt tt tt tt tt tt tt tt tt
+  row_made stage.StopsSyscore i e o c = only_left (RowKeepsRules m past now stage.StopsSyscore) _ (next_syscore_suspended m past) (λ x f. row stage.StopsSyscore (kind.SyscoreSuspend x (answered m past (what.Syscore x))) (f, refl) tt tt tt tt tt tt tt tt tt)
   row_made stage.Enters i e o c = enter_made (sleep_of past) refl
-  row_made stage.StartsSyscore i e o c = only_left (RowKeepsRules m past now stage.StartsSyscore) kind.SyscoreResume (next_started m past) (λ x f. row stage.StartsSyscore (kind.SyscoreResume x) f tt tt tt tt tt tt tt tt tt)
+  row_made stage.StartsSyscore i e o c = only_left (RowKeepsRules m past now stage.StartsSyscore) kind.SyscoreResume (next_syscore_resumed m past) (λ x f. row stage.StartsSyscore (kind.SyscoreResume x) f tt tt tt tt tt tt tt tt tt)
   row_made stage.StartsIrqs i e o c = row stage.StartsIrqs (kind.Irqs true) refl tt tt tt tt tt tt tt tt tt
   row_made stage.StartsCpus i e o c = only_left (RowKeepsRules m past now stage.StartsCpus) kind.CpuOn (next_cpu_on m past) (λ x f. row stage.StartsCpus (kind.CpuOn x) f tt tt tt tt tt tt tt tt tt)
-  row_made (stage.PlatformUp step) i e o c = row (stage.PlatformUp step) (kind.PlatformUndo step) refl tt tt tt tt tt tt tt tt tt
+  row_made (stage.PlatformUndo step) i e o c = row (stage.PlatformUndo step) (kind.PlatformUndo step) refl tt tt tt tt tt tt tt tt tt
   row_made (stage.Ups p) i e o c = up_made p i e (callback past) refl c
   row_made stage.Completes i e o c = complete_made e (next_completed m past) refl
-  row_made stage.Clears i e o c = row stage.Clears kind.Clear tt tt tt tt tt tt tt tt tt tt
+  row_made stage.ClearsSavedCount i e o c = row stage.ClearsSavedCount kind.Clear tt tt tt tt tt tt tt tt tt tt
   row_made (stage.Thaws those) i e o c = row (stage.Thaws those) (kind.Thaw those) refl tt tt tt tt tt tt tt tt tt
-  row_made stage.Posts i e o c = only_left (RowKeepsRules m past now stage.Posts) kind.NotifyPost (next_posted m past) (λ x f. row stage.Posts (kind.NotifyPost x) f tt tt tt tt tt tt tt tt tt)
+  row_made stage.NotifiesPost i e o c = only_left (RowKeepsRules m past now stage.NotifiesPost) kind.NotifyPost (next_post_notified m past) (λ x f. row stage.NotifiesPost (kind.NotifyPost x) f tt tt tt tt tt tt tt tt tt)
   row_made stage.Ends i e o c = row stage.Ends (kind.Over (attempts past) (failed past)) tt (refl, o) tt tt tt tt tt tt tt tt

@@ -16,12 +16,12 @@ use Rattle.sleep_model.specs.declared.word.EventNow.{EventNow}
 use Rattle.phase_table.specs.declared.phase.Phase.{Phase}
 use Rattle.phase_table.specs.Phases.{mirror}
 use Rattle.sleep_model.specs.Attempt.{freeze_due, freeze_since, froze_due, gives_up_at, enter_due, sleep_of, if_left, or_next, stage_due, stage_or_next, attempt_due, due_at}
-use Rattle.sleep_model.specs.Devices.{after_device, callback, is_async_device, phase_error, taken, waits_above, waits_below, waits_down, waits_up, phase_failed, complete_due, down_due, walk_down, next_down, next_prepared, next_completed, next_to_schedule, next_up, prepare_due, up_due, walk_up}
+use Rattle.sleep_model.specs.Devices.{after_device, callback, is_async_device, phase_error, taken, waits_above, waits_for_subordinates, waits_down, waits_up, phase_failed, complete_due, down_due, walk_down, next_down, next_prepared, next_completed, next_to_schedule, next_up, prepare_due, up_due, walk_up}
 use Rattle.sleep_model.specs.Freezer.{left}
 use Rattle.sleep_model.specs.Guard.{pending}
 use Rattle.sleep_model.specs.Numbers.{time_of}
 use Rattle.sleep_model.specs.Word.{position}
-use Rattle.sleep_model.specs.Notifiers.{next_called, next_posted, next_cpu_off, next_cpu_on, next_stopped, next_started}
+use Rattle.sleep_model.specs.Notifiers.{next_notified, next_post_notified, next_cpu_off, next_cpu_on, next_syscore_suspended, next_syscore_resumed}
 use Rattle.sleep_model.specs.Table.{stage_of, next_stage, by_case}
 use Rattle.sleep_laws.proofs.Made.{Comes, AtOnce, PastNotifiers, PastCpus, PastParts, PastPartsUp, PastCpusUp, PastPosts}
 use Rattle.sleep_laws.proofs.Making.{Proper, ProperIf, stage_proper}
@@ -63,7 +63,7 @@ prepare_goes m past None None = tt
 prepare_goes m past (Some r) next = tt
 
 walk_goes : (m : Machine) (past : List Entry) (now : EventNow) (p : Phase) (error : Option Errno) (next : Option ℕ) → Some' (walk_down m past now p error next)
-walk_goes m past now p None (Some d) = goes_if (is_async_device m d) _ _ tt (goes_after (waits_below m past p d) (Makes (taken m past now p d)) tt)
+walk_goes m past now p None (Some d) = goes_if (is_async_device m d) _ _ tt (goes_after (waits_for_subordinates m past p d) (Makes (taken m past now p d)) tt)
 walk_goes m past now p None None = goes_after (waits_down m past p) (Makes (kind.Done p (phase_error past))) tt
 walk_goes m past now p (Some r) next = goes_after (waits_down m past p) (Makes (kind.Done p (phase_error past))) tt
 
@@ -90,28 +90,28 @@ complete_goes (Some d) = tt
 
 -- a row that has an entry left has something due
 stage_goes : (m : Machine) (past : List Entry) (now : EventNow) (here : Stage) → has_more m past here ≡ true → Some' (stage_due m past now here)
-stage_goes m past now stage.Notifies h = left_goes _ (next_called m past) h
+stage_goes m past now stage.Notifies h = left_goes _ (next_notified m past) h
 stage_goes m past now (stage.Freezes g) h = freeze_goes m past now g (freeze_since past)
 stage_goes m past now stage.Prepares h = prepare_goes m past (phase_failed past) (next_prepared m past)
 stage_goes m past now (stage.Downs p) h = down_goes m past now p (callback past)
 stage_goes m past now stage.StopsCpus h = left_goes _ (next_cpu_off m past) h
-stage_goes m past now stage.StopsSyscore h = left_goes _ (next_stopped m past) h
+stage_goes m past now stage.StopsSyscore h = left_goes _ (next_syscore_suspended m past) h
 stage_goes m past now stage.Enters h = enter_goes m past now (sleep_of past)
-stage_goes m past now stage.StartsSyscore h = left_goes _ (next_started m past) h
+stage_goes m past now stage.StartsSyscore h = left_goes _ (next_syscore_resumed m past) h
 stage_goes m past now stage.StartsCpus h = left_goes _ (next_cpu_on m past) h
 stage_goes m past now (stage.Ups p) h = up_goes m past p (callback past)
 stage_goes m past now stage.Completes h = complete_goes (next_completed m past)
-stage_goes m past now stage.Posts h = left_goes _ (next_posted m past) h
+stage_goes m past now stage.NotifiesPost h = left_goes _ (next_post_notified m past) h
 stage_goes m past now _ h = tt
 
 -- and one that has none has nothing due
 stage_exited : (m : Machine) (past : List Entry) (now : EventNow) (here : Stage) → has_more m past here ≡ false → stage_due m past now here ≡ Nothing
-stage_exited m past now stage.Notifies h = left_exited _ (next_called m past) h
+stage_exited m past now stage.Notifies h = left_exited _ (next_notified m past) h
 stage_exited m past now stage.StopsCpus h = left_exited _ (next_cpu_off m past) h
-stage_exited m past now stage.StopsSyscore h = left_exited _ (next_stopped m past) h
-stage_exited m past now stage.StartsSyscore h = left_exited _ (next_started m past) h
+stage_exited m past now stage.StopsSyscore h = left_exited _ (next_syscore_suspended m past) h
+stage_exited m past now stage.StartsSyscore h = left_exited _ (next_syscore_resumed m past) h
 stage_exited m past now stage.StartsCpus h = left_exited _ (next_cpu_on m past) h
-stage_exited m past now stage.Posts h = left_exited _ (next_posted m past) h
+stage_exited m past now stage.NotifiesPost h = left_exited _ (next_post_notified m past) h
 stage_exited m past now _ h = never (sym h)
 
 or_next_goes : (x y : Due) → Some' x → or_next x y ≡ x
@@ -144,12 +144,12 @@ pub comes : (m : Machine) (past : List Entry) (here : Stage) → Comes m past he
 comes m past here = by_more (has_more m past here) refl
   where
     passes : (here : Stage) → has_more m past here ≡ false → Comes m past here (next_stage here)
-    passes stage.Notifies h = PastNotifiers (is_none (next_called m past) h)
+    passes stage.Notifies h = PastNotifiers (is_none (next_notified m past) h)
     passes stage.StopsCpus h = PastCpus (is_none (next_cpu_off m past) h)
-    passes stage.StopsSyscore h = PastParts (is_none (next_stopped m past) h)
-    passes stage.StartsSyscore h = PastPartsUp (is_none (next_started m past) h)
+    passes stage.StopsSyscore h = PastParts (is_none (next_syscore_suspended m past) h)
+    passes stage.StartsSyscore h = PastPartsUp (is_none (next_syscore_resumed m past) h)
     passes stage.StartsCpus h = PastCpusUp (is_none (next_cpu_on m past) h)
-    passes stage.Posts h = PastPosts (is_none (next_posted m past) h)
+    passes stage.NotifiesPost h = PastPosts (is_none (next_post_notified m past) h)
     passes _ h = never (sym h)
 
     by_more : (b : Bool) → has_more m past here ≡ b → Comes m past here (by_case b here (next_stage here))
@@ -166,7 +166,7 @@ row_proper m past = by_stage (stage_of past) (stage_proper past)
     passes stage.StopsSyscore h = tt
     passes stage.StartsSyscore h = tt
     passes stage.StartsCpus h = tt
-    passes stage.Posts h = tt
+    passes stage.NotifiesPost h = tt
     passes _ h = never (sym h)
 
     by_more : (here : Stage) → Proper here → (b : Bool) → has_more m past here ≡ b → Proper (by_case b here (next_stage here))

@@ -125,7 +125,7 @@ row_back m past now stage.Notifies (kind.NotifyPrepare x r) i e o a w s f n z b 
 row_back m past now (stage.Freezes g) (kind.Freeze h) i e o a w s f n z b = rw (o.0, o.1) refl
 row_back m past now (stage.Freezes g) (kind.Froze h end) i e o a w s f n z b =
     subst (λ (x : Group). freeze_due m past now x (freeze_since past) ≡ Makes (kind.Froze h end)) o.0 (froze_back m past now h end (freeze_since past) f)
-row_back m past now (stage.PlatformDown step) (kind.PlatformDo asked r) i e o a w s f n z b = rw (o.0, o.1) refl
+row_back m past now (stage.PlatformDo step) (kind.PlatformDo asked r) i e o a w s f n z b = rw (o.0, o.1) refl
 row_back m past now stage.Prepares (kind.Prepare d r) i e o a w s f n z b =
     let h : PreparesAt m past d r (Some stage.Prepares) = subst (PreparesAt m past d r) e w in
     rw (h.0, h.1, h.2) refl
@@ -138,14 +138,14 @@ row_back m past now (stage.Downs p) k i e o a w s f n z b = down_back m past now
 row_back m past now stage.StopsCpus (kind.CpuOff x) i e o a w s f n z b = rw (o.0, o.1) refl
 row_back m past now stage.StopsCpus (kind.CpuBusy x) i e o a w s f n z b = rw (o.0, o.1) refl
 row_back m past now stage.StopsIrqs (kind.Irqs on) i e o a w s f n z b = rw o refl
-row_back m past now stage.Checks (kind.SyscoreCheck r) i e o a w s f n z b = rw o refl
+row_back m past now stage.ChecksWakeup (kind.SyscoreCheck r) i e o a w s f n z b = rw o refl
 row_back m past now stage.StopsSyscore (kind.SyscoreSuspend x r) i e o a w s f n z b = rw (o.0, o.1) refl
 row_back m past now stage.Enters (kind.Enter busy) i e o a w s f n z b = rw (o.0, o.1) refl
 row_back m past now stage.Enters (kind.Wake by_event) i e o a w s f n z b = wake_back m past now by_event (sleep_of past) o z
 row_back m past now stage.StartsSyscore (kind.SyscoreResume x) i e o a w s f n z b = rw o refl
 row_back m past now stage.StartsIrqs (kind.Irqs on) i e o a w s f n z b = rw o refl
 row_back m past now stage.StartsCpus (kind.CpuOn x) i e o a w s f n z b = rw o refl
-row_back m past now (stage.PlatformUp step) (kind.PlatformUndo notified_flags) i e o a w s f n z b = rw o refl
+row_back m past now (stage.PlatformUndo step) (kind.PlatformUndo notified_flags) i e o a w s f n z b = rw o refl
 row_back m past now (stage.Ups p) k i e o a w s f n z b = up_back m past now p k i e o w n b
 row_back m past now stage.Completes (kind.Complete d) i e o a w s f n z b =
     let h : CompletesAt m past d (Some stage.Completes) = subst (CompletesAt m past d) e w in
@@ -154,8 +154,8 @@ row_back m past now stage.Completes (kind.Done q r) i e o a w s f n z b =
     let h : DoneAt m past q (Some stage.Completes) = subst (DoneAt m past q) e w in
     let answers : r ≡ None = n ∙ ap (phase_answer past) o in
     rw (h.1) (rw answers (rw o refl))
-row_back m past now stage.Clears kind.Clear i e o a w s f n z b = refl
+row_back m past now stage.ClearsSavedCount kind.Clear i e o a w s f n z b = refl
 row_back m past now (stage.Thaws those) (kind.Thaw notified_flags) i e o a w s f n z b = rw o refl
-row_back m past now stage.Posts (kind.NotifyPost x) i e o a w s f n z b = rw o refl
+row_back m past now stage.NotifiesPost (kind.NotifyPost x) i e o a w s f n z b = rw o refl
 row_back m past now stage.Ends (kind.Over n r) i e o a w s f x z b = rw (a.0, x.0) refl
 row_back m past now _ _ i e o a w s f n z b = absurd o

@@ -19,7 +19,7 @@ use Rattle.sleep_model.specs.Freezer.{freezing}
 use Rattle.sleep_model.specs.Guard.{in_force}
 use Rattle.sleep_model.specs.Legal.{JournalPart}
 use Rattle.sleep_model.specs.Lock.{holder, is_on}
-use Rattle.sleep_model.specs.Laws.{steps_of, is_of_read, is_of_save}
+use Rattle.sleep_model.specs.Laws.{steps_of, is_of_count_read, is_of_count_save}
 use Rattle.sleep_model.specs.Marks.{mark_at, raised}
 use Rattle.sleep_model.specs.Numbers.{time_of}
 use Rattle.sleep_model.specs.Path.{attempts, maker}
@@ -39,7 +39,7 @@ use Rattle.rule_definitions.specs.Path.{PathOf}
 use Rattle.rule_definitions.specs.Questions.{is_maker, position_of}
 use Rattle.rule_definitions.specs.Reads.{ReadsTask, ReadsActor}
 use Rattle.rule_definitions.specs.Runtime.{KeepsRuntime}
-use Rattle.rule_definitions.specs.Steps.{IsOfOp, IsStep, IsScriptStep, StepsOf, is_of_write}
+use Rattle.rule_definitions.specs.Steps.{IsOfOp, IsStep, IsScriptStep, StepsOf, is_of_state_write}
 use Rattle.log_rules.proofs.Facts.{never, only_if, only_is, only_map, itself, Plain, plain_walk, plain_skip, plain_owed, plain_answers, plain_restored, plain_freeze, plain_wake}
 
 -- ---- what keeps all rules is due
@@ -116,20 +116,20 @@ autosleep_shape m past position text =
     (λ t. only_if P position.waits _ _ (λ w. (t, w)) (λ w. only_if P (is_some (holder past)) _ _ (λ h. tt) (λ h. (t, w, refl))))
     (λ t. tt)
 
-read_shape : (now : EventNow) (waits asked : Bool) → OnlyMade (λ k. IsTrue (is_of_read k)) (read_due now waits asked)
+read_shape : (now : EventNow) (waits asked : Bool) → OnlyMade (λ k. IsTrue (is_of_count_read k)) (read_due now waits asked)
 read_shape now waits asked =
-    let P : Kind → Type 0 = λ k. IsTrue (is_of_read k) in
+    let P : Kind → Type 0 = λ k. IsTrue (is_of_count_read k) in
     only_if P (now.inpr == 0) _ _ (λ e. refl) (λ e. only_if P waits _ _ (λ w. only_if P asked _ _ (λ a. refl) (λ a. tt)) (λ w. refl))
 
-save_shape : (lock_agrees on waits asked : Bool) (now : EventNow) (c : ℕ) → OnlyMade (λ k. IsTrue (is_of_save k)) (count_due lock_agrees on waits asked now c)
+save_shape : (lock_agrees on waits asked : Bool) (now : EventNow) (c : ℕ) → OnlyMade (λ k. IsTrue (is_of_count_save k)) (count_due lock_agrees on waits asked now c)
 save_shape lock_agrees on waits asked now c =
-    let P : Kind → Type 0 = λ k. IsTrue (is_of_save k) in
+    let P : Kind → Type 0 = λ k. IsTrue (is_of_count_save k) in
     only_if P lock_agrees _ _ (λ h. only_if P waits _ _ (λ w. only_if P asked _ _ (λ a. refl) (λ a. tt)) (λ w. refl))
     (λ h. only_if P on _ _ (λ o. refl) (λ o. only_if P (visible now == c && now.inpr == 0) _ _ (λ v. refl) (λ v. refl)))
 
-write_shape : (if_saved saved lock_agrees on waits asked mem : Bool) (n : ℕ) (guarded : Option ℕ) → OnlyMade (λ k. IsTrue (is_of_write k)) (unless_unsaved if_saved saved (state_due lock_agrees on waits asked mem (kind.Attempt n guarded)))
+write_shape : (if_saved saved lock_agrees on waits asked mem : Bool) (n : ℕ) (guarded : Option ℕ) → OnlyMade (λ k. IsTrue (is_of_state_write k)) (unless_unsaved if_saved saved (state_due lock_agrees on waits asked mem (kind.Attempt n guarded)))
 write_shape if_saved saved lock_agrees on waits asked mem n guarded =
-    let P : Kind → Type 0 = λ k. IsTrue (is_of_write k) in
+    let P : Kind → Type 0 = λ k. IsTrue (is_of_state_write k) in
     only_if P (if_saved && not saved) _ _ (λ u. refl)
     (λ u. only_if P lock_agrees _ _ (λ h. only_if P waits _ _ (λ w. only_if P asked _ _ (λ a. refl) (λ a. tt)) (λ w. refl))
     (λ h. only_if P on _ _ (λ o. refl) (λ o. only_if P mem _ _ (λ t. refl) (λ t. refl))))
@@ -160,13 +160,13 @@ NotFrozen _ = Unit {0}
 abbrev Else : Machine → List Entry → Kind → Type 0
 Else m past k = KeepsAttempts past k × KeepsRuntime m past k × KeepsLinks m past k × Plain k × NotFrozen k
 
-read_else : (k : Kind) → IsTrue (is_of_read k) → (m : Machine) (past : List Entry) → Else m past k
+read_else : (k : Kind) → IsTrue (is_of_count_read k) → (m : Machine) (past : List Entry) → Else m past k
 read_else kind.ReadWait s m past = (tt, tt, tt, tt, tt)
 read_else (kind.Read c) s m past = (tt, tt, tt, tt, tt)
 read_else kind.ReadIntr s m past = (tt, tt, tt, tt, tt)
 read_else _ s m past = never s
 
-save_else : (k : Kind) → IsTrue (is_of_save k) → (m : Machine) (past : List Entry) → Else m past k
+save_else : (k : Kind) → IsTrue (is_of_count_save k) → (m : Machine) (past : List Entry) → Else m past k
 save_else (kind.SaveWait c) s m past = (tt, tt, tt, tt, tt)
 save_else (kind.Saved c) s m past = (tt, tt, tt, tt, tt)
 save_else (kind.SaveErr c r) s m past = (tt, tt, tt, tt, tt)
@@ -182,8 +182,8 @@ sleep_else m past begins ms position time b =
 
 else_made : (m : Machine) (past : List Entry) (now : EventNow) (position : ScriptPosition) (asked : Bool) (o : Option Op) → (is_some (holder past) ≡ false → maker past ≡ None) → OnlyMade (Else m past) (step_due m past now position asked o)
 else_made m past now position asked None free = (tt, tt, tt, tt, tt)
-else_made m past now position asked (Some op.Read) free = only_map (λ k. IsTrue (is_of_read k)) (Else m past) (λ k s. read_else k s m past) _ (read_shape now position.waits asked)
-else_made m past now position asked (Some (op.Save count)) free = only_map (λ k. IsTrue (is_of_save k)) (Else m past) (λ k s. save_else k s m past) _ (save_shape (is_some (holder past)) (is_on past) position.waits asked now (saved_number count position.last_read))
+else_made m past now position asked (Some op.Read) free = only_map (λ k. IsTrue (is_of_count_read k)) (Else m past) (λ k s. read_else k s m past) _ (read_shape now position.waits asked)
+else_made m past now position asked (Some (op.Save count)) free = only_map (λ k. IsTrue (is_of_count_save k)) (Else m past) (λ k s. save_else k s m past) _ (save_shape (is_some (holder past)) (is_on past) position.waits asked now (saved_number count position.last_read))
 else_made m past now position asked (Some (op.State text if_saved)) free =
     let P : Kind → Type 0 = Else m past in
     only_if P (if_saved && not position.saved) _ _ (λ u. (tt, tt, tt, tt, tt))

@@ -19,7 +19,7 @@ ghost use Rattle.machine_file.specs.Places.{item_place};
 ghost use Rattle.machine_file.specs.Broken.{broken_view, place_text};
 
 use crate::fault::MachineFault;
-use crate::names::devices::{Devices, devices_in};
+use crate::names::devices::{NamedDevices, devices_in};
 use crate::names::known::{Known, known_in};
 use crate::reading::machine::{first_of_form, linked};
 use crate::reading::whole::read_of;
@@ -91,7 +91,7 @@ fn read_formed(alloc: Global, tree: &Value<'_>) -> Result<ReadMachine, MachineFa
 fn read_registered(
     alloc: Global,
     tree: &Value<'_>,
-    devices: Devices,
+    devices: NamedDevices,
 ) -> Result<ReadMachine, MachineFault>
     requires form { broken_form (view tree.now) ≡ None }
     requires unbroken { broken_devices (view tree.now) ≡ None }

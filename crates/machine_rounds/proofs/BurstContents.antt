@@ -13,9 +13,9 @@ use Rattle.sleep_model.specs.declared.machine.Machine.{Machine}
 use Rattle.sleep_model.specs.Merge.{of_source}
 use Rattle.sleep_model.specs.Sources.{most_entries}
 use Rattle.sleep_model.specs.declared.word.Stamp.{Stamp}
-use Rattle.event_word.specs.Seats.{AreAll, Token, number_of}
+use Rattle.event_word.specs.Seats.{AreAllSeats, WordToken, number_of}
 use Rattle.sleep_core.specs.Cores.{IsActor}
-use Rattle.wakeup_source.specs.SourceStates.{SourceState, unstamped, latest}
+use Rattle.wakeup_source.specs.SourceStates.{SourceState, unstamped_source, latest}
 use Rattle.run_objects.specs.Objects.{SourcesInvariant, SeatedSourceState, seats_of}
 use Rattle.run_world.specs.ObjectLists.{AreTimely}
 use Rattle.running_laws.specs.Running.{AreSources, IsSourceOf, of_sources}
@@ -28,13 +28,13 @@ use Rattle.machine_rounds.specs.declared.run.Run.TheInside.{Inside}
 use Rattle.machine_rounds.specs.RunFields.{RunFieldsInvariant, state}
 use Rattle.machine_rounds.specs.RunFields as fields
 use Rattle.machine_rounds.specs.Runs.{RunState}
-use Rattle.machine_rounds.specs.TasksOf.{tasks_of}
-use Rattle.machine_rounds.proofs.SeatsPreserved.{index_mapped}
+use Rattle.machine_rounds.specs.TasksOf.{all_tasks}
+use Rattle.machine_rounds.proofs.SeatedSources.{index_mapped}
 use Rattle.machine_rounds.proofs.FirstTasks.{IsTaskAt, OfDevice, OfScript, OfTimer, OfWork, is_at}
 
 -- ---- what goes in
 
-pub timely_all : (at : ℕ) (xs : List SeatedSourceState) → ((s : ℕ) (none : SourceState) → s < length (fields.sources_of xs) → latest (unstamped (slice_index_or (fields.sources_of xs) s none).past) ≤ at) → AreTimely at xs
+pub timely_all : (at : ℕ) (xs : List SeatedSourceState) → ((s : ℕ) (none : SourceState) → s < length (fields.sources_of xs) → latest (unstamped_source (slice_index_or (fields.sources_of xs) s none).past) ≤ at) → AreTimely at xs
 timely_all at [] h = tt
 timely_all at (x ∷ xs) h = (h 0 x.source (omega arith), timely_all at xs (λ s none l. h (suc s) none (omega (arith, l))))
 
@@ -54,8 +54,8 @@ module _ (m : Machine) (floor : Stamp) (jobs : JobsState) (all : AreAllJobs m jo
   one_in k t (OfDevice d l) = let a : d < length m.devices = omega (arith, l, all.devices) in (its (actor.Dev d) a, subst (IsActor m) (sym (named (actor.Dev d) a)) a)
   one_in k t (OfTimer s l) = omega (arith, l)
 
-  pub are_in : AreTasksIn m (tasks_of floor (length m.sources + 1) jobs)
-  are_in = tasks_in m (tasks_of floor (length m.sources + 1) jobs) (λ k t e. one_in k t (is_at floor (length m.sources + 1) jobs k t e))
+  pub are_in : AreTasksIn m (all_tasks floor (length m.sources + 1) jobs)
+  are_in = tasks_in m (all_tasks floor (length m.sources + 1) jobs) (λ k t e. one_in k t (is_at floor (length m.sources + 1) jobs k t e))
 
   one_turns : (n : ℕ) → n + 1000 < 2 ^ 63 → ((who : Actor) → IsActor m who → (job_at jobs who).turns ≤ n) → (k : ℕ) (t : Task) → IsTaskAt floor (length m.sources + 1) jobs k t → turns_of t + 1000 < 2 ^ 63
   one_turns n few h k t (OfScript i l) = let a : i < length m.actors = omega (arith, l, all.scripts) in omega (arith, few, h (actor.Script i) a)
@@ -63,15 +63,15 @@ module _ (m : Machine) (floor : Stamp) (jobs : JobsState) (all : AreAllJobs m jo
   one_turns n few h k t (OfDevice d l) = let a : d < length m.devices = omega (arith, l, all.devices) in omega (arith, few, h (actor.Dev d) a)
   one_turns n few h k t (OfTimer s l) = omega (arith, few)
 
-  pub turns_left : (n : ℕ) → n + 1000 < 2 ^ 63 → ((who : Actor) → IsActor m who → (job_at jobs who).turns ≤ n) → HaveTurns (tasks_of floor (length m.sources + 1) jobs)
-  turns_left n few h = have_turns (tasks_of floor (length m.sources + 1) jobs) (λ k t e. one_turns n few h k t (is_at floor (length m.sources + 1) jobs k t e))
+  pub turns_left : (n : ℕ) → n + 1000 < 2 ^ 63 → ((who : Actor) → IsActor m who → (job_at jobs who).turns ≤ n) → HaveTurns (all_tasks floor (length m.sources + 1) jobs)
+  turns_left n few h = have_turns (all_tasks floor (length m.sources + 1) jobs) (λ k t e. one_turns n few h k t (is_at floor (length m.sources + 1) jobs k t e))
 
 -- ---- what came back
 
-same_id : (id n : ℕ) (seat : Token) → number_of seat ≡ Some id → number_of seat ≡ Some n → id ≡ n
+same_id : (id n : ℕ) (seat : WordToken) → number_of seat ≡ Some id → number_of seat ≡ Some n → id ≡ n
 same_id id n seat h g = let e : Some id ≡ Some n = sym h ∙ g in cc
 
-source_is : (base : ℕ) (xs : List SeatedSourceState) → SourcesInvariant xs → ((k : ℕ) (t : Token) → get_elem? (seats_of xs) k ≡ some t → number_of t ≡ Some (base + k))
+source_is : (base : ℕ) (xs : List SeatedSourceState) → SourcesInvariant xs → ((k : ℕ) (t : WordToken) → get_elem? (seats_of xs) k ≡ some t → number_of t ≡ Some (base + k))
     → (s : ℕ) (none : SourceState) → s < length (fields.sources_of xs) → IsSourceOf (base + s) (slice_index_or (fields.sources_of xs) s none)
 source_is base [] kept h s none l = absurd (omega arith)
 source_is base (x ∷ xs) kept h zero none l = record { number = same_id x.source.id (base + 0) x.seat kept.0.number (h 0 x.seat refl); settled = kept.0.settled; fresh = kept.0.fresh }
@@ -80,7 +80,7 @@ source_is base (x ∷ xs) kept h (suc s) none l =
     subst (λ (n : ℕ). IsSourceOf n (slice_index_or (fields.sources_of xs) s none)) place
     (source_is (base + 1) xs kept.1 (λ k t e. h (suc k) t e ∙ ap (λ (n : ℕ). Some n) (omega arith)) s none (omega (arith, l)))
 
-pub sources_back : (m : Machine) (look : Token) (xs : List SeatedSourceState) → length xs ≡ length m.sources + 1 → AreAll look (seats_of xs) → SourcesInvariant xs → AreSources m (fields.sources_of xs)
+pub sources_back : (m : Machine) (look : WordToken) (xs : List SeatedSourceState) → length xs ≡ length m.sources + 1 → AreAllSeats look (seats_of xs) → SourcesInvariant xs → AreSources m (fields.sources_of xs)
 sources_back m look xs count all kept = record {
   count = length-map xs (λ (s : SeatedSourceState). s.source) ∙ count;
   each = λ s none l.

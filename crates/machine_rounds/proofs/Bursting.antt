@@ -25,11 +25,11 @@ use Rattle.burst_laws.specs.Serial.{plain_sources, burst_state_of}
 use Rattle.burst_laws.proofs.GoingBursts.{bursts_go_on}
 use Rattle.burst_laws.proofs.SerialGrowth.{bursts_grow}
 use Rattle.machine_rounds.specs.JobsOf.{AreAllJobs, JobsState, job_at}
-use Rattle.machine_rounds.specs.TasksOf.{highest, tasks_of}
+use Rattle.machine_rounds.specs.TasksOf.{highest, all_tasks}
 use Rattle.machine_rounds.proofs.CameBack.{CameBack, again, all_same, came_back}
 use Rattle.machine_rounds.proofs.FirstTasks.{IsBelow, floors_first, get_after, get_front, get_mapped, goes_on_first, known_else, known_some, named}
-use Rattle.machine_rounds.proofs.JobsPreserved.{any_default}
-use Rattle.machine_rounds.proofs.SeatsPreserved.{index_mapped}
+use Rattle.machine_rounds.proofs.JobsChanged.{any_default}
+use Rattle.machine_rounds.proofs.SeatedSources.{index_mapped}
 
 -- ---- the greatest stamp
 
@@ -105,10 +105,10 @@ module _ (m : Machine) (jobs : JobsState) (all : AreAllJobs m jobs) (named : (wh
 
 module _ (m : Machine) (jobs : JobsState) (floor : Stamp) (all : AreAllJobs m jobs) (machine machine_then : SeatedCoreState) (sources sources_then : List SeatedSourceState) (tasks_then : List Task) (moment : ℕ)
     (r : IsRunning m machine.core.past (plain_sources sources) (job_at jobs) floor)
-    (b : IsBurst moment machine sources (tasks_of floor (length m.sources + 1) jobs) machine_then sources_then tasks_then)
+    (b : IsBurst moment machine sources (all_tasks floor (length m.sources + 1) jobs) machine_then sources_then tasks_then)
     (at : moment ≡ time_of (entries machine.core.past)) (are : AreSources m (plain_sources sources_then)) where
   abbrev these : List Task
-  these = tasks_of floor (length m.sources + 1) jobs
+  these = all_tasks floor (length m.sources + 1) jobs
 
   abbrev journal : List JournalEntry
   journal = machine_then.core.past

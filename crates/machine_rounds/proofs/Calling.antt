@@ -6,13 +6,13 @@ use Rattle.sleep_model.specs.Merge.{of_source}
 use Rattle.sleep_model.specs.Numbers.{time_of}
 use Rattle.sleep_model.specs.Sources.{most_entries}
 use Rattle.sleep_state.specs.JournalRooms.{entries}
-use Rattle.event_word.specs.Seats.{AreAll, IsSeatOf}
+use Rattle.event_word.specs.Seats.{AreAllSeats, IsSeatOf}
 use Rattle.wakeup_source.specs.declared.fault.SourceFault.{SourceFault}
 use Rattle.wakeup_source.specs.declared.fault.SourceFault.TheVariants as source
 use Rattle.wakeup_source.specs.SourceStates.{SourceState, latest}
 use Rattle.wakeup_source.specs.SourceStates as states
 use Rattle.run_objects.specs.Objects.{SeatedSourceState, seats_of}
-use Rattle.running_laws.specs.Running.{IsRunning, entries_in, histories, of_sources}
+use Rattle.running_laws.specs.Running.{IsRunning, source_entry_count, histories, of_sources}
 use Rattle.running_laws.proofs.Asked.{timely}
 use Rattle.running_laws.proofs.Lists.{history_at, source_at}
 use Rattle.machine_rounds.specs.declared.run.Run.TheInside.{Inside}
@@ -22,7 +22,7 @@ use Rattle.machine_rounds.specs.JobsOf.{job_at}
 use Rattle.machine_rounds.specs.Refused.{run_fault}
 use Rattle.machine_rounds.specs.RunFields.{RunFieldsInvariant, sources_of, state}
 use Rattle.machine_rounds.specs.Runs.{IsRefused}
-use Rattle.machine_rounds.proofs.SeatsPreserved.{put_back, seat_is, source_is, sources_set, more_set}
+use Rattle.machine_rounds.proofs.SeatedSources.{put_back, seat_is, source_is, sources_set, more_set}
 
 module _ (r : Inside) (k : RunFieldsInvariant r) (s : ℕ) (there : s ≤ length r.machine.now.sources) (one : SeatedSourceState) (is : one ≡ slice_index_or r.sources.items s one) where
   abbrev sources : List SourceState
@@ -45,21 +45,21 @@ module _ (r : Inside) (k : RunFieldsInvariant r) (s : ℕ) (there : s ≤ length
   at_table = seated.0 ∙ k.table
 
   -- none of its entries is later than now
-  pub not_later : (at : ℕ) → at ≡ time_of (entries r.seated.core.past) → latest (states.unstamped one.source.past) ≤ at
+  pub not_later : (at : ℕ) → at ≡ time_of (entries r.seated.core.past) → latest (states.unstamped_source one.source.past) ≤ at
   not_later at now =
       omega (
         arith,
         now,
         timely r.machine.now r.seated.core.past sources (job_at r.jobs) k.running s one.source within_sources,
-        ap (λ (x : SourceState). latest (states.unstamped x.past)) old_is,
+        ap (λ (x : SourceState). latest (states.unstamped_source x.past)) old_is,
       )
 
   -- its entries are the run's of that source
   pub entries_are : of_sources sources s ≡ map of_source one.source.past
   entries_are = source_at sources s one.source within_sources ∙ ap (λ (x : SourceState). map of_source x.past) (sym old_is)
 
-  pub history_is : histories sources s ≡ states.unstamped one.source.past
-  history_is = history_at sources s one.source within_sources ∙ ap (λ (x : SourceState). states.unstamped x.past) (sym old_is)
+  pub history_is : histories sources s ≡ states.unstamped_source one.source.past
+  history_is = history_at sources s one.source within_sources ∙ ap (λ (x : SourceState). states.unstamped_source x.past) (sym old_is)
 
   counted : length (of_sources sources s) ≡ length one.source.past
   counted = ap length entries_are ∙ length-map one.source.past of_source
@@ -76,8 +76,8 @@ module _ (r : Inside) (k : RunFieldsInvariant r) (s : ℕ) (there : s ≤ length
   pub put_running : (new : SeatedSourceState) → new ≡ one → IsRunning r.machine.now r.seated.core.past (sources_of (slice_set r.sources.items s new)) (job_at r.jobs) r.floor
   put_running new same = subst (λ (xs : List SeatedSourceState). IsRunning r.machine.now r.seated.core.past (sources_of xs) (job_at r.jobs) r.floor) (same_items new same) k.running
 
-  pub put_seats : (new : SeatedSourceState) → new ≡ one → AreAll r.seated.seat (seats_of (slice_set r.sources.items s new))
-  put_seats new same = subst (λ (xs : List SeatedSourceState). AreAll r.seated.seat (seats_of xs)) (same_items new same) k.seats
+  pub put_seats : (new : SeatedSourceState) → new ≡ one → AreAllSeats r.seated.seat (seats_of (slice_set r.sources.items s new))
+  put_seats new same = subst (λ (xs : List SeatedSourceState). AreAllSeats r.seated.seat (seats_of xs)) (same_items new same) k.seats
 
   -- nothing of it has changed then
   pub refused_put : (new : SeatedSourceState) → new ≡ one → (given : RunFault) → IsRefused (state r) given
@@ -98,6 +98,6 @@ module _ (r : Inside) (k : RunFieldsInvariant r) (s : ℕ) (there : s ≤ length
           omega (arith, room, counted)
 
   -- there are more entries after it
-  pub more_entries : (new : SeatedSourceState) → length one.source.past < length new.source.past → entries_in sources < entries_in (sources_of (slice_set r.sources.items s new))
+  pub more_entries : (new : SeatedSourceState) → length one.source.past < length new.source.past → source_entry_count sources < source_entry_count (sources_of (slice_set r.sources.items s new))
   more_entries new more =
-      omega (arith, more_set sources s one.source new.source within_sources old_is more, ap entries_in (sources_set r.sources.items s new))
+      omega (arith, more_set sources s one.source new.source within_sources old_is more, ap source_entry_count (sources_set r.sources.items s new))

@@ -13,7 +13,7 @@ use Rattle.run_world.specs.Acts.{Calls, Does, Expires, Nothing, Plays, Turns, ac
 use Rattle.run_world.specs.Bursts.{AllPlayed}
 use Rattle.burst_laws.specs.Courses.{has_task}
 use Rattle.machine_rounds.specs.JobsOf.{JobsState}
-use Rattle.machine_rounds.specs.TasksOf.{AreJobsOf, acts, jobs_in, tasks_of, timers}
+use Rattle.machine_rounds.specs.TasksOf.{AreJobsOf, acts, jobs_in, all_tasks, timers}
 
 -- ---- the same actors'
 
@@ -147,7 +147,7 @@ append_nothing : (js : List JobState) → js ++ [] ≡ js
 append_nothing [] = refl
 append_nothing (j ∷ js) = ap (λ (l : List JobState). j ∷ l) (append_nothing js)
 
-pub came_back : (floor : Stamp) (n : ℕ) (jobs : JobsState) (news : List Task) → SameTasks (tasks_of floor n jobs) news → CameBack jobs news
+pub came_back : (floor : Stamp) (n : ℕ) (jobs : JobsState) (news : List Task) → SameTasks (all_tasks floor n jobs) news → CameBack jobs news
 came_back floor n jobs news h = second first.last first.are first.rests
   where
     first : IsSplit floor jobs.scripts (acts floor jobs.auto ∷ (map (acts floor) jobs.devices ++ timers floor n)) news

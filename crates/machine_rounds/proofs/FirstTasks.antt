@@ -17,9 +17,9 @@ use Rattle.running_laws.proofs.Turns as turns
 use Rattle.run_world.specs.declared.task.Task.{Task}
 use Rattle.run_world.specs.declared.task.Task.TheVariants as task
 use Rattle.run_world.specs.Acts.{actor_of, known_by}
-use Rattle.burst_laws.specs.Courses.{AreApart, AreTasks, GoesOnAt, IsTaskOf, has_task, lists_of}
+use Rattle.burst_laws.specs.Courses.{HaveDistinctActors, AreTasks, GoesOnAt, IsTaskOf, has_task, lists_of}
 use Rattle.machine_rounds.specs.JobsOf.{AreAllJobs, JobsState, job_at}
-use Rattle.machine_rounds.specs.TasksOf.{acts, all_actors, numbered, numbered_from, tasks_of, timers}
+use Rattle.machine_rounds.specs.TasksOf.{acts, all_actors, numbered, numbered_from, all_tasks, timers}
 use Rattle.machine_rounds.proofs.Numbered.{from_more}
 
 -- ---- lists
@@ -90,7 +90,7 @@ pub data IsTaskAt (floor : Stamp) (n : ℕ) (jobs : JobsState) : ℕ → Task �
 
 module _ (floor : Stamp) (n : ℕ) (jobs : JobsState) where
   abbrev tasks : List Task
-  tasks = tasks_of floor n jobs
+  tasks = all_tasks floor n jobs
 
   abbrev scripts : List Task
   scripts = map (acts floor) jobs.scripts
@@ -185,7 +185,7 @@ module _ (m : Machine) (floor : Stamp) (jobs : JobsState) (all : AreAllJobs m jo
   many = length m.sources + 1
 
   abbrev these : List Task
-  these = tasks_of floor many jobs
+  these = all_tasks floor many jobs
 
   -- the index of an actor's task
   place_of : Actor → ℕ
@@ -202,7 +202,7 @@ module _ (m : Machine) (floor : Stamp) (jobs : JobsState) (all : AreAllJobs m jo
   its_place k t (OfDevice d l) = ap place_of (named (actor.Dev d) (omega (arith, l, all.devices)))
   its_place k t (OfTimer s l) = refl
 
-  pub are_apart : AreApart these
+  pub are_apart : HaveDistinctActors these
   are_apart j k t u e f is =
       sym (its_place j t (is_at floor many jobs j t e)) ∙ (ap place_of (actor_is (actor_of t) (actor_of u) is) ∙ its_place k u (is_at floor many jobs k u f))
 
@@ -304,7 +304,7 @@ module _ (m : Machine) (journal : List JournalEntry) (sources : List SourceState
   }
 
   -- at first the run goes on with these tasks
-  pub goes_on_first : GoesOnAt m (record { lists = lists_of journal sources; tasks = tasks_of floor (length m.sources + 1) jobs })
+  pub goes_on_first : GoesOnAt m (record { lists = lists_of journal sources; tasks = all_tasks floor (length m.sources + 1) jobs })
   goes_on_first = record {
     sources = sources;
     jobs = ready_jobs m floor jobs all named;
@@ -317,7 +317,7 @@ module _ (m : Machine) (journal : List JournalEntry) (sources : List SourceState
   }
 
   -- each actor knows then what its task knows
-  pub floors_first : (who : Actor) → goes_on_first.floors who ≡ known_among floor (tasks_of floor (length m.sources + 1) jobs) who
+  pub floors_first : (who : Actor) → goes_on_first.floors who ≡ known_among floor (all_tasks floor (length m.sources + 1) jobs) who
   unfolding goes_on_first
   floors_first who = refl
 
@@ -339,7 +339,7 @@ timer_actors floor (suc n) =
     ∙ (ap (λ (k : ℕ). numbered_from actor.Timer 0 n ++ actor.Timer k ∷ []) (let is : n ≡ 0 + n = omega arith in is) ∙ sym (from_more actor.Timer 0 n)))
 
 pub actors_are : (m : Machine) (floor : Stamp) (jobs : JobsState) → AreAllJobs m jobs → ((who : Actor) → IsActor m who → (job_at jobs who).who ≡ who)
-    → map actor_of (tasks_of floor (length m.sources + 1) jobs) ≡ all_actors (length m.actors) (length m.devices) (length m.sources + 1)
+    → map actor_of (all_tasks floor (length m.sources + 1) jobs) ≡ all_actors (length m.actors) (length m.devices) (length m.sources + 1)
 actors_are m floor jobs all who_is =
     map-append actor_of (map (acts floor) jobs.scripts) (acts floor jobs.auto ∷ (map (acts floor) jobs.devices ++ timers floor (length m.sources + 1)))
     ∙ (ap (λ (l : List Actor). l ++ map actor_of (acts floor jobs.auto ∷ (map (acts floor) jobs.devices ++ timers floor (length m.sources + 1)))) scripts

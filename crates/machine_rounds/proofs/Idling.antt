@@ -44,16 +44,16 @@ use Rattle.machine_rounds.specs.declared.run.RunFault.{RunFault}
 use Rattle.machine_rounds.specs.declared.run.RunFault.TheVariants as fault
 use Rattle.running_laws.specs.Running.{entry_count, histories, journal_histories, of_sources}
 use Rattle.running_laws.proofs.Ends.{running_ends, running_keeps, stats_are, told_all}
-use Rattle.machine_rounds.specs.Waits.{all_stats, waits_of}
-use Rattle.machine_rounds.specs.Runs.{AfterStretches, AfterTry, EndsSo, Fails, IsClosed, IsHalted, IsRefused, IsRun, IsSame, IsSeen, RunState, entries_made, nobody_enabled}
+use Rattle.machine_rounds.specs.Waits.{all_stats, script_waits}
+use Rattle.machine_rounds.specs.Runs.{AfterStretches, AfterTry, EndsSo, Fails, IsClosed, IsHalted, IsRefused, IsRun, MadeNothing, IsLastLook, RunState, entries_made, nobody_enabled}
 
 -- ---- tries
 
 -- if nothing was made there are as many entries
-pub made_same : (old new : RunState) → IsSame old new → entries_made new ≡ entries_made old
+pub made_same : (old new : RunState) → MadeNothing old new → entries_made new ≡ entries_made old
 made_same old new h = ap₂ entry_count h.journal h.sources
 
-pub same_then : (first second third : RunState) → IsSame first second → IsSame second third → IsSame first third
+pub same_then : (first second third : RunState) → MadeNothing first second → MadeNothing second third → MadeNothing first third
 same_then first second third h g = record {
   machine = g.machine ∙ h.machine;
   journal = g.journal ∙ h.journal;
@@ -133,7 +133,7 @@ run_is run k items stats end log merged counted over is ranged = subst (λ (l : 
         run_of m log k.on.running.accepted ends.0 (inr (ends.2 (ap Stuck over.3) over.2.left over.2.idle over.2.timeless)) shown ranged
 
 -- why a run of which a call was refused gives nothing, by a look at what is the same run
-pub fault_is : (old run : RunState) (word : EventNow) (given : RunFault) → IsSame old run → IsSeen run word → IsClosed run → IsRefused old given → Fails old.machine given
+pub fault_is : (old run : RunState) (word : EventNow) (given : RunFault) → MadeNothing old run → IsLastLook run word → IsClosed run → IsRefused old given → Fails old.machine given
 fault_is old run word (fault.SourceFull s) same seen k refused =
     let keeps = running_keeps run.machine run.journal run.sources k.on.jobs k.on.running k.closed_over.steps k.closed_over.looks k.closed_over.answer word k.closed_over.closed_over (k.closed_over.seen word seen.seen) seen.high s in
     (refused.0, omega (arith, refused.1, keeps, ap (λ (xs : List SourceState). length (of_sources xs s)) same.sources, ap (λ (m : Machine). places m s) same.machine))
@@ -141,7 +141,7 @@ fault_is old run word fault.Mem same seen k refused = tt
 
 -- ---- who waits
 
-put_by : (b : Bool) (i : ℕ) (d : Due) (after_idle_round : List Waiting) → (b ≡ true → d ≡ Nothing) → put_waiting b i d after_idle_round ≡ waits_of i d ++ after_idle_round
+put_by : (b : Bool) (i : ℕ) (d : Due) (after_idle_round : List Waiting) → (b ≡ true → d ≡ Nothing) → put_waiting b i d after_idle_round ≡ script_waits i d ++ after_idle_round
 put_by false i (Waits why) after_idle_round h = refl
 put_by false i Nothing after_idle_round h = refl
 put_by false i (Makes k) after_idle_round h = refl
@@ -176,7 +176,7 @@ drop_seat (x ∷ xs) (suc i) l = drop_seat xs i (omega (arith, l))
 
 -- the scripts from number i on that wait are that one, if it waits, and those after it
 pub waits_more : (m : Machine) (past : List Entry) (now : EventNow) (i : ℕ) → maker past ≡ None → i < length m.actors
-    → waiting_from m past now i (drop i (positions (length m.actors) past)) ≡ waits_of i (due m past (actor.Script i) now) ++ waiting_from m past now (i + 1) (drop (i + 1) (positions (length m.actors) past))
+    → waiting_from m past now i (drop i (positions (length m.actors) past)) ≡ script_waits i (due m past (actor.Script i) now) ++ waiting_from m past now (i + 1) (drop (i + 1) (positions (length m.actors) past))
 waits_more m past now i closed l =
     let seat = position_at (positions (length m.actors) past) i in
     let further : suc i ≡ i + 1 = omega arith in
@@ -189,9 +189,9 @@ pub waits_none : (m : Machine) (past : List Entry) (now : EventNow) (i : ℕ) �
 waits_none m past now i l = ap (waiting_from m past now i) (drop_all i (positions (length m.actors) past) (omega (arith, l, seats_len (length m.actors) past)))
 
 -- one script more is asked
-pub waits_go_on : (m : Machine) (past : List Entry) (now : EventNow) (i k : ℕ) (those new : List Waiting) (d : Due) → maker past ≡ None → i < length m.actors → k ≡ i + 1 → d ≡ due m past (actor.Script i) now → new ≡ those ++ waits_of i d
+pub waits_go_on : (m : Machine) (past : List Entry) (now : EventNow) (i k : ℕ) (those new : List Waiting) (d : Due) → maker past ≡ None → i < length m.actors → k ≡ i + 1 → d ≡ due m past (actor.Script i) now → new ≡ those ++ script_waits i d
     → those ++ waiting_from m past now i (drop i (positions (length m.actors) past)) ≡ waiting m past now → new ++ waiting_from m past now k (drop k (positions (length m.actors) past)) ≡ waiting m past now
 waits_go_on m past now i k those new d closed l next is added h =
-    ap₂ (λ (xs : List Waiting) (n : ℕ). xs ++ waiting_from m past now n (drop n (positions (length m.actors) past))) (added ∙ ap (λ x. those ++ waits_of i x) is) next
-    ∙ (append_assoc those (waits_of i (due m past (actor.Script i) now)) (waiting_from m past now (i + 1) (drop (i + 1) (positions (length m.actors) past)))
+    ap₂ (λ (xs : List Waiting) (n : ℕ). xs ++ waiting_from m past now n (drop n (positions (length m.actors) past))) (added ∙ ap (λ x. those ++ script_waits i x) is) next
+    ∙ (append_assoc those (script_waits i (due m past (actor.Script i) now)) (waiting_from m past now (i + 1) (drop (i + 1) (positions (length m.actors) past)))
     ∙ (ap (λ xs. those ++ xs) (sym (waits_more m past now i closed l)) ∙ h))

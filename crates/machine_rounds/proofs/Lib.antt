@@ -1,16 +1,16 @@
 -- The lemmas of this crate.
 mod Quiescent
 mod Owing
-pub mod DuringBurst
+pub mod RunInBurst
 pub mod BurstContents
 pub mod Bursting
 pub mod Calling
 pub mod CameBack
 pub mod Fields
 pub mod FirstTasks
-pub mod JobsPreserved
+pub mod JobsChanged
 pub mod NumberSetBits
 pub mod Numbered
 pub mod Idling
-pub mod SeatsPreserved
+pub mod SeatedSources
 pub mod Turning

@@ -8,7 +8,7 @@ use Rattle.std.proofs.lemmas.Nat.Bits.{bit_at_and, bit_at_or, bit_at_not, bit_at
 use Rattle.std.specs.Prelude.{min, max, bit_and, bit_or, Option, None, Some}
 use Rattle.std.specs.Int.{bit_at, bit_not, trailing_zeros}
 use Rattle.std.specs.Option.{MatchOption}
-use Rattle.machine_rounds.specs.NumberSets.{bit_of, bits_of, AreMarked, is_in, union, AreNone, IsNext}
+use Rattle.machine_rounds.specs.NumberSets.{bit_of, bits_of, AreMarked, is_in, union, AreNone, IsNextNumber}
 use mathlib.Core.Logic.{◌≢◌}
 
 -- ---- the flags
@@ -426,7 +426,7 @@ abbrev pub IsFound : Option ℕ → ℕ → ℕ → Type 0
 IsFound found many n = MatchOption found (many ≤ n) (λ r. (r ≡ n) × (n < many))
 
 pub first_found : (flags : List Bool) (from many n : ℕ) (found : Option ℕ) → from ≤ n → is_in flags n ≡ true → AreNone flags from n
-    → IsFound found many n → IsNext flags from many found
+    → IsFound found many n → IsNextNumber flags from many found
 first_found flags from many n None ahead it none past = λ k from_on below. none k from_on (omega arith)
 first_found flags from many n (Some r) ahead it none is = rw is.0 (ahead, is.1, it, none)
 
@@ -463,7 +463,7 @@ module _ (words : List ℕ) (full : ℕ) (m : AreMarked words full) (from many w
       ∙ ap (λ x. eqb (bit_at (get_or words row 0) x) 1) place_is
       ∙ eq-eqb _ 1 one
 
-  pub next_here : (found : Option ℕ) → 0 < left → IsFound found many (from / 64 * 64 + trailing_zeros w64 left) → IsNext (bits_of words) from many found
+  pub next_here : (found : Option ℕ) → 0 < left → IsFound found many (from / 64 * 64 + trailing_zeros w64 left) → IsNextNumber (bits_of words) from many found
   next_here found some is =
       let t : ℕ = trailing_zeros w64 left in
       let left_fits : left < 2 ^ 64 = omega (arith, and_le_l word ((2 ^ 64 - 1) * 2 ^ (from % 64) % 2 ^ 64), m.fits (from / 64)) in
@@ -525,7 +525,7 @@ module _ (words : List ℕ) (full : ℕ) (m : AreMarked words full) (from many w
             | inr past ↦ absurd (omega (arith, some_there, get_or_past words row 0 past))
           ]
 
-      pub next_later : (found : Option ℕ) (there : ℕ) → there ≡ get_or words row 0 → IsFound found many (row * 64 + trailing_zeros w64 there) → IsNext (bits_of words) from many found
+      pub next_later : (found : Option ℕ) (there : ℕ) → there ≡ get_or words row 0 → IsFound found many (row * 64 + trailing_zeros w64 there) → IsNextNumber (bits_of words) from many found
       next_later found there read_there is =
           let t : ℕ = trailing_zeros w64 there in
           let low = bit_at-trailing_zeros w64 there (omega (arith, some_there)) (omega (arith, m.fits row)) in

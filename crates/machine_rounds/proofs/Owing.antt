@@ -10,7 +10,7 @@ use Rattle.sleep_model.specs.Places.{one_if}
 use Rattle.sleep_script.specs.Jobs.{JobState, first_job}
 use Rattle.std.specs.Bool.{OnTrue}
 use Rattle.machine_rounds.specs.declared.jobs.Jobs.TheInside.{Inside}
-use Rattle.machine_rounds.specs.JobsFields.{jobs, AreCounted}
+use Rattle.machine_rounds.specs.JobsFields.{jobs, JobsInvariant}
 use Rattle.machine_rounds.specs.JobsOf.{JobsState, owes, owing_of, owing, job_at, HasJob, with_job, first_jobs_of, OweNone}
 
 one_at_most : (b : Bool) → one_if b ≤ 1
@@ -122,7 +122,7 @@ many_devices those (actor.Timer s) x = refl
 many_devices those actor.Time x = refl
 
 -- counted anew the jobs are as they are to be
-counted : (was : Inside) (who : Actor) (job : JobState) (now : JobsState) (n : ℕ) → AreCounted was → now ≡ with_job was.actors who job → n ≡ owing (with_job was.actors who job) → AreCounted (record { actors = now; owing = n })
+counted : (was : Inside) (who : Actor) (job : JobState) (now : JobsState) (n : ℕ) → JobsInvariant was → now ≡ with_job was.actors who job → n ≡ owing (with_job was.actors who job) → JobsInvariant (record { actors = now; owing = n })
 counted was who job now n k is e = record {
   few_scripts = omega (arith, ap (λ (those : JobsState). length those.scripts) is, many_scripts was.actors who job, k.few_scripts);
   few_devices = omega (arith, ap (λ (those : JobsState). length those.devices) is, many_devices was.actors who job, k.few_devices);
@@ -130,14 +130,14 @@ counted was who job now n k is e = record {
 }
 
 -- after a turn of one that had no call to make
-pub turn_counted : (was : Inside) (who : Actor) (job : JobState) (now : JobsState) (shown : Bool) (n : ℕ) → HasJob was.actors who → (job_at was.actors who).pending ≡ [] → AreCounted was
-    → now ≡ with_job was.actors who job → shown ≡ owes job → n ≡ was.owing + one_if shown → AreCounted (record { actors = now; owing = n })
+pub turn_counted : (was : Inside) (who : Actor) (job : JobState) (now : JobsState) (shown : Bool) (n : ℕ) → HasJob was.actors who → (job_at was.actors who).pending ≡ [] → JobsInvariant was
+    → now ≡ with_job was.actors who job → shown ≡ owes job → n ≡ was.owing + one_if shown → JobsInvariant (record { actors = now; owing = n })
 turn_counted was who job now shown n h none k is owes_is more =
     counted was who job now n k is (after_turn_counts was.actors who job was.owing n shown h none k.owing_is owes_is more)
 
 -- after a call of one that had it to make
-pub call_counted : (was : Inside) (who : Actor) (job : JobState) (now : JobsState) (shown : Bool) (n : ℕ) → HasJob was.actors who → 0 < length (job_at was.actors who).pending → AreCounted was
-    → now ≡ with_job was.actors who job → shown ≡ owes job → n + 1 ≡ was.owing + one_if shown → AreCounted (record { actors = now; owing = n })
+pub call_counted : (was : Inside) (who : Actor) (job : JobState) (now : JobsState) (shown : Bool) (n : ℕ) → HasJob was.actors who → 0 < length (job_at was.actors who).pending → JobsInvariant was
+    → now ≡ with_job was.actors who job → shown ≡ owes job → n + 1 ≡ was.owing + one_if shown → JobsInvariant (record { actors = now; owing = n })
 call_counted was who job now shown n h some k is owes_is left =
     counted was who job now n k is (after_call_counts was.actors who job was.owing n shown h some k.owing_is owes_is left)
 

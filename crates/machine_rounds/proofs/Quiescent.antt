@@ -22,7 +22,7 @@ use Rattle.running_laws.proofs.Asked.{legal_journal}
 use Rattle.running_laws.proofs.Invariant.{enabled_is}
 use Rattle.machine_rounds.specs.JobsOf.{AreAllJobs, JobsState, job_at, OweNone}
 use Rattle.machine_rounds.specs.Runs.{IsQuiescent, IsGoingOn, RunState}
-use Rattle.machine_rounds.proofs.JobsPreserved.{has_job}
+use Rattle.machine_rounds.proofs.JobsChanged.{has_job}
 use Rattle.machine_rounds.proofs.Idling.{seats_len}
 
 none_there : (o : Option Actor) → is_some o ≡ false → o ≡ None

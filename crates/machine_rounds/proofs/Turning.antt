@@ -8,8 +8,8 @@ use Rattle.sleep_model.specs.declared.machine.Machine.{Machine}
 use Rattle.sleep_model.specs.Legal.{JournalPart}
 use Rattle.sleep_model.specs.Merge.{next_position}
 use Rattle.sleep_state.specs.JournalRooms.{entries}
-use Rattle.event_word.specs.Seats.{AreAll, sources_of}
-use Rattle.sleep_core.specs.Cores.{CoreState, IsActor, with_entry}
+use Rattle.event_word.specs.Seats.{AreAllSeats, source_count}
+use Rattle.sleep_core.specs.Cores.{CoreState, IsActor, core_after}
 use Rattle.sleep_core.specs.Histories.{last_stamp}
 use Rattle.sleep_script.proofs.Following.{turns_few}
 use Rattle.run_objects.specs.Objects.{SeatedCoreState, seats_of}
@@ -22,7 +22,7 @@ use Rattle.machine_rounds.specs.declared.run.Run.TheInside.{Inside}
 use Rattle.machine_rounds.specs.JobsOf.{job_at}
 use Rattle.machine_rounds.specs.RunFields.{RunFieldsInvariant}
 use Rattle.machine_rounds.specs.RunFields as fields
-use Rattle.machine_rounds.proofs.SeatsPreserved.{seats_same}
+use Rattle.machine_rounds.proofs.SeatedSources.{seats_same}
 
 module _ (r : Inside) (k : RunFieldsInvariant r) where
   -- a look preserves the run if the core is the same
@@ -36,11 +36,11 @@ module _ (r : Inside) (k : RunFieldsInvariant r) where
   pub looked_table : (new : SeatedCoreState) → new.seat.table_id ≡ r.seated.seat.table_id → new.seat.table_id ≡ r.table.cells.shared.table_id
   looked_table new e = e ∙ k.table
 
-  pub looked_seats : (new : SeatedCoreState) → new.seat.table_id ≡ r.seated.seat.table_id → sources_of new.seat ≡ sources_of r.seated.seat → AreAll new.seat (seats_of r.sources.items)
+  pub looked_seats : (new : SeatedCoreState) → new.seat.table_id ≡ r.seated.seat.table_id → source_count new.seat ≡ source_count r.seated.seat → AreAllSeats new.seat (seats_of r.sources.items)
   looked_seats new table sources = seats_same r.seated.seat new.seat (seats_of r.sources.items) table sources k.seats
 
   -- the journal after an entry is legal
-  pub legal_after : (new : CoreState) (e : JournalEntry) → new ≡ with_entry r.seated.core e → JournalPart new.machine (entries new.past) → JournalPart r.machine.now (entries (e ∷ r.seated.core.past))
+  pub legal_after : (new : CoreState) (e : JournalEntry) → new ≡ core_after r.seated.core e → JournalPart new.machine (entries new.past) → JournalPart r.machine.now (entries (e ∷ r.seated.core.past))
   legal_after new e is h =
       subst (λ (x : Machine). JournalPart x (entries (e ∷ r.seated.core.past))) (ap (λ (x : CoreState). x.machine) is ∙ k.machine_is)
       (subst (λ (x : CoreState). JournalPart new.machine (entries x.past)) is h)

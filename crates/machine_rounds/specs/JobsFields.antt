@@ -8,11 +8,11 @@ abbrev pub jobs : Inside → JobsState
 jobs j = j.actors
 
 -- there are few, and it is counted how many have a call on a source to make
-pub record AreCounted (j : Inside) : Type 0 where
+pub record JobsInvariant (j : Inside) : Type 0 where
   pub few_scripts : length j.actors.scripts < 2 ^ 30
   pub few_devices : length j.actors.devices < 2 ^ 30
   pub owing_is : j.owing ≡ owing j.actors
 
 -- what holds of the jobs between calls
 abbrev pub jobs_invariant : Inside → Type 0
-jobs_invariant j = AreCounted j
+jobs_invariant j = JobsInvariant j

@@ -33,7 +33,7 @@ abbrev pub AreNone : List Bool → ℕ → ℕ → Type 0
 AreNone flags from end = (k : ℕ) → from ≤ k → k < end → is_in flags k ≡ false
 
 -- the first number of the set from that one on and below the other, or that there is none
-abbrev pub IsNext : List Bool → ℕ → ℕ → Option ℕ → Type 0
-IsNext flags from many found =
+abbrev pub IsNextNumber : List Bool → ℕ → ℕ → Option ℕ → Type 0
+IsNextNumber flags from many found =
     MatchOption found (AreNone flags from many)
     (λ n. (from ≤ n) × (n < many) × (is_in flags n ≡ true) × AreNone flags from n)

@@ -1,6 +1,6 @@
 -- What a run's fields are.
 use Rattle.std.specs.Prelude.{◌≡◌, List, map}
-use Rattle.event_word.specs.Seats.{AreAll}
+use Rattle.event_word.specs.Seats.{AreAllSeats}
 use Rattle.wakeup_source.specs.SourceStates.{SourceState}
 use Rattle.running_laws.specs.Running.{IsRunning}
 use Rattle.run_objects.specs.Objects.{SeatedSourceState, seats_of}
@@ -28,4 +28,4 @@ pub record RunFieldsInvariant (r : Inside) : Type 0 where
   pub running : IsRunning r.machine.now r.seated.core.past (sources_of r.sources.items) (job_at r.jobs) r.floor
   pub all_jobs : AreAllJobs r.machine.now r.jobs
   pub table : r.seated.seat.table_id ≡ r.table.cells.shared.table_id
-  pub seats : AreAll r.seated.seat (seats_of r.sources.items)
+  pub seats : AreAllSeats r.seated.seat (seats_of r.sources.items)

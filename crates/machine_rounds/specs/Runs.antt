@@ -21,7 +21,7 @@ use Rattle.sleep_model.specs.Path.{maker}
 use Rattle.sleep_model.specs.Places.{places}
 use Rattle.sleep_model.specs.Sources.{most_entries}
 use Rattle.sleep_model.specs.Word.{position}
-use Rattle.event_word.specs.Seats.{Token, floor_of, looked_of}
+use Rattle.event_word.specs.Seats.{WordToken, floor_of, looked_of}
 use Rattle.sleep_state.specs.JournalRooms.{entries}
 use Rattle.sleep_core.specs.Cores.{IsActor}
 use Rattle.wakeup_source.specs.SourceStates.{SourceState}
@@ -41,7 +41,7 @@ pub record RunState : Type 0 where
   pub machine : Machine
   pub journal : List JournalEntry
   pub sources : List SourceState
-  pub seat : Token
+  pub seat : WordToken
   pub floor : Stamp
 
 -- how many entries were made
@@ -54,26 +54,26 @@ pub record IsGoingOn (run : RunState) : Type 0 where
   pub running : IsRunning run.machine run.journal run.sources jobs run.floor
 
 -- nothing was made: at most the word was looked at
-pub record IsSame (old new : RunState) : Type 0 where
+pub record MadeNothing (old new : RunState) : Type 0 where
   pub machine : new.machine ≡ old.machine
   pub journal : new.journal ≡ old.journal
   pub sources : new.sources ≡ old.sources
   pub floor : new.floor ≡ old.floor
 
 -- the word was looked at last, at or after all that was made
-pub record IsSeen (run : RunState) (word : EventNow) : Type 0 where
+pub record IsLastLook (run : RunState) (word : EventNow) : Type 0 where
   pub seen : list_any (is_word word) (looked_of run.seat) ≡ true
   pub newest : position word ≡ floor_of run.seat
   pub high : run.floor.pos ≤ position word
 
 -- the calls of a machine may fill a source: its history, which has room for `most_entries`, may come to have room for fewer than four,
 -- which a call and its expiry need (own)
-abbrev pub IsFull : Machine → ℕ → Type 0
-IsFull m s = (s ≤ length m.sources) × (most_entries < places m s + 4)
+abbrev pub MayFillSource : Machine → ℕ → Type 0
+MayFillSource m s = (s ≤ length m.sources) × (most_entries < places m s + 4)
 
 -- why a run gives nothing: a source is full, or memory ran out
 abbrev pub Fails : Machine → RunFault → Type 0
-Fails m (fault.SourceFull s) = IsFull m s
+Fails m (fault.SourceFull s) = MayFillSource m s
 Fails m fault.Mem = Unit {0}
 
 -- the table of the event word was closed, and has all steps of the run
@@ -90,7 +90,7 @@ IsRefused run fault.Mem = Unit {0}
 -- after a try, entries were made, or nothing has changed
 abbrev pub AfterTry : RunState → RunState → Result Bool RunFault → Type 0
 AfterTry old new (Ok true) = entries_made old < entries_made new
-AfterTry old new (Ok false) = IsSame old new
+AfterTry old new (Ok false) = MadeNothing old new
 AfterTry old new (Err fault) = IsRefused new fault
 
 -- nobody can make anything that sees that word
@@ -128,8 +128,8 @@ pub record IsQuiescent (run : RunState) : Type 0 where
 -- after a round that did nothing, somebody who can go on does, or time jumps; else the run is over
 abbrev pub IsAfterIdleRound : RunState → RunState → Result AfterIdleRound RunFault → Type 0
 IsAfterIdleRound old new (Ok GoesOn) = entries_made old < entries_made new
-IsAfterIdleRound old new (Ok (Finished word)) = IsSame old new × IsSeen new word × (is_over new word ≡ true)
-IsAfterIdleRound old new (Ok (Stuck word)) = IsSame old new × IsSeen new word × IsHalted new word
+IsAfterIdleRound old new (Ok (Finished word)) = MadeNothing old new × IsLastLook new word × (is_over new word ≡ true)
+IsAfterIdleRound old new (Ok (Stuck word)) = MadeNothing old new × IsLastLook new word × IsHalted new word
 IsAfterIdleRound old new (Err fault) = IsRefused new fault
 
 -- after rounds for as long as each makes entries: the last one did, or there are no fewer entries
@@ -141,8 +141,8 @@ AfterRounds old new (Err fault) = IsRefused new fault
 -- after all rounds the run is over
 abbrev pub AfterAll : RunState → Result AfterIdleRound RunFault → Type 0
 AfterAll run (Ok GoesOn) = ⊥
-AfterAll run (Ok (Finished word)) = IsSeen run word × (is_over run word ≡ true)
-AfterAll run (Ok (Stuck word)) = IsSeen run word × IsHalted run word
+AfterAll run (Ok (Finished word)) = IsLastLook run word × (is_over run word ≡ true)
+AfterAll run (Ok (Stuck word)) = IsLastLook run word × IsHalted run word
 AfterAll run (Err fault) = IsRefused run fault
 
 -- after n stretches at least n entries more were made, or the run is over
@@ -153,9 +153,9 @@ AfterStretches n old new (Err fault) = IsRefused new fault
 
 -- the run is over, and ends so, by a word that was looked at last
 abbrev pub EndsSo : RunState → LogEnd → Type 0
-EndsSo run end.Finished = (word : EventNow) × IsSeen run word × (is_over run word ≡ true)
+EndsSo run end.Finished = (word : EventNow) × IsLastLook run word × (is_over run word ≡ true)
 EndsSo run (end.Stuck those) =
-    (word : EventNow) × IsSeen run word × IsHalted run word × (those ≡ waiting run.machine (entries run.journal) word)
+    (word : EventNow) × IsLastLook run word × IsHalted run word × (those ≡ waiting run.machine (entries run.journal) word)
 
 -- the log of a whole run: it is legal, and over, and so the laws hold of it, and no attempt is open; it has at most 37,585,025 entries; an
 -- event wakes a sleeping machine before time passes, time goes forward, and each attempt ends; it fits the machine, so that its text is

@@ -19,8 +19,8 @@ timers floor zero = []
 timers floor (suc n) = timers floor n ++ task.Fires (raised_timer floor (first_timer n)) ∷ []
 
 -- all tasks: of the scripts, of autosleep's work, of the devices, and of the timers
-abbrev pub tasks_of : Stamp → ℕ → JobsState → List Task
-tasks_of floor sources jobs =
+abbrev pub all_tasks : Stamp → ℕ → JobsState → List Task
+all_tasks floor sources jobs =
     map (acts floor) jobs.scripts ++ (acts floor jobs.auto ∷ (map (acts floor) jobs.devices ++ timers floor sources))
 
 -- n actors of a kind, from number i on

@@ -3,10 +3,10 @@ use Rattle.std.specs.Prelude.{◌<◌, Result, Ok, Err}
 use Rattle.machine_rounds.specs.declared.run.TurnOutcome.{TurnOutcome}
 use Rattle.machine_rounds.specs.declared.run.TurnOutcome.TheVariants.{Made}
 use Rattle.machine_rounds.specs.declared.run.RunFault.{RunFault}
-use Rattle.machine_rounds.specs.Runs.{RunState, IsRefused, IsSame, entries_made}
+use Rattle.machine_rounds.specs.Runs.{RunState, IsRefused, MadeNothing, entries_made}
 
 -- after an actor's try entries were made, or nothing has changed
 abbrev pub AfterAsking : RunState → RunState → Result TurnOutcome RunFault → Type 0
 AfterAsking old new (Ok Made) = entries_made old < entries_made new
-AfterAsking old new (Ok _) = IsSame old new
+AfterAsking old new (Ok _) = MadeNothing old new
 AfterAsking old new (Err fault) = IsRefused new fault

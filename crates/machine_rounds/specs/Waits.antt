@@ -6,13 +6,13 @@ use Rattle.sleep_model.specs.declared.log.Waiting.{Waiting}
 use Rattle.sleep_model.specs.declared.progress.Due.{Due}
 use Rattle.sleep_model.specs.declared.progress.Due.TheVariants.{Waits}
 use Rattle.sleep_model.specs.Sources.{stats_at}
-use Rattle.wakeup_source.specs.SourceStates.{SourceState, unstamped}
+use Rattle.wakeup_source.specs.SourceStates.{SourceState, unstamped_source}
 
 -- that the script waits, if that is what is due of it
-abbrev pub waits_of : ℕ → Due → List Waiting
-waits_of i (Waits why) = record { actor = Script i; why = why } ∷ []
-waits_of i _ = []
+abbrev pub script_waits : ℕ → Due → List Waiting
+script_waits i (Waits why) = record { actor = Script i; why = why } ∷ []
+script_waits i _ = []
 
 -- the statistics of these sources at that moment
 abbrev pub all_stats : List SourceState → ℕ → List Stats
-all_stats sources at = map (λ s. stats_at (unstamped s.past) at) sources
+all_stats sources at = map (λ s. stats_at (unstamped_source s.past) at) sources

@@ -4,15 +4,15 @@ ghost use Rattle.std.specs.Prelude.{◌≡◌, ◌≤◌, ◌<◌, ◌^◌, ◌+
 ghost use Rattle.std.specs.List.{list_all};
 ghost use Rattle.sleep_model.specs.Fits.{fits_stats};
 ghost use Rattle.machine_rounds.specs.RunFields.{sources_of};
-ghost use Rattle.machine_rounds.specs.Waits.{waits_of, all_stats};
-ghost use Rattle.wakeup_source.specs.SourceStates.{unstamped, latest};
+ghost use Rattle.machine_rounds.specs.Waits.{script_waits, all_stats};
+ghost use Rattle.wakeup_source.specs.SourceStates.{unstamped_source, latest};
 
 use crate::run::{Run, RunFault};
 use crate::waiters::Waiters;
 use apart_log::ApartLog;
 use fit_laws::{moments_are_ranged, stats_are_ranged};
 use run_objects::{SeatedSource, close_table};
-use sleep_base::{Mem, lost};
+use sleep_base::{Mem, drop_for_mem};
 use sleep_core::Core;
 use sleep_model::{Actor, Due, EventNow, Journal, ListOf, LogEnd, SourceList, Stats, Waiting};
 use std::alloc::{AllocError, Global};
@@ -31,7 +31,7 @@ pub(crate) enum AfterIdleRound {
 
 /// The statistics of the sources at that moment.
 fn stats_of(alloc: Global, sources: &[SeatedSource], at: u64) -> Result<Vec<Stats>, AllocError>
-    requires time { All (λ s. latest (unstamped s.source.past) ≤ at) sources.now }
+    requires time { All (λ s. latest (unstamped_source s.source.past) ≤ at) sources.now }
     requires small { at ≤ 2 ^ 63 }
     ensures all { IfOk result (λ v. v.items ≡ all_stats (sources_of sources.now) at) }
     ensures ranged { IfOk result (λ v. list_all fits_stats v.items ≡ true) }
@@ -47,7 +47,7 @@ fn stats_of(alloc: Global, sources: &[SeatedSource], at: u64) -> Result<Vec<Stat
 
 /// A script that waits is put after the others.
 fn push_waiting(those: &mut Vec<Waiting>, script: u32, due: Due) -> Result<(), AllocError>
-    ensures { OnOk result (those.new.items ≡ those.old.items ++ waits_of script due) }
+    ensures { OnOk result (those.new.items ≡ those.old.items ++ script_waits script due) }
 {
     if let Due::Waits(why) = due {
         those.push(Waiting {
@@ -80,7 +80,7 @@ impl<'m> Run<'m> {
     ghost use Rattle.sleep_model.specs.Numbers.{time_of};
     ghost use Rattle.sleep_state.specs.JournalRooms.{entries};
     ghost use Rattle.running_laws.specs.Running.{histories, journal_histories};
-    ghost use Rattle.machine_rounds.specs.Runs.{nobody_enabled, IsQuiescent, IsClosed, IsHalted, IsSeen, IsAfterIdleRound, AfterAll, EndsSo, Fails, IsRefused, IsRun, entries_made};
+    ghost use Rattle.machine_rounds.specs.Runs.{nobody_enabled, IsQuiescent, IsClosed, IsHalted, IsLastLook, IsAfterIdleRound, AfterAll, EndsSo, Fails, IsRefused, IsRun, entries_made};
 
     /// Whether the run is quiescent: nobody has a call on a source to make, and no attempt is open.
     fn is_quiescent(&self) -> bool
@@ -176,7 +176,7 @@ impl<'m> Run<'m> {
     /// there is no memory.
     fn jump(&mut self, word: EventNow, to: u64) -> Result<(), RunFault>
         requires least { JumpStep self.old.machine (entries self.old.journal) (histories self.old.sources) word to }
-        requires seen { IsSeen self.old word }
+        requires seen { IsLastLook self.old word }
         requires later { time_of (entries self.old.journal) < to }
         ensures machine { self.new.machine ≡ self.old.machine }
         ensures made { OnOk result (entries_made self.old < entries_made self.new) }
@@ -303,7 +303,7 @@ impl<'m> Run<'m> {
     {
         match self.ending(alloc, after_idle_round) {
             Ok((end, stats)) => self.merged(alloc, end, stats),
-            Err(_) => Err(lost(self)),
+            Err(_) => Err(drop_for_mem(self)),
         }
     }
 

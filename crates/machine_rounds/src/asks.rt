@@ -3,7 +3,7 @@
 ghost use Rattle.std.specs.Prelude.{◌≡◌, ℕ, ◌+◌, ◌*◌, ◌/◌, ◌<◌, ◌≤◌, ◌^◌, ◌==◌, ◌↔◌, Bool, true, false, List, length, replicate, min, slice_index, slice_set, IfOk, IfSome};
 ghost use Rattle.std.specs.Int.{trailing_zeros, w64};
 ghost use Rattle.std.specs.Option.{MatchOption};
-ghost use Rattle.machine_rounds.specs.NumberSets.{is_in, union, IsNext};
+ghost use Rattle.machine_rounds.specs.NumberSets.{is_in, union, IsNextNumber};
 
 use std::alloc::{AllocError, Global};
 use std::marker::Model;
@@ -144,7 +144,7 @@ impl Asks {
     /// The first from a number on that is in it, below `many`.
     #[inline(always)]
     pub(crate) fn next(&self, from: u32, many: u32) -> Option<u32>
-        ensures next { IsNext self.now from many result }
+        ensures next { IsNextNumber self.now from many result }
         ensures below { IfSome result (λ n. n < many) }
     {
         let left = word_of(&self.words, (from / 64) as usize) & (u64::MAX << (from % 64));

@@ -14,7 +14,7 @@ use apart_log::ApartLog;
 use event_word::EventTable;
 use run_objects::{SeatedCore, SeatedSource};
 use run_world::Gate;
-use sleep_base::{Mem, lost};
+use sleep_base::{Mem, drop_for_mem};
 use sleep_model::{Machine, Stamp};
 use std::alloc::Global;
 use std::sync::Wait;
@@ -27,7 +27,7 @@ const MOST_JOURNAL: usize = 1 << 62;
 
 /// What stays of a run while its core, its sources and its jobs are in a burst.
 #[derive(Drop)]
-struct DuringBurst<'m> {
+struct RunInBurst<'m> {
     machine: &'m Machine,
     table: EventTable,
     /// A stamp that all actors may know.
@@ -57,9 +57,9 @@ struct AfterBurst<'m> {
     stop: Option<Stop>,
 }
 
-impl<'m> DuringBurst<'m> {
+impl<'m> RunInBurst<'m> {
     ghost use Rattle.std.specs.Prelude.{◌≡◌, ◌≤◌, IfOk};
-    ghost use Rattle.machine_rounds.specs.BurstsOf.{IsDuringBurst, IsBack, IsJoined, entries_of};
+    ghost use Rattle.machine_rounds.specs.BurstsOf.{IsRunInBurst, IsBack, IsJoined, entries_of};
     ghost use Rattle.machine_rounds.specs.Runs.{entries_made};
 
     /// The burst of these parts.
@@ -71,7 +71,7 @@ impl<'m> DuringBurst<'m> {
         workers: u8,
         gate: &G,
     ) -> Result<Burst<'m>, Mem>
-        requires during { IsDuringBurst self.now.machine.now self.now.table.cells.shared.table_id self.now.floor
+        requires during { IsRunInBurst self.now.machine.now self.now.table.cells.shared.table_id self.now.floor
             contents.core contents.sources.items contents.tasks.items }
         requires workers { 1 ≤ workers }
         ensures back { IfOk result (λ made. IsBack self.now.machine.now self.now.table.cells.shared.table_id self.now.floor
@@ -84,7 +84,7 @@ impl<'m> DuringBurst<'m> {
             self.machine.devices.len() as u32,
             self.machine.sources.len() as u32 + 1,
         ) else {
-            return Err(lost(contents));
+            return Err(drop_for_mem(contents));
         };
         let plan = BurstPlan {
             gate,
@@ -109,7 +109,7 @@ impl<'m> DuringBurst<'m> {
         ensures machine { result.machine ≡ self.entry.machine.now }
         ensures entries { entries_made result ≡ entries_of core.entry sources.items }
     {
-        let DuringBurst {
+        let RunInBurst {
             machine,
             table,
             mut waiters,
@@ -141,7 +141,7 @@ impl<'m> DuringBurst<'m> {
         } = contents;
         let floor = highest_of(&tasks, self.floor);
         let Ok(jobs) = Jobs::of_tasks(alloc, tasks, self.machine.actors.len()) else {
-            return Err(lost((self, core, sources)));
+            return Err(drop_for_mem((self, core, sources)));
         };
         Ok(self.joined(core, sources, jobs, floor))
     }
@@ -155,7 +155,7 @@ impl<'m> DuringBurst<'m> {
         workers: u8,
         gate: &G,
     ) -> Result<AfterBurst<'m>, Mem>
-        requires during { IsDuringBurst self.machine.now self.table.cells.shared.table_id self.floor
+        requires during { IsRunInBurst self.machine.now self.table.cells.shared.table_id self.floor
             contents.core contents.sources.items contents.tasks.items }
         requires workers { 1 ≤ workers }
         ensures machine { IfOk result (λ after. after.run.machine ≡ self.entry.machine.now) }
@@ -163,7 +163,7 @@ impl<'m> DuringBurst<'m> {
     {
         let tasks = contents.tasks.len();
         let Ok(burst) = self.make(rt, alloc, contents, workers, gate) else {
-            return Err(lost(self));
+            return Err(drop_for_mem(self));
         };
         let Burst {
             contents,
@@ -184,7 +184,7 @@ impl<'m> DuringBurst<'m> {
 impl<'m> Run<'m> {
     ghost use Rattle.std.specs.Prelude.{◌≡◌, ◌≤◌, ◌<◌, ◌+◌, ◌^◌, length, IfOk, IfErr, IfSome};
     ghost use Rattle.std.specs.Bool.{OnTrue};
-    ghost use Rattle.machine_rounds.specs.BurstsOf.{IsDuringBurst, entries_of};
+    ghost use Rattle.machine_rounds.specs.BurstsOf.{IsRunInBurst, entries_of};
     ghost use Rattle.machine_rounds.specs.Runs.{AfterStretches, Fails, IsRefused, IsRun, entries_made};
 
     /// Whether the journal is so short that no job comes to the end of its numbers in a burst.
@@ -195,10 +195,10 @@ impl<'m> Run<'m> {
     }
 
     /// The parts that go into a burst, and what stays. `Mem` if there is no memory.
-    fn leave(self, alloc: Global) -> Result<(DuringBurst<'m>, BurstContents<'m>), Mem>
+    fn leave(self, alloc: Global) -> Result<(RunInBurst<'m>, BurstContents<'m>), Mem>
         requires { length self.journal + 1000 < 2 ^ 63 }
         ensures machine { IfOk result (λ contents. contents.0.machine.now ≡ self.entry.machine) }
-        ensures during { IfOk result (λ contents. IsDuringBurst contents.0.machine.now contents.0.table.cells.shared.table_id contents.0.floor
+        ensures during { IfOk result (λ contents. IsRunInBurst contents.0.machine.now contents.0.table.cells.shared.table_id contents.0.floor
             contents.1.core contents.1.sources.items contents.1.tasks.items) }
         ensures entries { IfOk result (λ contents. entries_of contents.1.core contents.1.sources.items ≡ entries_made self.entry) }
     {
@@ -212,9 +212,9 @@ impl<'m> Run<'m> {
             waiters,
         } = self;
         let Ok(tasks) = jobs.into_tasks(alloc, sources.len() as u32, floor) else {
-            return Err(lost((table, core, sources, waiters)));
+            return Err(drop_for_mem((table, core, sources, waiters)));
         };
-        let during = DuringBurst {
+        let during = RunInBurst {
             machine,
             table,
             floor,
@@ -242,7 +242,7 @@ impl<'m> Run<'m> {
         ensures grown { IfOk result (λ after. entries_made self.entry ≤ entries_made after.run) }
     {
         if !self.is_short() {
-            return Err(lost(self));
+            return Err(drop_for_mem(self));
         }
         let (during, contents) = self.leave(alloc)?;
         during.run_on(rt, alloc, contents, workers, gate)

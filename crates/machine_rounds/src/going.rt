@@ -17,7 +17,7 @@ impl<'m> Run<'m> {
     ghost use Rattle.sleep_state.specs.JournalRooms.{entries};
     ghost use Rattle.sleep_core.specs.Cores.{IsActor};
     ghost use Rattle.running_laws.specs.Running.{calls_made, histories};
-    ghost use Rattle.machine_rounds.specs.Runs.{CanGoOn, IsRefused, IsSeen, actors_idle, entries_made, nobody_enabled};
+    ghost use Rattle.machine_rounds.specs.Runs.{CanGoOn, IsRefused, IsLastLook, actors_idle, entries_made, nobody_enabled};
 
     /// The first script that can make something that sees this word.
     fn enabled_script(&self, word: EventNow) -> Option<Actor>
@@ -76,7 +76,7 @@ impl<'m> Run<'m> {
     fn turn_by<R: Wait>(&mut self, rt: &R, who: Actor, word: EventNow) -> Result<(), RunFault>
         requires actor { IsActor self.old.machine who }
         requires calls { calls_made self.old.machine self.old.sources who ≡ calls_due self.old.machine who (entries self.old.journal) }
-        requires seen { IsSeen self.old word }
+        requires seen { IsLastLook self.old word }
         requires due { is_made (due self.old.machine (entries self.old.journal) who word) ≡ true }
         ensures machine { self.new.machine ≡ self.old.machine }
         ensures made { OnOk result (entries_made self.old < entries_made self.new) }
@@ -108,7 +108,7 @@ impl<'m> Run<'m> {
     /// The next entry of an actor that can go on: its next call on a source, else its turn by that word.
     fn act_by<R: Wait>(&mut self, rt: &R, who: Actor, word: EventNow) -> Result<(), RunFault>
         requires can { CanGoOn self.old word who }
-        requires seen { IsSeen self.old word }
+        requires seen { IsLastLook self.old word }
         ensures machine { self.new.machine ≡ self.old.machine }
         ensures made { OnOk result (entries_made self.old < entries_made self.new) }
         ensures fault { IfErr result (IsRefused self.new) }
@@ -122,7 +122,7 @@ impl<'m> Run<'m> {
     /// The next entry of somebody who can go on, by the word that was looked at last, if not all are idle.
     /// All actors are asked again after it.
     pub(crate) fn go_by<R: Wait>(&mut self, rt: &R, word: EventNow) -> Result<(), RunFault>
-        requires seen { IsSeen self.old word }
+        requires seen { IsLastLook self.old word }
         requires some { nobody_enabled self.old word ≡ false }
         ensures machine { self.new.machine ≡ self.old.machine }
         ensures made { OnOk result (entries_made self.old < entries_made self.new) }

@@ -8,7 +8,7 @@ use std::sync::Wait;
 impl<'m> Run<'m> {
     ghost use Rattle.std.specs.Prelude.{◌≡◌, ◌≤◌, ◌<◌, length, IfSome};
     ghost use Rattle.sleep_core.specs.Cores.{IsActor};
-    ghost use Rattle.machine_rounds.specs.Runs.{IsSame, AfterTry, AfterRounds, AfterStretches};
+    ghost use Rattle.machine_rounds.specs.Runs.{MadeNothing, AfterTry, AfterRounds, AfterStretches};
     ghost use Rattle.machine_rounds.specs.Tries.{AfterAsking};
 
     /// An actor's try in a round: its next call on a source, else its turn. What the core answers to a turn.
@@ -53,7 +53,7 @@ impl<'m> Run<'m> {
     /// Wakes the readers of the count, if no event is in progress.
     #[inline(always)]
     fn wake_readers<R: Wait>(&mut self, rt: &R)
-        ensures { IsSame self.old self.new }
+        ensures { MadeNothing self.old self.new }
     {
         if self.waiters.has_readers() && self.look(rt).inpr == 0 {
             self.waiters.wake_readers();

@@ -12,7 +12,7 @@ use event_word::EventTable;
 use fit_laws::{calls_are_ranged, kinds_are_ranged, moments_are_ranged};
 use machine_plans::MachinePlans;
 use run_objects::{SeatedCore, SeatedSource, seated_sources};
-use sleep_base::{Mem, lost};
+use sleep_base::{Mem, drop_for_mem};
 use sleep_core::{Core, CoreFault, CoreTurn};
 use sleep_model::{Actor, EventNow, Kind, Machine, Phase, SourceCall, Stamp, Why};
 use std::alloc::{AllocError, Global};
@@ -150,7 +150,7 @@ impl<'m> Run<'m> {
     ghost use Rattle.running_laws.specs.Running.{CallsNext, calls_made, histories, of_sources};
     ghost use Rattle.run_objects.specs.Objects.{AreUncalled, seats_of};
     ghost use Rattle.machine_rounds.specs.declared.run.RunFault.TheVariants as fault;
-    ghost use Rattle.machine_rounds.specs.Runs.{IsGoingOn, IsRefused, IsSame, IsSeen, entries_made};
+    ghost use Rattle.machine_rounds.specs.Runs.{IsGoingOn, IsRefused, MadeNothing, IsLastLook, entries_made};
     ghost use Rattle.machine_rounds.specs.Tries.{AfterAsking};
     ghost use Rattle.machine_rounds.specs.JobsOf.{first_jobs};
 
@@ -192,16 +192,16 @@ impl<'m> Run<'m> {
         let machine = plans.machine();
         let Ok((table, sources, look)) = seated_sources(alloc, machine.sources.len() as u32 + 1)
         else {
-            return Err(lost(links));
+            return Err(drop_for_mem(links));
         };
         let Ok(jobs) = Jobs::new(alloc, plans) else {
-            return Err(lost((table, sources, look, links)));
+            return Err(drop_for_mem((table, sources, look, links)));
         };
         let Ok(waiters) = all_waiters(alloc, machine) else {
-            return Err(lost((table, sources, look, links, jobs)));
+            return Err(drop_for_mem((table, sources, look, links, jobs)));
         };
         let Ok(core) = Core::new(alloc, plans, links) else {
-            return Err(lost((table, sources, look, jobs, waiters)));
+            return Err(drop_for_mem((table, sources, look, jobs, waiters)));
         };
         let seated = SeatedCore::new(core, look);
         Ok(Run::of_components(machine, table, seated, sources, jobs, waiters))
@@ -218,8 +218,8 @@ impl<'m> Run<'m> {
 
     /// Looks at the event word, at or after all that was made.
     pub(crate) fn look<R: Wait>(&mut self, rt: &R) -> EventNow
-        ensures same { IsSame self.old self.new }
-        ensures seen { IsSeen self.new result }
+        ensures same { MadeNothing self.old self.new }
+        ensures seen { IsLastLook self.new result }
     {
         self.seated.look(rt, &self.table, self.floor.pos)
     }

@@ -3,7 +3,7 @@
 ghost use Rattle.std.specs.Prelude.{◌≡◌, ◌<◌, ◌^◌, ◌++◌, ◌∷◌, [], length, map, OnOk, IfOk};
 ghost use Rattle.sleep_model.specs.declared.entry.Actor.TheVariants as actor;
 ghost use Rattle.sleep_script.specs.Jobs.{later};
-ghost use Rattle.machine_rounds.specs.TasksOf.{AreJobsOf, acts, all_actors, highest, jobs_in, numbered, tasks_of, timers};
+ghost use Rattle.machine_rounds.specs.TasksOf.{AreJobsOf, acts, all_actors, highest, jobs_in, numbered, all_tasks, timers};
 
 use crate::jobs::{ActorJobs, Jobs};
 use run_world::Task;
@@ -140,7 +140,7 @@ impl<'m> Jobs<'m> {
         sources: u32,
         floor: Stamp,
     ) -> Result<Vec<Task<'m>>, AllocError>
-        ensures { IfOk result (λ tasks. tasks.items ≡ tasks_of floor sources self.entry) }
+        ensures { IfOk result (λ tasks. tasks.items ≡ all_tasks floor sources self.entry) }
     {
         let ActorJobs {
             scripts,

@@ -9,7 +9,7 @@ use Rattle.sleep_model.specs.Merge.{IsFit, actors_of, all_entries, entries_of, i
 use Rattle.sleep_model.specs.EntryClasses.{EntryClass, OfJournal, Notes, Moves, OfTime, class_of, is_in_journal}
 use Rattle.sleep_model.specs.Path.{is_same}
 use Rattle.log_merge.proofs.Sorts.{Up, up_in_order}
-use Rattle.merge_laws.specs.Apart.{IsActor, calls_after, is_inside, is_journals, own_entries, past_of, source_past, steps_of}
+use Rattle.merge_laws.specs.Apart.{AreActorSteps, calls_after, is_inside, is_journals, own_entries, past_of, source_past, word_steps}
 use Rattle.merge_laws.specs.Fitting.{FitApart, FitsTogether, ListsMerge, are_raised, has_time, is_look, jumps, is_ordered}
 use Rattle.merge_laws.specs.Merging.{AreLegalApart, AreLists}
 use Rattle.merge_laws.proofs.Chained.{chained_all}
@@ -88,8 +88,8 @@ module _ (m : Machine) (journal : List JournalEntry) (hs : List (List SourceEntr
     histories_rise = a.histories_rise;
     actors_rise = all_so (λ who. rises (entries_of who (stamped journal hs))) (actors_of m)
         (λ who. ap rises (filter_order (λ e. is_same e.entry.actor who) (all_entries journal hs)) ∙ ap rises (own_lists m who (own who) journal hs a.count (a.actors who)) ∙ (a.actors who).rising);
-    chained = chained_all (in_order (all_entries journal hs)) (steps_of journal hs) up (filter_order is_word_step (all_entries journal hs)) a.counted a.chained
-        (all_order (is_look (steps_of journal hs)) (all_entries journal hs) a.looks);
+    chained = chained_all (in_order (all_entries journal hs)) (word_steps journal hs) up (filter_order is_word_step (all_entries journal hs)) a.counted a.chained
+        (all_order (is_look (word_steps journal hs)) (all_entries journal hs) a.looks);
     timed = timed_all (in_order (all_entries journal hs)) up (all_order (λ e. nat_lt 0 e.stamp.tick) (all_entries journal hs) a.ticks)
         (ap (are_raised 0 0) jumps_are ∙ a.raised) has_sides has_times;
   }
@@ -107,7 +107,7 @@ preserved_legal : (m : Machine) (journal : List JournalEntry) (hs : List (List S
 preserved_legal m journal hs own a legal = record {
   of_journal = legal.of_journal;
   of_sources = legal.of_sources;
-  of_actors = λ who. subst (λ (l : List JournalEntry). IsActor who (λ k. calls_after m who k (past_of journal)) (is_inside (length m.sources + 1) (source_past hs) who) (past_of l)) (sym (own_lists m who (own who) journal hs a.count (a.actors who))) (legal.of_actors who);
+  of_actors = λ who. subst (λ (l : List JournalEntry). AreActorSteps who (λ k. calls_after m who k (past_of journal)) (is_inside (length m.sources + 1) (source_past hs) who) (past_of l)) (sym (own_lists m who (own who) journal hs a.count (a.actors who))) (legal.of_actors who);
   of_jumps = legal.of_jumps;
 }
 

@@ -14,7 +14,7 @@ use Rattle.sleep_model.specs.Numbers.{time_of}
 use Rattle.sleep_model.specs.EntryClasses.{EntryClass, OfJournal, Notes, Moves, OfTime, class_of, is_in_journal, journal}
 use Rattle.sleep_model.specs.Path.{is_same}
 use Rattle.sleep_model.specs.Sources.{history, is_of}
-use Rattle.merge_laws.specs.Apart.{ActorStep, AreJumps, IsActor, IsCall, IsSource, JumpIsLegal, before, calls_after, is_inside, own_of}
+use Rattle.merge_laws.specs.Apart.{ActorStep, AreJumps, AreActorSteps, IsCall, IsSource, JumpIsLegal, before, calls_after, is_inside, own_of}
 use Rattle.merge_laws.proofs.Lists.{all_more, all_tail, filter_all}
 use Rattle.merge_laws.proofs.Calling.{CallsPreserved, InsidePreserved, after_own, calls_preserved, calls_own, filter_twice, inside_preserved, inside_own, made_own, same_actor}
 use Rattle.merge_laws.proofs.Placing.{Clocked, IsClock, Numbered, clock_rises, clock_time}
@@ -57,7 +57,7 @@ before_jump whole e past c h l =
 
 -- what is known at a point, of all entries and of those before it
 record Walk (m : Machine) (whole past : List Entry) : Type 0 where
-  actors : (who : Actor) → IsActor who (λ k. calls_after m who k (journal whole)) (is_inside (length m.sources + 1) (λ s. history s whole) who) (own_of who past)
+  actors : (who : Actor) → AreActorSteps who (λ k. calls_after m who k (journal whole)) (is_inside (length m.sources + 1) (λ s. history s whole) who) (own_of who past)
   calls : CallsPreserved m (journal whole) past
   inside : InsidePreserved whole past
   sources : (s : ℕ) → IsSource (history s past)
@@ -80,8 +80,8 @@ walk_on m whole e past w = record {
   there = all_tail (λ e. is_there m (class_of e.kind)) e past w.there;
 }
   where
-    rest : (who : Actor) (b : Bool) → IsActor who (λ k. calls_after m who k (journal whole)) (is_inside (length m.sources + 1) (λ s. history s whole) who) (cond b (e ∷ own_of who past) (own_of who past))
-        → IsActor who (λ k. calls_after m who k (journal whole)) (is_inside (length m.sources + 1) (λ s. history s whole) who) (own_of who past)
+    rest : (who : Actor) (b : Bool) → AreActorSteps who (λ k. calls_after m who k (journal whole)) (is_inside (length m.sources + 1) (λ s. history s whole) who) (cond b (e ∷ own_of who past) (own_of who past))
+        → AreActorSteps who (λ k. calls_after m who k (journal whole)) (is_inside (length m.sources + 1) (λ s. history s whole) who) (own_of who past)
     rest who true h = h.1
     rest who false h = h
 
@@ -108,7 +108,7 @@ joint_step m whole e past w = by (class_of e.kind) refl here
     calls = λ k. calls_after m e.actor k (journal whole)
 
     here : ActorStep e.actor (λ k. calls_after m e.actor k (journal whole)) (is_inside (length m.sources + 1) (λ s. history s whole) e.actor) (own_of e.actor past) e (class_of e.kind)
-    here = (subst (λ (b : Bool). IsActor e.actor (λ k. calls_after m e.actor k (journal whole)) (is_inside (length m.sources + 1) (λ s. history s whole) e.actor) (cond b (e ∷ own_of e.actor past) (own_of e.actor past))) (same_actor e.actor) (w.actors e.actor)).0
+    here = (subst (λ (b : Bool). AreActorSteps e.actor (λ k. calls_after m e.actor k (journal whole)) (is_inside (length m.sources + 1) (λ s. history s whole) e.actor) (cond b (e ∷ own_of e.actor past) (own_of e.actor past))) (same_actor e.actor) (w.actors e.actor)).0
 
     due : calls_after m e.actor (length (journal (own_of e.actor past))) (journal whole) ≡ calls_of m e.actor (journal past)
     due = calls_own m (journal whole) past e.actor (calls_preserved m (journal whole) e past w.calls)
@@ -148,7 +148,7 @@ joint_on m whole [] w = tt
 joint_on m whole (e ∷ past) w = (joint_step m whole e past w, joint_on m whole past (walk_on m whole e past w))
 
 pub joint : (m : Machine) (whole : List Entry)
-    → ((who : Actor) → IsActor who (λ k. calls_after m who k (journal whole)) (is_inside (length m.sources + 1) (λ s. history s whole) who) (own_of who whole)) → ((s : ℕ) → IsSource (history s whole)) → AreJumps m (journal whole) (λ s. history s whole)
+    → ((who : Actor) → AreActorSteps who (λ k. calls_after m who k (journal whole)) (is_inside (length m.sources + 1) (λ s. history s whole) who) (own_of who whole)) → ((s : ℕ) → IsSource (history s whole)) → AreJumps m (journal whole) (λ s. history s whole)
     → Clocked whole → Numbered whole → list_all (λ e. is_there m (class_of e.kind)) whole ≡ true → JointPart m whole
 joint m whole actors sources jumps clock words there = joint_on m whole whole (record {
   actors = actors;

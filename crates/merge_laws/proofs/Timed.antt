@@ -11,7 +11,7 @@ use Rattle.sleep_model.specs.Numbers.{word_step}
 use Rattle.sleep_model.specs.EntryClasses.{class_of}
 use Rattle.log_merge.proofs.Sorts.{Low, Up}
 use Rattle.log_merge.proofs.Reading.{both, both_left, both_right}
-use Rattle.merge_laws.specs.Fitting.{are_raised, has_time, is_earlier, is_later, jumps, is_ordered}
+use Rattle.merge_laws.specs.Fitting.{are_raised, has_time, is_earlier, is_after_jump, jumps, is_ordered}
 use Rattle.merge_laws.proofs.Lists.{all_head, all_tail}
 use Rattle.merge_laws.proofs.Joint.{less}
 use Rattle.merge_laws.proofs.Placing.{number_is}
@@ -66,7 +66,7 @@ earlier_ahead : (p s p' t t' : ℕ) (r : Bool) → nat_le (p + s) p' && nat_lt t
 earlier_ahead p s p' t t' r h = grind (arith, nat_tests)
 
 -- a jump that an entry is after is ahead of it
-jump_ahead : (e jump : JournalEntry) → jumps jump ≡ true → is_later e jump ≡ true → precedes jump e ≡ true
+jump_ahead : (e jump : JournalEntry) → jumps jump ≡ true → is_after_jump e jump ≡ true → precedes jump e ≡ true
 jump_ahead e jump is h =
     let none : step_number jump ≡ 0 = ap (λ (b : Bool). cond b 1 0) (no_step jump.entry.kind is) in
     (λ i. before_or jump.stamp.pos e.stamp.pos (before_or (none i) (step_number e) (before_or jump.stamp.tick e.stamp.tick (is_actor_before jump.entry.actor e.entry.actor))))
@@ -81,20 +81,20 @@ entry_ahead e jump is h =
     ∙ earlier_ahead e.stamp.pos (step_number e) jump.stamp.pos e.stamp.tick jump.stamp.tick (is_actor_before e.entry.actor jump.entry.actor)
     (both_left (nat_le (next_position e) jump.stamp.pos && nat_lt e.stamp.tick jump.stamp.tick) (nat_lt e.entry.time jump.entry.time) h)
 
-two_sides : (e jump : JournalEntry) → jumps e ≡ false → jumps jump ≡ true → is_ordered e jump ≡ true → is_earlier e jump || is_later e jump ≡ true
-two_sides e jump plain leaps h = (λ i. (sym plain i) || not (sym leaps i) || is_earlier e jump || is_later e jump) ∙ h
+two_sides : (e jump : JournalEntry) → jumps e ≡ false → jumps jump ≡ true → is_ordered e jump ≡ true → is_earlier e jump || is_after_jump e jump ≡ true
+two_sides e jump plain leaps h = (λ i. (sym plain i) || not (sym leaps i) || is_earlier e jump || is_after_jump e jump) ∙ h
 
 -- an entry earlier than a jump that does not precede it
 ahead_of : (e jump : JournalEntry) → jumps e ≡ false → jumps jump ≡ true → is_ordered e jump ≡ true → precedes jump e ≡ false → is_earlier e jump ≡ true
-ahead_of e jump plain leaps right low = by (is_earlier e jump) (is_later e jump) refl (two_sides e jump plain leaps right)
+ahead_of e jump plain leaps right low = by (is_earlier e jump) (is_after_jump e jump) refl (two_sides e jump plain leaps right)
   where
-    by : (a b : Bool) → is_later e jump ≡ b → a || b ≡ true → a ≡ true
+    by : (a b : Bool) → is_after_jump e jump ≡ b → a || b ≡ true → a ≡ true
     by true b is h = refl
     by false true is h = let ahead : precedes jump e ≡ true = jump_ahead e jump leaps is in absurd (cc)
     by false false is h = h
 
-after_of : (e jump : JournalEntry) → jumps e ≡ false → jumps jump ≡ true → is_ordered e jump ≡ true → precedes e jump ≡ false → is_later e jump ≡ true
-after_of e jump plain leaps right low = by (is_earlier e jump) (is_later e jump) refl (two_sides e jump plain leaps right)
+after_of : (e jump : JournalEntry) → jumps e ≡ false → jumps jump ≡ true → is_ordered e jump ≡ true → precedes e jump ≡ false → is_after_jump e jump ≡ true
+after_of e jump plain leaps right low = by (is_earlier e jump) (is_after_jump e jump) refl (two_sides e jump plain leaps right)
   where
     by : (a b : Bool) → is_earlier e jump ≡ a → a || b ≡ true → b ≡ true
     by true b is h = let ahead : precedes e jump ≡ true = entry_ahead e jump leaps is in absurd (cc)

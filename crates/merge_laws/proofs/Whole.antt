@@ -17,7 +17,7 @@ use Rattle.sleep_model.specs.Numbers.{after_step, numbers, time_after, time_of, 
 use Rattle.sleep_model.specs.EntryClasses.{EntryClass, OfJournal, Notes, Moves, OfTime, class_of, is_in_journal, journal}
 use Rattle.sleep_model.specs.Path.{is_same}
 use Rattle.sleep_model.specs.Sources.{history, stats_at}
-use Rattle.merge_laws.specs.Apart.{AreJumps, IsActor, IsSource, calls_after, is_inside, last_word, own_entries, own_of, past_of, source_past}
+use Rattle.merge_laws.specs.Apart.{AreJumps, AreActorSteps, IsSource, calls_after, is_inside, last_word, own_entries, own_of, past_of, source_past}
 use Rattle.merge_laws.specs.Merging.{AreLegalApart, AreLists, IsFinishedApart, IsMergeOf, IsStuckApart, MergesToFinished, MergesToLegal, MergesToStuck}
 use Rattle.merge_laws.proofs.Joint.{joint}
 use Rattle.merge_laws.proofs.Picks.{history_of_merge, journal_of_merge, picked}
@@ -77,10 +77,10 @@ module _ (m : Machine) (entries : List JournalEntry) (hs : List (List SourceEntr
       let clock = timed_clock (stamped entries hs) lists.fit.timed in
       let words = chain_numbers (stamped entries hs) lists.fit.chained in
       let sources : (s : ℕ) → IsSource (history s (past_of (stamped entries hs))) = λ s. subst IsSource (sym (history_is s)) (apart.of_sources s) in
-      let actors : (who : Actor) → IsActor who (λ k. calls_after m who k (journal (past_of (stamped entries hs)))) (is_inside (length m.sources + 1) (λ s. history s (past_of (stamped entries hs))) who) (own_of who (past_of (stamped entries hs))) = λ who.
-      subst (λ (own : List Entry). IsActor who (λ k. calls_after m who k (journal (past_of (stamped entries hs)))) (is_inside (length m.sources + 1) (λ s. history s (past_of (stamped entries hs))) who) own) (sym (own_is who))
-      (subst (λ (j : List Entry). IsActor who (λ k. calls_after m who k j) (is_inside (length m.sources + 1) (λ s. history s (past_of (stamped entries hs))) who) (past_of (own_entries who entries hs))) (sym journal_is)
-      (subst (λ (of : ℕ → List Entry). IsActor who (λ k. calls_after m who k (past_of entries)) (is_inside (length m.sources + 1) of who) (past_of (own_entries who entries hs))) (sym histories_are) (apart.of_actors who))) in
+      let actors : (who : Actor) → AreActorSteps who (λ k. calls_after m who k (journal (past_of (stamped entries hs)))) (is_inside (length m.sources + 1) (λ s. history s (past_of (stamped entries hs))) who) (own_of who (past_of (stamped entries hs))) = λ who.
+      subst (λ (own : List Entry). AreActorSteps who (λ k. calls_after m who k (journal (past_of (stamped entries hs)))) (is_inside (length m.sources + 1) (λ s. history s (past_of (stamped entries hs))) who) own) (sym (own_is who))
+      (subst (λ (j : List Entry). AreActorSteps who (λ k. calls_after m who k j) (is_inside (length m.sources + 1) (λ s. history s (past_of (stamped entries hs))) who) (past_of (own_entries who entries hs))) (sym journal_is)
+      (subst (λ (of : ℕ → List Entry). AreActorSteps who (λ k. calls_after m who k (past_of entries)) (is_inside (length m.sources + 1) of who) (past_of (own_entries who entries hs))) (sym histories_are) (apart.of_actors who))) in
       let jumps : AreJumps m (journal (past_of (stamped entries hs))) (λ s. history s (past_of (stamped entries hs))) =
       subst (λ (j : List Entry). AreJumps m j (λ s. history s (past_of (stamped entries hs)))) (sym journal_is)
       (subst (λ (of : ℕ → List Entry). AreJumps m (past_of entries) of) (sym histories_are) apart.of_jumps) in

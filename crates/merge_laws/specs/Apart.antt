@@ -42,12 +42,12 @@ abbrev pub own_entries : Actor → List JournalEntry → List (List SourceEntry)
 own_entries who journal histories = in_order (entries_of who (all_entries journal histories))
 
 -- all steps on the word, in the order of their positions
-abbrev pub steps_of : List JournalEntry → List (List SourceEntry) → List JournalEntry
-steps_of journal histories = in_order (filter is_word_step (all_entries journal histories))
+abbrev pub word_steps : List JournalEntry → List (List SourceEntry) → List JournalEntry
+word_steps journal histories = in_order (filter is_word_step (all_entries journal histories))
 
 -- the word after all steps
 abbrev pub last_word : List JournalEntry → List (List SourceEntry) → EventNow
-last_word journal histories = numbers (past_of (steps_of journal histories))
+last_word journal histories = numbers (past_of (word_steps journal histories))
 
 -- ---- each source by itself
 
@@ -94,10 +94,10 @@ ActorStep who calls inside own e (Moves s step) = last_is_of s who own ≡ true
 ActorStep who calls inside own e OfTime = Unit {0}
 
 -- each entry of an actor, the newest first, is its next step after the older ones
-abbrev pub IsActor : Actor → (ℕ → List Kind) → (List Entry → Bool) → List Entry → Type 0
-IsActor who calls inside [] = Unit {0}
-IsActor who calls inside (e ∷ own) =
-    ActorStep who calls inside own e (class_of e.kind) × IsActor who calls inside own
+abbrev pub AreActorSteps : Actor → (ℕ → List Kind) → (List Entry → Bool) → List Entry → Type 0
+AreActorSteps who calls inside [] = Unit {0}
+AreActorSteps who calls inside (e ∷ own) =
+    ActorStep who calls inside own e (class_of e.kind) × AreActorSteps who calls inside own
 
 -- ---- each jump by itself
 

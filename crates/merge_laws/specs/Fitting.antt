@@ -13,7 +13,7 @@ use Rattle.sleep_model.specs.Numbers.{after_step, word_step}
 use Rattle.sleep_model.specs.EntryClasses.{class_of}
 use Rattle.sleep_model.specs.Sources.{most_entries}
 use Rattle.sleep_model.specs.Word.{position}
-use Rattle.merge_laws.specs.Apart.{are_of, is_journals, steps_of}
+use Rattle.merge_laws.specs.Apart.{are_of, is_journals, word_steps}
 use Rattle.merge_laws.specs.Merging.{AreLegalApart, AreLists, IsFinishedApart, IsMergeOf, IsStuckApart}
 use Rattle.merge_laws.specs.Owned.{IsOwnList}
 
@@ -60,14 +60,14 @@ is_earlier e jump =
     && nat_lt e.entry.time jump.entry.time
 
 -- an entry is after a jump by position, tick and time alike
-abbrev pub is_later : JournalEntry → JournalEntry → Bool
-is_later e jump =
+abbrev pub is_after_jump : JournalEntry → JournalEntry → Bool
+is_after_jump e jump =
     nat_le jump.stamp.pos e.stamp.pos && nat_lt jump.stamp.tick e.stamp.tick
     && nat_le jump.entry.time e.entry.time
 
 -- an entry that is no jump comes before or after the other, if that is a jump
 abbrev pub is_ordered : JournalEntry → JournalEntry → Bool
-is_ordered e other = jumps e || not (jumps other) || is_earlier e other || is_later e other
+is_ordered e other = jumps e || not (jumps other) || is_earlier e other || is_after_jump e other
 
 -- an entry that is no jump has the time of one of these jumps, or none has been
 abbrev pub has_time : List JournalEntry → JournalEntry → Bool
@@ -88,9 +88,9 @@ pub record FitApart
   pub journal_rises : rises journal ≡ true
   pub histories_rise : list_all (λ history. rises (map of_source history)) histories ≡ true
   pub actors : (who : Actor) → IsOwnList m who (own who) journal histories
-  pub counted : are_counted 0 (steps_of journal histories) ≡ true
-  pub chained : is_chained no_steps (steps_of journal histories) ≡ true
-  pub looks : list_all (is_look (steps_of journal histories)) (all_entries journal histories) ≡ true
+  pub counted : are_counted 0 (word_steps journal histories) ≡ true
+  pub chained : is_chained no_steps (word_steps journal histories) ≡ true
+  pub looks : list_all (is_look (word_steps journal histories)) (all_entries journal histories) ≡ true
   pub ticks : list_all (λ e. nat_lt 0 e.stamp.tick) (all_entries journal histories) ≡ true
   pub raised : are_raised 0 0 (filter jumps journal) ≡ true
   pub sides : list_all (λ e. list_all (is_ordered e) (all_entries journal histories)) (all_entries journal histories)

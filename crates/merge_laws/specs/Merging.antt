@@ -13,7 +13,7 @@ use Rattle.sleep_model.specs.Legal.{JournalPart, IsLegalLog, IsFinishedLog, IsSt
 use Rattle.sleep_model.specs.Merge.{IsFit, merge}
 use Rattle.sleep_model.specs.Numbers.{time_of}
 use Rattle.sleep_model.specs.Sources.{most_entries, stats_at}
-use Rattle.merge_laws.specs.Apart.{AreJumps, IsActor, IsSource, are_of, calls_after, is_inside, is_journals, last_word, own_entries, past_of, source_past}
+use Rattle.merge_laws.specs.Apart.{AreJumps, AreActorSteps, IsSource, are_of, calls_after, is_inside, is_journals, last_word, own_entries, past_of, source_past}
 
 -- each list has only its own entries, one history a source of the machine, autosleep last, none longer than its room; and they fit
 pub record AreLists (m : Machine) (journal : List JournalEntry) (histories : List (List SourceEntry)) : Type 0 where
@@ -29,7 +29,7 @@ pub record AreLegalApart
     : Type 0 where
   pub of_journal : JournalPart m (past_of journal)
   pub of_sources : (s : ℕ) → IsSource (source_past histories s)
-  pub of_actors : (who : Actor) → IsActor who (λ k. calls_after m who k (past_of journal))
+  pub of_actors : (who : Actor) → AreActorSteps who (λ k. calls_after m who k (past_of journal))
       (is_inside (length m.sources + 1) (source_past histories) who) (past_of (own who))
   pub of_jumps : AreJumps m (past_of journal) (source_past histories)
 

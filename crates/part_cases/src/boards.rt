@@ -65,7 +65,7 @@ fn next_of(board: &Board, next: Next, words: Words) -> Option<u32> {
         Next::ToSchedule => board.next_to_schedule(phase),
         Next::Up => board.next_up(phase),
         Next::WaitsUp => board.waits_up(phase),
-        Next::WaitsBelow => board.waits_below(phase, device),
+        Next::WaitsBelow => board.waits_for_subordinates(phase, device),
         Next::WaitsAbove => board.waits_above(phase, device),
     }
 }
@@ -98,9 +98,9 @@ fn reply_of(board: &Board, asks: BoardQuestion, words: Words) -> CaseReply {
         ),
         BoardQuestion::PhaseState => one(ReplyWord::Text(state_name(board.state(phase, device)))),
         BoardQuestion::Asynchronous => one(ReplyWord::Flag(board.is_asynchronous(words.number(0)))),
-        BoardQuestion::AllDirect => one(ReplyWord::Flag(board.all_direct_complete(words.number(
-            0,
-        )))),
+        BoardQuestion::AllDirect => one(ReplyWord::Flag(board.all_below_direct_complete(
+            words.number(0),
+        ))),
         BoardQuestion::Laws => {
             board_agrees();
             prepare_follows();

@@ -14,14 +14,14 @@ use sleep_model::Due;
 
 // There is no error.
 const FINE: Down = Down {
-    failed: None,
-    own: None,
+    async_error: None,
+    error: None,
 };
 
 // A device's error, and a synchronous one's before it.
 const FAILED: Down = Down {
-    failed: Some(Errno::EBUSY),
-    own: Some(Errno::EIO),
+    async_error: Some(Errno::EBUSY),
+    error: Some(Errno::EIO),
 };
 
 /// What is asked: prepare with a phase's error, complete, the walk down and a device there, the walk up and a
@@ -56,9 +56,9 @@ fn env_of<'a>(case: &'a BoardCase, asks: &'a Flags, pending: bool) -> DownEnv<'a
     DownEnv {
         board: &case.board,
         asks_direct: asks,
-        statuses: asks,
-        wakeup: &case.none,
-        pending,
+        runtime_suspended: asks,
+        may_wakeup: &case.none,
+        wakeup_pending: pending,
     }
 }
 

@@ -29,7 +29,7 @@ struct MergeCase {
 }
 
 /// The text after that number of words.
-fn behind(text: &str, words: u32) -> &str {
+fn after(text: &str, words: u32) -> &str {
     let mut rest = text;
     for _ in 0..words {
         rest = cut(rest, ' ').1;
@@ -40,7 +40,7 @@ fn behind(text: &str, words: u32) -> &str {
 /// The entry that a line gives.
 fn made_of(text: &str) -> Option<StampedEntry> {
     let words = Words::of(text);
-    let (actor, kind) = entry_of(behind(text, 4))?;
+    let (actor, kind) = entry_of(after(text, 4))?;
     let stamp = Stamp {
         pos: words.long(2),
         tick: words.long(3),

@@ -34,15 +34,15 @@ fn alone_name(stage: Stage) -> &'static str {
         Stage::Prepares => "prepares",
         Stage::StopsCpus => "stops_cpus",
         Stage::StopsIrqs => "stops_irqs",
-        Stage::Checks => "checks",
+        Stage::ChecksWakeup => "checks",
         Stage::StopsSyscore => "stops_syscore",
         Stage::Enters => "enters",
         Stage::StartsSyscore => "starts_syscore",
         Stage::StartsIrqs => "starts_irqs",
         Stage::StartsCpus => "starts_cpus",
         Stage::Completes => "completes",
-        Stage::Clears => "clears",
-        Stage::Posts => "posts",
+        Stage::ClearsSavedCount => "clears",
+        Stage::NotifiesPost => "posts",
         _ => "ends",
     }
 }
@@ -51,11 +51,11 @@ fn alone_name(stage: Stage) -> &'static str {
 fn stage_reply(stage: Stage) -> CaseReply {
     match stage {
         Stage::Freezes(group) => two(ReplyWord::Text("freezes"), ReplyWord::Text(group.name())),
-        Stage::PlatformDown(step) => two(
+        Stage::PlatformDo(step) => two(
             ReplyWord::Text("platform_down"),
             ReplyWord::Text(step.name()),
         ),
-        Stage::PlatformUp(step) => two(
+        Stage::PlatformUndo(step) => two(
             ReplyWord::Text("platform_up"),
             ReplyWord::Text(step.name()),
         ),

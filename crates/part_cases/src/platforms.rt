@@ -29,8 +29,8 @@ const NEXT: [(&str, Next); 4] = [
 /// The next notifier or processor of a kind of step.
 fn next_of(platform: &Platform, next: Next) -> Option<u32> {
     match next {
-        Next::Called => platform.next_called(),
-        Next::Posted => platform.next_posted(),
+        Next::Called => platform.next_notified(),
+        Next::Posted => platform.next_post_notified(),
         Next::CpuOff => platform.next_cpu_off(),
         Next::CpuOn => platform.next_cpu_on(),
     }

@@ -200,29 +200,29 @@ impl Out {
 
     /// Adds a line of these words; none if there is no word.
     pub fn say(&mut self, reply: CaseReply) {
-        let mut behind = false;
+        let mut after = false;
         for word in &reply.words {
             if !matches!(*word, ReplyWord::End) {
-                if behind {
+                if after {
                     self.put(b" ");
                 }
-                behind = true;
+                after = true;
                 self.put_word(*word);
             }
         }
-        if behind {
+        if after {
             self.end();
         }
     }
 
     /// Adds a line of flags.
     pub fn flags(&mut self, flags: &[bool]) {
-        let mut behind = false;
+        let mut after = false;
         for flag in flags {
-            if behind {
+            if after {
                 self.put(b" ");
             }
-            behind = true;
+            after = true;
             self.put_word(ReplyWord::Flag(*flag));
         }
         self.end();
@@ -233,12 +233,12 @@ impl Out {
         if numbers.is_empty() {
             self.put(b"-");
         }
-        let mut behind = false;
+        let mut after = false;
         for found in numbers {
-            if behind {
+            if after {
                 self.put(b" ");
             }
-            behind = true;
+            after = true;
             self.put_number(i128::from(*found));
         }
         self.end();

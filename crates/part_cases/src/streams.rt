@@ -70,7 +70,7 @@ impl CaseRunner for MemSink {
 }
 
 /// The text after that number of words.
-fn behind(text: &str, words: u32) -> &str {
+fn after(text: &str, words: u32) -> &str {
     let mut rest = text;
     for _ in 0..words {
         rest = cut(rest, ' ').1;
@@ -80,7 +80,7 @@ fn behind(text: &str, words: u32) -> &str {
 
 /// Answers the lines of a source.
 pub fn sources(alloc: Global, text: &str, lines: &str, out: &mut Out) {
-    match source_of(alloc, Words::of(text), behind(text, 2)) {
+    match source_of(alloc, Words::of(text), after(text, 2)) {
         Ok(mut source) => answer_lines(&mut source, lines, out),
         Err(_) => out.lack(),
     }
@@ -111,7 +111,7 @@ fn say_all(alloc: Global, source: &mut MemSource, limit: u32, out: &mut Out) {
 fn read_whole(alloc: Global, text: &str, out: &mut Out) -> Result<(), Mem> {
     let words = Words::of(text);
     let fails = vec![in alloc; words.long(1)]?;
-    let bytes = behind(text, 2).as_bytes().to_vec(alloc)?;
+    let bytes = after(text, 2).as_bytes().to_vec(alloc)?;
     let mut source = MemSource::new(bytes, 3, fails);
     say_all(alloc, &mut source, words.number(0), out);
     Ok(())
@@ -122,7 +122,7 @@ fn write_whole(alloc: Global, text: &str, out: &mut Out) -> Result<(), Mem> {
     let words = Words::of(text);
     let fails = vec![in alloc; words.long(1)]?;
     let mut sink = MemSink::new(alloc, words.number(0) as usize, 3, fails)?;
-    let is_done = write_all(&mut sink, behind(text, 2).as_bytes()).is_ok();
+    let is_done = write_all(&mut sink, after(text, 2).as_bytes()).is_ok();
     out.put(if is_done { b"done " } else { b"failed " });
     out.line(sink.bytes());
     Ok(())

@@ -46,7 +46,7 @@ fn reply_of(core: &mut Syscore, verb: SyscoreCall, words: Words) -> CaseReply {
         SyscoreCall::Suspend => suspended(core, words),
         SyscoreCall::Resume => resumed(core),
         SyscoreCall::Next => one(maybe(core.next())),
-        SyscoreCall::NextStarted => one(maybe(core.next_started())),
+        SyscoreCall::NextStarted => one(maybe(core.next_syscore_resumed())),
     }
 }
 

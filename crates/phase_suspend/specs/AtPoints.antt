@@ -16,12 +16,12 @@ use Rattle.phase_suspend.specs.Spanned.{runtime_due_on}
 abbrev pub down_at : Machine → List Entry → EventNow → DownState
 down_at m past now = record {
   board = board_at m past;
-  failed = phase_failed past;
-  own = own_error past;
+  async_error = phase_failed past;
+  error = own_error past;
   asks_direct = asks_direct (length m.devices) past;
-  statuses = statuses m.devices past;
-  wakeup = map may_wake m.devices;
-  pending = pending past now;
+  runtime_suspended = statuses m.devices past;
+  may_wakeup = map may_wake m.devices;
+  wakeup_pending = pending past now;
 }
 
 -- the walk and the devices do what is due of them

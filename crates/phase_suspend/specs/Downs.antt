@@ -12,7 +12,7 @@ use Rattle.sleep_model.specs.declared.progress.Due.TheVariants.{Makes}
 use Rattle.sleep_model.specs.Devices.{after_device, unless_failed}
 use Rattle.sleep_model.specs.PhaseStates.{state_at, is_direct_complete}
 use Rattle.sleep_model.specs.Walk.{is_so, or_else}
-use Rattle.async_board.specs.Boards.{BoardState, next_down_on, waits_down_on, waits_below_on, all_direct_complete_on}
+use Rattle.async_board.specs.Boards.{BoardState, next_down_on, waits_down_on, waits_for_subordinates_on, all_below_direct_complete_on}
 use Rattle.phase_suspend.specs.declared.down.Down.{Down}
 use Rattle.phase_suspend.specs.declared.down.DownEnv.{DownEnv}
 
@@ -20,28 +20,28 @@ use Rattle.phase_suspend.specs.declared.down.DownEnv.{DownEnv}
 -- wake, and whether a wakeup is pending
 pub record DownState : Type 0 where
   pub board : BoardState
-  pub failed : Option Errno
-  pub own : Option Errno
+  pub async_error : Option Errno
+  pub error : Option Errno
   pub asks_direct : List Bool
-  pub statuses : List Bool
-  pub wakeup : List Bool
-  pub pending : Bool
+  pub runtime_suspended : List Bool
+  pub may_wakeup : List Bool
+  pub wakeup_pending : Bool
 
 -- the state that the calls see
 abbrev pub down_state : Down → DownEnv → DownState
 down_state down env = record {
   board = env.board.now;
-  failed = down.failed;
-  own = down.own;
+  async_error = down.async_error;
+  error = down.error;
   asks_direct = env.asks_direct.now;
-  statuses = env.statuses.now;
-  wakeup = env.wakeup.now;
-  pending = env.pending;
+  runtime_suspended = env.runtime_suspended.now;
+  may_wakeup = env.may_wakeup.now;
+  wakeup_pending = env.wakeup_pending;
 }
 
 -- d is direct-complete by suspend (__device_suspend, direct_complete)
 abbrev pub is_direct_now_on : DownState → ℕ → Bool
-is_direct_now_on s d = is_so s.asks_direct d && is_so s.statuses d && not (is_so s.wakeup d) && all_direct_complete_on s.board d
+is_direct_now_on s d = is_so s.asks_direct d && is_so s.runtime_suspended d && not (is_so s.may_wakeup d) && all_below_direct_complete_on s.board d
 
 -- phase p takes no action on d (__device_suspend, __device_suspend_late, direct_complete)
 abbrev pub is_direct_on : DownState → Phase → ℕ → Bool
@@ -49,30 +49,30 @@ is_direct_on s phase.Suspend d = is_direct_now_on s d
 is_direct_on s p d = is_direct_complete (state_at s.board.suspend d)
 
 -- a device at its turn (__device_suspend)
-abbrev pub taken_on : DownState → Phase → ℕ → Kind
-taken_on s p d =
-    if tests_wakeup p && s.pending then kind.Skip p d skip.Pending
+abbrev pub begin_or_skip_on : DownState → Phase → ℕ → Kind
+begin_or_skip_on s p d =
+    if tests_wakeup p && s.wakeup_pending then kind.Skip p d skip.Pending
     else if is_direct_on s p d then kind.Skip p d skip.Direct else kind.Begin p d
 
 -- the walk down at that device (__device_suspend, dpm_async_fn)
-abbrev pub take_down_on : DownState → Phase → ℕ → Due
-take_down_on s p d =
+abbrev pub walk_device_on : DownState → Phase → ℕ → Due
+walk_device_on s p d =
     if is_so s.board.asynchronous d then Makes (kind.Schedule p d)
-    else after_device (waits_below_on s.board p d) (Makes (taken_on s p d))
+    else after_device (waits_for_subordinates_on s.board p d) (Makes (begin_or_skip_on s p d))
 
 -- the end of a phase on the way down (dpm_suspend, async_synchronize_full)
-abbrev pub close_down_on : DownState → Phase → Due
-close_down_on s p = after_device (waits_down_on s.board p) (Makes (kind.Done p (or_else s.own s.failed)))
+abbrev pub walk_end_on : DownState → Phase → Due
+walk_end_on s p = after_device (waits_down_on s.board p) (Makes (kind.Done p (or_else s.error s.async_error)))
 
 -- the walk down between callbacks (dpm_suspend)
 abbrev pub walk_down_on : DownState → Phase → Option Errno → Option ℕ → Due
-walk_down_on s p None (Some d) = take_down_on s p d
-walk_down_on s p error next = close_down_on s p
+walk_down_on s p None (Some d) = walk_device_on s p d
+walk_down_on s p error next = walk_end_on s p
 
 -- the walk down while it is inside no callback (dpm_suspend, dpm_suspend_late, dpm_noirq_suspend_devices)
 abbrev pub walk_down_due_on : DownState → Phase → Due
-walk_down_due_on s p = walk_down_on s p s.failed (next_down_on s.board p)
+walk_down_due_on s p = walk_down_on s p s.async_error (next_down_on s.board p)
 
 -- a device that is scheduled on the way down, at its turn (async_suspend)
 abbrev pub scheduled_down_on : DownState → Phase → ℕ → Due
-scheduled_down_on s p d = after_device (waits_below_on s.board p d) (Makes (unless_failed s.failed p d (taken_on s p d)))
+scheduled_down_on s p d = after_device (waits_for_subordinates_on s.board p d) (Makes (unless_failed s.async_error p d (begin_or_skip_on s p d)))

@@ -2,7 +2,7 @@
 ghost use Rattle.std.specs.Prelude.{◌≡◌, None};
 ghost use Rattle.sleep_model.specs.Devices.{unless_failed};
 ghost use Rattle.sleep_model.specs.Walk.{or_else};
-ghost use Rattle.phase_suspend.specs.Downs.{down_state, is_direct_on, taken_on, take_down_on, close_down_on, walk_down_due_on, scheduled_down_on};
+ghost use Rattle.phase_suspend.specs.Downs.{down_state, is_direct_on, begin_or_skip_on, walk_device_on, walk_end_on, walk_down_due_on, scheduled_down_on};
 
 use async_board::{Board, is_direct_complete};
 use device_rows::Flags;
@@ -13,9 +13,9 @@ use sleep_model::{Due, Kind, Phase, SkipCause, Why};
 #[derive(Clone, Copy)]
 pub struct Down {
     /// The last error of any device, or `EBUSY` of a wakeup that was found.
-    pub failed: Option<Errno>,
+    pub async_error: Option<Errno>,
     /// The last error of a synchronous device's callback.
-    pub own: Option<Errno>,
+    pub error: Option<Errno>,
 }
 
 /// What a phase on the way down looks at.
@@ -26,11 +26,11 @@ pub struct DownEnv<'a> {
     /// Which devices answered 1 to their last prepare.
     pub asks_direct: &'a Flags,
     /// Which devices are runtime suspended.
-    pub statuses: &'a Flags,
+    pub runtime_suspended: &'a Flags,
     /// Which devices may wake the machine.
-    pub wakeup: &'a Flags,
+    pub may_wakeup: &'a Flags,
     /// A wakeup is pending.
-    pub pending: bool,
+    pub wakeup_pending: bool,
 }
 
 /// Whether the phase skips the device as direct-complete: suspend decides by its state now, late and noirq by
@@ -41,9 +41,9 @@ fn is_direct(env: &DownEnv<'_>, p: Phase, device: u32) -> bool
     match p {
         Phase::Suspend => {
             env.asks_direct.is_set(device)
-                && env.statuses.is_set(device)
-                && !env.wakeup.is_set(device)
-                && env.board.all_direct_complete(device)
+                && env.runtime_suspended.is_set(device)
+                && !env.may_wakeup.is_set(device)
+                && env.board.all_below_direct_complete(device)
         }
         _ => is_direct_complete(env.board.state(Phase::Suspend, device)),
     }
@@ -51,10 +51,10 @@ fn is_direct(env: &DownEnv<'_>, p: Phase, device: u32) -> bool
 
 /// What a device makes at its turn. In a phase that checks for wakeups a pending one skips it; else it is
 /// direct-complete, or its callback begins.
-fn taken(env: &DownEnv<'_>, p: Phase, device: u32) -> Kind
-    ensures { (down : Down) → result ≡ taken_on (down_state down env.now) p device }
+fn begin_or_skip(env: &DownEnv<'_>, p: Phase, device: u32) -> Kind
+    ensures { (down : Down) → result ≡ begin_or_skip_on (down_state down env.now) p device }
 {
-    if p.checks_wakeup() && env.pending {
+    if p.checks_wakeup() && env.wakeup_pending {
         Kind::Skip(p, device, SkipCause::Pending)
     } else if is_direct(env, p, device) {
         Kind::Skip(p, device, SkipCause::Direct)
@@ -65,12 +65,12 @@ fn taken(env: &DownEnv<'_>, p: Phase, device: u32) -> Kind
 
 impl Down {
     /// What the phase answers: a synchronous callback's error, else the last one.
-    fn error(&self) -> Option<Errno>
-        ensures { result ≡ or_else self.now.own self.now.failed }
+    fn answer(&self) -> Option<Errno>
+        ensures { result ≡ or_else self.now.error self.now.async_error }
     {
-        match self.own {
+        match self.error {
             Some(error) => Some(error),
-            None => self.failed,
+            None => self.async_error,
         }
     }
 
@@ -81,9 +81,9 @@ impl Down {
     pub fn walk_due(&self, env: &DownEnv<'_>, p: Phase) -> Due
         ensures { result ≡ walk_down_due_on (down_state self.now env.now) p }
     {
-        match (self.failed, env.board.next_down(p)) {
-            (None, Some(device)) => self.take(env, p, device),
-            _ => self.close(env, p),
+        match (self.async_error, env.board.next_down(p)) {
+            (None, Some(device)) => self.walk_device(env, p, device),
+            _ => self.walk_end(env, p),
         }
     }
 
@@ -92,27 +92,27 @@ impl Down {
     pub fn device_due(&self, env: &DownEnv<'_>, p: Phase, device: u32) -> Due
         ensures { result ≡ scheduled_down_on (down_state self.now env.now) p device }
     {
-        match env.board.waits_below(p, device) {
+        match env.board.waits_for_subordinates(p, device) {
             Some(other) => Due::Waits(Why::Device(other)),
-            None => Due::Makes(self.made(env, p, device)),
+            None => Due::Makes(self.device_step(env, p, device)),
         }
     }
 
     /// What a device makes once it waits for no other: after an error it is skipped.
-    fn made(&self, env: &DownEnv<'_>, p: Phase, device: u32) -> Kind
-        ensures { result ≡ unless_failed self.now.failed p device
-            (taken_on (down_state self.now env.now) p device) }
+    fn device_step(&self, env: &DownEnv<'_>, p: Phase, device: u32) -> Kind
+        ensures { result ≡ unless_failed self.now.async_error p device
+            (begin_or_skip_on (down_state self.now env.now) p device) }
     {
-        match self.failed {
+        match self.async_error {
             Some(_) => Kind::Skip(p, device, SkipCause::Error),
-            None => taken(env, p, device),
+            None => begin_or_skip(env, p, device),
         }
     }
 
     /// The walk at a device if there is no error: it schedules an asynchronous one, and suspends another itself.
-    fn take(&self, env: &DownEnv<'_>, p: Phase, device: u32) -> Due
-        requires { self.now.failed ≡ None }
-        ensures { result ≡ take_down_on (down_state self.now env.now) p device }
+    fn walk_device(&self, env: &DownEnv<'_>, p: Phase, device: u32) -> Due
+        requires { self.now.async_error ≡ None }
+        ensures { result ≡ walk_device_on (down_state self.now env.now) p device }
     {
         if env.board.is_asynchronous(device) {
             Due::Makes(Kind::Schedule(p, device))
@@ -122,12 +122,12 @@ impl Down {
     }
 
     /// The end of the walk, once all that were scheduled are done.
-    fn close(&self, env: &DownEnv<'_>, p: Phase) -> Due
-        ensures { result ≡ close_down_on (down_state self.now env.now) p }
+    fn walk_end(&self, env: &DownEnv<'_>, p: Phase) -> Due
+        ensures { result ≡ walk_end_on (down_state self.now env.now) p }
     {
         match env.board.waits_down(p) {
             Some(other) => Due::Waits(Why::Device(other)),
-            None => Due::Makes(Kind::Done(p, self.error())),
+            None => Due::Makes(Kind::Done(p, self.answer())),
         }
     }
 }

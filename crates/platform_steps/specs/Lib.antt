@@ -1,3 +1,3 @@
 -- The definitions of this crate.
 pub mod Ranks
-pub mod Steps
+pub mod PlatformState

@@ -2,7 +2,7 @@
 ghost use Rattle.std.specs.Prelude.{◌≡◌, ◌-◌, not, find};
 ghost use Rattle.std.specs.List.{range_with_len};
 ghost use Rattle.sleep_model.specs.Walk.{is_so};
-ghost use Rattle.platform_steps.specs.Steps.{part_entry};
+ghost use Rattle.platform_steps.specs.PlatformState.{part_entry};
 
 use crate::order::call_order;
 use device_rows::Flags;
@@ -22,16 +22,16 @@ pub struct Platform {
 }
 
 impl Model for Platform {
-    ghost use Rattle.platform_steps.specs.Steps.{Steps};
+    ghost use Rattle.platform_steps.specs.PlatformState.{PlatformState};
 
-    ghost Value = { Steps };
+    ghost Value = { PlatformState };
 
     ghost view = { λ p. record { order = p.order.items; notified_flags = p.notified_flags; cpus = p.cpus; off = p.off } };
 }
 
 impl Platform {
     ghost use Rattle.std.specs.Prelude.{◌≡◌, ◌<◌, ◌^◌, length, IfOk};
-    ghost use Rattle.platform_steps.specs.Steps.{first_steps, steps_after, called_next, posted_next, stopped_next, started_next, part_entry};
+    ghost use Rattle.platform_steps.specs.PlatformState.{first_steps, steps_after, called_next, posted_next, stopped_next, started_next, part_entry};
 
     /// Nobody has heard yet, and no processor is off. `Mem` if there is no memory for the lists.
     pub fn new(alloc: Global, machine: &Machine) -> Result<Self, Mem>
@@ -65,7 +65,7 @@ impl Platform {
 
     /// The notifier that hears next of the attempt. None if all have heard (`PM_SUSPEND_PREPARE`).
     #[tactic(auto, using(sleep_model::proofs::Searches::find_is_first))]
-    pub fn next_called(&self) -> Option<u32>
+    pub fn next_notified(&self) -> Option<u32>
         ensures { result ≡ called_next self.now }
     {
         first_unset(&self.notified_flags, &self.order)
@@ -73,7 +73,7 @@ impl Platform {
 
     /// The notifier that hears next of its end. None if nobody is owed it (`PM_POST_SUSPEND`).
     #[tactic(auto, using(sleep_model::proofs::Searches::find_is_first))]
-    pub fn next_posted(&self) -> Option<u32>
+    pub fn next_post_notified(&self) -> Option<u32>
         ensures { result ≡ posted_next self.now }
     {
         first_set(&self.notified_flags, &self.order)

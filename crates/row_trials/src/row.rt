@@ -56,10 +56,10 @@ impl Row {
 
     /// Takes the word of the next line off `left`. What is left then.
     fn take_word<'a>(&mut self, alloc: Global, left: &'a [u8]) -> Result<&'a [u8], RowsFault> {
-        let (text, behind) = cut_text(left).ok_or(RowsFault::Form)?;
+        let (text, after) = cut_text(left).ok_or(RowsFault::Form)?;
         let word = String::from_str(alloc, text)?;
         self.words.push(word)?;
-        Ok(behind)
+        Ok(after)
     }
 
     /// Takes the words of that many lines off `left`. What is left then.
@@ -87,9 +87,9 @@ impl Row {
 
     /// Takes a piece of that many bytes off `left`. What is left then.
     fn take_piece<'a>(&mut self, count: usize, left: &'a [u8]) -> Result<&'a [u8], RowsFault> {
-        let (piece, behind) = cut_piece(left, count).ok_or(RowsFault::Form)?;
+        let (piece, after) = cut_piece(left, count).ok_or(RowsFault::Form)?;
         self.add_piece(piece)?;
-        Ok(behind)
+        Ok(after)
     }
 
     /// Takes a line, and off `left` what belongs to it. What is left then.

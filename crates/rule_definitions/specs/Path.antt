@@ -13,7 +13,7 @@ use Rattle.phase_table.specs.declared.phase.Phase.{Phase}
 use Rattle.phase_table.specs.declared.phase.Phase.TheVariants as phase
 use Rattle.sleep_model.specs.Attempt.{answered, busy_error, freeze_since, sleep_of}
 use Rattle.sleep_model.specs.Guard.{pending}
-use Rattle.sleep_model.specs.Notifiers.{next_called, next_posted, next_cpu_off, next_cpu_on, next_stopped, next_started}
+use Rattle.sleep_model.specs.Notifiers.{next_notified, next_post_notified, next_cpu_off, next_cpu_on, next_syscore_suspended, next_syscore_resumed}
 use Rattle.rule_definitions.specs.Questions.{is_maker, row_now}
 use Rattle.sleep_model.specs.Devices.{callback}
 use Rattle.sleep_model.specs.Numbers.{numbers}
@@ -39,30 +39,30 @@ IsOfUp p _ = ⊥
 -- an entry of that row: the thing that is next, what the machine answers for it, and what a test finds (enter_state,
 -- suspend_devices_and_enter, suspend_enter)
 abbrev pub IsOfRow : Machine → List Entry → EventNow → Stage → Kind → Type 0
-IsOfRow m past now stage.Notifies (kind.NotifyPrepare x r) = (next_called m past ≡ Some x) × (r ≡ answered m past (what.Notifier x))
+IsOfRow m past now stage.Notifies (kind.NotifyPrepare x r) = (next_notified m past ≡ Some x) × (r ≡ answered m past (what.Notifier x))
 IsOfRow m past now (stage.Freezes g) (kind.Freeze h) = (h ≡ g) × (freeze_since past ≡ None)
 IsOfRow m past now (stage.Freezes g) (kind.Froze h end) = (h ≡ g) × (is_some (freeze_since past) ≡ true)
-IsOfRow m past now (stage.PlatformDown step) (kind.PlatformDo asked r) = (asked ≡ step) × (r ≡ answered m past (what.Platform step))
+IsOfRow m past now (stage.PlatformDo step) (kind.PlatformDo asked r) = (asked ≡ step) × (r ≡ answered m past (what.Platform step))
 IsOfRow m past now stage.Prepares (kind.Prepare d r) = Unit {0}
 IsOfRow m past now stage.Prepares (kind.Done p r) = p ≡ phase.Prepare
 IsOfRow m past now (stage.Downs p) k = IsOfDown p k
 IsOfRow m past now stage.StopsCpus (kind.CpuOff x) = (next_cpu_off m past ≡ Some x) × (pending past now ≡ false)
 IsOfRow m past now stage.StopsCpus (kind.CpuBusy x) = (next_cpu_off m past ≡ Some x) × (pending past now ≡ true)
 IsOfRow m past now stage.StopsIrqs (kind.Irqs on) = on ≡ false
-IsOfRow m past now stage.Checks (kind.SyscoreCheck r) = r ≡ busy_error (pending past now)
-IsOfRow m past now stage.StopsSyscore (kind.SyscoreSuspend x r) = (next_stopped m past ≡ Some x) × (r ≡ answered m past (what.Syscore x))
+IsOfRow m past now stage.ChecksWakeup (kind.SyscoreCheck r) = r ≡ busy_error (pending past now)
+IsOfRow m past now stage.StopsSyscore (kind.SyscoreSuspend x r) = (next_syscore_suspended m past ≡ Some x) × (r ≡ answered m past (what.Syscore x))
 IsOfRow m past now stage.Enters (kind.Enter busy) = (sleep_of past ≡ None) × (busy ≡ pending past now)
 IsOfRow m past now stage.Enters (kind.Wake by_event) = is_some (sleep_of past) ≡ true
-IsOfRow m past now stage.StartsSyscore (kind.SyscoreResume x) = next_started m past ≡ Some x
+IsOfRow m past now stage.StartsSyscore (kind.SyscoreResume x) = next_syscore_resumed m past ≡ Some x
 IsOfRow m past now stage.StartsIrqs (kind.Irqs on) = on ≡ true
 IsOfRow m past now stage.StartsCpus (kind.CpuOn x) = next_cpu_on m past ≡ Some x
-IsOfRow m past now (stage.PlatformUp step) (kind.PlatformUndo told) = told ≡ step
+IsOfRow m past now (stage.PlatformUndo step) (kind.PlatformUndo told) = told ≡ step
 IsOfRow m past now (stage.Ups p) k = IsOfUp p k
 IsOfRow m past now stage.Completes (kind.Complete d) = Unit {0}
 IsOfRow m past now stage.Completes (kind.Done p r) = p ≡ phase.Complete
-IsOfRow m past now stage.Clears kind.Clear = Unit {0}
+IsOfRow m past now stage.ClearsSavedCount kind.Clear = Unit {0}
 IsOfRow m past now (stage.Thaws those) (kind.Thaw told) = told ≡ those
-IsOfRow m past now stage.Posts (kind.NotifyPost x) = next_posted m past ≡ Some x
+IsOfRow m past now stage.NotifiesPost (kind.NotifyPost x) = next_post_notified m past ≡ Some x
 IsOfRow m past now stage.Ends (kind.Over n r) = Unit {0}
 IsOfRow m past now _ _ = ⊥
 

@@ -12,7 +12,7 @@ use Rattle.sleep_model.specs.declared.word.EventNow.{EventNow}
 use Rattle.phase_table.specs.declared.phase.Phase.{Phase}
 use Rattle.sleep_model.specs.Devices.{phase_failed, taken, unless_failed}
 use Rattle.sleep_model.specs.Laws.{steps_of}
-use Rattle.sleep_model.specs.Notifiers.{next_called, next_posted, next_cpu_off, next_cpu_on, next_stopped, next_started}
+use Rattle.sleep_model.specs.Notifiers.{next_notified, next_post_notified, next_cpu_off, next_cpu_on, next_syscore_suspended, next_syscore_resumed}
 use Rattle.sleep_model.specs.Path.{maker, is_actor}
 use Rattle.sleep_model.specs.Positions.{positions, position_at}
 use Rattle.sleep_model.specs.Table.{stage_of, next_stage, by_case}
@@ -31,12 +31,12 @@ is_maker past who = is_actor who (maker past)
 
 -- a row of the table has an entry left (suspend_enter)
 abbrev pub has_more : Machine → List Entry → Stage → Bool
-has_more m past stage.Notifies = is_some (next_called m past)
+has_more m past stage.Notifies = is_some (next_notified m past)
 has_more m past stage.StopsCpus = is_some (next_cpu_off m past)
-has_more m past stage.StopsSyscore = is_some (next_stopped m past)
-has_more m past stage.StartsSyscore = is_some (next_started m past)
+has_more m past stage.StopsSyscore = is_some (next_syscore_suspended m past)
+has_more m past stage.StartsSyscore = is_some (next_syscore_resumed m past)
 has_more m past stage.StartsCpus = is_some (next_cpu_on m past)
-has_more m past stage.Posts = is_some (next_posted m past)
+has_more m past stage.NotifiesPost = is_some (next_post_notified m past)
 has_more m past _ = true
 
 -- the row that is under way, unless it has nothing left: then the row that follows it (suspend_enter)

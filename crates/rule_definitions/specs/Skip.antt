@@ -10,7 +10,7 @@ use Rattle.sleep_model.specs.declared.progress.PhaseState.TheVariants as state
 use Rattle.sleep_model.specs.declared.word.EventNow.{EventNow}
 use Rattle.phase_table.specs.declared.phase.Phase.{Phase}
 use Rattle.phase_table.specs.Phases.{is_down}
-use Rattle.sleep_model.specs.Devices.{callback, phase_failed, next_down, waits_below, state_in, is_async_device}
+use Rattle.sleep_model.specs.Devices.{callback, phase_failed, next_down, waits_for_subordinates, state_in, is_async_device}
 use Rattle.rule_definitions.specs.Questions.{row_now, turn_of}
 
 -- the walk down is at device d: no callback runs, there is no error, d is the last that the phase has not taken, and all below it are done
@@ -19,13 +19,13 @@ pub record IsNextDown (m : Machine) (past : List Entry) (p : Phase) (d : ℕ) : 
   pub free : callback past ≡ None
   pub well : phase_failed past ≡ None
   pub next : next_down m past p ≡ Some d
-  pub waits : waits_below m past p d ≡ None
+  pub waits : waits_for_subordinates m past p d ≡ None
 
 -- device d was scheduled on the way down, and all below it are done (async_suspend, dpm_wait_for_subordinate)
 pub record IsScheduledDown (m : Machine) (past : List Entry) (p : Phase) (d : ℕ) : Type 0 where
   pub down : is_down p ≡ true
   pub states : state_in m past p d ≡ state.Scheduled
-  pub waits : waits_below m past p d ≡ None
+  pub waits : waits_for_subordinates m past p d ≡ None
 
 -- it is device d's turn in phase p: an asynchronous one was scheduled there, for another the walk of that phase is under way (dpm_suspend,
 -- async_suspend)

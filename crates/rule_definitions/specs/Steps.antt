@@ -20,7 +20,7 @@ use Rattle.sleep_model.specs.declared.word.EventNow.{EventNow}
 use Rattle.sleep_model.specs.declared.word.WordKind.{WordKind}
 use Rattle.sleep_model.specs.Autosleep.{may_run, seen_count, work}
 use Rattle.sleep_model.specs.Devices.{async_work, is_async_device}
-use Rattle.sleep_model.specs.Laws.{is_of_read, is_of_save, is_pass, is_exit}
+use Rattle.sleep_model.specs.Laws.{is_of_count_read, is_of_count_save, is_pass, is_exit}
 use Rattle.sleep_model.specs.Lock.{is_on}
 use Rattle.sleep_model.specs.Marks.{mark_at, raised}
 use Rattle.sleep_model.specs.Numbers.{numbers, time_of}
@@ -36,12 +36,12 @@ use Rattle.sleep_model.specs.Sources.{history, owed, caller, IsNext}
 -- ---- a script
 
 -- an entry of a write to the state, up to the beginning of its attempt (state_store)
-abbrev pub is_of_write : Kind → Bool
-is_of_write kind.StateWait = true
-is_of_write (kind.StateErr r) = true
-is_of_write kind.StateUnsaved = true
-is_of_write (kind.Attempt n guarded) = true
-is_of_write _ = false
+abbrev pub is_of_state_write : Kind → Bool
+is_of_state_write kind.StateWait = true
+is_of_state_write (kind.StateErr r) = true
+is_of_state_write kind.StateUnsaved = true
+is_of_state_write (kind.Attempt n guarded) = true
+is_of_state_write _ = false
 
 -- a write of that text to autosleep: a good one first sets the state that it names, then lets go (autosleep_store, pm_autosleep_set_state)
 abbrev pub IsOfAutosleep : Bool → Bool → Bool → Kind → Type 0
@@ -73,9 +73,9 @@ IsLinkStateOf supplier consumer active _ = ⊥
 -- an entry of that operation, or the exit after the last (kernel/power/main.c; scripts are own)
 abbrev pub IsOfOp : Machine → List Entry → ScriptPosition → Option Op → Kind → Type 0
 IsOfOp m past position None k = is_exit k ≡ true
-IsOfOp m past position (Some op.Read) k = is_of_read k ≡ true
-IsOfOp m past position (Some (op.Save count)) k = is_of_save k ≡ true
-IsOfOp m past position (Some (op.State text if_saved)) k = is_of_write k ≡ true
+IsOfOp m past position (Some op.Read) k = is_of_count_read k ≡ true
+IsOfOp m past position (Some (op.Save count)) k = is_of_count_save k ≡ true
+IsOfOp m past position (Some (op.State text if_saved)) k = is_of_state_write k ≡ true
 IsOfOp m past position (Some (op.Autosleep text)) k = IsOfAutosleep position.waits (is_mem text) (is_off text) k
 IsOfOp m past position (Some (op.Sleep ms)) k = sleep_due kind.Sleep ms position (time_of past) ≡ Makes k
 IsOfOp m past position (Some (op.SleepD ms)) k = sleep_due kind.SleepD ms position (time_of past) ≡ Makes k

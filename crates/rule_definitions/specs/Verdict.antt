@@ -8,32 +8,32 @@ use Rattle.sleep_model.specs.EntryClasses.{class_of}
 use Rattle.rule_definitions.specs.Entry.{Rule, Links, Numbers, Attempts, Reads, Walk, Skip, Runtime, Owed, Freezer, Path, Answers, Restored, Steps, Enabled, Source, KeepsRule, KeepsEach}
 
 -- the number that a verdict gives a rule (own)
-abbrev pub number_of : Rule → ℕ
-number_of Links = 2
-number_of Numbers = 4
-number_of Attempts = 7
-number_of Reads = 8
-number_of Walk = 9
-number_of Skip = 10
-number_of Runtime = 11
-number_of Owed = 12
-number_of Freezer = 13
-number_of Path = 14
-number_of Answers = 15
-number_of Restored = 16
-number_of Steps = 17
-number_of Enabled = 18
-number_of Source = 22
+abbrev pub rule_number : Rule → ℕ
+rule_number Links = 2
+rule_number Numbers = 4
+rule_number Attempts = 7
+rule_number Reads = 8
+rule_number Walk = 9
+rule_number Skip = 10
+rule_number Runtime = 11
+rule_number Owed = 12
+rule_number Freezer = 13
+rule_number Path = 14
+rule_number Answers = 15
+rule_number Restored = 16
+rule_number Steps = 17
+rule_number Enabled = 18
+rule_number Source = 22
 
 -- an entry breaks that rule, and obeys each that has a lesser number (own)
 pub record BreaksFirst (m : Machine) (past : List Entry) (e : Entry) (rule : Rule) : Type 0 where
   pub breaks : KeepsRule m past e (class_of e.kind) rule → ⊥
-  pub lesser : (other : Rule) → number_of other < number_of rule → KeepsRule m past e (class_of e.kind) other
+  pub lesser : (other : Rule) → rule_number other < rule_number rule → KeepsRule m past e (class_of e.kind) other
 
 -- the first bad line of a log, from 1, and its number: an entry before which all is well, with the least rule that it breaks; if all
 -- entries are well, the first line of statistics that is not its source's; if these are, the end of a log that is not finished (own)
 pub data IsFirstBad (m : Machine) (log : Log) : ℕ → ℕ → Type 0 where
-  AtEntry : (later past : List Entry) (e : Entry) (rule : Rule) → reverse log.entries ≡ later ++ e ∷ past → KeepsEach m past → BreaksFirst m past e rule → IsFirstBad m log (length past + 1) (number_of rule)
+  AtEntry : (later past : List Entry) (e : Entry) (rule : Rule) → reverse log.entries ≡ later ++ e ∷ past → KeepsEach m past → BreaksFirst m past e rule → IsFirstBad m log (length past + 1) (rule_number rule)
   AtStats : (k : ℕ) → KeepsEach m (reverse log.entries) → k < length log.stats → take k log.stats ≡ take k (stats_of m (reverse log.entries)) → (slice_get log.stats k ≡ slice_get (stats_of m (reverse log.entries)) k → ⊥) → IsFirstBad m log (length log.entries + k + 1) 22
   AtEnd : KeepsEach m (reverse log.entries) → log.stats ≡ stats_of m (reverse log.entries) → (IsFinishedLog m log → ⊥) → IsFirstBad m log (length log.entries + length log.stats + 1) 20
 

@@ -5,7 +5,7 @@ use Rattle.sleep_model.specs.Text.{text}
 use Rattle.machine_file.specs.Whole.{machine_in}
 use Rattle.machine_rounds.specs.declared.run.RunFault.{RunFault}
 use Rattle.machine_rounds.specs.declared.run.RunFault.TheVariants as fault
-use Rattle.machine_rounds.specs.Runs.{Fails, IsFull}
+use Rattle.machine_rounds.specs.Runs.{Fails, MayFillSource}
 use Rattle.program_ending.specs.declared.ending.Ending.{Ending}
 use Rattle.program_ending.specs.declared.ending.Ending.TheVariants.{Done, Stuck, Illegal, NoForm, ReadFault, WriteFault, Refused, NoMemory}
 use Rattle.program_ending.specs.declared.refusal.Refusal.TheVariants.{SourceFull}
@@ -16,7 +16,7 @@ use Rattle.run_commands.specs.Endings.{IsEndingOfRun, IsFullNamed, IsLogOf, IsRu
 use Rattle.run_commands.proofs.Generating.{ends_as}
 
 -- a source that is full is named
-pub fills : (bytes : List ℕ) (m : Machine) (s : ℕ) (ending : Ending) → machine_in bytes ≡ Some m → IsFull m s → IsFullNamed m s ending → Refuses (RefusesRun bytes) ending
+pub fills : (bytes : List ℕ) (m : Machine) (s : ℕ) (ending : Ending) → machine_in bytes ≡ Some m → MayFillSource m s → IsFullNamed m s ending → Refuses (RefusesRun bytes) ending
 fills bytes m s (Refused (SourceFull name)) spells full named = record { machine = m; number = s; spells = spells; full = full; named = named }
 fills bytes m s ending spells full named = absurd named
 

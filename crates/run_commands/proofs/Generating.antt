@@ -9,7 +9,7 @@ use Rattle.sleep_model.specs.Places.{places}
 use Rattle.device_links.specs.Passes.{CanBeAdded}
 use Rattle.machine_file.specs.Spelling.{spelling}
 use Rattle.sleep_script.specs.Generated.{generated}
-use Rattle.machine_rounds.specs.Runs.{IsFull, IsRun}
+use Rattle.machine_rounds.specs.Runs.{MayFillSource, IsRun}
 use Rattle.run_commands.specs.declared.counts.LogCounts.{LogCounts}
 use Rattle.program_ending.specs.declared.ending.Ending.{Ending}
 use Rattle.program_ending.specs.declared.ending.Ending.TheVariants.{Done, Stuck, Illegal, NoForm, ReadFault, WriteFault, Refused, NoMemory}
@@ -22,7 +22,7 @@ pub can_stand : (m : Machine) → IsAccepted m → CanBeAdded (parents_of m.devi
 can_stand m a = record { few = omega (arith, a.few_links); linked = a.links }
 
 -- calls of sixteen places fill no source
-pub fills_none : (m : Machine) (s : ℕ) → ((s : ℕ) → places m s ≤ 16) → IsFull m s → ⊥
+pub fills_none : (m : Machine) (s : ℕ) → ((s : ℕ) → places m s ≤ 16) → MayFillSource m s → ⊥
 fills_none m s few full = omega (arith, few s, full.1)
 
 -- how the log of a run ends

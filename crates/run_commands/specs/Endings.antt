@@ -12,7 +12,7 @@ use Rattle.machine_file.specs.Whole.{machine_in, broken_at, broken_in}
 use Rattle.sleep_script.specs.Generated.{generated}
 use Rattle.machine_rounds.specs.declared.run.RunFault.{RunFault}
 use Rattle.machine_rounds.specs.declared.run.RunFault.TheVariants as fault
-use Rattle.machine_rounds.specs.Runs.{IsRun, IsFull}
+use Rattle.machine_rounds.specs.Runs.{IsRun, MayFillSource}
 use Rattle.program_ending.specs.declared.ending.Ending.{Ending}
 use Rattle.program_ending.specs.declared.ending.Ending.TheVariants.{Done, Stuck, Illegal, NoForm, ReadFault, WriteFault, Refused, NoMemory}
 use Rattle.program_ending.specs.declared.refusal.Refusal.{Refusal}
@@ -52,7 +52,7 @@ pub record FillsSource (bytes name : List ℕ) : Type 0 where
   pub machine : Machine
   pub number : ℕ
   pub spells : machine_in bytes ≡ Some machine
-  pub full : IsFull machine number
+  pub full : MayFillSource machine number
   pub named : name ≡ source machine number
 
 -- the ending names that source of the machine

@@ -15,7 +15,7 @@ use crate::counts::{count_line, counts_of, is_stuck};
 use device_links::Links;
 use machine_file::write_machine;
 use program_ending::{Ending, RunText, write_run_text};
-use sleep_base::{ByteSink, Mem, lost};
+use sleep_base::{ByteSink, Mem, drop_for_mem};
 use sleep_model::{Device, Log, Machine};
 use sleep_run::{OpenGate, RunFault, run_machine};
 use sleep_script::generate;
@@ -95,7 +95,7 @@ fn line_of<R: Threads + Wait + Sync>(
 {
     let machine = generate(alloc, seed, devices)?;
     let Ok(log) = log_of(rt, alloc, &machine) else {
-        return Err(lost(machine));
+        return Err(drop_for_mem(machine));
     };
     let stuck = is_stuck(&log.end);
     let counts = counts_of(&log);

@@ -10,7 +10,7 @@ use Rattle.sleep_model.specs.Calls.{calls_of, is_calling, notes_of}
 use Rattle.sleep_model.specs.EntryClasses.{EntryClass, OfJournal, Notes, Moves, OfTime, class_of, is_in_journal, journal}
 use Rattle.sleep_model.specs.Path.{is_same}
 use Rattle.sleep_model.specs.Sources.{SourceStep, history, is_of}
-use Rattle.merge_laws.specs.Apart.{ActorStep, IsActor, IsCall, IsSource, calls_after, history_after, is_inside, is_journals, own_of}
+use Rattle.merge_laws.specs.Apart.{ActorStep, AreActorSteps, IsCall, IsSource, calls_after, history_after, is_inside, is_journals, own_of}
 use Rattle.merge_laws.proofs.Calling.{calls_earlier, calls_in, calls_top, history_earlier, history_top, same_calling}
 use Rattle.merge_laws.proofs.Lists.{filter_map_through}
 use Rattle.merge_laws.proofs.Placing.{number_is}
@@ -53,7 +53,7 @@ step_preserved who calls calls' inside inside' own e OfTime c i h = tt
 
 steps_kept : (who : Actor) (calls calls' : ℕ → List Kind) (inside inside' : List Entry → Bool) (own : List Entry)
     → ((k : ℕ) → k ≤ length (journal own) → calls' k ≡ calls k) → ((l : List Entry) → IsWithin l own → inside' l ≡ inside l)
-    → IsActor who calls inside own → IsActor who calls' inside' own
+    → AreActorSteps who calls inside own → AreActorSteps who calls' inside' own
 steps_kept who calls calls' inside inside' [] c i h = tt
 steps_kept who calls calls' inside inside' (x ∷ own) c i h = (
   step_preserved who calls calls' inside inside' own x (class_of x.kind) (c (length (journal own)) (longer_journal x own)) (i own (within_more x own)) h.0,
@@ -145,7 +145,7 @@ module _ (m : Machine) (made : Made) (e : JournalEntry) (a : AreSteps m made)
             history_earlier who (length (history s l)) e.entry (of s) (has s is) (omega (arith, few, long))
         at s false is = refl
 
-    older : IsActor who (λ k. calls_after m who k (unstamped after.journal)) (is_inside (length m.sources + 1) (λ s. unstamped (after.of s)) who) own
+    older : AreActorSteps who (λ k. calls_after m who k (unstamped after.journal)) (is_inside (length m.sources + 1) (λ s. unstamped (after.of s)) who) own
     older =
         steps_kept who (λ k. calls_after m who k past) (λ k. calls_after m who k (unstamped after.journal)) (is_inside (length m.sources + 1) of who)
         (is_inside (length m.sources + 1) (λ s. unstamped (after.of s)) who) own calls_stay inside_stays known.steps
@@ -176,7 +176,7 @@ module _ (m : Machine) (made : Made) (e : JournalEntry) (a : AreSteps m made)
     }
       where
         by : (b : Bool) → is_same e.entry.actor who ≡ b
-            → IsActor who (λ k. calls_after m who k (unstamped after.journal)) (is_inside (length m.sources + 1) (λ s. unstamped (after.of s)) who) (unstamped (put_if b e (made.own who)))
+            → AreActorSteps who (λ k. calls_after m who k (unstamped after.journal)) (is_inside (length m.sources + 1) (λ s. unstamped (after.of s)) who) (unstamped (put_if b e (made.own who)))
         by true is = (newest (class_of e.entry.kind) (subst (λ (w : Actor). IsNext m made w e.entry (class_of e.entry.kind)) (actor_is e.entry.actor who is) next), older)
         by false is = older
 

@@ -45,7 +45,7 @@ class_step s step.Start = refl
 class_step s step.Finish = refl
 class_step s step.Hard = refl
 
-pub unstamped_same : (past : List SourceEntry) → states.unstamped past ≡ unstamped (map of_source past)
+pub unstamped_same : (past : List SourceEntry) → states.unstamped_source past ≡ unstamped (map of_source past)
 unstamped_same [] = refl
 unstamped_same (e ∷ past) = ap (λ (l : List Entry). e.entry ∷ l) (unstamped_same past)
 
@@ -264,7 +264,7 @@ module _ (m : Machine) (made : Made) (by : CallBy) (c : SourceCall) (source : So
   abbrev behind : Made
   behind = with_entry n made
 
-  own_is : states.unstamped source.past ≡ unstamped (made.of source.id)
+  own_is : states.unstamped_source source.past ≡ unstamped (made.of source.id)
   own_is = unstamped_same source.past ∙ ap unstamped (sym r.entries)
 
   noted_class : class_of n.entry.kind ≡ Notes source.id c
@@ -286,7 +286,7 @@ module _ (m : Machine) (made : Made) (by : CallBy) (c : SourceCall) (source : So
   note_grows = record {
     next = subst (IsNext m made by.actor n.entry) (sym noted_class) (r.next, r.free);
     may = subst (MayHave made n.entry) (sym noted_class)
-        (subst (λ (own : List Entry). SourceStep own by.now by.actor (Notes source.id c)) own_is (may_note source.id c (states.unstamped source.past) by.now by.actor r.settled.owes_none r.may));
+        (subst (λ (own : List Entry). SourceStep own by.now by.actor (Notes source.id c)) own_is (may_note source.id c (states.unstamped_source source.past) by.now by.actor r.settled.owes_none r.may));
     there = ap (is_there m) noted_class ∙ r.there;
     of_journal = λ is. absurd (let bad : true ≡ false = sym is ∙ noted_of.unkept in cc);
     of_jump = λ is. absurd (let bad : true ≡ false = sym is ∙ noted_of.still in cc);
@@ -300,7 +300,7 @@ module _ (m : Machine) (made : Made) (by : CallBy) (c : SourceCall) (source : So
   stays_at : next_position n ≡ position seen
   stays_at = let is : next_position n ≡ position seen + 0 = step_number_note source.id c n refl in omega (arith, is)
 
-  begins : Going m made behind by noted (makes c (since (states.unstamped source.past)))
+  begins : Going m made behind by noted (makes c (since (states.unstamped_source source.past)))
   begins = record {
     invariant = grows m made n r.invariant note_grows;
     journal = noted_put.journal;
@@ -329,6 +329,6 @@ call_grows m made by c old new r h =
     let by_low : by.floor.pos ≤ position seen = h.1.4 in
     let low : old.source.floor.pos ≤ position seen = h.1.5 in
     let is : h.0 ≡ after_note by c seen h.0.looked old = h.1.6 in
-    steps_go m made (behind m made by c old.source seen r by_low low) by (makes c (since (states.unstamped old.source.past))) (after_note by c seen h.0.looked old) new refl
+    steps_go m made (behind m made by c old.source seen r by_low low) by (makes c (since (states.unstamped_source old.source.past))) (after_note by c seen h.0.looked old) new refl
     (begins m made by c old.source seen r by_low low)
-    (subst (λ (s : SourceView). Steps by (makes c (since (states.unstamped old.source.past))) s new) is h.2)
+    (subst (λ (s : SourceView). Steps by (makes c (since (states.unstamped_source old.source.past))) s new) is h.2)

@@ -18,7 +18,7 @@ use Rattle.sleep_model.specs.Path.{is_same}
 use Rattle.sleep_model.specs.Sources.{is_of}
 use Rattle.log_merge.proofs.Reading.{both, both_left, both_right}
 use Rattle.merge_laws.specs.Apart.{AreJumps, JumpIsLegal, before, is_journals}
-use Rattle.merge_laws.specs.Fitting.{are_raised, has_time, is_earlier, is_later, jumps}
+use Rattle.merge_laws.specs.Fitting.{are_raised, has_time, is_earlier, is_after_jump, jumps}
 use Rattle.merge_laws.proofs.Lists.{all_head, all_map, all_more, all_reverse, all_tail, filter_all, filter_reverse}
 use Rattle.merge_laws.proofs.Placing.{number_is, other_keeps}
 use Rattle.run_laws.specs.Acts.{Made, unstamped, put_if, with_entry}
@@ -214,7 +214,7 @@ no_less : (pos s pos' : ℕ) → nat_le (pos + s) pos' ≡ true → nat_le pos p
 no_less pos s pos' h = grind (arith, nat_tests)
 
 -- after a jump by stamp and time
-later_by : (e jump : JournalEntry) → is_above e jump ≡ true → nat_le jump.entry.time e.entry.time ≡ true → is_later e jump ≡ true
+later_by : (e jump : JournalEntry) → is_above e jump ≡ true → nat_le jump.entry.time e.entry.time ≡ true → is_after_jump e jump ≡ true
 later_by e jump h g =
     both (nat_le jump.stamp.pos e.stamp.pos && nat_lt jump.stamp.tick e.stamp.tick) (nat_le jump.entry.time e.entry.time)
     (both (nat_le jump.stamp.pos e.stamp.pos) (nat_lt jump.stamp.tick e.stamp.tick)
@@ -364,10 +364,10 @@ module _ (m : Machine) (made : Made) (e : JournalEntry) (invariant : RunInvarian
   ordered = by (jumps e) refl g.in_time
     where
       by : (b : Bool) → jumps e ≡ b → IsInTime made e b → EachJump (λ jump. is_ordered_with jump e ≡ true) made.journal
-      by true is h = each_any (λ jump. is_ordered_with jump e ≡ true) made.journal (λ jump. or_left (jumps e) (is_earlier e jump) (is_later e jump) is)
+      by true is h = each_any (λ jump. is_ordered_with jump e ≡ true) made.journal (λ jump. or_left (jumps e) (is_earlier e jump) (is_after_jump e jump) is)
       by false is h =
           each_by (λ jump. (is_above e jump ≡ true) × (nat_le jump.entry.time e.entry.time ≡ true)) (λ jump. is_ordered_with jump e ≡ true) made.journal
-          (λ jump a. or_right (jumps e) (is_earlier e jump) (is_later e jump) (later_by e jump a.0 a.1)) (behind h)
+          (λ jump a. or_right (jumps e) (is_earlier e jump) (is_after_jump e jump) (later_by e jump a.0 a.1)) (behind h)
 
   sides : EachJump (λ jump. AllOf (is_ordered_with jump) after) after.journal
   sides = by (is_journals e) refl
@@ -379,8 +379,8 @@ module _ (m : Machine) (made : Made) (e : JournalEntry) (invariant : RunInvarian
 
       new : (b : Bool) → jumps e ≡ b → IsInTime made e b → b ≡ true → AllOf (is_ordered_with e) after
       new true is h t =
-          all_grown (is_ordered_with e) e made (or_left (jumps e) (is_earlier e e) (is_later e e) is)
-          (all_so (λ x. is_earlier x e) (is_ordered_with e) made (λ x a. or_mid (jumps x) (is_earlier x e) (is_later x e) a) (ahead is h))
+          all_grown (is_ordered_with e) e made (or_left (jumps e) (is_earlier e e) (is_after_jump e e) is)
+          (all_so (λ x. is_earlier x e) (is_ordered_with e) made (λ x a. or_mid (jumps x) (is_earlier x e) (is_after_jump x e) a) (ahead is h))
       new false is h t = absurd (let bad : false ≡ true = t in cc)
 
       by : (b : Bool) → is_journals e ≡ b → EachJump (λ jump. AllOf (is_ordered_with jump) after) (put_if b e made.journal)

@@ -15,8 +15,8 @@ use Rattle.sleep_model.specs.Path.{is_same}
 use Rattle.sleep_model.specs.Sources.{is_of}
 use Rattle.log_merge.specs.Remainders.{sources_entries}
 use Rattle.log_merge.proofs.Reading.{both, both_left, both_right}
-use Rattle.merge_laws.specs.Apart.{AreJumps, IsActor, IsSource, are_of, calls_after, is_inside, is_journals, last_word, past_of, source_past}
-use Rattle.merge_laws.specs.Fitting.{FitApart, are_raised, has_time, is_earlier, is_later, jumps, is_ordered}
+use Rattle.merge_laws.specs.Apart.{AreJumps, AreActorSteps, IsSource, are_of, calls_after, is_inside, is_journals, last_word, past_of, source_past}
+use Rattle.merge_laws.specs.Fitting.{FitApart, are_raised, has_time, is_earlier, is_after_jump, jumps, is_ordered}
 use Rattle.sleep_model.specs.Legal.{is_finished, is_idle, next_time, waiting}
 use Rattle.sleep_model.specs.Due.{have_all_exited}
 use Rattle.sleep_model.specs.declared.log.LogEnd.TheVariants.{Stuck}
@@ -145,7 +145,7 @@ module _ (m : Machine) (made : Made) (journal : List JournalEntry) (hs : List (L
   }
 
   right_to : (j : JournalEntry) → AllOf (is_ordered_with j) made → list_all (λ e. is_ordered e j) all ≡ true
-  right_to j h = all_weaker (is_ordered_with j) (λ e. is_ordered e j) all (λ e a. more (jumps e) (not (jumps j)) (is_earlier e j) (is_later e j) a) (shown (is_ordered_with j) h)
+  right_to j h = all_weaker (is_ordered_with j) (λ e. is_ordered e j) all (λ e a. more (jumps e) (not (jumps j)) (is_earlier e j) (is_after_jump e j) a) (shown (is_ordered_with j) h)
     where
       more : (a b c d : Bool) → a || c || d ≡ true → a || b || c || d ≡ true
       more true b c d h = refl
@@ -162,7 +162,7 @@ module _ (m : Machine) (made : Made) (journal : List JournalEntry) (hs : List (L
 
       every : (l : List JournalEntry) → list_all (λ e. is_ordered e j) l ≡ true
       every [] = refl
-      every (e ∷ l) = all_more (λ e. is_ordered e j) e l (more (jumps e) (jumps j) (is_earlier e j) (is_later e j) plain) (every l)
+      every (e ∷ l) = all_more (λ e. is_ordered e j) e l (more (jumps e) (jumps j) (is_earlier e j) (is_after_jump e j) plain) (every l)
 
   right_in : (l : List JournalEntry) → EachJump (λ jump. AllOf (is_ordered_with jump) made) l → list_all (λ j. list_all (λ e. is_ordered e j) all) l ≡ true
   right_in [] h = refl
@@ -229,9 +229,9 @@ module _ (m : Machine) (made : Made) (journal : List JournalEntry) (hs : List (L
         of_journal = subst (JournalPart m) (sym journal_back) invariant.of_journal;
         of_sources = λ s. subst IsSource (sym (source_back s)) (invariant.steps.of_sources s);
         of_actors = λ who.
-            subst (λ (past : List Entry). IsActor who (λ k. calls_after m who k past) (is_inside (length m.sources + 1) (source_past hs) who) (past_of (reverse (made.own who)))) (sym journal_back)
-            (subst (λ (of : ℕ → List Entry). IsActor who (λ k. calls_after m who k (unstamped made.journal)) (is_inside (length m.sources + 1) of who) (past_of (reverse (made.own who)))) (sym sources)
-            (subst (λ (own : List Entry). IsActor who (λ k. calls_after m who k (unstamped made.journal)) (is_inside (length m.sources + 1) (λ s. unstamped (made.of s)) who) own) (sym (past_back (made.own who)))
+            subst (λ (past : List Entry). AreActorSteps who (λ k. calls_after m who k past) (is_inside (length m.sources + 1) (source_past hs) who) (past_of (reverse (made.own who)))) (sym journal_back)
+            (subst (λ (of : ℕ → List Entry). AreActorSteps who (λ k. calls_after m who k (unstamped made.journal)) (is_inside (length m.sources + 1) of who) (past_of (reverse (made.own who)))) (sym sources)
+            (subst (λ (own : List Entry). AreActorSteps who (λ k. calls_after m who k (unstamped made.journal)) (is_inside (length m.sources + 1) (λ s. unstamped (made.of s)) who) own) (sym (past_back (made.own who)))
             (invariant.steps.of_actors who).steps));
         of_jumps =
             subst (λ (past : List Entry). AreJumps m past (source_past hs)) (sym journal_back)

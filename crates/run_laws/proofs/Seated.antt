@@ -20,10 +20,10 @@ use Rattle.merge_laws.specs.Apart.{past_of}
 use Rattle.merge_laws.proofs.Lists.{all_append, all_more, all_reverse}
 use Rattle.wakeup_source.specs.declared.call_by.CallBy.{CallBy}
 use Rattle.wakeup_source.specs.Called.{Calls, SourceView, Steps, after_note, after_step}
-use Rattle.wakeup_source.specs.SourceStates.{unstamped, note_entry, note_tick, step_entry, step_kind}
+use Rattle.wakeup_source.specs.SourceStates.{unstamped_source, note_entry, note_tick, step_entry, step_kind}
 use Rattle.wakeup_source.specs.Shown.{steps_in}
 use Rattle.run_laws.specs.ClosedOver.{is_looked, has_position, was_seen}
-use Rattle.run_laws.specs.Seated.{AreSeen, IsFresh, SeatAgreesAfterCalls, SeatAgrees, SeatsCoverTable, WatchAgrees, sees}
+use Rattle.run_laws.specs.Seated.{StampsAreSeen, IsFresh, SeatAgreesAfterCalls, SeatAgrees, SeatsCoverTable, WatchAgrees, sees}
 use Rattle.run_laws.proofs.ClosedOver.{all_weaker, same_word}
 
 -- ---- words that were looked at
@@ -57,10 +57,10 @@ same_number : (a b : ℕ) → a ≡ b → (a == b) ≡ true
 same_number a b h = grind (arith, nat_tests)
 
 -- one more entry, whose word was looked at last
-one_more : (looked new : List EventNow) (entries : List JournalEntry) (e : JournalEntry) → AreSeen looked entries → GrewTo e.entry.now (Some looked) (Some new)
-    → e.stamp.pos ≡ position e.entry.now → AreSeen new (e ∷ entries)
+one_more : (looked new : List EventNow) (entries : List JournalEntry) (e : JournalEntry) → StampsAreSeen looked entries → GrewTo e.entry.now (Some looked) (Some new)
+    → e.stamp.pos ≡ position e.entry.now → StampsAreSeen new (e ∷ entries)
 one_more looked new entries e h g at =
-    subst (λ (l : List EventNow). AreSeen l (e ∷ entries)) (sym g.1) (
+    subst (λ (l : List EventNow). StampsAreSeen l (e ∷ entries)) (sym g.1) (
       all_more (sees ((e.entry.now ∷ g.0) ++ looked)) e entries (sees_newest looked g.0 e)
           (all_weaker (sees looked) (sees ((e.entry.now ∷ g.0) ++ looked)) entries (λ x s. sees_more looked g.0 e.entry.now x s) h.0),
       all_more has_position e entries (same_number e.stamp.pos (position e.entry.now) at) h.1,
@@ -80,8 +80,8 @@ left_of : (a b : Bool) → a ≡ true → a || b ≡ true
 left_of a b h = ap (λ (c : Bool). c || b) h
 
 steps_seen : (by : CallBy) (steps : List WordKind) (old new : SourceView) (looked : List EventNow) → Steps by steps old new → old.looked ≡ Some looked
-    → AreSeen looked (map of_source old.source.past) → (new.looked ≡ Some looked) × AreSeen looked (map of_source new.source.past)
-steps_seen by [] old new looked h o a = (ap (λ (s : SourceView). s.looked) h ∙ o, subst (λ (s : SourceView). AreSeen looked (map of_source s.source.past)) (sym h) a)
+    → StampsAreSeen looked (map of_source old.source.past) → (new.looked ≡ Some looked) × StampsAreSeen looked (map of_source new.source.past)
+steps_seen by [] old new looked h o a = (ap (λ (s : SourceView). s.looked) h ∙ o, subst (λ (s : SourceView). StampsAreSeen looked (map of_source s.source.past)) (sym h) a)
 steps_seen by (x ∷ rest) old new looked h o a =
     let e : JournalEntry = record {
       stamp = record { pos = position h.0; tick = old.source.floor.tick + 1 };
@@ -101,7 +101,7 @@ steps_fresh by (x ∷ rest) old new f h = steps_fresh by rest (after_step by x h
 -- a call leaves its source knowing the tick of its newest entry, and no later one
 pub call_fresh : (by : CallBy) (c : SourceCall) (old new : SourceView) → Calls by c old new → IsFresh new.source
 call_fresh by c old new h =
-    steps_fresh by (makes c (since (unstamped old.source.past))) h.0 new (subst (λ (s : SourceView). IsFresh s.source) (sym h.1.6) refl) h.2
+    steps_fresh by (makes c (since (unstamped_source old.source.past))) h.0 new (subst (λ (s : SourceView). IsFresh s.source) (sym h.1.6) refl) h.2
 
 pub seat_keeps : SeatAgreesAfterCalls
 seat_keeps by c old new made looked m o seated h shows = by_looked h.0.looked refl (subst (λ (l : Option (List EventNow)). GrewTo h.1.0 l h.0.looked) o h.1.2)
@@ -114,11 +114,11 @@ seat_keeps by c old new made looked m o seated h shows = by_looked h.0.looked re
           stamp = record { pos = position h.1.0; tick = note_tick by old.source };
           entry = note_entry old.source.id c by.actor by.now h.1.0;
         } in
-        let first : AreSeen seen (e ∷ map of_source old.source.past) = one_more looked seen (map of_source old.source.past) e seated.seen grew refl in
-        let all = steps_seen by (makes c (since (unstamped old.source.past))) (after_note by c h.1.0 h.0.looked old) new seen
-        (subst (λ (s : SourceView). Steps by (makes c (since (unstamped old.source.past))) s new) h.1.6 h.2) is first in
+        let first : StampsAreSeen seen (e ∷ map of_source old.source.past) = one_more looked seen (map of_source old.source.past) e seated.seen grew refl in
+        let all = steps_seen by (makes c (since (unstamped_source old.source.past))) (after_note by c h.1.0 h.0.looked old) new seen
+        (subst (λ (s : SourceView). Steps by (makes c (since (unstamped_source old.source.past))) s new) h.1.6 h.2) is first in
         record {
-          made = steps_in (unstamped new.source.past);
+          made = steps_in (unstamped_source new.source.past);
           looked = seen;
           made_is = shows (m ∙ ap Some seated.steps);
           looked_is = all.0;
@@ -127,14 +127,14 @@ seat_keeps by c old new made looked m o seated h shows = by_looked h.0.looked re
 
 -- ---- the closed table
 
-unstamped_onto : (xs ys : List SourceEntry) → unstamped (xs ++ ys) ≡ unstamped xs ++ unstamped ys
+unstamped_onto : (xs ys : List SourceEntry) → unstamped_source (xs ++ ys) ≡ unstamped_source xs ++ unstamped_source ys
 unstamped_onto [] ys = refl
 unstamped_onto (x ∷ xs) ys = ap (λ (l : List Entry). x.entry ∷ l) (unstamped_onto xs ys)
 
-unstamped_back : (h : List SourceEntry) → unstamped (reverse h) ≡ past_of (map of_source h)
+unstamped_back : (h : List SourceEntry) → unstamped_source (reverse h) ≡ past_of (map of_source h)
 unstamped_back [] = refl
 unstamped_back (x ∷ h) =
-    ap unstamped (reverse-append (x ∷ []) h) ∙ unstamped_onto (reverse h) (x ∷ []) ∙ ap (λ (l : List Entry). l ++ x.entry ∷ []) (unstamped_back h)
+    ap unstamped_source (reverse-append (x ∷ []) h) ∙ unstamped_onto (reverse h) (x ∷ []) ∙ ap (λ (l : List Entry). l ++ x.entry ∷ []) (unstamped_back h)
     ∙ sym (reverse-append (x.entry ∷ []) (map (λ (e : JournalEntry). e.entry) (map of_source h)))
 
 map_onto : (xs ys : List SourceEntry) → map of_source (xs ++ ys) ≡ map of_source xs ++ map of_source ys

@@ -10,7 +10,7 @@ use Rattle.sleep_model.specs.Merge.{entries_of}
 use Rattle.sleep_model.specs.EntryClasses.{EntryClass, OfJournal, Notes, Moves, OfTime, class_of}
 use Rattle.sleep_model.specs.Path.{is_same}
 use Rattle.sleep_model.specs.Sources.{SourceStep, is_of}
-use Rattle.merge_laws.specs.Apart.{IsActor, IsCall, IsSource, calls_after, is_inside, is_journals}
+use Rattle.merge_laws.specs.Apart.{AreActorSteps, IsCall, IsSource, calls_after, is_inside, is_journals}
 
 -- what was made so far: the journal, the entries of each source, and each actor's own, the newest first
 pub record Made : Type 0 where
@@ -35,15 +35,15 @@ with_entry e made = record {
 }
 
 -- the actor is inside no call
-abbrev pub IsFree : Machine → Made → Actor → Type 0
-IsFree m made who = is_calling (length m.sources + 1) (λ s. unstamped (made.of s)) who ≡ false
+abbrev pub IsBetweenCalls : Machine → Made → Actor → Type 0
+IsBetweenCalls m made who = is_calling (length m.sources + 1) (λ s. unstamped (made.of s)) who ≡ false
 
 -- the entry is the actor's next, by the calls that are due of it, and those that it has made
 abbrev pub IsNext : Machine → Made → Actor → Entry → EntryClass → Type 0
 IsNext m made who e OfJournal =
-    (notes_of who (unstamped (made.own who)) ≡ calls_due m who (unstamped made.journal)) × IsFree m made who
+    (notes_of who (unstamped (made.own who)) ≡ calls_due m who (unstamped made.journal)) × IsBetweenCalls m made who
 IsNext m made who e (Notes s call) =
-    IsCall who (calls_of m who (unstamped made.journal)) (notes_of who (unstamped (made.own who))) e.kind × IsFree m made who
+    IsCall who (calls_of m who (unstamped made.journal)) (notes_of who (unstamped (made.own who))) e.kind × IsBetweenCalls m made who
 IsNext m made who e (Moves s step) = last_is_of s who (unstamped (made.own who)) ≡ true
 IsNext m made who e OfTime = Unit {0}
 
@@ -55,7 +55,7 @@ MayHave made e _ = Unit {0}
 
 -- each of an actor's entries is its step, and those of the journal and of each source are its entries there
 pub record IsKnown (m : Machine) (made : Made) (who : Actor) : Type 0 where
-  pub steps : IsActor who (λ k. calls_after m who k (unstamped made.journal))
+  pub steps : AreActorSteps who (λ k. calls_after m who k (unstamped made.journal))
       (is_inside (length m.sources + 1) (λ s. unstamped (made.of s)) who) (unstamped (made.own who))
   pub in_journal : filter is_journals (made.own who) ≡ entries_of who made.journal
   pub in_sources : (s : ℕ) → filter (λ e. is_of s (class_of e.entry.kind)) (made.own who) ≡ entries_of who (made.of s)

@@ -16,7 +16,7 @@ use Rattle.wakeup_source.specs.SourceStates.{IsSettled, SourceState}
 use Rattle.wakeup_source.specs.SourceStates as states
 use Rattle.wakeup_source.specs.Shown.{MayCall}
 use Rattle.merge_laws.specs.Apart.{IsCall}
-use Rattle.run_laws.specs.Acts.{IsFree, Made, unstamped}
+use Rattle.run_laws.specs.Acts.{IsBetweenCalls, Made, unstamped}
 use Rattle.run_laws.specs.Invariant.{EachJump, RunInvariant}
 
 -- who last knew that stamp knew the newest of these entries: its tick, and the position that it left
@@ -31,10 +31,10 @@ pub record IsReady (m : Machine) (made : Made) (by : CallBy) (call : SourceCall)
   pub entries : made.of source.id ≡ map of_source source.past
   pub settled : IsSettled source
   pub there : nat_le source.id (length m.sources) ≡ true
-  pub free : IsFree m made by.actor
+  pub free : IsBetweenCalls m made by.actor
   pub next : IsCall by.actor (calls_of m by.actor (unstamped made.journal)) (notes_of by.actor (unstamped (made.own by.actor)))
       (note source.id call)
-  pub may : MayCall call (states.unstamped source.past) by.now
+  pub may : MayCall call (states.unstamped_source source.past) by.now
   pub own : knows by.floor (made.own by.actor) ≡ true
   pub jumps : EachJump (λ jump. knows by.floor (jump ∷ []) ≡ true) made.journal
   pub time : by.now ≡ time_of (unstamped made.journal)

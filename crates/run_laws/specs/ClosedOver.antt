@@ -38,9 +38,9 @@ pub record IsClosedOver
 
 -- the steps have positions without a gap and chain, each look saw a word between two of them, and that is the last word
 pub record IsInLine (answer : EventNow) (journal : List JournalEntry) (histories : List (List SourceEntry)) : Type 0 where
-  pub counted : are_counted 0 (apart.steps_of journal histories) ≡ true
-  pub chained : is_chained no_steps (apart.steps_of journal histories) ≡ true
-  pub looks : list_all (is_look (apart.steps_of journal histories)) (all_entries journal histories) ≡ true
+  pub counted : are_counted 0 (apart.word_steps journal histories) ≡ true
+  pub chained : is_chained no_steps (apart.word_steps journal histories) ≡ true
+  pub looks : list_all (is_look (apart.word_steps journal histories)) (all_entries journal histories) ≡ true
   pub last : last_word journal histories ≡ answer
 
 -- the word's closed table has the steps of all histories

@@ -16,7 +16,7 @@ use Rattle.sleep_model.specs.EntryClasses.{EntryClass, Notes, Moves, class_of}
 use Rattle.sleep_model.specs.Sources.{is_of, most_entries}
 use Rattle.event_word.specs.Steps.{MadeStep}
 use Rattle.merge_laws.specs.Apart.{AreJumps, is_journals}
-use Rattle.merge_laws.specs.Fitting.{FitApart, are_raised, has_time, is_earlier, is_later, jumps}
+use Rattle.merge_laws.specs.Fitting.{FitApart, are_raised, has_time, is_earlier, is_after_jump, jumps}
 use Rattle.merge_laws.specs.Merging.{AreLegalApart, IsMergeOf}
 use Rattle.run_laws.specs.Acts.{AreSteps, IsNext, Made, MayHave, unstamped, with_entry}
 use Rattle.run_laws.specs.ClosedOver.{IsClosedOver, IsSeenLast}
@@ -48,7 +48,7 @@ falls (e ∷ past) = follows e past && falls past
 
 -- an entry that is no jump is on one side of that jump
 abbrev pub is_ordered_with : JournalEntry → JournalEntry → Bool
-is_ordered_with jump e = jumps e || is_earlier e jump || is_later e jump
+is_ordered_with jump e = jumps e || is_earlier e jump || is_after_jump e jump
 
 -- ---- what is known
 
@@ -127,12 +127,12 @@ InvariantMerges =
 -- ---- the end
 
 -- the run is over, by all that was made and the word
-pub record IsOver (m : Machine) (made : Made) (now : EventNow) (log : Log) : Type 0 where
+pub record EndsFinished (m : Machine) (made : Made) (now : EventNow) (log : Log) : Type 0 where
   pub says : log.end ≡ Finished
   pub finished : is_finished m (unstamped made.journal) (λ s. unstamped (made.of s)) now ≡ true
 
 -- nobody goes on, by all that was made and the word
-pub record IsHalted (m : Machine) (made : Made) (now : EventNow) (log : Log) : Type 0 where
+pub record EndsStuck (m : Machine) (made : Made) (now : EventNow) (log : Log) : Type 0 where
   pub says : log.end ≡ Stuck (waiting m (unstamped made.journal) now)
   pub left : have_all_exited m (unstamped made.journal) ≡ false
   pub idle : is_idle m (unstamped made.journal) (λ s. unstamped (made.of s)) now ≡ true
@@ -145,4 +145,4 @@ InvariantEnds =
     (journal : List JournalEntry) (histories : List (List SourceEntry)) (log : Log)
     → RunInvariant m made → IsWritten m made journal histories → IsClosedOver steps looked answer journal histories
     → IsSeenLast looked histories now → IsMergeOf m journal histories log
-    → IsLegalLog m log × (IsOver m made now log → IsFinishedLog m log) × (IsHalted m made now log → IsStuckLog m log)
+    → IsLegalLog m log × (EndsFinished m made now log → IsFinishedLog m log) × (EndsStuck m made now log → IsStuckLog m log)

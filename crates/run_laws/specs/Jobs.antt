@@ -13,7 +13,7 @@ use Rattle.sleep_model.specs.EntryClasses.{OfJournal, Notes, Moves, class_of}
 use Rattle.sleep_model.specs.Path.{attempts, is_same}
 use Rattle.sleep_model.specs.Sources.{owed}
 use Rattle.sleep_script.specs.Jobs.{IsJobOf, IsWanted, JobState, after_call, after_turn}
-use Rattle.run_laws.specs.Acts.{IsFree, IsNext, Made, unstamped, with_entry}
+use Rattle.run_laws.specs.Acts.{IsBetweenCalls, IsNext, Made, unstamped, with_entry}
 
 -- the job has the state that all that was made leaves it in
 abbrev pub IsJob : Machine → Made → Actor → JobState → Type 0
@@ -50,9 +50,9 @@ pub record WantsNext (m : Machine) (made : Made) (e : JournalEntry) (who : Actor
 abbrev pub JobsWantNext : Type 0
 JobsWantNext =
     (m : Machine) (made : Made) (e : JournalEntry) (who : Actor) (job : JobState)
-    → IsJob m made who job → IsFree m made who → WantsNext m made e who job
+    → IsJob m made who job → IsBetweenCalls m made who → WantsNext m made e who job
 
 -- if no source is owed a step, each actor is inside no call
 abbrev pub SettledIsFree : Type 0
 SettledIsFree =
-    (m : Machine) (made : Made) (who : Actor) → ((s : ℕ) → owed (unstamped (made.of s)) ≡ []) → IsFree m made who
+    (m : Machine) (made : Made) (who : Actor) → ((s : ℕ) → owed (unstamped (made.of s)) ≡ []) → IsBetweenCalls m made who

@@ -25,13 +25,13 @@ abbrev pub items_by : Actor → List Noted → List Noted
 items_by who noted = filter (λ n. is_same n.entry.entry.actor who) noted
 
 -- what a pass made of an object
-abbrev pub made_of : ℕ → List (List (Made Noted)) → ℕ → List (Made Noted)
-made_of object passes k = of_object object (slice_index_or passes k [])
+abbrev pub made_by_passes : ℕ → List (List (Made Noted)) → ℕ → List (Made Noted)
+made_by_passes object passes k = of_object object (slice_index_or passes k [])
 
 -- each pass made entries of one actor only, and no two of the same
 pub record HaveMakers (makers : ℕ → Actor) (object : ℕ) (passes : List (List (Made Noted))) : Type 0 where
   pub own : (k : ℕ) → k < length passes
-      → list_all (λ m. is_same m.entry.entry.entry.actor (makers k)) (made_of object passes k) ≡ true
+      → list_all (λ m. is_same m.entry.entry.entry.actor (makers k)) (made_by_passes object passes k) ≡ true
   pub apart : (j k : ℕ) → j < length passes → k < length passes → is_same (makers j) (makers k) ≡ true → j ≡ k
 
 -- the journal has grown by entries, of which each actor's are what its pass made, each with the journal before it
@@ -41,7 +41,7 @@ pub record SaysWho
   pub new : List Noted
   pub journal : after ≡ reverse (map (λ n. n.entry) new) ++ before
   pub noted : items after ≡ items before ++ new
-  pub each : (k : ℕ) → k < length passes → map (λ m. m.entry) (made_of object passes k) ≡ items_by (makers k) new
+  pub each : (k : ℕ) → k < length passes → map (λ m. m.entry) (made_by_passes object passes k) ≡ items_by (makers k) new
 
 module _ {V R : Type 0} (root : V → R) (journal : V → List JournalEntry) where
   -- a closed table of locks, whose passes have makers, says of an object whose each entry is

@@ -12,7 +12,7 @@ use Rattle.event_word.specs.Looks.{GrewTo}
 use Rattle.event_word.specs.Steps.{MadeStep}
 use Rattle.wakeup_source.specs.declared.call_by.CallBy.{CallBy}
 use Rattle.wakeup_source.specs.Called.{Calls, SourceView}
-use Rattle.wakeup_source.specs.SourceStates.{SourceState, unstamped}
+use Rattle.wakeup_source.specs.SourceStates.{SourceState, unstamped_source}
 use Rattle.wakeup_source.specs.Shown.{AreOwnSteps, steps_in}
 use Rattle.merge_laws.specs.Apart.{is_journals}
 use Rattle.run_laws.specs.ClosedOver.{IsClosedOver, has_position}
@@ -22,13 +22,13 @@ abbrev pub sees : List EventNow → JournalEntry → Bool
 sees looked e = is_word_step e || list_any (is_word e.entry.now) looked
 
 -- each of the entries does, and is stamped with the position of its word
-abbrev pub AreSeen : List EventNow → List JournalEntry → Type 0
-AreSeen looked entries = (list_all (sees looked) entries ≡ true) × (list_all has_position entries ≡ true)
+abbrev pub StampsAreSeen : List EventNow → List JournalEntry → Type 0
+StampsAreSeen looked entries = (list_all (sees looked) entries ≡ true) × (list_all has_position entries ≡ true)
 
 -- a seat made the steps of a source's entries, the newest first, and looked at the words of its notes
 pub record IsSeated (made : List MadeStep) (looked : List EventNow) (past : List SourceEntry) : Type 0 where
-  pub steps : made ≡ steps_in (unstamped past)
-  pub seen : AreSeen looked (map of_source past)
+  pub steps : made ≡ steps_in (unstamped_source past)
+  pub seen : StampsAreSeen looked (map of_source past)
 
 -- the tick of the newest of these entries, 0 if there is none
 abbrev pub newest_tick : List SourceEntry → ℕ
@@ -57,8 +57,8 @@ SeatAgreesAfterCalls =
 -- an entry of the journal by the word that the machine's seat looked at last leaves all of the journal seen
 abbrev pub WatchAgrees : Type 0
 WatchAgrees =
-    (looked new : List EventNow) (journal : List JournalEntry) (e : JournalEntry) → AreSeen looked journal
-    → GrewTo e.entry.now (Some looked) (Some new) → e.stamp.pos ≡ position e.entry.now → AreSeen new (e ∷ journal)
+    (looked new : List EventNow) (journal : List JournalEntry) (e : JournalEntry) → StampsAreSeen looked journal
+    → GrewTo e.entry.now (Some looked) (Some new) → e.stamp.pos ≡ position e.entry.now → StampsAreSeen new (e ∷ journal)
 
 -- at the closed table each source has its seat's steps and one list of looks, and so has the journal
 pub record AreSeated
@@ -68,7 +68,7 @@ pub record AreSeated
   pub count : length made ≡ length histories
   pub kept : list_all is_journals journal ≡ true
   pub machine : ℕ
-  pub watched : AreSeen (slice_index_or looked machine []) journal
+  pub watched : StampsAreSeen (slice_index_or looked machine []) journal
   pub seat : ℕ → ℕ
   pub seated : (s : ℕ) → s < length histories
       → IsSeated (slice_index_or made s []) (slice_index_or looked (seat s) []) (reverse (slice_index_or histories s []))

@@ -9,7 +9,7 @@ use Rattle.sleep_model.specs.Calls.{calls_due, notes_of}
 use Rattle.sleep_model.specs.Legal.{JournalPart, JumpStep}
 use Rattle.sleep_model.specs.EntryClasses.{OfTime, class_of}
 use Rattle.sleep_model.specs.Path.{is_same}
-use Rattle.run_laws.specs.Acts.{IsFree, Made, unstamped, with_entry}
+use Rattle.run_laws.specs.Acts.{IsBetweenCalls, Made, unstamped, with_entry}
 use Rattle.run_laws.specs.Called.{knows}
 use Rattle.run_laws.specs.Invariant.{AllOf, EachJump, RunInvariant}
 
@@ -29,7 +29,7 @@ pub record MayTurn (m : Machine) (made : Made) (who : Actor) (floor : Stamp) (e 
   pub invariant : RunInvariant m made
   pub by : e.entry.actor ≡ who
   pub timeless : is_same who actor.Time ≡ false
-  pub free : IsFree m made who
+  pub free : IsBetweenCalls m made who
   pub all_made : notes_of who (unstamped (made.own who)) ≡ calls_due m who (unstamped made.journal)
   pub legal : JournalPart m (unstamped (e ∷ made.journal))
   pub own : knows floor (made.own who) ≡ true

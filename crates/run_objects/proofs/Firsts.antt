@@ -5,7 +5,7 @@ use mathlib.Core.List.{map-append}
 use lib.ListN.{get_elem?}
 use Rattle.event_word.specs.declared.table.EventSeat.{EventSeat}
 use Rattle.event_word.specs.Lists.{tokens}
-use Rattle.event_word.specs.Seats.{IsUntouched, Token, number_of}
+use Rattle.event_word.specs.Seats.{IsUntouched, WordToken, number_of}
 use Rattle.event_word.proofs.Invariance.{at_end}
 use Rattle.wakeup_source.specs.SourceStates.{new_source}
 use Rattle.run_objects.specs.Objects.{AreFirst, AreUncalled, SeatedSourceState, seats_of}
@@ -35,6 +35,6 @@ pub seats_more : (sources : List SeatedSourceState) (s : SeatedSourceState) (yie
     → seats_of (sources ++ s ∷ []) ≡ tokens (yielded ++ seat ∷ [])
 seats_more sources s yielded seat are is =
     map-append (λ (x : SeatedSourceState). x.seat) sources (s ∷ [])
-    ∙ ap (λ (l : List Token). l ++ s.seat ∷ []) are
-    ∙ ap (λ (t : Token). tokens yielded ++ t ∷ []) is
+    ∙ ap (λ (l : List WordToken). l ++ s.seat ∷ []) are
+    ∙ ap (λ (t : WordToken). tokens yielded ++ t ∷ []) is
     ∙ sym (map-append (λ (x : EventSeat). x.token) yielded (seat ∷ []))

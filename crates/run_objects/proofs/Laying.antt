@@ -10,12 +10,12 @@ use Rattle.sleep_model.specs.Merge.{is_word}
 use Rattle.event_word.specs.declared.table.EventSeat.{EventSeat}
 use Rattle.event_word.specs.Histories.{AreClosed}
 use Rattle.event_word.specs.Lists.{looked_lists, made_lists, tokens}
-use Rattle.event_word.specs.Seats.{Token, looked_of, made_of}
+use Rattle.event_word.specs.Seats.{WordToken, looked_of, made_of}
 use Rattle.event_word.specs.Steps.{MadeStep}
 use Rattle.merge_laws.specs.Apart.{is_journals}
 use Rattle.merge_laws.proofs.Lists.{all_reverse}
 use Rattle.run_laws.specs.ClosedOver.{has_position}
-use Rattle.run_laws.specs.Seated.{AreSeen, AreSeated, IsSeated, sees}
+use Rattle.run_laws.specs.Seated.{StampsAreSeen, AreSeated, IsSeated, sees}
 use Rattle.run_laws.proofs.Seated.{seats_cover}
 use Rattle.run_objects.specs.Closed.{IsClosedTable, histories_of}
 use Rattle.run_objects.specs.Objects.{SourcesInvariant, IsSeatedSource, SeatedSourceState, seats_of}
@@ -37,8 +37,8 @@ pub tokens_more : (seats : List EventSeat) (seat : EventSeat) (sources : List Se
     → tokens (seats ++ seat ∷ []) ≡ seats_of (sources ++ s ∷ [])
 tokens_more seats seat sources s are is =
     map-append (λ (x : EventSeat). x.token) seats (seat ∷ [])
-    ∙ ap (λ (l : List Token). l ++ seat.token ∷ []) are
-    ∙ ap (λ (t : Token). seats_of sources ++ t ∷ []) is
+    ∙ ap (λ (l : List WordToken). l ++ seat.token ∷ []) are
+    ∙ ap (λ (t : WordToken). seats_of sources ++ t ∷ []) is
     ∙ sym (map-append (λ (x : SeatedSourceState). x.seat) sources (s ∷ []))
 
 -- ---- what the seats did, by their sources
@@ -58,13 +58,13 @@ module _ (seats : List EventSeat) (sources : List SeatedSourceState) (same : tok
   made_is : made_lists seats ≡ made_by sources
   unfolding made_by
   made_is =
-      map_both (λ (s : EventSeat). s.token) made_of seats ∙ ap (λ (l : List Token). map made_of l) same
+      map_both (λ (s : EventSeat). s.token) made_of seats ∙ ap (λ (l : List WordToken). map made_of l) same
       ∙ sym (map_both (λ (s : SeatedSourceState). s.seat) made_of sources)
 
   looked_is : looked_lists seats ≡ looked_by sources
   unfolding looked_by
   looked_is =
-      map_both (λ (s : EventSeat). s.token) looked_of seats ∙ ap (λ (l : List Token). map looked_of l) same
+      map_both (λ (s : EventSeat). s.token) looked_of seats ∙ ap (λ (l : List WordToken). map looked_of l) same
       ∙ sym (map_both (λ (s : SeatedSourceState). s.seat) looked_of sources)
 
 -- each source's history is that of its seat
@@ -92,7 +92,7 @@ any_last q (x ∷ xs) a h = by (q x) (any_last q xs a h)
 -- ---- the table
 
 pub closed_over : (seats : List EventSeat) (sources : List SeatedSourceState) (looked : List EventNow) (journal : List JournalEntry) (answer : EventNow) → tokens seats ≡ seats_of sources
-    → SourcesInvariant sources → AreSeen looked journal → list_all is_journals journal ≡ true → AreClosed (made_lists seats) (looked_lists seats ++ looked ∷ []) answer
+    → SourcesInvariant sources → StampsAreSeen looked journal → list_all is_journals journal ≡ true → AreClosed (made_lists seats) (looked_lists seats ++ looked ∷ []) answer
     → IsClosedTable looked (reverse journal) (histories_of sources)
 closed_over seats sources looked journal answer same are seen own closed =
     let made = made_is seats sources same in
@@ -105,7 +105,7 @@ closed_over seats sources looked journal answer same are seen own closed =
       count = unfold made_by in length-map sources (λ (s : SeatedSourceState). made_of s.seat) ∙ sym (length-map sources (λ (s : SeatedSourceState). reverse s.source.past));
       kept = all_reverse is_journals journal own;
       machine = length (looked_by sources);
-      watched = subst (λ (l : List EventNow). AreSeen l (reverse journal)) (sym (at_last (looked_by sources) looked))
+      watched = subst (λ (l : List EventNow). StampsAreSeen l (reverse journal)) (sym (at_last (looked_by sources) looked))
           (all_reverse (sees looked) journal seen.0, all_reverse has_position journal seen.1);
       seat = λ s. s;
       seated = λ s low. seated_at sources (looked ∷ []) s are low;

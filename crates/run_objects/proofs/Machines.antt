@@ -19,19 +19,19 @@ use Rattle.sleep_core.specs.Cores.{CoreState, made_entry}
 use Rattle.sleep_core.specs.Histories.{last_stamp}
 use Rattle.sleep_core.specs.Turned.{AfterTurn}
 use Rattle.run_laws.specs.ClosedOver.{has_position}
-use Rattle.run_laws.specs.Seated.{AreSeen, sees}
+use Rattle.run_laws.specs.Seated.{StampsAreSeen, sees}
 use Rattle.run_laws.proofs.Seated.{watch_keeps}
 use Rattle.run_objects.specs.Objects.{IsSeatedCore, SeatedCoreState}
 use Rattle.merge_laws.proofs.Lists.{all_more, all_tail}
 
 -- more looks leave each word of the journal looked at
-looked_on : (looked new : List EventNow) (journal : List JournalEntry) (word : EventNow) → AreSeen looked journal → GrewTo word (Some looked) (Some new) → AreSeen new journal
+looked_on : (looked new : List EventNow) (journal : List JournalEntry) (word : EventNow) → StampsAreSeen looked journal → GrewTo word (Some looked) (Some new) → StampsAreSeen new journal
 looked_on looked new journal word h g =
     let e : JournalEntry = record {
       stamp = record { pos = position word; tick = 0 };
       entry = record { time = 0; now = word; actor = actor.Time; kind = kind.Jump };
     } in
-    let more : AreSeen new (e ∷ journal) = watch_keeps looked new journal e h g refl in
+    let more : StampsAreSeen new (e ∷ journal) = watch_keeps looked new journal e h g refl in
     (all_tail (sees new) e journal more.0, all_tail has_position e journal more.1)
 
 -- the machine after looks
@@ -40,19 +40,19 @@ pub looked : (old new : SeatedCoreState) (word : EventNow) → IsSeatedCore old 
 looked old new word kept look unused same grew rises = record {
   seat = look;
   unused = unused;
-  seen = subst (λ (c : CoreState). AreSeen (looked_of new.seat) c.past) (sym same) (looked_on (looked_of old.seat) (looked_of new.seat) old.core.past word kept.seen grew);
+  seen = subst (λ (c : CoreState). StampsAreSeen (looked_of new.seat) c.past) (sym same) (looked_on (looked_of old.seat) (looked_of new.seat) old.core.past word kept.seen grew);
   low = subst (λ (c : CoreState). (last_stamp c.past).pos ≤ floor_of new.seat) (sym same) (omega (arith, kept.low, rises));
 }
 
 -- ---- a turn
 
-turn_seen : (result : Result CoreTurn CoreFault) (old new : CoreState) (who : Actor) (word : EventNow) (floor : Stamp) (before after : List EventNow) → AreSeen before old.past
-    → GrewTo word (Some before) (Some after) → AfterTurn old new who word floor result → AreSeen after new.past
+turn_seen : (result : Result CoreTurn CoreFault) (old new : CoreState) (who : Actor) (word : EventNow) (floor : Stamp) (before after : List EventNow) → StampsAreSeen before old.past
+    → GrewTo word (Some before) (Some after) → AfterTurn old new who word floor result → StampsAreSeen after new.past
 turn_seen (Ok (Did stamp k attempt)) old new who word floor before after h g t =
-    subst (λ (c : CoreState). AreSeen after c.past) (sym t.1) (watch_keeps before after old.past (made_entry old.past who word floor k) h g refl)
-turn_seen (Ok (NotYet why)) old new who word floor before after h g t = subst (λ (c : CoreState). AreSeen after c.past) (sym t.1) (looked_on before after old.past word h g)
-turn_seen (Ok Done) old new who word floor before after h g t = subst (λ (c : CoreState). AreSeen after c.past) (sym t.1) (looked_on before after old.past word h g)
-turn_seen (Err fault) old new who word floor before after h g t = subst (λ (c : CoreState). AreSeen after c.past) (sym t.2) (looked_on before after old.past word h g)
+    subst (λ (c : CoreState). StampsAreSeen after c.past) (sym t.1) (watch_keeps before after old.past (made_entry old.past who word floor k) h g refl)
+turn_seen (Ok (NotYet why)) old new who word floor before after h g t = subst (λ (c : CoreState). StampsAreSeen after c.past) (sym t.1) (looked_on before after old.past word h g)
+turn_seen (Ok Done) old new who word floor before after h g t = subst (λ (c : CoreState). StampsAreSeen after c.past) (sym t.1) (looked_on before after old.past word h g)
+turn_seen (Err fault) old new who word floor before after h g t = subst (λ (c : CoreState). StampsAreSeen after c.past) (sym t.2) (looked_on before after old.past word h g)
 
 -- the machine after a turn
 pub turned : (result : Result CoreTurn CoreFault) (old new : SeatedCoreState) (who : Actor) (word : EventNow) (floor : Stamp) → IsSeatedCore old → IsLook new.seat → IsUnused new.seat
@@ -75,7 +75,7 @@ same_number : (a b : ℕ) → a ≡ b → (a == b) ≡ true
 same_number a b h = grind (arith, nat_tests)
 
 -- one more entry, whose word was looked at
-seen_more : (looked : List EventNow) (journal : List JournalEntry) (e : JournalEntry) → AreSeen looked journal → list_any (is_word e.entry.now) looked ≡ true → e.stamp.pos ≡ position e.entry.now → AreSeen looked (e ∷ journal)
+seen_more : (looked : List EventNow) (journal : List JournalEntry) (e : JournalEntry) → StampsAreSeen looked journal → list_any (is_word e.entry.now) looked ≡ true → e.stamp.pos ≡ position e.entry.now → StampsAreSeen looked (e ∷ journal)
 seen_more looked journal e h word at = (
   all_more (sees looked) e journal (right_of (is_word_step e) (list_any (is_word e.entry.now) looked) word) h.0,
   all_more has_position e journal (same_number e.stamp.pos (position e.entry.now) at) h.1,
@@ -86,14 +86,14 @@ pub turned_by : (result : Result CoreTurn CoreFault) (old : SeatedCoreState) (ne
     → position word ≡ floor_of old.seat → AfterTurn old.core new who word floor result → IsSeatedCore (record { core = new; seat = old.seat })
 turned_by result old new who word floor kept seen newest after = record { seat = kept.seat; unused = kept.unused; seen = (by result after).0; low = (by result after).1 }
   where
-    stays : new ≡ old.core → AreSeen (looked_of old.seat) new.past × ((last_stamp new.past).pos ≤ floor_of old.seat)
-    stays same = (subst (λ (c : CoreState). AreSeen (looked_of old.seat) c.past) (sym same) kept.seen, subst (λ (c : CoreState). (last_stamp c.past).pos ≤ floor_of old.seat) (sym same) kept.low)
+    stays : new ≡ old.core → StampsAreSeen (looked_of old.seat) new.past × ((last_stamp new.past).pos ≤ floor_of old.seat)
+    stays same = (subst (λ (c : CoreState). StampsAreSeen (looked_of old.seat) c.past) (sym same) kept.seen, subst (λ (c : CoreState). (last_stamp c.past).pos ≤ floor_of old.seat) (sym same) kept.low)
 
-    by : (result : Result CoreTurn CoreFault) → AfterTurn old.core new who word floor result → AreSeen (looked_of old.seat) new.past × ((last_stamp new.past).pos ≤ floor_of old.seat)
+    by : (result : Result CoreTurn CoreFault) → AfterTurn old.core new who word floor result → StampsAreSeen (looked_of old.seat) new.past × ((last_stamp new.past).pos ≤ floor_of old.seat)
     by (Ok (Did stamp k attempt)) t =
         let e : JournalEntry = made_entry old.core.past who word floor k in
         let high : position word ≤ floor_of old.seat = omega (arith, newest) in (
-          subst (λ (c : CoreState). AreSeen (looked_of old.seat) c.past) (sym t.1) (seen_more (looked_of old.seat) old.core.past e kept.seen seen refl),
+          subst (λ (c : CoreState). StampsAreSeen (looked_of old.seat) c.past) (sym t.1) (seen_more (looked_of old.seat) old.core.past e kept.seen seen refl),
           subst (λ (c : CoreState). (last_stamp c.past).pos ≤ floor_of old.seat) (sym t.1) high,
         )
     by (Ok (NotYet why)) t = stays t.1

@@ -11,12 +11,12 @@ use Rattle.sleep_model.specs.declared.word.WordKind.{WordKind}
 use Rattle.sleep_model.specs.declared.word.WordKind.TheVariants as step
 use Rattle.sleep_model.specs.EntryClasses.{EntryClass, OfJournal, Notes, Moves, OfTime, class_of}
 use Rattle.sleep_model.specs.Sources.{makes, most_entries, since, since_after, starting}
-use Rattle.event_word.specs.Seats.{IsSourceSeat, Token, looked_of, made_of, number_of}
+use Rattle.event_word.specs.Seats.{IsSourceSeat, WordToken, looked_of, made_of, number_of}
 use Rattle.event_word.specs.Steps.{MadeStep, active_after, can_make, fits, is_active}
 use Rattle.wakeup_source.specs.declared.call_by.CallBy.{CallBy}
 use Rattle.wakeup_source.specs.declared.fault.SourceFault.{SourceFault}
 use Rattle.wakeup_source.specs.Called.{Calls, SourceView, Steps, after_step}
-use Rattle.wakeup_source.specs.SourceStates.{IsSettled, SourceState, unstamped}
+use Rattle.wakeup_source.specs.SourceStates.{IsSettled, SourceState, unstamped_source}
 use Rattle.wakeup_source.specs.Shown.{AreOwnSteps, step_by, steps_in}
 use Rattle.run_laws.specs.Seated.{IsSeated}
 use Rattle.run_laws.proofs.Seated.{call_fresh, seat_keeps}
@@ -44,9 +44,9 @@ few_after_class (Notes s c) before made n h = omega arith
 few_after_class (Moves s x) before made n h = omega (arith, h)
 few_after_class OfTime before made n h = omega arith
 
-few_steps : (past : List SourceEntry) → length (steps_in (unstamped past)) ≤ length past
+few_steps : (past : List SourceEntry) → length (steps_in (unstamped_source past)) ≤ length past
 few_steps [] = omega arith
-few_steps (e ∷ past) = few_after_class (class_of e.entry.kind) e.entry.now (steps_in (unstamped past)) (length past) (few_steps past)
+few_steps (e ∷ past) = few_after_class (class_of e.entry.kind) e.entry.now (steps_in (unstamped_source past)) (length past) (few_steps past)
 
 can_one : (k : WordKind) (n : ℕ) (active : Bool) (rest : List WordKind) → n < 60000 → fits k active ≡ true → can_make (suc n) (active_after k active) rest ≡ true
     → can_make n active (k ∷ rest) ≡ true
@@ -78,12 +78,12 @@ can_all call.Expire None n h = refl
 can_all call.Expire (Some s) n h = can_one step.Finish n true [] (omega arith) refl refl
 
 -- a seat that made the steps of a history with room for four entries can make those of a call
-pub can_call : (c : SourceCall) (made : List MadeStep) (past : List SourceEntry) → made ≡ steps_in (unstamped past) → length past + 4 ≤ most_entries
-    → can_make (length made) (is_active made) (makes c (since (unstamped past))) ≡ true
+pub can_call : (c : SourceCall) (made : List MadeStep) (past : List SourceEntry) → made ≡ steps_in (unstamped_source past) → length past + 4 ≤ most_entries
+    → can_make (length made) (is_active made) (makes c (since (unstamped_source past))) ≡ true
 can_call c made past is room =
-    ap (λ (m : List MadeStep). can_make (length m) (is_active m) (makes c (since (unstamped past)))) is
-    ∙ ap (λ (b : Bool). can_make (length (steps_in (unstamped past))) b (makes c (since (unstamped past)))) (active_is (unstamped past))
-    ∙ can_all c (since (unstamped past)) (length (steps_in (unstamped past))) (omega (arith, few_steps past))
+    ap (λ (m : List MadeStep). can_make (length m) (is_active m) (makes c (since (unstamped_source past)))) is
+    ∙ ap (λ (b : Bool). can_make (length (steps_in (unstamped_source past))) b (makes c (since (unstamped_source past)))) (active_is (unstamped_source past))
+    ∙ can_all c (since (unstamped_source past)) (length (steps_in (unstamped_source past))) (omega (arith, few_steps past))
 
 -- ---- a call
 
@@ -94,7 +94,7 @@ steps_number by (x ∷ rest) old new h = steps_number by rest (after_step by x h
 -- a call leaves the source its number
 pub call_number : (by : CallBy) (c : SourceCall) (old new : SourceView) → Calls by c old new → new.source.id ≡ old.source.id
 call_number by c old new h =
-    steps_number by (makes c (since (unstamped old.source.past))) h.0 new h.2
+    steps_number by (makes c (since (unstamped_source old.source.past))) h.0 new h.2
     ∙ ap (λ (s : SourceView). s.source.id) h.1.6
 
 pub second : {A B : Type 0} {x y : A × B} → x ≡ y → x.1 ≡ y.1
@@ -125,5 +125,5 @@ called (Ok stamp) by c old new kept seat number settled calls shows err =
       number = id;
     }
 called (Err fault) by c old new kept seat number settled calls shows err =
-    let made : SourceState → Token → SeatedSourceState = λ s t. record { source = s; seat = t } in
-    let same : new ≡ old = ap (λ (s : SourceState). made s new.seat) err.0 ∙ ap (λ (t : Token). made old.source t) err.1 in record { kept = subst IsSeatedSource (sym same) kept; number = ap (λ (s : SeatedSourceState). s.source.id) same }
+    let made : SourceState → WordToken → SeatedSourceState = λ s t. record { source = s; seat = t } in
+    let same : new ≡ old = ap (λ (s : SourceState). made s new.seat) err.0 ∙ ap (λ (t : WordToken). made old.source t) err.1 in record { kept = subst IsSeatedSource (sym same) kept; number = ap (λ (s : SeatedSourceState). s.source.id) same }

@@ -3,13 +3,13 @@ use Rattle.std.specs.Prelude.{◌≡◌, true, [], Option, Some, None, is_some}
 use Rattle.event_word.specs.declared.table.EventSeat.{EventSeat}
 use Rattle.event_word.specs.declared.table.LookSeat.{LookSeat}
 use Rattle.event_word.specs.Counting.{source_view}
-use Rattle.event_word.specs.Seats.{Token}
+use Rattle.event_word.specs.Seats.{WordToken}
 use Rattle.run_objects.specs.declared.source.SeatedSource.TheInside as source
 use Rattle.run_objects.specs.declared.machine.SeatedCore.TheInside as machine
 use Rattle.run_objects.specs.Objects.{SeatedSourceState, SeatedCoreState, IsSeatedSource, IsSeatedCore}
 
 -- a seat of no source
-abbrev pub no_seat : Token
+abbrev pub no_seat : WordToken
 no_seat = record {
   marker = record {};
   table_id = record {
@@ -26,12 +26,12 @@ no_seat = record {
 }
 
 -- the seat of a source that is not out in a call
-abbrev pub event_seat : Option EventSeat → Token
+abbrev pub event_seat : Option EventSeat → WordToken
 event_seat None = no_seat
 event_seat (Some seat) = seat.token
 
 -- the seat that only looks, not out in a call
-abbrev pub look_seat : Option LookSeat → Token
+abbrev pub look_seat : Option LookSeat → WordToken
 look_seat None = no_seat
 look_seat (Some seat) = seat.token
 

@@ -2,22 +2,22 @@
 use Rattle.std.specs.Prelude.{◌≡◌, ◌≤◌, ℕ, List, [], ◌∷◌, map, Some, None}
 use mathlib.Core.Option.{some}
 use lib.ListN.{get_elem?}
-use Rattle.event_word.specs.Seats.{Token, IsLook, IsSourceSeat, IsUntouched, IsUnused, made_of, looked_of, floor_of, number_of}
+use Rattle.event_word.specs.Seats.{WordToken, IsLook, IsSourceSeat, IsUntouched, IsUnused, made_of, looked_of, floor_of, number_of}
 use Rattle.wakeup_source.specs.Called.{SourceView, viewed_source}
 use Rattle.wakeup_source.specs.SourceStates.{IsSettled, SourceState, new_source}
 use Rattle.sleep_core.specs.Cores.{CoreState}
 use Rattle.sleep_core.specs.Histories.{last_stamp}
-use Rattle.run_laws.specs.Seated.{AreSeen, IsFresh, IsSeated}
+use Rattle.run_laws.specs.Seated.{StampsAreSeen, IsFresh, IsSeated}
 
 -- a wakeup source, and its seat (struct wakeup_source, combined_event_count)
 pub record SeatedSourceState : Type 0 where
   pub source : SourceState
-  pub seat : Token
+  pub seat : WordToken
 
 -- the core, and the seat by which it looks at the event word (combined_event_count)
 pub record SeatedCoreState : Type 0 where
   pub core : CoreState
-  pub seat : Token
+  pub seat : WordToken
 
 -- between calls the seat is the source's, its steps and looks are those of the source's history, and the source last knew the tick of its
 -- newest entry (wakeup_source_activate)
@@ -32,7 +32,7 @@ pub record IsSeatedSource (s : SeatedSourceState) : Type 0 where
 pub record IsSeatedCore (s : SeatedCoreState) : Type 0 where
   pub seat : IsLook s.seat
   pub unused : IsUnused s.seat
-  pub seen : AreSeen (looked_of s.seat) s.core.past
+  pub seen : StampsAreSeen (looked_of s.seat) s.core.past
   pub low : (last_stamp s.core.past).pos ≤ floor_of s.seat
 
 -- what a source's seat makes known of the word, and the source (combined_event_count)
@@ -40,7 +40,7 @@ abbrev pub viewed_source_of : SeatedSourceState → SourceView
 viewed_source_of s = viewed_source None (Some (made_of s.seat)) (Some (looked_of s.seat)) (floor_of s.seat) s.source
 
 -- the seats of sources
-abbrev pub seats_of : List SeatedSourceState → List Token
+abbrev pub seats_of : List SeatedSourceState → List WordToken
 seats_of sources = map (λ s. s.seat) sources
 
 -- each source was never called, and has the number of its index (wakeup_source_create)
@@ -48,8 +48,8 @@ abbrev pub AreUncalled : List SeatedSourceState → Type 0
 AreUncalled sources = (k : ℕ) (s : SeatedSourceState) → get_elem? sources k ≡ some s → s.source ≡ new_source k
 
 -- the seat at each index has that number, and did nothing yet (wakeup_source_create)
-abbrev pub AreFirst : List Token → Type 0
-AreFirst seats = (k : ℕ) (t : Token) → get_elem? seats k ≡ some t → (number_of t ≡ Some k) × IsUntouched t
+abbrev pub AreFirst : List WordToken → Type 0
+AreFirst seats = (k : ℕ) (t : WordToken) → get_elem? seats k ≡ some t → (number_of t ≡ Some k) × IsUntouched t
 
 -- each source has its seat (wakeup_source_activate)
 abbrev pub SourcesInvariant : List SeatedSourceState → Type 0

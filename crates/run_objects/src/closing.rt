@@ -3,7 +3,7 @@
 ghost use Rattle.std.specs.Prelude.{◌≡◌, true, IfOk, reverse};
 ghost use Rattle.std.specs.List.{list_all};
 ghost use Rattle.event_word.specs.Lists.{tokens};
-ghost use Rattle.event_word.specs.Seats.{AreAll, looked_of};
+ghost use Rattle.event_word.specs.Seats.{AreAllSeats, looked_of};
 ghost use Rattle.merge_laws.specs.Apart.{is_journals};
 ghost use Rattle.run_objects.specs.Closed.{IsClosedTable, histories_of};
 ghost use Rattle.run_objects.specs.Objects.{SourcesInvariant, seats_of};
@@ -43,7 +43,7 @@ pub fn close_table(
     machine: SeatedCore<'_>,
 ) -> Result<(Journal, Vec<SourceList>), Mem>
     requires table { machine.seat.table_id ≡ table.cells.shared.table_id }
-    requires seats { AreAll machine.seat (seats_of sources.items) }
+    requires seats { AreAllSeats machine.seat (seats_of sources.items) }
     requires kept { list_all is_journals machine.core.past ≡ true }
     ensures journal { IfOk result (λ kept. kept.0.past ≡ machine.entry.core.past) }
     ensures histories { IfOk result (λ kept. kept.1.items ≡ histories_of sources.items) }

@@ -10,8 +10,8 @@ ghost use Rattle.sleep_model.specs.Numbers.{time_of};
 ghost use Rattle.sleep_model.specs.Word.{position};
 ghost use Rattle.sleep_state.specs.JournalRooms.{entries};
 ghost use Rattle.event_word.specs.Looks.{GrewTo};
-ghost use Rattle.event_word.specs.Seats.{floor_of, looked_of, sources_of};
-ghost use Rattle.sleep_core.specs.Cores.{IsActor, jump_entry, next_stamp, with_entry};
+ghost use Rattle.event_word.specs.Seats.{floor_of, looked_of, source_count};
+ghost use Rattle.sleep_core.specs.Cores.{IsActor, jump_entry, next_stamp, core_after};
 ghost use Rattle.sleep_core.specs.Histories.{last_stamp};
 ghost use Rattle.sleep_core.specs.Turned.{AfterTurn};
 ghost use Rattle.run_objects.specs.Objects.{IsSeatedCore};
@@ -83,7 +83,7 @@ impl<'m> SeatedCore<'m> {
         requires table { self.old.seat.table_id ≡ table.now.cells.shared.table_id }
         ensures core { self.new.core ≡ self.old.core }
         ensures table { self.new.seat.table_id ≡ self.old.seat.table_id }
-        ensures sources { sources_of self.new.seat ≡ sources_of self.old.seat }
+        ensures sources { source_count self.new.seat ≡ source_count self.old.seat }
         ensures seen { list_any (is_word result) (looked_of self.new.seat) ≡ true }
         ensures grew { GrewTo result (Some (looked_of self.old.seat)) (Some (looked_of self.new.seat)) }
         ensures low { floor ≤ position result }
@@ -115,7 +115,7 @@ impl<'m> SeatedCore<'m> {
             × AfterTurn self.old.core self.new.core who word floor result }
         ensures legal { JournalPart self.new.core.machine (entries self.new.core.past) }
         ensures table { self.new.seat.table_id ≡ self.old.seat.table_id }
-        ensures sources { sources_of self.new.seat ≡ sources_of self.old.seat }
+        ensures sources { source_count self.new.seat ≡ source_count self.old.seat }
     {
         let mut events = taken(&mut self.seat).on(table);
         let answer = self.core.turn(rt, &mut events, who, calls, floor, now);
@@ -159,7 +159,7 @@ impl<'m> SeatedCore<'m> {
         requires later { time_of (entries self.old.core.past) < to }
         requires small { to ≤ 2 ^ 63 }
         ensures ok { IfOk result (λ stamp. (stamp ≡ next_stamp self.old.core.past floor word)
-            × (self.new.core ≡ with_entry self.old.core (jump_entry self.old.core.past word to floor))) }
+            × (self.new.core ≡ core_after self.old.core (jump_entry self.old.core.past word to floor))) }
         ensures err { OnErr result (self.new.core ≡ self.old.core) }
         ensures seat { self.new.seat ≡ self.old.seat }
         ensures legal { JournalPart self.new.core.machine (entries self.new.core.past) }

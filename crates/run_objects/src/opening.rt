@@ -2,7 +2,7 @@
 
 ghost use Rattle.std.specs.Prelude.{◌≡◌, ◌≤◌, ◌+◌, IfOk, vec_len};
 ghost use Rattle.event_word.specs.Lists.{tokens};
-ghost use Rattle.event_word.specs.Seats.{AreNew, IsUntouched, sources_of};
+ghost use Rattle.event_word.specs.Seats.{AreNew, IsUntouched, source_count};
 ghost use Rattle.run_objects.specs.Objects.{AreFirst, AreUncalled, seats_of};
 
 use crate::source::SeatedSource;
@@ -34,7 +34,7 @@ pub fn seated_sources(
     sources: u32,
 ) -> Result<(EventTable, Vec<SeatedSource>, LookSeat), Mem>
     requires { (1 ≤ sources) × (sources ≤ 256) }
-    ensures count { IfOk result (λ made. (vec_len made.1 ≡ sources) × (sources_of made.2.token ≡ sources)) }
+    ensures count { IfOk result (λ made. (vec_len made.1 ≡ sources) × (source_count made.2.token ≡ sources)) }
     ensures sources { IfOk result (λ made. AreUncalled made.1.items) }
     ensures seats { IfOk result (λ made. AreNew made.2.token (seats_of made.1.items)) }
     ensures look { IfOk result (λ made. made.2.token.table_id ≡ made.0.cells.shared.table_id) }

@@ -6,7 +6,7 @@ ghost use Rattle.wakeup_source.specs.declared.fault.SourceFault.TheVariants as S
 ghost use Rattle.sleep_model.specs.Sources.{makes, since, most_entries};
 ghost use Rattle.event_word.specs.Seats.{IsUntouched, number_of};
 ghost use Rattle.wakeup_source.specs.Called.{Calls, viewed_source};
-ghost use Rattle.wakeup_source.specs.SourceStates.{IsSettled, unstamped, latest, new_source};
+ghost use Rattle.wakeup_source.specs.SourceStates.{IsSettled, unstamped_source, latest, new_source};
 ghost use Rattle.wakeup_source.specs.Shown.{AreOwnSteps, MayCall};
 ghost use Rattle.run_objects.specs.Objects.{IsSeatedSource, viewed_source_of};
 
@@ -68,10 +68,10 @@ fn make<R: Wait, B: Bump>(
     by: CallBy,
     call: SourceCall,
 ) -> Result<Stamp, SourceFault>
-    requires time { latest (unstamped source.old.past) ≤ by.now }
+    requires time { latest (unstamped_source source.old.past) ≤ by.now }
     requires small { by.now ≤ 2 ^ 63 }
-    requires can { B.can events.old (makes call (since (unstamped source.old.past))) ≡ true }
-    requires may { MayCall call (unstamped source.old.past) by.now }
+    requires can { B.can events.old (makes call (since (unstamped_source source.old.past))) ≡ true }
+    requires may { MayCall call (unstamped_source source.old.past) by.now }
     ensures calls { OnOk result (Calls by call
         (viewed_source (B.shows events.old) (B.made events.old) (B.looked events.old) (B.floor events.old) source.old)
         (viewed_source (B.shows events.new) (B.made events.new) (B.looked events.new) (B.floor events.new) source.new)) }
@@ -79,7 +79,7 @@ fn make<R: Wait, B: Bump>(
     ensures stamp { IfOk result (λ stamp. stamp ≡ source.new.floor) }
     ensures full { (result ≡ Err SourceFault.Full) ↔ (most_entries < length source.old.past + 4) }
     ensures err { OnErr result ((source.new ≡ source.old) × (events.new ≡ events.old)) }
-    ensures time { latest (unstamped source.new.past) ≤ by.now }
+    ensures time { latest (unstamped_source source.new.past) ≤ by.now }
     ensures settled { IsSettled source.new }
     ensures root { B.root events.new ≡ B.root events.old }
 {
@@ -127,9 +127,9 @@ impl SeatedSource {
         by: CallBy,
         call: SourceCall,
     ) -> Result<Stamp, SourceFault>
-        requires time { latest (unstamped self.old.source.past) ≤ by.now }
+        requires time { latest (unstamped_source self.old.source.past) ≤ by.now }
         requires small { by.now ≤ 2 ^ 63 }
-        requires may { MayCall call (unstamped self.old.source.past) by.now }
+        requires may { MayCall call (unstamped_source self.old.source.past) by.now }
         requires table { self.old.seat.table_id ≡ table.now.cells.shared.table_id }
         ensures calls { IfOk result (λ stamp. (stamp ≡ self.new.source.floor)
             × Calls by call (viewed_source_of self.old) (viewed_source_of self.new)) }
@@ -137,7 +137,7 @@ impl SeatedSource {
         ensures err { OnErr result (self.new ≡ self.old) }
         ensures table { self.new.seat.table_id ≡ self.old.seat.table_id }
         ensures number { (number_of self.new.seat ≡ number_of self.old.seat) × (self.new.source.id ≡ self.old.source.id) }
-        ensures time { latest (unstamped self.new.source.past) ≤ by.now }
+        ensures time { latest (unstamped_source self.new.source.past) ≤ by.now }
         ensures settled { IsSettled self.new.source }
     {
         if is_full(&self.source) {

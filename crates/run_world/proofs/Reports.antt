@@ -17,11 +17,11 @@ use Rattle.sleep_state.specs.JournalRooms.{entries}
 use Rattle.sleep_core.specs.declared.turns.CoreFault.{CoreFault}
 use Rattle.sleep_core.specs.declared.turns.CoreTurn.{CoreTurn}
 use Rattle.sleep_core.specs.declared.turns.CoreTurn.TheVariants.{Did, NotYet, Done}
-use Rattle.sleep_core.specs.Cores.{CoreState, made_entry, with_entry}
+use Rattle.sleep_core.specs.Cores.{CoreState, made_entry, core_after}
 use Rattle.wakeup_source.specs.declared.call_by.CallBy.{CallBy}
 use Rattle.wakeup_source.specs.declared.fault.SourceFault.{SourceFault}
 use Rattle.wakeup_source.specs.Called.{Calls, SourceView, Steps, after_step}
-use Rattle.wakeup_source.specs.SourceStates.{unstamped, note_entry, note_tick, step_entry}
+use Rattle.wakeup_source.specs.SourceStates.{unstamped_source, note_entry, note_tick, step_entry}
 use Rattle.turn_lock.specs.declared.view.Made.{Made}
 use Rattle.turn_lock.specs.Passes.{HasGrown, gained}
 use Rattle.run_laws.specs.Passes.{Noted, items}
@@ -57,7 +57,7 @@ call_adds by c old new h =
       stamp = record { pos = position h.1.0; tick = note_tick by old.source };
       entry = note_entry old.source.id c by.actor by.now h.1.0;
     } in
-    steps_add by (makes c (since (unstamped old.source.past))) old.source.past (e ∷ []) h.0 new (ap (λ (s : SourceView). s.source.past) h.1.6) h.2
+    steps_add by (makes c (since (unstamped_source old.source.past))) old.source.past (e ∷ []) h.0 new (ap (λ (s : SourceView). s.source.past) h.1.6) h.2
 
 grown_source : (old new added : List SourceEntry) → new ≡ added ++ old → items (map of_source new) ≡ items (map of_source old) ++ notes_on (map of_source old) (map of_source added)
 grown_source old new added is = ap (λ (l : List SourceEntry). items (map of_source l)) is ∙ ap items (map-append of_source added old) ∙ items_more (map of_source old) (map of_source added)
@@ -111,7 +111,7 @@ module _ (who : Actor) (calls : ℕ) (floor : Stamp) (now : ℕ) (old new : Seat
   same_journal same = ap (λ (s : CoreState). items s.past) same
 
   -- the entry of a turn, with those before it
-  one_more : (e : JournalEntry) → new.core ≡ with_entry old.core e → notes_of (object.Machine new) ≡ notes_of (object.Machine old) ++ record { entry = e; past = old.core.past } ∷ []
+  one_more : (e : JournalEntry) → new.core ≡ core_after old.core e → notes_of (object.Machine new) ≡ notes_of (object.Machine old) ++ record { entry = e; past = old.core.past } ∷ []
   one_more e is = ap (λ (s : CoreState). items s.past) is
 
   no_more : notes_of (object.Machine new) ≡ notes_of (object.Machine old) → HasGrown root_of notes_of (notes_of (object.Machine old)) (object.Machine new)

@@ -14,13 +14,13 @@ use Rattle.wakeup_source.specs.declared.call_by.CallBy.{CallBy}
 use Rattle.wakeup_source.specs.declared.fault.SourceFault.{SourceFault}
 use Rattle.turn_lock.specs.declared.view.Made.{Made}
 use Rattle.turn_lock.specs.Locks.{IsTaken}
-use Rattle.turn_lock.specs.Passes.{Token, gained}
+use Rattle.turn_lock.specs.Passes.{LockToken, gained}
 use Rattle.run_laws.specs.Passes.{Noted, items}
 use Rattle.run_world.specs.declared.object.WorldObject.{WorldObject}
 use Rattle.run_world.specs.Objects.{IsWorldPass, notes_of, root_of}
 use Rattle.run_world.specs.Outcomes.{AfterCoreTurn, AfterReport, FindsMachine, FindsSource}
 
-module _ (m : Machine) (table locks : TableId) (moment : ℕ) (p : Token WorldObject Noted) (is : IsWorldPass m table locks moment p) where
+module _ (m : Machine) (table locks : TableId) (moment : ℕ) (p : LockToken WorldObject Noted) (is : IsWorldPass m table locks moment p) where
   -- what is taken at a source's lock is that source
   pub source_taken : (s : ℕ) (y z : WorldObject) → IsTaken root_of notes_of p.me.0 (1 + s) y → z ≡ y
       → root_of z ≡ record { machine = None; table = table; number = s; moment = moment }
@@ -37,7 +37,7 @@ module _ (old held new : WorldObject) (object : ℕ) (had : List Noted) (made be
   made_now = after_is ∙ ap (λ (l : List (Made Noted)). l ++ gained root_of notes_of object had new) made_is
 
   -- the pass has made what the report added, after what it found
-  pub report_made : (by : CallBy) (c : SourceCall) (s : ℕ) (p : Token WorldObject Noted) (result : Result (Option Stamp) SourceFault) → (root_of old).number ≡ s → object ≡ 1 + s
+  pub report_made : (by : CallBy) (c : SourceCall) (s : ℕ) (p : LockToken WorldObject Noted) (result : Result (Option Stamp) SourceFault) → (root_of old).number ≡ s → object ≡ 1 + s
       → IsTaken root_of notes_of p.me.0 (1 + s) held
       → ((past : List SourceEntry) × (notes_of old ≡ items (map of_source past)) × AfterReport by c (root_of old).number past result (gained root_of notes_of (1 + (root_of old).number) (notes_of old) new))
       → (gains : List (Made Noted)) × (after ≡ made ++ gains) × (past : List SourceEntry) × FindsSource p s past × AfterReport by c s past result gains
@@ -52,7 +52,7 @@ module _ (old held new : WorldObject) (object : ℕ) (had : List Noted) (made be
   )
 
   -- the pass has made what the turn added, after what it found
-  pub turn_made : (m : Machine) (who : Actor) (calls : ℕ) (floor : Stamp) (now : ℕ) (p : Token WorldObject Noted) (result : Result CoreTurn CoreFault) → object ≡ 0
+  pub turn_made : (m : Machine) (who : Actor) (calls : ℕ) (floor : Stamp) (now : ℕ) (p : LockToken WorldObject Noted) (result : Result CoreTurn CoreFault) → object ≡ 0
       → IsTaken root_of notes_of p.me.0 0 held
       → ((past : List JournalEntry) × (notes_of old ≡ items past) × AfterCoreTurn m who calls floor now past result (gained root_of notes_of 0 (notes_of old) new))
       → (gains : List (Made Noted)) × (after ≡ made ++ gains) × (past : List JournalEntry) × FindsMachine p past × AfterCoreTurn m who calls floor now past result gains

@@ -10,7 +10,7 @@ use Rattle.run_laws.specs.Passes.{Noted}
 use Rattle.run_objects.specs.Objects.{SeatedCoreState, SeatedSourceState}
 use Rattle.run_world.specs.declared.object.WorldObject.{WorldObject}
 use Rattle.run_world.specs.declared.object.WorldObject.TheVariants as object
-use Rattle.run_world.specs.ObjectLists.{AreAt, AreThose, IsAt, IsClosedWorld, IsMachine, IsThat}
+use Rattle.run_world.specs.ObjectLists.{AreAtMoment, AreThose, IsAtMoment, IsClosedWorld, IsMachine, IsThat}
 use Rattle.run_world.specs.Roots.{WorldRoot}
 use Rattle.run_world.specs.Objects.{AreObjects, notes_of, root_of}
 
@@ -21,14 +21,14 @@ those_more [] s (x ∷ objects) y are is = absurd are
 those_more (t ∷ sources) s [] y are is = absurd are
 those_more (t ∷ sources) s (x ∷ objects) y are is = (are.0, those_more sources s objects y are.1 is)
 
-pub at_more : (moment : ℕ) (objects : List WorldObject) (y : WorldObject) → AreAt moment objects → IsAt moment y → AreAt moment (objects ++ y ∷ [])
+pub at_more : (moment : ℕ) (objects : List WorldObject) (y : WorldObject) → AreAtMoment moment objects → IsAtMoment moment y → AreAtMoment moment (objects ++ y ∷ [])
 at_more moment [] y are is = (is, tt)
 at_more moment (x ∷ objects) y are is = (are.0, at_more moment objects y are.1 is)
 
 -- ---- the closed table
 
 -- an object with a source's root is one
-at_one : (moment : ℕ) (y : WorldObject) → (root_of y).machine ≡ None → (root_of y).moment ≡ moment → IsAt moment y
+at_one : (moment : ℕ) (y : WorldObject) → (root_of y).machine ≡ None → (root_of y).moment ≡ moment → IsAtMoment moment y
 at_one moment (object.Machine s) none is = absurd (let e : Some s.core.machine ≡ None = none in cc)
 at_one moment (object.Source s) none is = is
 
@@ -39,7 +39,7 @@ machine_one m (object.Source s) is = absurd (let e : None ≡ Some m = is in cc)
 HasRoots : ℕ → List WorldObject → Type 0
 HasRoots moment objects = (i : ℕ) (y : WorldObject) → get_elem? objects i ≡ some y → ((root_of y).machine ≡ None) × ((root_of y).moment ≡ moment)
 
-at_all : (moment : ℕ) (objects : List WorldObject) → HasRoots moment objects → AreAt moment objects
+at_all : (moment : ℕ) (objects : List WorldObject) → HasRoots moment objects → AreAtMoment moment objects
 unfolding HasRoots
 at_all moment [] have = tt
 at_all moment (y ∷ objects) have = (at_one moment y (have 0 y refl).0 (have 0 y refl).1, at_all moment objects (λ i x at. have (suc i) x at))
@@ -50,7 +50,7 @@ pub record AreBack (moment : ℕ) (values : List WorldObject) : Type 0 where
   pub rest : List WorldObject
   pub are : values ≡ head ∷ rest
   pub machine : IsMachine head
-  pub sources : AreAt moment rest
+  pub sources : AreAtMoment moment rest
 
 module _ (m : Machine) (table : TableId) (moment : ℕ) (first : List WorldObject) (passes : List (List (Made Noted))) (are : AreObjects m table moment first) where
   pub back : (values : List WorldObject) → AreClosed root_of notes_of first passes values → AreBack moment values
@@ -79,8 +79,8 @@ module _ (moment : ℕ) (values rest : List WorldObject) (y : WorldObject) (b : 
   pub head_machine : IsMachine y
   head_machine = subst IsMachine (sym head_is) b.machine
 
-  pub rest_at : AreAt moment rest
-  rest_at = subst (AreAt moment) (sym after_is) b.sources
+  pub rest_at : AreAtMoment moment rest
+  rest_at = subst (AreAtMoment moment) (sym after_is) b.sources
 
   -- the world is closed
   pub closed_world : (first : List WorldObject) (passes : List (List (Made Noted))) (machine : SeatedCoreState) (sources : List SeatedSourceState)

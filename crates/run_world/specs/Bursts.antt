@@ -5,7 +5,7 @@ use Rattle.turn_lock.specs.declared.view.Made.{Made}
 use Rattle.run_laws.specs.Passes.{Noted}
 use Rattle.run_objects.specs.Objects.{SeatedCoreState, SeatedSourceState}
 use Rattle.run_world.specs.declared.object.WorldObject.{WorldObject}
-use Rattle.run_world.specs.ObjectLists.{AreAll, IsClosedWorld}
+use Rattle.run_world.specs.ObjectLists.{AreObjectsOf, IsClosedWorld}
 use Rattle.run_world.specs.declared.task.Task.{Task}
 use Rattle.run_world.specs.Acts.{Plays, all_gains}
 
@@ -24,6 +24,6 @@ pub record IsBurst
   pub first : List WorldObject
   pub passes : List (List (Made Noted))
   pub timed : is_word64 moment ≡ true
-  pub opened : AreAll moment machine sources first
+  pub opened : AreObjectsOf moment machine sources first
   pub closed : IsClosedWorld first passes machine_then sources_then
   pub played : AllPlayed (length sources) moment tasks passes tasks_then

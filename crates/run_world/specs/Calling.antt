@@ -22,7 +22,7 @@ use Rattle.wakeup_source.specs.declared.call_by.CallBy.{CallBy}
 use Rattle.wakeup_source.specs.declared.fault.SourceFault.{SourceFault}
 use Rattle.wakeup_source.specs.declared.fault.SourceFault.TheVariants as fault
 use Rattle.wakeup_source.specs.Called.{Calls}
-use Rattle.wakeup_source.specs.SourceStates.{IsSettled, unstamped}
+use Rattle.wakeup_source.specs.SourceStates.{IsSettled, unstamped_source}
 use Rattle.wakeup_source.specs.Shown.{MayCall}
 use Rattle.run_laws.specs.Seated.{IsFresh}
 use Rattle.run_objects.specs.Objects.{SeatedSourceState, viewed_source_of}
@@ -31,7 +31,7 @@ use Rattle.run_objects.specs.Objects.{SeatedSourceState, viewed_source_of}
 pub record IsMade (by : CallBy) (call : SourceCall) (old new : SeatedSourceState) (stamp : Stamp) : Type 0 where
   pub settled : IsSettled old.source
   pub fresh : IsFresh old.source
-  pub may : MayCall call (unstamped old.source.past) by.now
+  pub may : MayCall call (unstamped_source old.source.past) by.now
   pub calls : Calls by call (viewed_source_of old) (viewed_source_of new)
   pub leaves : IsSettled new.source
   pub stamp_is : stamp ≡ new.source.floor
@@ -45,7 +45,7 @@ IsRefusedBy fault.Mem entries = entries + 4 ≤ most_entries
 abbrev pub AfterCall : CallBy → SourceCall → SeatedSourceState → SeatedSourceState → Result (Option Stamp) SourceFault → Type 0
 AfterCall by call old new (Ok (Some stamp)) = IsMade by call old new stamp
 AfterCall by call old new (Ok None) =
-    (call ≡ calls.Expire) × (has_expired (expiry (unstamped old.source.past)) by.now ≡ false) × (new ≡ old)
+    (call ≡ calls.Expire) × (has_expired (expiry (unstamped_source old.source.past)) by.now ≡ false) × (new ≡ old)
 AfterCall by call old new (Err fault) = IsRefusedBy fault (length old.source.past) × (new ≡ old)
 
 -- a turn of an actor whose calls were all made, by a word that is looked at

@@ -1,6 +1,6 @@
 -- The objects of the world as lists of the machine and its sources.
 use Rattle.std.specs.Prelude.{◌≡◌, ◌≤◌, ℕ, List, [], ◌∷◌}
-use Rattle.wakeup_source.specs.SourceStates.{unstamped, latest}
+use Rattle.wakeup_source.specs.SourceStates.{unstamped_source, latest}
 use Rattle.run_laws.specs.Passes.{Noted}
 use Rattle.turn_lock.specs.declared.view.Made.{Made}
 use Rattle.turn_lock.specs.Locks.{AreClosed}
@@ -12,7 +12,7 @@ use Rattle.run_world.specs.Objects.{notes_of, root_of}
 -- no source has an entry later than that moment
 abbrev pub AreTimely : ℕ → List SeatedSourceState → Type 0
 AreTimely moment [] = Unit {0}
-AreTimely moment (s ∷ sources) = (latest (unstamped s.source.past) ≤ moment) × AreTimely moment sources
+AreTimely moment (s ∷ sources) = (latest (unstamped_source s.source.past) ≤ moment) × AreTimely moment sources
 
 -- the object is the machine
 abbrev pub IsMachine : WorldObject → Type 0
@@ -20,14 +20,14 @@ IsMachine (object.Machine s) = Unit {0}
 IsMachine (object.Source s) = ⊥
 
 -- the object is a source in a burst at that moment
-abbrev pub IsAt : ℕ → WorldObject → Type 0
-IsAt moment (object.Machine s) = ⊥
-IsAt moment (object.Source s) = s.moment ≡ moment
+abbrev pub IsAtMoment : ℕ → WorldObject → Type 0
+IsAtMoment moment (object.Machine s) = ⊥
+IsAtMoment moment (object.Source s) = s.moment ≡ moment
 
 -- so is each
-abbrev pub AreAt : ℕ → List WorldObject → Type 0
-AreAt moment [] = Unit {0}
-AreAt moment (y ∷ objects) = IsAt moment y × AreAt moment objects
+abbrev pub AreAtMoment : ℕ → List WorldObject → Type 0
+AreAtMoment moment [] = Unit {0}
+AreAtMoment moment (y ∷ objects) = IsAtMoment moment y × AreAtMoment moment objects
 
 -- the object is that source
 abbrev pub IsThat : SeatedSourceState → WorldObject → Type 0
@@ -42,11 +42,11 @@ AreThose (s ∷ sources) [] = ⊥
 AreThose (s ∷ sources) (y ∷ objects) = IsThat s y × AreThose sources objects
 
 -- the objects are the machine, and after it these sources, in a burst at that moment
-pub record AreAll (moment : ℕ) (machine : SeatedCoreState) (sources : List SeatedSourceState) (objects : List WorldObject) : Type 0 where
+pub record AreObjectsOf (moment : ℕ) (machine : SeatedCoreState) (sources : List SeatedSourceState) (objects : List WorldObject) : Type 0 where
   pub rest : List WorldObject
   pub are : objects ≡ object.Machine machine ∷ rest
   pub those : AreThose sources rest
-  pub at : AreAt moment rest
+  pub at : AreAtMoment moment rest
 
 -- a world that is closed: each object has gained what the passes made, and is this machine, or one of these sources
 pub record IsClosedWorld
@@ -55,4 +55,4 @@ pub record IsClosedWorld
   pub moment : ℕ
   pub values : List WorldObject
   pub closed : AreClosed root_of notes_of first passes values
-  pub are : AreAll moment machine sources values
+  pub are : AreObjectsOf moment machine sources values

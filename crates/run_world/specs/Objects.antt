@@ -7,7 +7,7 @@ use Rattle.sleep_model.specs.declared.machine.Machine.{Machine}
 use Rattle.sleep_model.specs.Merge.{of_source}
 use Rattle.atomic_table.specs.Seated.{TableId}
 use Rattle.run_laws.specs.Passes.{Noted, items}
-use Rattle.turn_lock.specs.Passes.{Token, IsPass, first_of}
+use Rattle.turn_lock.specs.Passes.{LockToken, IsPass, first_of}
 use Rattle.run_world.specs.declared.object.WorldObject.{WorldObject}
 use Rattle.run_world.specs.declared.object.WorldObject.TheVariants as object
 use Rattle.run_world.specs.Roots.{WorldRoot, machine_root, source_root}
@@ -35,6 +35,6 @@ pub record AreObjects (m : Machine) (table : TableId) (moment : ℕ) (first : Li
       → root_of u ≡ record { machine = None; table = table; number = s; moment = moment }
 
 -- a pass at the lock of a machine's world, which holds nothing
-pub record IsWorldPass (m : Machine) (table locks : TableId) (moment : ℕ) (p : Token WorldObject Noted) : Type 0 where
+pub record IsWorldPass (m : Machine) (table locks : TableId) (moment : ℕ) (p : LockToken WorldObject Noted) : Type 0 where
   pub pass : IsPass locks (first_of p) p
   pub objects : AreObjects m table moment (first_of p)

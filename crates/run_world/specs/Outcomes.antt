@@ -31,12 +31,12 @@ use Rattle.sleep_core.specs.Histories.{last_stamp}
 use Rattle.wakeup_source.specs.declared.call_by.CallBy.{CallBy}
 use Rattle.wakeup_source.specs.declared.fault.SourceFault.{SourceFault}
 use Rattle.wakeup_source.specs.Called.{Calls, SourceView}
-use Rattle.wakeup_source.specs.SourceStates.{IsSettled, unstamped}
+use Rattle.wakeup_source.specs.SourceStates.{IsSettled, unstamped_source}
 use Rattle.wakeup_source.specs.Shown.{MayCall}
 use Rattle.turn_lock.specs.declared.view.Made.{Made}
 use Rattle.turn_lock.specs.Bookings.{placed}
 use Rattle.turn_lock.specs.Locks.{IsTaken}
-use Rattle.turn_lock.specs.Passes.{Token}
+use Rattle.turn_lock.specs.Passes.{LockToken}
 use Rattle.run_laws.specs.Passes.{Noted, items}
 use Rattle.run_laws.specs.Seated.{IsFresh}
 use Rattle.run_world.specs.declared.object.WorldObject.{WorldObject}
@@ -52,7 +52,7 @@ pub record IsReport (by : CallBy) (call : SourceCall) (s : ℕ) (stamp : Stamp) 
   pub number : old.source.id ≡ s
   pub settled : IsSettled old.source
   pub fresh : IsFresh old.source
-  pub may : MayCall call (unstamped old.source.past) by.now
+  pub may : MayCall call (unstamped_source old.source.past) by.now
   pub calls : Calls by call old new
   pub grown : new.source.past ≡ added ++ old.source.past
   pub leaves : IsSettled new.source
@@ -62,7 +62,7 @@ pub record IsReport (by : CallBy) (call : SourceCall) (s : ℕ) (stamp : Stamp) 
 -- a report that made no call: it was an expiry whose moment, by the history before, has not come, and the pass gained nothing
 pub record IsNoReport (by : CallBy) (call : SourceCall) (past : List SourceEntry) (gains : List (Made Noted)) : Type 0 where
   pub is : call ≡ calls.Expire
-  pub waits : has_expired (expiry (unstamped past)) by.now ≡ false
+  pub waits : has_expired (expiry (unstamped_source past)) by.now ≡ false
   pub gained : gains ≡ []
 
 -- a report that was refused, for the places that the history before has left, or if it is out of memory: the pass gained nothing
@@ -78,7 +78,7 @@ AfterReport by call s past (Ok None) gains = IsNoReport by call past gains
 AfterReport by call s past (Err fault) gains = IsRefusedReport fault past gains
 
 -- the history that a pass finds at a source's lock: what it made there itself is in it, at its indices
-pub record FindsSource (p : Token WorldObject Noted) (s : ℕ) (past : List SourceEntry) : Type 0 where
+pub record FindsSource (p : LockToken WorldObject Noted) (s : ℕ) (past : List SourceEntry) : Type 0 where
   pub found : WorldObject
   pub taken : IsTaken root_of notes_of p.me.0 (1 + s) found
   pub notes : notes_of found ≡ items (map of_source past)
@@ -140,7 +140,7 @@ AfterCoreTurn m who calls floor now past (Ok Done) gains = IsNoTurn m who calls 
 AfterCoreTurn m who calls floor now past (Err fault) gains = IsRefusedTurn m who calls now past gains
 
 -- the journal that a pass finds at the machine's lock: what it made there itself is in it, at its indices
-pub record FindsMachine (p : Token WorldObject Noted) (past : List JournalEntry) : Type 0 where
+pub record FindsMachine (p : LockToken WorldObject Noted) (past : List JournalEntry) : Type 0 where
   pub found : WorldObject
   pub taken : IsTaken root_of notes_of p.me.0 0 found
   pub notes : notes_of found ≡ items past

@@ -3,7 +3,7 @@ use Rattle.std.specs.Prelude.{ℕ, List, [], ◌∷◌, ◌++◌, Option, Some, 
 use Rattle.sleep_model.specs.declared.entry.JournalEntry.{JournalEntry}
 use Rattle.sleep_model.specs.declared.machine.Machine.{Machine}
 use Rattle.atomic_table.specs.Seated.{TableId}
-use Rattle.event_word.specs.Seats.{sources_of}
+use Rattle.event_word.specs.Seats.{source_count}
 use Rattle.run_laws.specs.Passes.{Noted}
 use Rattle.run_objects.specs.Objects.{SeatedCoreState, SeatedSourceState}
 
@@ -17,7 +17,7 @@ pub record WorldRoot : Type 0 where
 
 -- the machine's
 abbrev pub machine_root : SeatedCoreState → WorldRoot
-machine_root s = record { machine = Some s.core.machine; table = s.seat.table_id; number = sources_of s.seat; moment = 0 }
+machine_root s = record { machine = Some s.core.machine; table = s.seat.table_id; number = source_count s.seat; moment = 0 }
 
 -- a source's
 abbrev pub source_root : SeatedSourceState → ℕ → WorldRoot

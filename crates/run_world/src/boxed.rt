@@ -1,7 +1,7 @@
 //! The machine in a burst.
 
 ghost use Rattle.std.specs.Prelude.{◌≡◌, IfOk};
-ghost use Rattle.event_word.specs.Seats.{sources_of};
+ghost use Rattle.event_word.specs.Seats.{source_count};
 ghost use Rattle.run_objects.specs.Objects.{IsSeatedCore};
 ghost use Rattle.sleep_core.specs.Cores.{IsActor};
 ghost use Rattle.run_world.specs.Calling.{AfterMachineTurn};
@@ -56,7 +56,7 @@ fn turn_of<R: Wait>(
     requires table { machine.old.seat.table_id ≡ table.now.cells.shared.table_id }
     ensures after { AfterMachineTurn machine.old.core machine.new.core who calls floor now result }
     ensures table { machine.new.seat.table_id ≡ machine.old.seat.table_id }
-    ensures sources { sources_of machine.new.seat ≡ sources_of machine.old.seat }
+    ensures sources { source_count machine.new.seat ≡ source_count machine.old.seat }
     ensures machine { machine.new.core.machine ≡ machine.old.core.machine }
 {
     let due = machine.core().calls_due(who);
@@ -104,7 +104,7 @@ impl<'m> BoxedCore<'m> {
         requires table { self.old.seat.table_id ≡ table.now.cells.shared.table_id }
         ensures after { AfterMachineTurn self.old.core self.new.core who calls floor now result }
         ensures table { self.new.seat.table_id ≡ self.old.seat.table_id }
-        ensures sources { sources_of self.new.seat ≡ sources_of self.old.seat }
+        ensures sources { source_count self.new.seat ≡ source_count self.old.seat }
         ensures machine { self.new.core.machine ≡ self.old.core.machine }
     {
         turn_of(&mut self.core, rt, table, who, calls, floor, now)

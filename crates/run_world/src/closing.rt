@@ -7,13 +7,13 @@ ghost use Rattle.turn_lock.specs.Passes.{AreAll as AreAllPasses, first_of};
 ghost use Rattle.turn_lock.specs.Passing.{made_lists, tokens};
 ghost use Rattle.run_objects.specs.Objects.{SourcesInvariant, IsSeatedCore, IsSeatedSource};
 ghost use Rattle.run_world.specs.declared.object.WorldObject.TheVariants as variant;
-ghost use Rattle.run_world.specs.ObjectLists.{AreAt, AreThose, IsAt, IsClosedWorld, IsMachine, IsThat};
+ghost use Rattle.run_world.specs.ObjectLists.{AreAtMoment, AreThose, IsAtMoment, IsClosedWorld, IsMachine, IsThat};
 ghost use Rattle.run_world.specs.Objects.{AreObjects};
 
 use crate::object::WorldObject;
 use crate::world::WorldPass;
 use run_objects::{SeatedCore, SeatedSource};
-use sleep_base::{Mem, lost};
+use sleep_base::{Mem, drop_for_mem};
 use std::alloc::Global;
 use turn_lock::{LockTable, close_locks};
 
@@ -31,7 +31,7 @@ fn machine_of<'m>(object: WorldObject<'m>) -> SeatedCore<'m>
 
 /// The source that the object is.
 fn source_of(object: WorldObject<'_>) -> SeatedSource
-    requires { (moment : ℕ) × IsAt moment object }
+    requires { (moment : ℕ) × IsAtMoment moment object }
     ensures that { IsThat result object.entry }
     ensures kept { IsSeatedSource result }
 {
@@ -47,7 +47,7 @@ fn source_of(object: WorldObject<'_>) -> SeatedSource
 
 /// The sources that the objects are, in order.
 fn sources_of(alloc: Global, objects: Vec<WorldObject<'_>>) -> Result<Vec<SeatedSource>, Mem>
-    requires { (moment : ℕ) × AreAt moment objects.items }
+    requires { (moment : ℕ) × AreAtMoment moment objects.items }
     ensures those { IfOk result (λ sources. AreThose sources.items objects.entry.items) }
     ensures kept { IfOk result (λ sources. SourcesInvariant sources.items) }
 {
@@ -73,7 +73,7 @@ pub fn close_world<'m>(
     let mut objects = close_locks(alloc, locks, passes)?;
     let machine = machine_of(objects.remove(0));
     let Ok(sources) = sources_of(alloc, objects) else {
-        return Err(lost(machine));
+        return Err(drop_for_mem(machine));
     };
     Ok((machine, sources))
 }

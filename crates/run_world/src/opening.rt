@@ -3,7 +3,7 @@
 ghost use Rattle.std.specs.Prelude.{◌≡◌, ◌≤◌, ◌^◌, ◌∷◌, [], IfOk};
 ghost use Rattle.run_objects.specs.Objects.{SourcesInvariant};
 ghost use Rattle.run_world.specs.declared.object.WorldObject.TheVariants as object;
-ghost use Rattle.run_world.specs.ObjectLists.{AreAll, AreTimely};
+ghost use Rattle.run_world.specs.ObjectLists.{AreObjectsOf, AreTimely};
 
 use crate::boxed::BoxedCore;
 use crate::object::WorldObject;
@@ -36,7 +36,7 @@ pub fn world_objects<'m>(
 ) -> Result<Vec<WorldObject<'m>>, Mem>
     requires timely { AreTimely moment sources.items }
     requires small { moment ≤ 2 ^ 63 }
-    ensures all { IfOk result (λ objects. AreAll moment machine.entry sources.items objects.items) }
+    ensures all { IfOk result (λ objects. AreObjectsOf moment machine.entry sources.items objects.items) }
     ensures kept { IfOk result (λ objects. SourcesInvariant sources.items) }
 {
     let mut objects = with_machine(alloc, machine, sources.len())?;

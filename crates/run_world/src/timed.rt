@@ -4,7 +4,7 @@ ghost use Rattle.std.specs.Prelude.{◌≡◌, ◌≤◌, ◌^◌, false};
 ghost use Rattle.std.specs.Bool.{OnFalse, OnTrue};
 ghost use Rattle.sleep_model.specs.declared.machine.SourceCall.TheVariants as calls;
 ghost use Rattle.sleep_model.specs.Sources.{expiry, has_expired};
-ghost use Rattle.wakeup_source.specs.SourceStates.{IsSettled, unstamped, latest};
+ghost use Rattle.wakeup_source.specs.SourceStates.{IsSettled, unstamped_source, latest};
 ghost use Rattle.wakeup_source.specs.Shown.{MayCall};
 ghost use Rattle.run_laws.specs.Seated.{IsFresh};
 ghost use Rattle.run_world.specs.Calling.{AfterCall};
@@ -21,15 +21,15 @@ use wakeup_source::{CallBy, SourceFault};
 pub struct TimedSource {
     source: SeatedSource,
     moment: u64,
-    ghost timely: { latest (unstamped source.source.past) ≤ moment },
+    ghost timely: { latest (unstamped_source source.source.past) ≤ moment },
     ghost small: { moment ≤ 2 ^ 63 },
 }
 
 /// Whether a call may be made on the source: an expiry only once its moment has come.
 fn may_make(source: &SeatedSource, call: SourceCall, now: u64) -> bool
-    ensures may { OnTrue result (MayCall call (unstamped source.now.source.past) now) }
+    ensures may { OnTrue result (MayCall call (unstamped_source source.now.source.past) now) }
     ensures waits { OnFalse result ((call ≡ calls.Expire)
-        × (has_expired (expiry (unstamped source.now.source.past)) now ≡ false)) }
+        × (has_expired (expiry (unstamped_source source.now.source.past)) now ≡ false)) }
     ensures settled { IsSettled source.now.source }
     ensures fresh { IsFresh source.now.source }
 {
@@ -46,7 +46,7 @@ fn may_make(source: &SeatedSource, call: SourceCall, now: u64) -> bool
 impl TimedSource {
     /// The source, for a burst at that moment in ms.
     pub fn new(source: SeatedSource, moment: u64) -> Self
-        requires timely { latest (unstamped source.source.past) ≤ moment }
+        requires timely { latest (unstamped_source source.source.past) ≤ moment }
         requires small { moment ≤ 2 ^ 63 }
         ensures { (result.source ≡ source) × (result.moment ≡ moment) }
     {

@@ -53,7 +53,7 @@ some_left n [] k e = absurd (cc)
 some_left zero (x ∷ xs) k e = omega arith
 some_left (suc n) (x ∷ xs) k e = omega (arith, some_left n xs k e)
 
-latest_within : (p : List SourceEntry) (at : ℕ) → list_all (λ e. nat_le e.entry.time at) (map of_source p) ≡ true → latest (states.unstamped p) ≤ at
+latest_within : (p : List SourceEntry) (at : ℕ) → list_all (λ e. nat_le e.entry.time at) (map of_source p) ≡ true → latest (states.unstamped_source p) ≤ at
 latest_within [] at h = omega arith
 latest_within (e ∷ p) at h =
     let here : nat_le e.entry.time at ≡ true = all_head (λ (x : JournalEntry). nat_le x.entry.time at) (of_source e) (map of_source p) h in
@@ -61,7 +61,7 @@ latest_within (e ∷ p) at h =
 
 module _ (m : Machine) (journal : List JournalEntry) (sources : List SourceState) (jobs : Actor → JobState) {floors : Actor → Stamp} (r : IsGoing m journal sources jobs floors) where
   -- no entry of a source is later than now
-  pub timely : (s : ℕ) (none : SourceState) → s < length sources → latest (states.unstamped (slice_index_or sources s none).past) ≤ time_of (entries journal)
+  pub timely : (s : ℕ) (none : SourceState) → s < length sources → latest (states.unstamped_source (slice_index_or sources s none).past) ≤ time_of (entries journal)
   timely s none l =
       latest_within (slice_index_or sources s none).past (time_of (entries journal))
       (subst (λ (t : ℕ). list_all (λ e. nat_le e.entry.time t) (map of_source (slice_index_or sources s none).past) ≡ true) (sym (ap time_of (entries_unstamped journal)))

@@ -41,7 +41,7 @@ use Rattle.run_laws.specs.Seated.{IsFresh}
 use Rattle.run_laws.specs.Turned.{newest_stamp}
 use Rattle.run_laws.proofs.Called.{unstamped_same, call_grows, class_note}
 use Rattle.run_laws.proofs.Seated.{call_fresh}
-use Rattle.running_laws.specs.Running.{AreJobs, FloorsKnow, IsGoing, IsMoved, IsRunning, IsSourceOf, IsWith, calls_made, entry_count, histories, made_so, of_sources}
+use Rattle.running_laws.specs.Running.{AreJobs, FloorsKnow, IsGoing, OneStampChanges, IsRunning, IsSourceOf, IsWith, calls_made, entry_count, histories, made_so, of_sources}
 use Rattle.running_laws.proofs.Invariant.{calls_are_notes, free}
 use Rattle.running_laws.proofs.Known.{knows_more}
 use Rattle.running_laws.proofs.Turns.{all_raised, is_moved_one, moved_one}
@@ -97,8 +97,8 @@ one_call : (by : CallBy) (c : SourceCall) (old new : SourceView) → Calls by c 
 one_call by c old new h =
     let seen : EventNow = h.1.0 in
     let is : h.0 ≡ after_note by c seen h.0.looked old = h.1.6 in
-    let steps = steps_are by (makes c (since (states.unstamped old.source.past))) (after_note by c seen h.0.looked old) new refl
-    (subst (λ (s : SourceView). Steps by (makes c (since (states.unstamped old.source.past))) s new) is h.2) in
+    let steps = steps_are by (makes c (since (states.unstamped_source old.source.past))) (after_note by c seen h.0.looked old) new refl
+    (subst (λ (s : SourceView). Steps by (makes c (since (states.unstamped_source old.source.past))) s new) is h.2) in
     let low : by.floor.pos ≤ position seen = h.1.4 in
     record {
       tick = omega (arith, steps.tick);
@@ -157,8 +157,8 @@ call_told : (m : Machine) (by : CallBy) (c : SourceCall) (old new : SourceView) 
 call_told m by c old new timed acts ranged h shown =
     let seen : EventNow = h.1.0 in
     let is : h.0 ≡ after_note by c seen h.0.looked old = h.1.6 in
-    steps_told m by (makes c (since (states.unstamped old.source.past))) (after_note by c seen h.0.looked old) new timed acts
-    (subst (λ (s : SourceView). Steps by (makes c (since (states.unstamped old.source.past))) s new) is h.2)
+    steps_told m by (makes c (since (states.unstamped_source old.source.past))) (after_note by c seen h.0.looked old) new timed acts
+    (subst (λ (s : SourceView). Steps by (makes c (since (states.unstamped_source old.source.past))) s new) is h.2)
     (both (is_ranged_entry m (states.note_entry old.source.id c by.actor by.now seen)) (list_all (λ e. is_ranged_entry m e.entry) (noted old.source)) (both _ _ (both _ _ timed acts) ranged) shown)
 
 -- ---- a call
@@ -172,7 +172,7 @@ module _ (m : Machine) (journal : List JournalEntry) (sources : List SourceState
     pub there : s ≤ length m.sources
     pub old_is : old.source ≡ slice_index_or sources s old.source
     pub next : IsCall by.actor (calls_of m by.actor (entries journal)) (calls_made m sources by.actor) (note s c)
-    pub may : MayCall c (states.unstamped old.source.past) by.now
+    pub may : MayCall c (states.unstamped_source old.source.past) by.now
     pub floor_is : by.floor ≡ floors by.actor
     pub time_is : by.now ≡ time_of (entries journal)
     pub calls : Calls by c old new
@@ -239,7 +239,7 @@ module _ (m : Machine) (journal : List JournalEntry) (sources : List SourceState
     pos = omega (arith, one.pos, ap (λ (f : Stamp). f.pos) h.floor_is)
 
     -- the caller's stamp is the call's, and the others' know as much as they knew
-    known : (floors' : Actor → Stamp) → IsMoved floors floors' by.actor new.source.floor → FloorsKnow floors' (made_so journal sources' grown.0.own)
+    known : (floors' : Actor → Stamp) → OneStampChanges floors floors' by.actor new.source.floor → FloorsKnow floors' (made_so journal sources' grown.0.own)
     known floors' w = record {
       own = λ other. by_own other (is_same by.actor other) refl;
       jumps = λ other. by_jump other (is_same by.actor other) refl;
@@ -321,7 +321,7 @@ module _ (m : Machine) (journal : List JournalEntry) (sources : List SourceState
         brief : IsBrief (note old.source.id c)
         brief = subst (λ (n : ℕ). IsBrief (note n c)) (sym here.number) (call_brief m r.accepted by.actor (entries journal) (calls_made m sources by.actor) s c h.next)
 
-        was : EndsBy (time_of (entries journal) + 86400000) (expiry (states.unstamped old.source.past))
+        was : EndsBy (time_of (entries journal) + 86400000) (expiry (states.unstamped_source old.source.past))
         was = subst (λ (xs : List Entry). EndsBy (time_of (entries journal) + 86400000) (expiry xs)) (ap unstamped of_old ∙ sym (unstamped_same old.source.past)) (r.near.expiries s)
 
         is : (b : Bool) → (s == t) ≡ b → EndsBy (time_of (entries journal) + 86400000) (expiry (histories sources' t))
@@ -333,7 +333,7 @@ module _ (m : Machine) (journal : List JournalEntry) (sources : List SourceState
         is false e = subst (λ (l : List JournalEntry). EndsBy (time_of (entries journal) + 86400000) (expiry (unstamped l))) (sym (source_other sources s t new.source e)) (r.near.expiries t)
 
     -- after a call the run goes on, as its jobs do
-    goes_on : (jobs' : Actor → JobState) (floors' : Actor → Stamp) → IsMoved floors floors' by.actor new.source.floor → AreJobs m journal sources' jobs'
+    goes_on : (jobs' : Actor → JobState) (floors' : Actor → Stamp) → OneStampChanges floors floors' by.actor new.source.floor → AreJobs m journal sources' jobs'
         → ((who : Actor) → IsActor m who → (jobs' who).floor.tick ≤ entry_count journal sources') → IsGoing m journal sources' jobs' floors'
     goes_on jobs' floors' w are low = record {
       accepted = r.accepted;
@@ -372,16 +372,16 @@ module _ (m : Machine) (journal : List JournalEntry) (sources : List SourceState
 
     -- after the call of an actor that has a job
     pub going_call : (jobs' : Actor → JobState) (floors' : Actor → Stamp) (stamp : Stamp) → stamp ≡ new.source.floor → IsActor m by.actor → 0 < length (jobs by.actor).pending
-        → IsWith m jobs jobs' by.actor (after_call stamp (jobs by.actor)) → IsMoved floors floors' by.actor stamp → IsGoing m journal sources' jobs' floors'
+        → IsWith m jobs jobs' by.actor (after_call stamp (jobs by.actor)) → OneStampChanges floors floors' by.actor stamp → IsGoing m journal sources' jobs' floors'
     going_call jobs' floors' stamp is a left w moved =
-        goes_on jobs' floors' (subst (IsMoved floors floors' by.actor) is moved) (called_jobs jobs' stamp a left w)
+        goes_on jobs' floors' (subst (OneStampChanges floors floors' by.actor) is moved) (called_jobs jobs' stamp a left w)
         (jobs_low m jobs jobs' by.actor (after_call stamp (jobs by.actor)) (entry_count journal sources) (entry_count journal sources') w (omega (arith, new_low, ap (λ (x : Stamp). x.tick) is)) more r.low.of_jobs)
 
     -- after an expiry, whose timer has no job
-    pub going_expire : (floors' : Actor → Stamp) (stamp : Stamp) → stamp ≡ new.source.floor → ((other : Actor) → IsActor m other → is_same by.actor other ≡ false) → IsMoved floors floors' by.actor stamp
+    pub going_expire : (floors' : Actor → Stamp) (stamp : Stamp) → stamp ≡ new.source.floor → ((other : Actor) → IsActor m other → is_same by.actor other ≡ false) → OneStampChanges floors floors' by.actor stamp
         → IsGoing m journal sources' jobs floors'
     going_expire floors' stamp is none moved =
-        goes_on jobs floors' (subst (IsMoved floors floors' by.actor) is moved) (expired_jobs none) (λ other a. omega (arith, more, r.low.of_jobs other a))
+        goes_on jobs floors' (subst (OneStampChanges floors floors' by.actor) is moved) (expired_jobs none) (λ other a. omega (arith, more, r.low.of_jobs other a))
 
 -- ---- with one worker
 

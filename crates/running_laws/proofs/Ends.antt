@@ -159,18 +159,18 @@ module _ (m : Machine) (journal : List JournalEntry) (sources : List SourceState
 
   -- ---- the statistics
 
-  stats_from : (xs : List SourceState) (hs : List (List SourceEntry)) (a n at : ℕ) → length xs ≡ n → ((s : ℕ) (none : SourceState) → s < length xs → states.unstamped (slice_index_or xs s none).past ≡ source_past hs (a + s))
-      → map (λ s. stats_at (states.unstamped s.past) at) xs ≡ map (λ s. stats_at (source_past hs s) at) (range_with_len a n)
+  stats_from : (xs : List SourceState) (hs : List (List SourceEntry)) (a n at : ℕ) → length xs ≡ n → ((s : ℕ) (none : SourceState) → s < length xs → states.unstamped_source (slice_index_or xs s none).past ≡ source_past hs (a + s))
+      → map (λ s. stats_at (states.unstamped_source s.past) at) xs ≡ map (λ s. stats_at (source_past hs s) at) (range_with_len a n)
   stats_from [] hs a zero at l h = refl
   stats_from [] hs a (suc n) at l h = absurd (omega arith)
   stats_from (x ∷ xs) hs a zero at l h = absurd (omega arith)
   stats_from (x ∷ xs) hs a (suc n) at l h =
-      let first : states.unstamped x.past ≡ source_past hs a = h 0 x (omega arith) ∙ ap (source_past hs) (omega arith) in
+      let first : states.unstamped_source x.past ≡ source_past hs a = h 0 x (omega arith) ∙ ap (source_past hs) (omega arith) in
       ap₂ (λ y ys. y ∷ ys) (ap (λ own. stats_at own at) first)
       (stats_from xs hs (a + 1) n at (omega (arith, l)) (λ s none k. (let there : a + suc s ≡ a + 1 + s = omega arith in h (suc s) none (omega (arith, k)) ∙ ap (source_past hs) there)))
 
   -- those of the sources at the journal's time are the log's
-  pub stats_are : map (λ s. stats_at (states.unstamped s.past) (time_of (entries journal))) sources ≡ stats_apart m (reverse journal) (journal_histories sources)
+  pub stats_are : map (λ s. stats_at (states.unstamped_source s.past) (time_of (entries journal))) sources ≡ stats_apart m (reverse journal) (journal_histories sources)
   stats_are =
       stats_from sources (journal_histories sources) 0 (length m.sources + 1) (time_of (entries journal)) r.sources_are.count
       (λ s none l. (let there : s ≡ 0 + s = omega arith in

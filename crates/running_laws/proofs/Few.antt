@@ -28,7 +28,7 @@ use Rattle.sleep_state.specs.JournalRooms.{entries}
 use Rattle.sleep_script.specs.Jobs.{JobState}
 use Rattle.wakeup_source.specs.SourceStates.{SourceState}
 use Rattle.run_laws.specs.Acts.{unstamped}
-use Rattle.running_laws.specs.Running.{IsGoing, entries_in, entry_count, histories}
+use Rattle.running_laws.specs.Running.{IsGoing, source_entry_count, entry_count, histories}
 use Rattle.running_laws.proofs.Invariant.{short}
 use Rattle.running_laws.proofs.Lists.{entries_unstamped, source_beyond}
 use Rattle.running_laws.proofs.Rising.{EndsBy}
@@ -192,7 +192,7 @@ all_short (x ∷ sources) h =
     let rest = all_short sources (λ s. h (suc s)) in
     omega (arith, first, rest)
 
-all_counted : (sources : List SourceState) → entries_in sources ≡ of_all sources
+all_counted : (sources : List SourceState) → source_entry_count sources ≡ of_all sources
 all_counted [] = refl
 all_counted (x ∷ sources) = ap (λ n. length x.past + n) (all_counted sources)
 

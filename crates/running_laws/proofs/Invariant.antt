@@ -25,7 +25,7 @@ use Rattle.sleep_script.specs.Jobs.{JobState}
 use Rattle.sleep_script.proofs.Following.{all_made}
 use Rattle.wakeup_source.specs.SourceStates.{SourceState}
 use Rattle.wakeup_source.specs.SourceStates as states
-use Rattle.run_laws.specs.Acts.{IsFree, Made, unstamped}
+use Rattle.run_laws.specs.Acts.{IsBetweenCalls, Made, unstamped}
 use Rattle.run_laws.specs.Called.{knows}
 use Rattle.run_laws.specs.Invariant.{AllOf}
 use Rattle.run_laws.proofs.Jobs.{settled_is_free}
@@ -47,7 +47,7 @@ module _ (m : Machine) (journal : List JournalEntry) (sources : List SourceState
 
   -- ---- the sources
 
-  by_place : (P : List Entry → Type 0) → P [] → ((s : ℕ) (none : SourceState) → s < length sources → P (states.unstamped (slice_index_or sources s none).past)) → (s : ℕ) → P (histories sources s)
+  by_place : (P : List Entry → Type 0) → P [] → ((s : ℕ) (none : SourceState) → s < length sources → P (states.unstamped_source (slice_index_or sources s none).past)) → (s : ℕ) → P (histories sources s)
   by_place P empty each s = by (nat_lt s (length sources)) refl
     where
       by : (b : Bool) → nat_lt s (length sources) ≡ b → P (histories sources s)
@@ -64,10 +64,10 @@ module _ (m : Machine) (journal : List JournalEntry) (sources : List SourceState
   owes_none s = by_place (λ (own : List Entry). owed own ≡ []) refl (λ s none l. (r.sources_are.each s none l).settled.owes_none) s
 
   -- so nobody is inside a call
-  pub free : (who : Actor) → IsFree m all who
+  pub free : (who : Actor) → IsBetweenCalls m all who
   free who = settled_is_free m all who owes_none
 
-  unstamped_count : (p : List SourceEntry) → length (states.unstamped p) ≡ length p
+  unstamped_count : (p : List SourceEntry) → length (states.unstamped_source p) ≡ length p
   unstamped_count [] = refl
   unstamped_count (e ∷ p) = ap suc (unstamped_count p)
 

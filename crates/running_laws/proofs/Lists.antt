@@ -61,7 +61,7 @@ source_other (x ∷ sources) (suc s) zero new h = refl
 source_other (x ∷ sources) (suc s) (suc t) new h = source_other sources s t new (let apart : (s == t) ≡ false = grind (arith, nat_tests) in apart)
 
 -- without their stamps
-pub history_at : (sources : List SourceState) (s : ℕ) (none : SourceState) → s < length sources → histories sources s ≡ states.unstamped (slice_index_or sources s none).past
+pub history_at : (sources : List SourceState) (s : ℕ) (none : SourceState) → s < length sources → histories sources s ≡ states.unstamped_source (slice_index_or sources s none).past
 history_at sources s none l = ap unstamped (source_at sources s none l) ∙ sym (unstamped_same (slice_index_or sources s none).past)
 
 -- a source that is called keeps its number, and is between calls again

@@ -31,18 +31,18 @@ use Rattle.merge_laws.specs.Apart.{IsCall}
 use Rattle.run_laws.specs.Seated.{newest_tick}
 use Rattle.run_laws.specs.Turned.{newest_stamp}
 use Rattle.run_laws.proofs.Acts.{actor_is}
-use Rattle.running_laws.specs.Running.{IsMoved, IsWith, entries_in, of_sources}
+use Rattle.running_laws.specs.Running.{OneStampChanges, IsWith, source_entry_count, of_sources}
 
 -- ---- how many entries sources have
 
 -- one of them is another
-pub entries_set : (sources : List SourceState) (s : ℕ) (none new : SourceState) → s < length sources → entries_in (slice_set sources s new) + length (slice_index_or sources s none).past ≡ entries_in sources + length new.past
+pub entries_set : (sources : List SourceState) (s : ℕ) (none new : SourceState) → s < length sources → source_entry_count (slice_set sources s new) + length (slice_index_or sources s none).past ≡ source_entry_count sources + length new.past
 entries_set [] s none new l = absurd (omega arith)
 entries_set (x ∷ sources) zero none new l = omega arith
 entries_set (x ∷ sources) (suc s) none new l = omega (arith, entries_set sources s none new (omega (arith, l)))
 
 -- each has no fewer
-pub entries_more : (xs ys : List SourceState) → length xs ≡ length ys → ((s : ℕ) → length (of_sources xs s) ≤ length (of_sources ys s)) → entries_in xs ≤ entries_in ys
+pub entries_more : (xs ys : List SourceState) → length xs ≡ length ys → ((s : ℕ) → length (of_sources xs s) ≤ length (of_sources ys s)) → source_entry_count xs ≤ source_entry_count ys
 entries_more [] ys l h = omega arith
 entries_more (x ∷ xs) [] l h = absurd (omega (arith, l))
 entries_more (x ∷ xs) (y ∷ ys) l h =
@@ -56,7 +56,7 @@ steps_longer by (x ∷ rest) old new h = omega (arith, steps_longer by rest (aft
 pub call_longer : (by : CallBy) (c : SourceCall) (old new : SourceView) → Calls by c old new → length old.source.past < length new.source.past
 call_longer by c old new h =
     let is : h.0 ≡ after_note by c h.1.0 h.0.looked old = h.1.6 in
-    omega (arith, steps_longer by (makes c (since (states.unstamped old.source.past))) h.0 new h.2, ap (λ (s : SourceView). length s.source.past) is)
+    omega (arith, steps_longer by (makes c (since (states.unstamped_source old.source.past))) h.0 new h.2, ap (λ (s : SourceView). length s.source.past) is)
 
 -- ---- ticks
 
@@ -75,13 +75,13 @@ call_rises by c old new h =
     let is : h.0 ≡ after_note by c h.1.0 h.0.looked old = h.1.6 in
     omega (
       arith,
-      steps_rise by (makes c (since (states.unstamped old.source.past))) h.0 new h.2,
+      steps_rise by (makes c (since (states.unstamped_source old.source.past))) h.0 new h.2,
       ap (λ (s : SourceView). s.source.floor.tick) is,
       ap (λ (s : SourceView). length s.source.past) is,
     )
 
 -- one actor knows another stamp, and the others know what they knew
-pub floors_low : (floors floors' : Actor → Stamp) (who : Actor) (stamp : Stamp) (n k : ℕ) → IsMoved floors floors' who stamp → stamp.tick ≤ k → n ≤ k → ((other : Actor) → (floors other).tick ≤ n)
+pub floors_low : (floors floors' : Actor → Stamp) (who : Actor) (stamp : Stamp) (n k : ℕ) → OneStampChanges floors floors' who stamp → stamp.tick ≤ k → n ≤ k → ((other : Actor) → (floors other).tick ≤ n)
     → (other : Actor) → (floors' other).tick ≤ k
 floors_low floors floors' who stamp n k w low more all other = by (is_same who other) refl
   where
@@ -113,10 +113,10 @@ step_ends t s step.Start time o h = h
 step_ends t s step.Finish time o h = tt
 step_ends t s step.Hard time o h = h
 
-steps_end : (t : ℕ) (by : CallBy) (steps : List WordKind) (old new : SourceView) → Steps by steps old new → EndsBy t (expiry (states.unstamped old.source.past)) → EndsBy t (expiry (states.unstamped new.source.past))
-steps_end t by [] old new h e = subst (λ (s : SourceView). EndsBy t (expiry (states.unstamped s.source.past))) (sym h) e
+steps_end : (t : ℕ) (by : CallBy) (steps : List WordKind) (old new : SourceView) → Steps by steps old new → EndsBy t (expiry (states.unstamped_source old.source.past)) → EndsBy t (expiry (states.unstamped_source new.source.past))
+steps_end t by [] old new h e = subst (λ (s : SourceView). EndsBy t (expiry (states.unstamped_source s.source.past))) (sym h) e
 steps_end t by (x ∷ rest) old new h e =
-    steps_end t by rest (after_step by x h.0 old) new h.3 (step_ends t old.source.id x by.now (expiry (states.unstamped old.source.past)) e)
+    steps_end t by rest (after_step by x h.0 old) new h.3 (step_ends t old.source.id x by.now (expiry (states.unstamped_source old.source.past)) e)
 
 event_ends : (t u : ℕ) (o : Option ℕ) → u ≤ t → EndsBy t o → EndsBy t (later u o)
 event_ends t u None l h = l
@@ -133,11 +133,11 @@ note_ends t s (call.Event ms hard) time o brief l h = by (ms == 0)
 note_ends t s call.Expire time o brief l h = h
 
 -- after a call the event in progress ends at most a day from now, if it did so before
-pub call_ends : (t : ℕ) (by : CallBy) (c : SourceCall) (old new : SourceView) → Calls by c old new → IsBrief (note old.source.id c) → by.now + 86400000 ≤ t → EndsBy t (expiry (states.unstamped old.source.past))
-    → EndsBy t (expiry (states.unstamped new.source.past))
+pub call_ends : (t : ℕ) (by : CallBy) (c : SourceCall) (old new : SourceView) → Calls by c old new → IsBrief (note old.source.id c) → by.now + 86400000 ≤ t → EndsBy t (expiry (states.unstamped_source old.source.past))
+    → EndsBy t (expiry (states.unstamped_source new.source.past))
 call_ends t by c old new h brief l e =
-    steps_end t by (makes c (since (states.unstamped old.source.past))) h.0 new h.2
-    (subst (λ (s : SourceView). EndsBy t (expiry (states.unstamped s.source.past))) (sym h.1.6) (note_ends t old.source.id c by.now (expiry (states.unstamped old.source.past)) brief l e))
+    steps_end t by (makes c (since (states.unstamped_source old.source.past))) h.0 new h.2
+    (subst (λ (s : SourceView). EndsBy t (expiry (states.unstamped_source s.source.past))) (sym h.1.6) (note_ends t old.source.id c by.now (expiry (states.unstamped_source old.source.past)) brief l e))
 
 -- an expiry is no event
 expiry_brief : (s t : ℕ) (c : SourceCall) → note s c ≡ kind.Expire t → IsBrief (note s c)

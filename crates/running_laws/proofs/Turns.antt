@@ -36,7 +36,7 @@ use Rattle.run_laws.proofs.Acts.{actor_is}
 use Rattle.run_laws.proofs.Called.{knows_itself}
 use Rattle.run_laws.proofs.Invariant.{each_by}
 use Rattle.run_laws.proofs.Turned.{leap_grows, leaves, turn_grows, turn_class}
-use Rattle.running_laws.specs.Running.{AreJobs, AreLow, FloorsKnow, IsGoing, IsMoved, IsBounded, IsRunning, IsWith, calls_made, entry_count, histories, made_so}
+use Rattle.running_laws.specs.Running.{AreJobs, AreLow, FloorsKnow, IsGoing, OneStampChanges, IsBounded, IsRunning, IsWith, calls_made, entry_count, histories, made_so}
 use Rattle.running_laws.proofs.Invariant.{actor_told, all_known, calls_are_notes, free}
 use Rattle.running_laws.proofs.Known.{knows_more}
 use Rattle.running_laws.proofs.Lists.{entries_unstamped}
@@ -86,7 +86,7 @@ module _ (m : Machine) (journal : List JournalEntry) (sources : List SourceState
     is_so = λ i. record { journal = t.journal i; of = λ s. t.sources s i; own = (with_entry e past).own }
 
     -- the actor's stamp is the entry's, and the others' know as much as they knew
-    own_known : (floors' : Actor → Stamp) → IsMoved floors floors' who e.stamp → (other : Actor) → knows (floors' other) ((with_entry e past).own other) ≡ true
+    own_known : (floors' : Actor → Stamp) → OneStampChanges floors floors' who e.stamp → (other : Actor) → knows (floors' other) ((with_entry e past).own other) ≡ true
     own_known floors' w other = by (is_same who other) refl
       where
         by : (b : Bool) → is_same who other ≡ b → knows (floors' other) ((with_entry e past).own other) ≡ true
@@ -138,7 +138,7 @@ module _ (m : Machine) (journal : List JournalEntry) (sources : List SourceState
     part : class_of k ≡ OfJournal
     part = turn_class m past (floors who) entry may
 
-    jumps_known : (floors' : Actor → Stamp) → IsMoved floors floors' who entry.stamp → (other : Actor) → EachJump (λ jump. knows (floors' other) (jump ∷ []) ≡ true) (entry ∷ journal)
+    jumps_known : (floors' : Actor → Stamp) → OneStampChanges floors floors' who entry.stamp → (other : Actor) → EachJump (λ jump. knows (floors' other) (jump ∷ []) ≡ true) (entry ∷ journal)
     jumps_known floors' w other = (λ jump. absurd (let bad : true ≡ false = sym jump ∙ ap is_jump part in cc), by (is_same who other) refl)
       where
         by : (b : Bool) → is_same who other ≡ b → EachJump (λ jump. knows (floors' other) (jump ∷ []) ≡ true) journal
@@ -165,7 +165,7 @@ module _ (m : Machine) (journal : List JournalEntry) (sources : List SourceState
     entry_low : entry.stamp.tick ≤ entry_count (entry ∷ journal) sources
     entry_low = omega (arith, g.low.newest, g.low.of_actors who, ap (λ (s : Stamp). s.tick) (last_newest journal))
 
-    are_low : (jobs' : Actor → JobState) (floors' : Actor → Stamp) (attempt : ℕ) → IsWith m jobs jobs' who (after_turn entry.stamp k attempt (jobs who)) → IsMoved floors floors' who entry.stamp → AreLow m (entry ∷ journal) sources jobs' floors'
+    are_low : (jobs' : Actor → JobState) (floors' : Actor → Stamp) (attempt : ℕ) → IsWith m jobs jobs' who (after_turn entry.stamp k attempt (jobs who)) → OneStampChanges floors floors' who entry.stamp → AreLow m (entry ∷ journal) sources jobs' floors'
     are_low jobs' floors' attempt w moved = record {
       newest = entry_low;
       of_each = λ s. omega (arith, g.low.of_each s);
@@ -182,10 +182,10 @@ module _ (m : Machine) (journal : List JournalEntry) (sources : List SourceState
 
     -- after a turn of an actor that has made its calls the run goes on
     pub going_turn : (jobs' : Actor → JobState) (floors' : Actor → Stamp) (stamp : Stamp) (attempt : ℕ) → stamp ≡ next_stamp journal (floors who) word → attempt ≡ attempts (entries (entry ∷ journal))
-        → IsWith m jobs jobs' who (after_turn stamp k attempt (jobs who)) → IsMoved floors floors' who stamp
+        → IsWith m jobs jobs' who (after_turn stamp k attempt (jobs who)) → OneStampChanges floors floors' who stamp
         → is_word64 (time_of (entries journal)) ≡ true → is_ranged k ≡ true → IsGoing m (entry ∷ journal) sources jobs' floors'
     going_turn jobs' floors' stamp attempt s begun w moved timed ranged =
-        let here : IsMoved floors floors' who entry.stamp = subst (IsMoved floors floors' who) s moved in
+        let here : OneStampChanges floors floors' who entry.stamp = subst (OneStampChanges floors floors' who) s moved in
         goes_on who entry turned jobs' floors' (record { own = own_known who entry turned floors' here; jumps = jumps_known floors' here }) (are_jobs jobs' stamp attempt begun w)
         (both _ _ (both _ _ timed (actor_told m who a)) ranged)
         (are_low jobs' floors' attempt (subst (λ (x : Stamp). IsWith m jobs jobs' who (after_turn x k attempt (jobs who))) s w) here) is_bounded
@@ -196,7 +196,7 @@ module _ (m : Machine) (journal : List JournalEntry) (sources : List SourceState
 abbrev pub moved_one : Stamp → Actor → Stamp → Actor → Stamp
 moved_one floor who stamp other = cond (is_same who other) stamp floor
 
-pub is_moved_one : (floor : Stamp) (who : Actor) (stamp : Stamp) → IsMoved (λ other. floor) (moved_one floor who stamp) who stamp
+pub is_moved_one : (floor : Stamp) (who : Actor) (stamp : Stamp) → OneStampChanges (λ other. floor) (moved_one floor who stamp) who stamp
 is_moved_one floor who stamp = record {
   same = ap (λ (b : Bool). cond b stamp floor) (same_actor who);
   others = λ other is. ap (λ (b : Bool). cond b stamp floor) is;

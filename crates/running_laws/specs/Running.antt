@@ -37,13 +37,13 @@ abbrev pub histories : List SourceState → ℕ → List Entry
 histories sources s = unstamped (of_sources sources s)
 
 -- how many entries these sources have
-abbrev pub entries_in : List SourceState → ℕ
-entries_in [] = 0
-entries_in (source ∷ sources) = length source.past + entries_in sources
+abbrev pub source_entry_count : List SourceState → ℕ
+source_entry_count [] = 0
+source_entry_count (source ∷ sources) = length source.past + source_entry_count sources
 
 -- how many entries were made in all
 abbrev pub entry_count : List JournalEntry → List SourceState → ℕ
-entry_count journal sources = length journal + entries_in sources
+entry_count journal sources = length journal + source_entry_count sources
 
 -- the history of each, the oldest entry first
 abbrev pub journal_histories : List SourceState → List (List SourceEntry)
@@ -93,7 +93,7 @@ pub record FloorsKnow (floors : Actor → Stamp) (made : Made) : Type 0 where
   pub jumps : (who : Actor) → EachJump (λ jump. knows (floors who) (jump ∷ []) ≡ true) made.journal
 
 -- one actor's last stamp is another, and the other actors' are as they were
-pub record IsMoved (old new : Actor → Stamp) (who : Actor) (stamp : Stamp) : Type 0 where
+pub record OneStampChanges (old new : Actor → Stamp) (who : Actor) (stamp : Stamp) : Type 0 where
   pub same : new who ≡ stamp
   pub others : (other : Actor) → is_same who other ≡ false → new other ≡ old other
 

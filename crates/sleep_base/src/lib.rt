@@ -24,7 +24,7 @@ pub use cutting::cut;
 pub use digits::are_digits;
 pub use errno::Errno;
 pub use memory::{MemSink, MemSource};
-pub use outside::{ByteSink, ByteSource, Failed, Mem, lost};
+pub use outside::{ByteSink, ByteSource, Failed, Mem, drop_for_mem};
 pub use standard::{StdSink, StdSource, Stream};
 pub use wait::wait_unless;
 pub use whole::{ReadStop, read_all, write_all};

@@ -30,7 +30,7 @@ impl<T: Drop> From<AllocFailed<T>> for Mem {
 
 /// Out of memory, for a caller that has to drop a value. Its type is a parameter, so that no proof of a
 /// caller follows the value's parts, which would take minutes of some (`docs/PROOF_COSTS.md`).
-pub fn lost<A: Drop>(_value: A) -> Mem {
+pub fn drop_for_mem<A: Drop>(_value: A) -> Mem {
     Mem
 }
 

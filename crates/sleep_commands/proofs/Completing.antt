@@ -6,7 +6,7 @@ use Rattle.sleep_base.specs.Faults.{Rose}
 use Rattle.sleep_model.specs.declared.machine.Machine.{Machine}
 use Rattle.machine_file.specs.Tree.{tree}
 use Rattle.machine_file.specs.Whole.{machine_in}
-use Rattle.machine_rounds.specs.Runs.{IsFull}
+use Rattle.machine_rounds.specs.Runs.{MayFillSource}
 use Rattle.command_line.specs.declared.command.Command.{Command}
 use Rattle.command_line.specs.declared.command.Command.TheVariants.{Run, Gen, Soak, Check, Locks, Stats, Idle}
 use Rattle.program_ending.specs.declared.ending.Ending.{Ending}
@@ -54,7 +54,7 @@ refused_whole most long Why old new bytes refusal is (inr h) = subst (λ (bs : L
 no_refusal : (bytes : List ℕ) (m : Machine) → machine_in bytes ≡ Some m → FillsNone m → (refusal : Refusal) → RefusesRun bytes refusal → ⊥
 no_refusal bytes m spells none (Broken rule place) h = no_machine (tree bytes) m _ h spells
 no_refusal bytes m spells none (SourceFull name) h =
-    let same : h.machine ≡ m = one_machine h.machine m (sym h.spells ∙ spells) in none h.number (subst (λ (x : Machine). IsFull x h.number) same h.full)
+    let same : h.machine ≡ m = one_machine h.machine m (sym h.spells ∙ spells) in none h.number (subst (λ (x : Machine). MayFillSource x h.number) same h.full)
 no_refusal bytes m spells none refusal h = absurd h
 
 -- a run of a file

@@ -7,7 +7,7 @@ use Rattle.command_line.specs.declared.command.Command.{Command}
 use Rattle.command_line.specs.declared.command.Command.TheVariants.{Run, Gen, Soak, Check, Locks, Stats, Idle}
 use Rattle.idle_loop.specs.declared.entry.IdleSizes.{IdleSizes}
 use Rattle.machine_file.specs.Whole.{machine_in}
-use Rattle.machine_rounds.specs.Runs.{IsFull}
+use Rattle.machine_rounds.specs.Runs.{MayFillSource}
 use Rattle.program_ending.specs.declared.ending.Ending.{Ending}
 use Rattle.program_ending.specs.declared.ending.Ending.TheVariants.{Done, Stuck, Illegal, NoForm, NoMemory}
 use Rattle.program_ending.specs.Endings.{status_of}
@@ -45,7 +45,7 @@ NoFault before now = (now ≡ before) × (now < 2 ^ 64 - 1)
 
 -- no source of the machine can be filled
 abbrev pub FillsNone : Machine → Type 0
-FillsNone m = (s : ℕ) → ¬ (IsFull m s)
+FillsNone m = (s : ℕ) → ¬ (MayFillSource m s)
 
 -- one of these statuses, or out of memory
 abbrev pub IsOneOf : Ending → Ending → ℕ → Type 0

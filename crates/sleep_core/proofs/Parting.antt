@@ -12,7 +12,7 @@ use Rattle.sleep_model.specs.Autosleep.{work_after}
 use Rattle.sleep_model.specs.Numbers.{time_after}
 use Rattle.autosleep_loop.specs.Autosleeps.{AutosleepState, autosleep_after}
 use Rattle.async_board.proofs.Agreement.{board_next}
-use Rattle.sleep_core.specs.Histories.{IsOfTask, guard_of, path_of, devices_of, board_of, tasks_of, freezer_of, autosleep_of, steps_of, syscore_of}
+use Rattle.sleep_core.specs.Histories.{IsOfTask, guard_of, path_of, devices_of, board_of, tasks_of, freezer_of, autosleep_of, platform_of, syscore_of}
 use Rattle.sleep_core.proofs.Freezing.{freezer_moves}
 
 -- an entry at that time, of that maker and kind
@@ -26,7 +26,7 @@ pub record Stays (m : Machine) (past : List Entry) (e : Entry) : Type 0 where
   pub devices : devices_of m past ≡ devices_of m (e ∷ past)
   pub board : board_of m past ≡ board_of m (e ∷ past)
   pub freezer : freezer_of m past ≡ freezer_of m (e ∷ past)
-  pub platform : steps_of m past ≡ steps_of m (e ∷ past)
+  pub platform : platform_of m past ≡ platform_of m (e ∷ past)
   pub syscore : syscore_of m past ≡ syscore_of m (e ∷ past)
 
 by_kind : (m : Machine) (past : List Entry) (time : ℕ) (now : EventNow) (who : Actor) (k : Kind) → IsOfTask k → Stays m past (entry_of time now who k)

@@ -17,7 +17,7 @@ use Rattle.sleep_model.specs.Marks.{raised}
 use Rattle.sleep_model.specs.Positions.{Stays, first_position, positions, positions_after}
 use Rattle.async_board.proofs.Agreement.{board_next}
 use Rattle.async_board.specs.Boards.{board_after}
-use Rattle.sleep_core.specs.Histories.{IsOfDevice, board_of, path_of, tasks_of, freezer_of, autosleep_of, steps_of, syscore_of, exits}
+use Rattle.sleep_core.specs.Histories.{IsOfDevice, board_of, path_of, tasks_of, freezer_of, autosleep_of, platform_of, syscore_of, exits}
 
 -- such an entry moves its device, and each of these parts is as before
 pub record Passes (m : Machine) (past : List Entry) (e : Entry) : Type 0 where
@@ -26,7 +26,7 @@ pub record Passes (m : Machine) (past : List Entry) (e : Entry) : Type 0 where
   pub tasks : tasks_of m past ≡ tasks_of m (e ∷ past)
   pub freezer : freezer_of m past ≡ freezer_of m (e ∷ past)
   pub autosleep : autosleep_of past ≡ autosleep_of (e ∷ past)
-  pub platform : steps_of m past ≡ steps_of m (e ∷ past)
+  pub platform : platform_of m past ≡ platform_of m (e ∷ past)
   pub syscore : syscore_of m past ≡ syscore_of m (e ∷ past)
 
 -- an entry at that time, of that maker and kind

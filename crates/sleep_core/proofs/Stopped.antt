@@ -42,7 +42,7 @@ use Rattle.sleep_laws.proofs.Restoring.{IsUndone, undone_invariant}
 use Rattle.sleep_laws.proofs.DevicePhases.{DevicePhases}
 use Rattle.sleep_laws.proofs.Telling.{none≢some}
 use Rattle.sleep_laws.proofs.Turning.{never}
-use Rattle.sleep_state.specs.Sleepers.{end_of, sleeps_past, is_stopped}
+use Rattle.sleep_state.specs.Sleepers.{earliest_end, sleeps_past, is_stopped}
 use Rattle.sleep_core.proofs.Positioned.{first_positions, positions_len}
 
 -- ---- a script that sleeps is at an operation by which it sleeps
@@ -189,7 +189,7 @@ get_script [] i position l = absurd (omega (arith, l))
 get_script (s ∷ ss) zero position l = refl
 get_script (s ∷ ss) (suc i) position l = get_script ss i position (omega (arith, l))
 
-ends_among : (m : Machine) (past : List Entry) (n : ℕ) → n ≤ length m.actors → JournalPart m past → maker past ≡ None → end_of (positions (length m.actors) past) n ≡ next_sleep m past n
+ends_among : (m : Machine) (past : List Entry) (n : ℕ) → n ≤ length m.actors → JournalPart m past → maker past ≡ None → earliest_end (positions (length m.actors) past) n ≡ next_sleep m past n
 ends_among m past zero l h closed = refl
 ends_among m past (suc n) l h closed =
     ap₂ sooner
@@ -198,8 +198,8 @@ ends_among m past (suc n) l h closed =
     (ends_among m past n (omega (arith, l)) h closed)
 
 -- while no attempt is open, the least end of all sleeps is pending
-pub ends_pending : (m : Machine) (past : List Entry) → JournalPart m past → maker past ≡ None → end_of (positions (length m.actors) past) (length (positions (length m.actors) past)) ≡ next_sleep m past (length m.actors)
-ends_pending m past h closed = ap (end_of (positions (length m.actors) past)) (positions_len (length m.actors) past) ∙ ends_among m past (length m.actors) (omega arith) h closed
+pub ends_pending : (m : Machine) (past : List Entry) → JournalPart m past → maker past ≡ None → earliest_end (positions (length m.actors) past) (length (positions (length m.actors) past)) ≡ next_sleep m past (length m.actors)
+ends_pending m past h closed = ap (earliest_end (positions (length m.actors) past)) (positions_len (length m.actors) past) ∙ ends_among m past (length m.actors) (omega arith) h closed
 
 -- ---- a device
 

@@ -33,8 +33,8 @@ use Rattle.attempt_laws.proofs.Needing.{none_needed, due_own_spends, due_attempt
 use Rattle.sleep_state.specs.JournalRooms.{entries}
 use Rattle.sleep_core.specs.CoreFields.{SleptEarly, FrozeEarly, IsCore}
 use Rattle.sleep_core.specs.Cores.{CoreState, IsActor}
-use Rattle.sleep_core.specs.Histories.{HistoryState, Admits, HasRoom, IsOfDevice, room_for, after_entry}
-use Rattle.sleep_core.specs.Numbered.{Leaves, IsCounted}
+use Rattle.sleep_core.specs.Histories.{HistoryState, Admits, EntryHasRoom, IsOfDevice, room_for, after_entry}
+use Rattle.sleep_core.specs.Numbered.{NumbersStayInRange, IsCounted}
 
 -- ---- what is due is of the journal
 
@@ -187,7 +187,7 @@ core_seen h reserved new machine past same =
     ap (λ (k : HistoryState). seen_core k.machine k.past) same ∙ (ap (λ m. seen_core m reserved.past) machine ∙ ap (seen_core h.machine) past)
 
 -- the core after an entry that was due, in the room that was made for it
-pub core_more : (h reserved new : HistoryState) (j : JournalEntry) (own : Bool) → IsCore h → IsActor h.machine j.entry.actor → due h.machine (entries h.past) j.entry.actor j.entry.now ≡ Makes j.entry.kind → j.entry.time ≡ time_of (entries h.past) → attempts_after j.entry.kind (attempts (entries h.past)) + 1 < 2 ^ 32 → own ≡ (is_actor j.entry.actor (maker (entries h.past)) || is_device j.entry.actor) → HasRoom own j.entry.kind h reserved → new ≡ after_entry reserved j → IsCore new
+pub core_more : (h reserved new : HistoryState) (j : JournalEntry) (own : Bool) → IsCore h → IsActor h.machine j.entry.actor → due h.machine (entries h.past) j.entry.actor j.entry.now ≡ Makes j.entry.kind → j.entry.time ≡ time_of (entries h.past) → attempts_after j.entry.kind (attempts (entries h.past)) + 1 < 2 ^ 32 → own ≡ (is_actor j.entry.actor (maker (entries h.past)) || is_device j.entry.actor) → EntryHasRoom own j.entry.kind h reserved → new ≡ after_entry reserved j → IsCore new
 core_more h reserved new j own core is makes at few own_is has new_is =
     let m = h.machine in
     let past = entries h.past in
@@ -206,7 +206,7 @@ core_more h reserved new j own core is makes at few own_is has new_is =
     })
 
 -- an entry that is due may be appended in that room
-pub admits_more : (h reserved : HistoryState) (e : Entry) (own : Bool) → IsCore h → due h.machine (entries h.past) e.actor e.now ≡ Makes e.kind → Leaves h.machine e.kind (entries h.past) → own ≡ (is_actor e.actor (maker (entries h.past)) || is_device e.actor) → HasRoom own e.kind h reserved → length reserved.past < 2 ^ 63 → Admits reserved e
+pub admits_more : (h reserved : HistoryState) (e : Entry) (own : Bool) → IsCore h → due h.machine (entries h.past) e.actor e.now ≡ Makes e.kind → NumbersStayInRange h.machine e.kind (entries h.past) → own ≡ (is_actor e.actor (maker (entries h.past)) || is_device e.actor) → EntryHasRoom own e.kind h reserved → length reserved.past < 2 ^ 63 → Admits reserved e
 admits_more h reserved e own core makes leaves own_is has short =
     let m = h.machine in
     let past = entries h.past in

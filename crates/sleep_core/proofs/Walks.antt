@@ -13,21 +13,21 @@ use Rattle.phase_suspend.specs.AtPoints.{down_at}
 use Rattle.phase_suspend.specs.Downs.{down_state}
 use Rattle.sleep_state.specs.JournalRooms.{entries}
 use Rattle.sleep_core.specs.Cores.{CoreState}
-use Rattle.sleep_core.specs.Seen.{AreSeen}
+use Rattle.sleep_core.specs.Seen.{IsDownEnvOf}
 
 -- the state that a phase on the way down sees
-pub seen_is : (core : CoreState) (now : EventNow) (env : DownEnv) (down : Down) → AreSeen core now env → down.failed ≡ phase_failed (entries core.past) → down.own ≡ own_error (entries core.past) → down_state down env ≡ down_at core.machine (entries core.past) now
+pub seen_is : (core : CoreState) (now : EventNow) (env : DownEnv) (down : Down) → IsDownEnvOf core now env → down.async_error ≡ phase_failed (entries core.past) → down.error ≡ own_error (entries core.past) → down_state down env ≡ down_at core.machine (entries core.past) now
 seen_is core now env down seen failed own =
     let m = core.machine in
     let past = entries core.past in
     let start = down_state down env in
     ap (λ b. record start { board = b }) seen.board
-    ∙ (ap (λ f. record start { board = board_at m past; failed = f }) failed
-    ∙ (ap (λ o. record start { board = board_at m past; failed = phase_failed past; own = o }) own
-    ∙ (ap (λ w. record start { board = board_at m past; failed = phase_failed past; own = own_error past; asks_direct = w }) seen.asks_direct_are
-    ∙ (ap (λ s. record start { board = board_at m past; failed = phase_failed past; own = own_error past; asks_direct = asks_direct (length m.devices) past; statuses = s }) seen.statuses_are
-    ∙ (ap (λ w. record start { board = board_at m past; failed = phase_failed past; own = own_error past; asks_direct = asks_direct (length m.devices) past; statuses = statuses m.devices past; wakeup = w }) seen.wakeup_are
-    ∙ ap (λ (p : _). record { board = board_at m past; failed = phase_failed past; own = own_error past; asks_direct = asks_direct (length m.devices) past; statuses = statuses m.devices past; wakeup = map may_wake m.devices; pending = p }) seen.pending_is)))))
+    ∙ (ap (λ f. record start { board = board_at m past; async_error = f }) failed
+    ∙ (ap (λ o. record start { board = board_at m past; async_error = phase_failed past; error = o }) own
+    ∙ (ap (λ w. record start { board = board_at m past; async_error = phase_failed past; error = own_error past; asks_direct = w }) seen.asks_direct_are
+    ∙ (ap (λ s. record start { board = board_at m past; async_error = phase_failed past; error = own_error past; asks_direct = asks_direct (length m.devices) past; runtime_suspended = s }) seen.statuses_are
+    ∙ (ap (λ w. record start { board = board_at m past; async_error = phase_failed past; error = own_error past; asks_direct = asks_direct (length m.devices) past; runtime_suspended = statuses m.devices past; may_wakeup = w }) seen.wakeup_are
+    ∙ ap (λ (p : _). record { board = board_at m past; async_error = phase_failed past; error = own_error past; asks_direct = asks_direct (length m.devices) past; runtime_suspended = statuses m.devices past; may_wakeup = map may_wake m.devices; wakeup_pending = p }) seen.pending_is)))))
 
 -- a phase that is not on the way down is on the way up
 pub up_if_not : (p : Phase) → (is_down p ≡ true) ⊎ (is_up p ≡ true) → is_down p ≡ false → is_up p ≡ true

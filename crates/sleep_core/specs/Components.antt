@@ -6,7 +6,7 @@ use Rattle.sleep_model.specs.declared.entry.Kind.{Kind}
 use Rattle.sleep_model.specs.declared.machine.Machine.{Machine}
 use Rattle.sleep_model.specs.declared.word.EventNow.{EventNow}
 use Rattle.sleep_core.specs.declared.components.Components.{Components}
-use Rattle.sleep_core.specs.Histories.{Settles, guard_of, path_of, devices_of, board_of, tasks_of, freezer_of, autosleep_of, steps_of, syscore_of}
+use Rattle.sleep_core.specs.Histories.{Settles, guard_of, path_of, devices_of, board_of, tasks_of, freezer_of, autosleep_of, platform_of, syscore_of}
 
 -- each is what the definitions read from these entries
 pub record AreRead (m : Machine) (past : List Entry) (c : Components) : Type 0 where
@@ -17,7 +17,7 @@ pub record AreRead (m : Machine) (past : List Entry) (c : Components) : Type 0 w
   pub tasks : c.tasks ≡ tasks_of m past
   pub freezer : c.freezer ≡ freezer_of m past
   pub autosleep : c.autosleep ≡ autosleep_of past
-  pub platform : c.platform ≡ steps_of m past
+  pub platform : c.platform ≡ platform_of m past
   pub syscore : c.syscore ≡ syscore_of m past
 
 -- what was read from some entries is, after an entry of that actor, what is read from those and this one

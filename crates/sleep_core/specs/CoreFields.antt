@@ -39,7 +39,7 @@ abbrev pub seen_core : Inside → CoreState
 seen_core c = record { machine = c.history.machine; past = c.history.past }
 
 -- what holds of a core between calls: the plans are its machine's, its history is right, and it counts the reports of callbacks
-pub record IsWhole (c : Inside) : Type 0 where
+pub record CoreInvariant (c : Inside) : Type 0 where
   pub core : IsCore c.history
   pub plans_are : c.plans.now ≡ c.history.machine
   pub wakeup_is : c.wakeup ≡ map may_wake c.history.machine.devices
@@ -47,4 +47,4 @@ pub record IsWhole (c : Inside) : Type 0 where
 
 -- what holds of a core between calls
 abbrev pub core_invariant : Inside → Type 0
-core_invariant c = IsWhole c
+core_invariant c = CoreInvariant c

@@ -38,8 +38,8 @@ made_entry past who word floor k = record {
 }
 
 -- the core after an entry
-abbrev pub with_entry : CoreState → JournalEntry → CoreState
-with_entry core j = record core { past = j ∷ core.past }
+abbrev pub core_after : CoreState → JournalEntry → CoreState
+core_after core j = record core { past = j ∷ core.past }
 
 -- the entry of a jump to that time
 abbrev pub jump_entry : List JournalEntry → EventNow → ℕ → Stamp → JournalEntry

@@ -27,7 +27,7 @@ use Rattle.sleep_model.specs.PhaseStates.{phase_states}
 use Rattle.sleep_model.specs.Table.{stage_of}
 use Rattle.attempt_laws.specs.Room.{enough}
 use Rattle.async_board.specs.Boards.{BoardState, board_after, first_board}
-use Rattle.platform_steps.specs.Steps.{Steps}
+use Rattle.platform_steps.specs.PlatformState.{PlatformState}
 use Rattle.autosleep_loop.specs.Autosleeps.{AutosleepState}
 use Rattle.sleep_state.specs.DeviceStates.{DeviceState}
 use Rattle.sleep_state.specs.Paths.{PathState}
@@ -98,8 +98,8 @@ abbrev pub autosleep_of : List Entry → AutosleepState
 autosleep_of past = record { holder = holder past; on = is_on past; work = work past; queued = is_queued past; runs = runs past }
 
 -- the notifiers and the other processors
-abbrev pub steps_of : Machine → List Entry → Steps
-steps_of m past = record { order = call_order m; notified_flags = notified_flags m past; cpus = m.cpus; off = cpus_off m.cpus past }
+abbrev pub platform_of : Machine → List Entry → PlatformState
+platform_of m past = record { order = call_order m; notified_flags = notified_flags m past; cpus = m.cpus; off = cpus_off m.cpus past }
 
 -- the core's parts
 abbrev pub syscore_of : Machine → List Entry → SyscoreState
@@ -197,7 +197,7 @@ room_for m k None room = 1
 room_for m k (Some who) room = room + 1
 
 -- an entry of the open attempt's own has the room that was reserved, another has more
-pub record HasRoom (own : Bool) (k : Kind) (old new : HistoryState) : Type 0 where
+pub record EntryHasRoom (own : Bool) (k : Kind) (old new : HistoryState) : Type 0 where
   pub machine : new.machine ≡ old.machine
   pub past : new.past ≡ old.past
   pub grows : old.room ≤ new.room

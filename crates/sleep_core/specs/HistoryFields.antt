@@ -8,8 +8,8 @@ use Rattle.sleep_core.specs.Components.{AreRead}
 use Rattle.sleep_core.specs.Histories.{HistoryState, last_stamp}
 
 -- the history as contracts see it
-abbrev pub history_seen : Inside → HistoryState
-history_seen h = record { machine = h.machine.now; past = h.journal.past; room = h.journal.room }
+abbrev pub history_view : Inside → HistoryState
+history_view h = record { machine = h.machine.now; past = h.journal.past; room = h.journal.room }
 
 -- each field is what the definitions read from the entries
 pub record IsHistory (h : Inside) : Type 0 where

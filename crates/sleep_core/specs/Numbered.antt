@@ -10,7 +10,7 @@ use Rattle.sleep_model.specs.Path.{attempts, attempts_after}
 use Rattle.sleep_state.specs.TaskStates.{MarksAreSmall}
 
 -- the numbers that an entry raises stay in their ranges
-pub record Leaves (m : Machine) (k : Kind) (past : List Entry) : Type 0 where
+pub record NumbersStayInRange (m : Machine) (k : Kind) (past : List Entry) : Type 0 where
   pub attempts : attempts_after k (attempts past) + 1 < 2 ^ 32
   pub runs : runs_after k (runs past) < 2 ^ 32
   pub marks : MarksAreSmall k (raised (length m.marks) past)

@@ -11,14 +11,14 @@ use Rattle.sleep_state.specs.JournalRooms.{entries}
 use Rattle.sleep_core.specs.declared.turns.CoreFault.{CoreFault}
 use Rattle.sleep_core.specs.declared.turns.CoreTurn.{CoreTurn}
 use Rattle.sleep_core.specs.declared.turns.CoreTurn.TheVariants.{Did, NotYet, Done}
-use Rattle.sleep_core.specs.Cores.{CoreState, next_stamp, made_entry, with_entry}
+use Rattle.sleep_core.specs.Cores.{CoreState, next_stamp, made_entry, core_after}
 
 -- a turn of an actor that saw this word makes what is due, or says why not; out of memory comes for no maker of an open attempt, and for no
 -- device
 abbrev pub AfterTurn : CoreState → CoreState → Actor → EventNow → Stamp → Result CoreTurn CoreFault → Type 0
 AfterTurn old new who word floor (Ok (Did stamp kind attempt)) =
     (due old.machine (entries old.past) who word ≡ Makes kind)
-    × (new ≡ with_entry old (made_entry old.past who word floor kind))
+    × (new ≡ core_after old (made_entry old.past who word floor kind))
     × (stamp ≡ next_stamp old.past floor word)
     × (attempt ≡ attempts (entries new.past))
 AfterTurn old new who word floor (Ok (NotYet why)) = (due old.machine (entries old.past) who word ≡ Waits why) × (new ≡ old)

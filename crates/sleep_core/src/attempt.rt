@@ -7,7 +7,7 @@ ghost use Rattle.sleep_model.specs.declared.machine.What.TheVariants as what;
 ghost use Rattle.sleep_model.specs.Attempt.{answered, freeze_since, sleep_of, freeze_due, froze_due, wakes_due, enter_due, if_left, cpu_kind, busy_error, stage_due, stage_or_next, due_at};
 ghost use Rattle.sleep_model.specs.Freezer.{left};
 ghost use Rattle.sleep_model.specs.Guard.{pending};
-ghost use Rattle.sleep_model.specs.Notifiers.{next_called, next_posted, next_cpu_off, next_cpu_on, next_stopped, next_started};
+ghost use Rattle.sleep_model.specs.Notifiers.{next_notified, next_post_notified, next_cpu_off, next_cpu_on, next_syscore_suspended, next_syscore_resumed};
 ghost use Rattle.sleep_model.specs.Table.{stage_of, next_stage};
 ghost use Rattle.sleep_state.specs.JournalRooms.{entries};
 ghost use Rattle.sleep_core.specs.Stages.{IsProper};
@@ -20,11 +20,11 @@ use task_freezer::Round;
 
 impl<'m> Core<'m> {
     /// The next notifier hears of the attempt.
-    fn notify_due(&self) -> Due
+    fn notify_prepare_due(&self) -> Due
         ensures { result ≡ if_left (λ x. kind.NotifyPrepare x (answered self.now.machine (entries self.now.past) (what.Notifier x)))
-            (next_called self.now.machine (entries self.now.past)) }
+            (next_notified self.now.machine (entries self.now.past)) }
     {
-        match self.next_called() {
+        match self.next_notified() {
             None => Due::Nothing,
             Some(x) => Due::Makes(Kind::NotifyPrepare(x, self.answered(What::Notifier(x)))),
         }
@@ -76,7 +76,7 @@ impl<'m> Core<'m> {
     }
 
     /// A step of the platform on the way down.
-    fn ask_due(&self, step: PlatDo) -> Due
+    fn platform_due(&self, step: PlatDo) -> Due
         ensures { result ≡ Makes (kind.PlatformDo step (answered self.now.machine (entries self.now.past) (what.Platform step))) }
     {
         Due::Makes(Kind::PlatformDo(step, self.answered(What::Platform(step))))
@@ -94,11 +94,11 @@ impl<'m> Core<'m> {
     }
 
     /// The next part of the core is suspended.
-    fn stop_due(&self) -> Due
+    fn syscore_suspend_due(&self) -> Due
         ensures { result ≡ if_left (λ x. kind.SyscoreSuspend x (answered self.now.machine (entries self.now.past) (what.Syscore x)))
-            (next_stopped self.now.machine (entries self.now.past)) }
+            (next_syscore_suspended self.now.machine (entries self.now.past)) }
     {
-        match self.next_stopped() {
+        match self.next_syscore_suspended() {
             None => Due::Nothing,
             Some(x) => Due::Makes(Kind::SyscoreSuspend(x, self.answered(What::Syscore(x)))),
         }
@@ -111,7 +111,7 @@ impl<'m> Core<'m> {
     {
         if sleep.pos < pos(now) {
             Due::Makes(Kind::Wake { by_event: true })
-        } else if sleep.since + self.alarm_ms() <= self.now() {
+        } else if sleep.since + self.alarm_ms() <= self.time_ms() {
             Due::Makes(Kind::Wake { by_event: false })
         } else {
             Due::Waits(Why::Asleep)
@@ -131,10 +131,10 @@ impl<'m> Core<'m> {
     }
 
     /// The next part of the core is resumed.
-    fn start_due(&self) -> Due
-        ensures { result ≡ if_left kind.SyscoreResume (next_started self.now.machine (entries self.now.past)) }
+    fn syscore_resume_due(&self) -> Due
+        ensures { result ≡ if_left kind.SyscoreResume (next_syscore_resumed self.now.machine (entries self.now.past)) }
     {
-        match self.history.syscore().next_started() {
+        match self.history.syscore().next_syscore_resumed() {
             None => Due::Nothing,
             Some(x) => Due::Makes(Kind::SyscoreResume(x)),
         }
@@ -151,10 +151,10 @@ impl<'m> Core<'m> {
     }
 
     /// The next notifier hears that the attempt is over.
-    fn post_due(&self) -> Due
-        ensures { result ≡ if_left kind.NotifyPost (next_posted self.now.machine (entries self.now.past)) }
+    fn notify_post_due(&self) -> Due
+        ensures { result ≡ if_left kind.NotifyPost (next_post_notified self.now.machine (entries self.now.past)) }
     {
-        match self.history.platform().next_posted() {
+        match self.history.platform().next_post_notified() {
             None => Due::Nothing,
             Some(x) => Due::Makes(Kind::NotifyPost(x)),
         }
@@ -166,25 +166,25 @@ impl<'m> Core<'m> {
         ensures { result ≡ stage_due self.now.machine (entries self.now.past) now stage }
     {
         match stage {
-            Stage::Notifies => self.notify_due(),
+            Stage::Notifies => self.notify_prepare_due(),
             Stage::Freezes(group) => self.freeze_due(now, group),
-            Stage::PlatformDown(step) => self.ask_due(step),
+            Stage::PlatformDo(step) => self.platform_due(step),
             Stage::Prepares => self.prepare_due(),
             Stage::Downs(p) => self.down_due(now, p),
             Stage::StopsCpus => self.cpu_off_due(now),
             Stage::StopsIrqs => Due::Makes(Kind::Irqs { on: false }),
-            Stage::Checks => Due::Makes(Kind::SyscoreCheck(busy_error(self.pending(now)))),
-            Stage::StopsSyscore => self.stop_due(),
+            Stage::ChecksWakeup => Due::Makes(Kind::SyscoreCheck(busy_error(self.pending(now)))),
+            Stage::StopsSyscore => self.syscore_suspend_due(),
             Stage::Enters => self.enter_due(now),
-            Stage::StartsSyscore => self.start_due(),
+            Stage::StartsSyscore => self.syscore_resume_due(),
             Stage::StartsIrqs => Due::Makes(Kind::Irqs { on: true }),
             Stage::StartsCpus => self.cpu_on_due(),
-            Stage::PlatformUp(step) => Due::Makes(Kind::PlatformUndo(step)),
+            Stage::PlatformUndo(step) => Due::Makes(Kind::PlatformUndo(step)),
             Stage::Ups(p) => self.up_due(p),
             Stage::Completes => self.complete_due(),
-            Stage::Clears => Due::Makes(Kind::Clear),
+            Stage::ClearsSavedCount => Due::Makes(Kind::Clear),
             Stage::Thaws(those) => Due::Makes(Kind::Thaw(those)),
-            Stage::Posts => self.post_due(),
+            Stage::NotifiesPost => self.notify_post_due(),
             Stage::Ends => Due::Makes(Kind::Over {
                 n: self.attempts(),
                 r: self.history.path().failed(),

@@ -16,7 +16,7 @@ impl<'m> Core<'m> {
         ensures { result ≡ work_due self.now.machine (entries self.now.past) now (work (entries self.now.past)) }
     {
         let attempt = self.attempt();
-        let time = self.now();
+        let time = self.time_ms();
         let cycles = self.machine().auto_cycles;
         self.history.autosleep().due(cycles, now, time, attempt)
     }

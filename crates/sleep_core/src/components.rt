@@ -13,7 +13,7 @@ use async_board::Board;
 use autosleep_loop::Autosleep;
 use device_links::Links;
 use platform_steps::Platform;
-use sleep_base::{Mem, lost};
+use sleep_base::{Mem, drop_for_mem};
 use sleep_model::{Actor, Device, DeviceFlags, Entry, EventNow, Kind, Machine, pos};
 use sleep_state::{Devices, Path, Tasks};
 use std::alloc::Global;
@@ -126,19 +126,19 @@ impl<'m> Components<'m> {
     {
         let board = first_board(alloc, machine.devices.as_slice(), links)?;
         let Ok(syscore) = Syscore::new(alloc, machine.syscore.len() as u32) else {
-            return Err(lost(board));
+            return Err(drop_for_mem(board));
         };
         let Ok(platform) = Platform::new(alloc, machine) else {
-            return Err(lost((board, syscore)));
+            return Err(drop_for_mem((board, syscore)));
         };
         let Ok(freezer) = Freezer::new(alloc, machine.actors.as_slice()) else {
-            return Err(lost((board, syscore, platform)));
+            return Err(drop_for_mem((board, syscore, platform)));
         };
         let Ok(tasks) = Tasks::new(alloc, machine.actors.len(), machine.marks.len()) else {
-            return Err(lost((board, syscore, platform, freezer)));
+            return Err(drop_for_mem((board, syscore, platform, freezer)));
         };
         let Ok(devices) = Devices::new(alloc, machine.devices.as_slice()) else {
-            return Err(lost((board, syscore, platform, freezer, tasks)));
+            return Err(drop_for_mem((board, syscore, platform, freezer, tasks)));
         };
         Ok(Components {
             guard: Guard::new(),

@@ -30,9 +30,9 @@ impl<'m> Model for History<'m> {
 
     ghost Value = { HistoryState };
 
-    ghost use Rattle.sleep_core.specs.HistoryFields.{history_seen, IsHistory};
+    ghost use Rattle.sleep_core.specs.HistoryFields.{history_view, IsHistory};
 
-    ghost view = { history_seen };
+    ghost view = { history_view };
 
     ghost invariant = { IsHistory };
 }
@@ -64,7 +64,7 @@ impl<'m> History<'m> {
     ghost use Rattle.sleep_model.specs.Order.{parents_of};
     ghost use Rattle.sleep_state.specs.JournalRooms.{entries};
     ghost use Rattle.sleep_core.specs.Numbered.{IsCounted};
-    ghost use Rattle.sleep_core.specs.Histories.{Admits, Settles, IsOfDevice, IsOfNone, IsOfTask, after_entry, entry_now, after_made, room_for, HasRoom, last_stamp, guard_of, path_of, devices_of, board_of, tasks_of, freezer_of, autosleep_of, steps_of, syscore_of};
+    ghost use Rattle.sleep_core.specs.Histories.{Admits, Settles, IsOfDevice, IsOfNone, IsOfTask, after_entry, entry_now, after_made, room_for, EntryHasRoom, last_stamp, guard_of, path_of, devices_of, board_of, tasks_of, freezer_of, autosleep_of, platform_of, syscore_of};
 
     /// The empty journal of a machine, whose links these are. `Mem` if there is no memory.
     pub fn new(alloc: Global, machine: &'m Machine, links: Links) -> Result<Self, Mem>
@@ -217,7 +217,7 @@ impl<'m> History<'m> {
     /// Makes room for an entry: one of the open attempt's own has its room reserved, another needs one more.
     /// After an error nothing has changed.
     pub fn make_room(&mut self, own: bool, kind: Kind) -> Result<(), AllocError>
-        ensures ok { OnOk result (HasRoom own kind self.old self.new) }
+        ensures ok { OnOk result (EntryHasRoom own kind self.old self.new) }
         ensures err { OnErr result ((own ≡ false) × (self.new ≡ self.old)) }
     {
         if own {
@@ -307,7 +307,7 @@ impl<'m> History<'m> {
 
     /// The notifiers and the other processors.
     pub fn platform(&self) -> &Platform
-        ensures { result.now ≡ steps_of self.now.machine (entries self.now.past) }
+        ensures { result.now ≡ platform_of self.now.machine (entries self.now.past) }
     {
         &self.components.platform
     }

@@ -16,7 +16,7 @@ ghost use Rattle.sleep_state.specs.Sleepers.{AreStopped, HasSlept, NoneSlept, is
 ghost use Rattle.async_board.specs.AtPoints.{board_at};
 ghost use Rattle.sleep_core.specs.Seen.{is_scheduled, is_rescheduled, is_ready_on};
 ghost use Rattle.script_plan.specs.Plans.{calls_before};
-ghost use Rattle.sleep_core.specs.Cores.{IsActor, with_entry, next_stamp, jump_entry};
+ghost use Rattle.sleep_core.specs.Cores.{IsActor, core_after, next_stamp, jump_entry};
 ghost use Rattle.sleep_core.specs.Histories.{last_stamp};
 
 use crate::state::Core;
@@ -58,7 +58,7 @@ impl<'m> Core<'m> {
         requires later { time_of (entries self.old.past) < to }
         requires small { to ≤ 2 ^ 63 }
         ensures ok { IfOk result (λ stamp. (stamp ≡ next_stamp self.old.past floor seen)
-            × (self.new ≡ with_entry self.old (jump_entry self.old.past seen to floor))) }
+            × (self.new ≡ core_after self.old (jump_entry self.old.past seen to floor))) }
         ensures err { OnErr result (self.new ≡ self.old) }
         ensures legal { JournalPart self.new.machine (entries self.new.past) }
     {
@@ -113,7 +113,7 @@ impl<'m> Core<'m> {
         ensures time { result ≡ time_of (entries self.now.past) }
         ensures small { result ≤ 2 ^ 63 }
     {
-        self.now()
+        self.time_ms()
     }
 
     /// How many entries the journal has. A journal has fewer than 2^63.
@@ -143,7 +143,7 @@ impl<'m> Core<'m> {
     pub fn are_stopped(&self) -> bool
         ensures { OnTrue result (AreStopped (positions (length self.now.machine.actors) (entries self.now.past)) (time_of (entries self.now.past))) }
     {
-        self.history.tasks().are_stopped(self.now())
+        self.history.tasks().are_stopped(self.time_ms())
     }
 
     /// Whether a script has exited, or sleeps to a moment that has not come.
@@ -151,18 +151,18 @@ impl<'m> Core<'m> {
         ensures { result ≡ is_stopped (position_at (positions (length self.now.machine.actors) (entries self.now.past)) script) (time_of (entries self.now.past)) }
     {
         let position = self.history.tasks().position(script);
-        position.exited || sleeps_past(position.until, self.now())
+        position.exited || sleeps_past(position.until, self.time_ms())
     }
 
     /// The next script after that one, or the first, whose sleep has come to its end, in an order of its own.
     /// If the search begins at the first and finds none, no script's has.
-    pub fn next_slept(&self, behind: Option<u32>) -> Option<u32>
+    pub fn next_slept(&self, after: Option<u32>) -> Option<u32>
         ensures found { IfSome result (λ script. HasSlept (positions (length self.now.machine.actors) (entries self.now.past)) script (time_of (entries self.now.past))) }
-        ensures none { behind ≡ None → result ≡ None → NoneSlept (positions (length self.now.machine.actors) (entries self.now.past)) (time_of (entries self.now.past)) }
+        ensures none { after ≡ None → result ≡ None → NoneSlept (positions (length self.now.machine.actors) (entries self.now.past)) (time_of (entries self.now.past)) }
     {
         // A machine has fewer than 2^32 scripts.
         let _scripts = self.scripts();
-        self.history.tasks().next_slept(behind, self.now())
+        self.history.tasks().next_slept(after, self.time_ms())
     }
 
     /// The devices that depend directly on one: its children, then its consumers, each once.

@@ -6,7 +6,7 @@ ghost use Rattle.sleep_model.specs.Devices.{callback, device_error, phase_failed
 ghost use Rattle.sleep_model.specs.Runtime.{runtime_due};
 ghost use Rattle.sleep_state.specs.JournalRooms.{entries};
 ghost use Rattle.phase_prepare.specs.AtPoints.{prepare_number};
-ghost use Rattle.sleep_core.specs.Seen.{AreSeen};
+ghost use Rattle.sleep_core.specs.Seen.{IsDownEnvOf};
 
 use crate::state::Core;
 use phase_suspend::{Down, DownEnv};
@@ -27,8 +27,8 @@ impl<'m> Core<'m> {
         ensures { result ≡ down_due self.now.machine (entries self.now.past) now p None }
     {
         let down = Down {
-            failed: self.phase_failed(),
-            own: self.own_error(),
+            async_error: self.phase_failed(),
+            error: self.own_error(),
         };
         down.walk_due(&self.down_env(now), p)
     }
@@ -39,23 +39,23 @@ impl<'m> Core<'m> {
         ensures { result ≡ scheduled_due self.now.machine (entries self.now.past) now p device }
     {
         let down = Down {
-            failed: self.phase_failed(),
-            own: self.own_error(),
+            async_error: self.phase_failed(),
+            error: self.own_error(),
         };
         down.device_due(&self.down_env(now), p, device)
     }
 
     /// What a phase on the way down looks at.
     fn down_env(&self, now: EventNow) -> DownEnv<'_>
-        ensures { AreSeen self.now now result }
+        ensures { IsDownEnvOf self.now now result }
     {
         let devices = self.history.devices();
         DownEnv {
             board: self.board(),
             asks_direct: devices.asks_direct(),
-            statuses: devices.statuses(),
-            wakeup: &self.wakeup,
-            pending: self.pending(now),
+            runtime_suspended: devices.statuses(),
+            may_wakeup: &self.wakeup,
+            wakeup_pending: self.pending(now),
         }
     }
 

@@ -9,7 +9,7 @@ use crate::state::Core;
 use device_links::Links;
 use device_rows::Flags;
 use machine_plans::MachinePlans;
-use sleep_base::{Mem, lost};
+use sleep_base::{Mem, drop_for_mem};
 use sleep_model::{Device, DeviceFlags};
 use std::alloc::Global;
 
@@ -38,13 +38,13 @@ impl<'m> Core<'m> {
     {
         let machine = plans.machine();
         let Ok(wakeup) = wakeup_of(alloc, machine.devices.as_slice()) else {
-            return Err(lost(links));
+            return Err(drop_for_mem(links));
         };
         let Ok(reports) = Reports::new(alloc, machine.actors.len(), machine.devices.len()) else {
-            return Err(lost((links, wakeup)));
+            return Err(drop_for_mem((links, wakeup)));
         };
         let Ok(history) = History::new(alloc, machine, links) else {
-            return Err(lost((wakeup, reports)));
+            return Err(drop_for_mem((wakeup, reports)));
         };
         Ok(Core {
             history,

@@ -46,7 +46,7 @@ impl<'m> Core<'m> {
     ghost use Rattle.sleep_model.specs.Lock.{holder, is_on};
     ghost use Rattle.sleep_model.specs.Marks.{mark_at, raised};
     ghost use Rattle.sleep_core.specs.Steps.{IsKindOf};
-    ghost use Rattle.sleep_model.specs.Notifiers.{next_called, next_stopped};
+    ghost use Rattle.sleep_model.specs.Notifiers.{next_notified, next_syscore_suspended};
     ghost use Rattle.sleep_model.specs.Table.{stage_of};
     ghost use Rattle.task_freezer.specs.Freezers.{IsLeft, round_of};
     ghost use Rattle.sleep_core.specs.Stages.{IsProper};
@@ -85,7 +85,7 @@ impl<'m> Core<'m> {
     }
 
     /// The time of the last jump, in ms.
-    pub(crate) fn now(&self) -> u64
+    pub(crate) fn time_ms(&self) -> u64
         ensures is { result ≡ time_of (entries self.now.past) }
         ensures early { result ≤ 2 ^ 63 }
     {
@@ -179,7 +179,7 @@ impl<'m> Core<'m> {
         requires { since ≤ 2 ^ 63 }
         ensures { result ≡ round_of since (time_of (entries self.now.past)) (left self.now.machine group (entries self.now.past)) }
     {
-        self.history.freezer().round(group, since, self.now())
+        self.history.freezer().round(group, since, self.time_ms())
     }
 
     /// The tasks that a freeze of the group still waits for.
@@ -200,15 +200,15 @@ impl<'m> Core<'m> {
     }
 
     /// The notifier that hears next of the attempt.
-    pub(crate) fn next_called(&self) -> Option<u32>
-        ensures { result ≡ next_called self.now.machine (entries self.now.past) }
+    pub(crate) fn next_notified(&self) -> Option<u32>
+        ensures { result ≡ next_notified self.now.machine (entries self.now.past) }
     {
-        self.history.platform().next_called()
+        self.history.platform().next_notified()
     }
 
     /// The core's part that is suspended next.
-    pub(crate) fn next_stopped(&self) -> Option<u32>
-        ensures { result ≡ next_stopped self.now.machine (entries self.now.past) }
+    pub(crate) fn next_syscore_suspended(&self) -> Option<u32>
+        ensures { result ≡ next_syscore_suspended self.now.machine (entries self.now.past) }
     {
         self.history.syscore().next()
     }

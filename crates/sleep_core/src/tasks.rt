@@ -72,8 +72,8 @@ impl<'m> Core<'m> {
                 let text = text.as_slice();
                 write_autosleep(self.is_held(), position.waits, is_mem(text), is_off(text))
             }
-            Op::Sleep { ms } => steps::sleep_due(*ms, position, self.now()),
-            Op::SleepD { ms } => steps::sleep_d_due(*ms, position, self.now()),
+            Op::Sleep { ms } => steps::sleep_due(*ms, position, self.time_ms()),
+            Op::SleepD { ms } => steps::sleep_d_due(*ms, position, self.time_ms()),
             Op::FreezePoint => Due::Makes(Kind::Pass),
             Op::Post { mark } => Due::Makes(Kind::Post(*mark)),
             Op::Wait { mark } => steps::mark_due(*mark, self.raised(*mark)),

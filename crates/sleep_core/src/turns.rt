@@ -15,10 +15,10 @@ ghost use Rattle.sleep_model.specs.Path.{attempts, attempts_after, is_actor, mak
 ghost use Rattle.sleep_state.specs.TaskStates.{MarksAreSmall};
 ghost use Rattle.sleep_model.specs.Word.{position};
 ghost use Rattle.sleep_state.specs.JournalRooms.{entries};
-ghost use Rattle.sleep_core.specs.Cores.{IsActor, with_entry, next_stamp, jump_entry};
+ghost use Rattle.sleep_core.specs.Cores.{IsActor, core_after, next_stamp, jump_entry};
 ghost use Rattle.sleep_core.specs.Histories.{IsOfDevice, IsOfNone, last_stamp};
 ghost use Rattle.event_word.specs.Looks.{IsShown, GrewTo};
-ghost use Rattle.sleep_core.specs.Numbered.{Leaves, IsCounted};
+ghost use Rattle.sleep_core.specs.Numbered.{NumbersStayInRange, IsCounted};
 ghost use Rattle.sleep_core.specs.Turned.{AfterTurn};
 
 use crate::state::Core;
@@ -103,7 +103,7 @@ impl<'m> Core<'m> {
 
     /// Whether the numbers that an entry raises stay in their ranges.
     fn leaves(&self, kind: Kind) -> bool
-        ensures fits { OnTrue result (Leaves self.now.machine kind (entries self.now.past)) }
+        ensures fits { OnTrue result (NumbersStayInRange self.now.machine kind (entries self.now.past)) }
         ensures counted { OnFalse result (IsCounted kind) }
     {
         self.leaves_attempts(kind) && self.leaves_runs(kind) && self.leaves_marks(kind)
@@ -140,7 +140,7 @@ impl<'m> Core<'m> {
         requires actor { IsActor self.old.machine who }
         requires due { due self.old.machine (entries self.old.past) who now ≡ Makes kind }
         requires calls { calls_due self.old.machine who (entries self.old.past) < 2 ^ 32 }
-        ensures { self.new ≡ with_entry self.old (record {
+        ensures { self.new ≡ core_after self.old (record {
           stamp = stamp;
           entry = record { time = time_of (entries self.old.past); now = now; actor = who; kind = kind };
         }) }
@@ -165,7 +165,7 @@ impl<'m> Core<'m> {
         requires makes { makes ≡ is_actor who (maker (entries self.old.past)) }
         requires actor { IsActor self.old.machine who }
         requires due { due self.old.machine (entries self.old.past) who now ≡ Makes kind }
-        ensures ok { OnOk result (self.new ≡ with_entry self.old (record {
+        ensures ok { OnOk result (self.new ≡ core_after self.old (record {
           stamp = stamp;
           entry = record { time = time_of (entries self.old.past); now = now; actor = who; kind = kind };
         })) }
@@ -202,7 +202,7 @@ impl<'m> Core<'m> {
         requires actor { IsActor self.old.machine who }
         requires due { due self.old.machine (entries self.old.past) who now ≡ Makes kind }
         requires calls { calls_due self.old.machine who (entries self.old.past) < 2 ^ 32 }
-        ensures ok { OnOk result (self.new ≡ with_entry self.old (record {
+        ensures ok { OnOk result (self.new ≡ core_after self.old (record {
           stamp = stamp;
           entry = record { time = time_of (entries self.old.past); now = now; actor = who; kind = kind };
         })) }

@@ -20,7 +20,7 @@ use Rattle.sleep_model.specs.declared.word.EventNow.{EventNow}
 use Rattle.phase_table.specs.declared.phase.Phase.{Phase}
 use Rattle.phase_table.specs.declared.phase.Phase.TheVariants as phase
 use Rattle.phase_table.specs.Phases.{mirror, is_down, is_up}
-use Rattle.sleep_model.specs.Devices.{callback, phase_failed, is_async_device, state_in, waits_below, waits_above}
+use Rattle.sleep_model.specs.Devices.{callback, phase_failed, is_async_device, state_in, waits_for_subordinates, waits_above}
 use Rattle.sleep_model.specs.Laws.{DependentsFirst, SuppliersFirst, Owed, Restored, EntersDown, NoneIsInPhase, may_come_up, is_resuming, is_back, is_back_in_all, is_asleep}
 use Rattle.sleep_model.specs.Legal.{JournalPart}
 use Rattle.sleep_model.specs.Order.{order, below, above, is_among}
@@ -67,7 +67,7 @@ through_well state.Scheduled h u = absurd (true≢false u)
 through_well state.Suspending h u = absurd (true≢false u)
 through_well _ h u = never h
 
-below_well : (m : Machine) (past : List Entry) (moods : Phase → Mood) (full : Bool) (p : Phase) (d : ℕ) → Fines m past moods full → Down p → moods p ≡ Going → phase_failed past ≡ None → waits_below m past p d ≡ None → list_all (λ e. is_down_or_direct (state_in m past p e)) (below m past d) ≡ true
+below_well : (m : Machine) (past : List Entry) (moods : Phase → Mood) (full : Bool) (p : Phase) (d : ℕ) → Fines m past moods full → Down p → moods p ≡ Going → phase_failed past ≡ None → waits_for_subordinates m past p d ≡ None → list_all (λ e. is_down_or_direct (state_in m past p e)) (below m past d) ≡ true
 below_well m past moods full p d h i g f w =
     all_pass (λ e. is_down_or_direct (state_in m past p e)) (below m past d) (λ x b.
     let goes : when_going (errs past) (at (three m past x) p) ≡ true = subst (λ (a : Mood). allows a (errs past) (at (three m past x) p) ≡ true) g ((h x).allowed p i) in
@@ -335,14 +335,14 @@ in_ups _ _ e InSuspend h = never h
 in_ups _ _ e InLate h = never h
 in_ups _ _ e InNoirq h = never h
 
-in_platform_down : (a : PlatDo) (q : Phase) (e : Bool) → Down q → allows (mood (stage.PlatformDown a) q) e state.Scheduled ≡ true → ⊥
+in_platform_down : (a : PlatDo) (q : Phase) (e : Bool) → Down q → allows (mood (stage.PlatformDo a) q) e state.Scheduled ≡ true → ⊥
 in_platform_down down.Begin _ e i h = never h
 in_platform_down down.Prepare _ e InSuspend h = never h
 in_platform_down down.Prepare _ e InLate h = never h
 in_platform_down down.Prepare _ e InNoirq h = never h
 in_platform_down down.PrepareLate _ e i h = never h
 
-in_platform_up : (a : PlatUndo) (q : Phase) (e : Bool) → Down q → allows (mood (stage.PlatformUp a) q) e state.Scheduled ≡ true → ⊥
+in_platform_up : (a : PlatUndo) (q : Phase) (e : Bool) → Down q → allows (mood (stage.PlatformUndo a) q) e state.Scheduled ≡ true → ⊥
 in_platform_up undo.Recover _ e InSuspend h = never h
 in_platform_up undo.Recover _ e InLate h = never h
 in_platform_up undo.Recover _ e InNoirq h = never h
@@ -355,8 +355,8 @@ in_platform_up undo.End _ e i h = never h
 scheduled_at : (st : Option Stage) (q : Phase) (e : Bool) → Down q → allows (mood_if st q) e state.Scheduled ≡ true → st ≡ Some (stage.Downs q)
 scheduled_at (Some (stage.Downs p)) q e i h = ap Some (in_downs p q e i h)
 scheduled_at (Some (stage.Ups p)) q e i h = absurd (in_ups p q e i h)
-scheduled_at (Some (stage.PlatformDown a)) q e i h = absurd (in_platform_down a q e i h)
-scheduled_at (Some (stage.PlatformUp a)) q e i h = absurd (in_platform_up a q e i h)
+scheduled_at (Some (stage.PlatformDo a)) q e i h = absurd (in_platform_down a q e i h)
+scheduled_at (Some (stage.PlatformUndo a)) q e i h = absurd (in_platform_up a q e i h)
 scheduled_at None q e i h = never h
 scheduled_at (Some _) q e i h = never h
 

@@ -31,11 +31,11 @@ is_scheduled _ = false
 -- all devices of the order are prepared at these stages: from the way down on until a failure or the entering
 abbrev pub is_full : Stage → Bool
 is_full (stage.Downs p) = true
-is_full (stage.PlatformDown down.Prepare) = true
-is_full (stage.PlatformDown down.PrepareLate) = true
+is_full (stage.PlatformDo down.Prepare) = true
+is_full (stage.PlatformDo down.PrepareLate) = true
 is_full stage.StopsCpus = true
 is_full stage.StopsIrqs = true
-is_full stage.Checks = true
+is_full stage.ChecksWakeup = true
 is_full stage.StopsSyscore = true
 is_full stage.Enters = true
 is_full _ = false

@@ -32,12 +32,12 @@ use Rattle.phase_table.specs.declared.phase.Phase.{Phase}
 use Rattle.phase_table.specs.declared.phase.Phase.TheVariants as phase
 use Rattle.phase_table.specs.Phases.{mirror}
 use Rattle.sleep_model.specs.Attempt.{sleep_of, freeze_since, freeze_due, enter_due, if_left, or_next, stage_due, stage_or_next, due_at, attempt_due, gives_up_at, cpu_kind, failed}
-use Rattle.sleep_model.specs.Devices.{callback, phase_failed, is_async_device, state_in, waits_below, waits_down, waits_above, waits_up, next_down, next_up, next_to_schedule, next_prepared, next_completed, async_work, work_by, work_in, down_due, walk_down, take_down, phase_error, up_due, walk_up, prepare_due, complete_due, device_due, scheduled_due, after_device, taken, unless_failed}
+use Rattle.sleep_model.specs.Devices.{callback, phase_failed, is_async_device, state_in, waits_for_subordinates, waits_down, waits_above, waits_up, next_down, next_up, next_to_schedule, next_prepared, next_completed, async_work, work_by, work_in, down_due, walk_down, take_down, phase_error, up_due, walk_up, prepare_due, complete_due, device_due, scheduled_due, after_device, taken, unless_failed}
 use Rattle.sleep_model.specs.Due.{due, own_due}
 use Rattle.sleep_model.specs.Legal.{JournalPart, is_made, is_enabled, none_enabled, none_expires, is_idle, sooner, next_time, journal_time, alarm_at, deadline_at, pending_nap, next_sleep, next_expiry}
 use Rattle.sleep_model.specs.Numbers.{time_of}
 use Rattle.sleep_model.specs.Order.{order, below, above, is_among}
-use Rattle.sleep_model.specs.Notifiers.{next_called, next_cpu_off, next_stopped, next_started, next_cpu_on, next_posted}
+use Rattle.sleep_model.specs.Notifiers.{next_notified, next_cpu_off, next_syscore_suspended, next_syscore_resumed, next_cpu_on, next_post_notified}
 use Rattle.sleep_model.specs.Path.{attempts, maker, maker_after, is_actor, is_same}
 use Rattle.sleep_model.specs.Calls.{calls_due, made, is_calling}
 use Rattle.sleep_model.specs.Guard.{pending}
@@ -175,7 +175,7 @@ module _ (m : Machine) (past : List Entry) (ranks : IsRanked m past) (now : Even
           let w : async_work m past g ≡ Within p = work_at m past (in_down p) true h.0 p i (down_settled p i) g state.Suspending (Within p) (λ other. refl) e a in
           true≢false (subst (λ (x : AsyncWork). is_made (device_due m past now g x) ≡ false) w (stuck g o a))
 
-      waits : (e : ℕ) → is_among (order m past) g ≡ true → state_in m past p g ≡ state.Scheduled → waits_below m past p g ≡ Some e → ⊥
+      waits : (e : ℕ) → is_among (order m past) g ≡ true → state_in m past p g ≡ state.Scheduled → waits_for_subordinates m past p g ≡ Some e → ⊥
       waits e o s w =
           let f : Found (λ x. is_not_down (state_in m past p x)) (below m past g) e = first_found (λ x. is_not_down (state_in m past p x)) (below m past g) e w in
           let b : After (order m past) g e = order_after (below m past) (order m past) ranks g e o f.among in
@@ -189,10 +189,10 @@ module _ (m : Machine) (past : List Entry) (ranks : IsRanked m past) (now : Even
           let a : is_async_device m g ≡ true = (h.0 g).scheduled p i (ap is_scheduled (at_is m past p g i ∙ e)) in
           let w : async_work m past g ≡ Scheduled p = work_at m past (in_down p) true h.0 p i (down_settled p i) g state.Scheduled (Scheduled p) (λ other. refl) e a in
           let s : is_made (scheduled_due m past now p g) ≡ false = subst (λ (x : AsyncWork). is_made (device_due m past now g x) ≡ false) w (stuck g o a) in
-          let d = waits_made (waits_below m past p g) (unless_failed (phase_failed past) p g (taken m past now p g)) (down_scheduled p i s) in
+          let d = waits_made (waits_for_subordinates m past p g) (unless_failed (phase_failed past) p g (taken m past now p g)) (down_scheduled p i s) in
           waits d.0 o e d.1
         where
-          down_scheduled : (p : Phase) → Down p → is_made (scheduled_due m past now p g) ≡ false → is_made (after_device (waits_below m past p g) (turn.Makes (unless_failed (phase_failed past) p g (taken m past now p g)))) ≡ false
+          down_scheduled : (p : Phase) → Down p → is_made (scheduled_due m past now p g) ≡ false → is_made (after_device (waits_for_subordinates m past p g) (turn.Makes (unless_failed (phase_failed past) p g (taken m past now p g)))) ≡ false
           down_scheduled _ InSuspend x = x
           down_scheduled _ InLate x = x
           down_scheduled _ InNoirq x = x
@@ -219,7 +219,7 @@ module _ (m : Machine) (past : List Entry) (ranks : IsRanked m past) (now : Even
   take_goes : (d : ℕ) → next_down m past p ≡ Some d → is_made (take_down m past now p d) ≡ false → ⊥
   take_goes d n e = by_async (is_async_device m d) e
     where
-      below_goes : (x : ℕ) → waits_below m past p d ≡ Some x → ⊥
+      below_goes : (x : ℕ) → waits_for_subordinates m past p d ≡ Some x → ⊥
       below_goes x w =
           let t : Found (λ y. is_ready (state_in m past p y)) (order m past) d = last_found (λ y. is_ready (state_in m past p y)) (order m past) d n in
           let f : Found (λ y. is_not_down (state_in m past p y)) (below m past d) x = first_found (λ y. is_not_down (state_in m past p y)) (below m past d) x w in
@@ -227,9 +227,9 @@ module _ (m : Machine) (past : List Entry) (ranks : IsRanked m past) (now : Even
           let o : is_among (order m past) x ≡ true = after_last_word (order m past) d x b in
           none_goes x o (not_down_goes (state_in m past p x) f.passes (prepared x o) (last_after (λ y. is_ready (state_in m past p y)) (order m past) apart d x n b))
 
-      by_async : (b : Bool) → is_made (cond b (turn.Makes (kind.Schedule p d)) (after_device (waits_below m past p d) (turn.Makes (taken m past now p d)))) ≡ false → ⊥
+      by_async : (b : Bool) → is_made (cond b (turn.Makes (kind.Schedule p d)) (after_device (waits_for_subordinates m past p d) (turn.Makes (taken m past now p d)))) ≡ false → ⊥
       by_async true x = true≢false x
-      by_async false x = let w = waits_made (waits_below m past p d) (taken m past now p d) x in below_goes w.0 w.1
+      by_async false x = let w = waits_made (waits_for_subordinates m past p d) (taken m past now p d) x in below_goes w.0 w.1
 
   -- the walk down goes on
   down_goes : is_made (down_due m past now p (callback past)) ≡ false → ⊥
@@ -408,18 +408,18 @@ module _ (m : Machine) (past : List Entry) (ranks : IsRanked m past) (now : Even
 
   -- at each stage something is made
   stage_goes : (s : Stage) → stage_of past ≡ Some s → Proper s → is_made (stage_or_next m past now s) ≡ false → ⊥
-  stage_goes stage.Notifies at p e = freeze_goes group.User (left_made _ (next_called m past) (freeze_due m past now group.User (freeze_since past)) e)
+  stage_goes stage.Notifies at p e = freeze_goes group.User (left_made _ (next_notified m past) (freeze_due m past now group.User (freeze_since past)) e)
   stage_goes (stage.Freezes g) at p e = freeze_goes g (first_made (freeze_due m past now g (freeze_since past)) (stage_due m past now (next_stage (stage.Freezes g))) e)
   stage_goes stage.Prepares at p e = prepare_goes m past (phase_failed past) (next_prepared m past) (first_made (prepare_due m past (phase_failed past) (next_prepared m past)) (stage_due m past now (next_stage stage.Prepares)) e)
   stage_goes (stage.Downs p) at i e = walk_down_goes p at i (first_made (down_due m past now p (callback past)) (stage_due m past now (next_stage (stage.Downs p))) e)
   stage_goes stage.StopsCpus at p e = true≢false (left_made (cpu_kind (pending past now)) (next_cpu_off m past) (turn.Makes (kind.Irqs false)) e)
-  stage_goes stage.StopsSyscore at p e = enter_goes (left_made _ (next_stopped m past) (enter_due m past now (sleep_of past)) e)
+  stage_goes stage.StopsSyscore at p e = enter_goes (left_made _ (next_syscore_suspended m past) (enter_due m past now (sleep_of past)) e)
   stage_goes stage.Enters at p e = enter_goes (first_made (enter_due m past now (sleep_of past)) (stage_due m past now (next_stage stage.Enters)) e)
-  stage_goes stage.StartsSyscore at p e = true≢false (left_made kind.SyscoreResume (next_started m past) (turn.Makes (kind.Irqs true)) e)
+  stage_goes stage.StartsSyscore at p e = true≢false (left_made kind.SyscoreResume (next_syscore_resumed m past) (turn.Makes (kind.Irqs true)) e)
   stage_goes stage.StartsCpus at p e = true≢false (left_made kind.CpuOn (next_cpu_on m past) (turn.Makes (kind.PlatformUndo undo.Wake)) e)
   stage_goes (stage.Ups p) at i e = walk_up_goes p at i (first_made (up_due m past p (callback past)) (stage_due m past now (next_stage (stage.Ups p))) e)
   stage_goes stage.Completes at p e = complete_goes (next_completed m past) (first_made (complete_due (next_completed m past)) (stage_due m past now (next_stage stage.Completes)) e)
-  stage_goes stage.Posts at p e = true≢false (left_made kind.NotifyPost (next_posted m past) (turn.Makes (kind.Over (attempts past) (failed past))) e)
+  stage_goes stage.NotifiesPost at p e = true≢false (left_made kind.NotifyPost (next_post_notified m past) (turn.Makes (kind.Over (attempts past) (failed past))) e)
   stage_goes _ at p e = true≢false e
 
 -- ---- the maker

@@ -10,7 +10,7 @@ use Rattle.sleep_model.specs.declared.entry.Kind.{Kind}
 use Rattle.sleep_model.specs.declared.entry.Kind.TheVariants as kind
 use Rattle.sleep_model.specs.declared.machine.Machine.{Machine}
 use Rattle.sleep_model.specs.declared.machine.Notifier.{Notifier}
-use Rattle.sleep_model.specs.Notifiers.{Ranked, put_ranked, ranked_from, numbers_of, call_order, set_unless, notified, notified_after, notified_flags, cpus_off, cpus_off_after, stopped, stopped_after, next_posted, next_cpu_on, next_started, other_cpus, syscore_steps}
+use Rattle.sleep_model.specs.Notifiers.{Ranked, put_ranked, ranked_from, numbers_of, call_order, set_unless, notified, notified_after, notified_flags, cpus_off, cpus_off_after, stopped, stopped_after, next_post_notified, next_cpu_on, next_syscore_resumed, other_cpus, syscore_steps}
 use Rattle.sleep_model.specs.Order.{is_among}
 use Rattle.sleep_model.specs.Walk.{is_so, first_where, last_where, or_else}
 use Rattle.sleep_laws.proofs.Telling.{some≢none, none≢some, some_is}
@@ -180,14 +180,14 @@ not_true true e = absurd (true≢false (sym e))
 not_true false e = refl
 
 -- if no notifier is owed its post, none is notified
-pub none_notified : (m : Machine) (past : List Entry) → next_posted m past ≡ None → notified_flags m past ≡ replicate (length m.notifiers) false
+pub none_notified : (m : Machine) (past : List Entry) → next_post_notified m past ≡ None → notified_flags m past ≡ replicate (length m.notifiers) false
 none_notified m past e =
     let all : list_all (λ x. not (is_so (notified_flags m past) x)) (call_order m) ≡ true = first_none (is_so (notified_flags m past)) (call_order m) e in
     cleared (notified_flags m past) (length m.notifiers) (notified_flags_length (length m.notifiers) past)
     (λ k l. not_true (is_so (notified_flags m past) k) (all_at (λ x. not (is_so (notified_flags m past) x)) (call_order m) k all (ranked_all 0 m.notifiers k (omega arith) (omega arith))))
 
 -- if no part of the core is to be resumed, none is suspended
-pub none_stopped : (m : Machine) (past : List Entry) → next_started m past ≡ None → stopped (length m.syscore) past ≡ replicate (length m.syscore) false
+pub none_stopped : (m : Machine) (past : List Entry) → next_syscore_resumed m past ≡ None → stopped (length m.syscore) past ≡ replicate (length m.syscore) false
 none_stopped m past e =
     let flags : List Bool = stopped (length m.syscore) past in
     let all : list_all (λ x. not (is_so flags x)) (syscore_steps m) ≡ true = first_none (is_so flags) (syscore_steps m) e in

@@ -37,12 +37,12 @@ use Rattle.sleep_laws.proofs.MakingOwn.{by_maker, entry_made}
 abbrev pub InForceAt : Stage → Option Errno → Option ℕ → Option ℕ → Type 0
 InForceAt stage.Notifies error guard force = force ≡ guard
 InForceAt (stage.Freezes g) error guard force = force ≡ guard
-InForceAt (stage.PlatformDown step) error guard force = force ≡ guard
+InForceAt (stage.PlatformDo step) error guard force = force ≡ guard
 InForceAt stage.Prepares error guard force = force ≡ guard
 InForceAt (stage.Downs p) error guard force = error ≡ None → force ≡ guard
 InForceAt stage.StopsCpus error guard force = force ≡ guard
 InForceAt stage.StopsIrqs error guard force = force ≡ guard
-InForceAt stage.Checks error guard force = force ≡ guard
+InForceAt stage.ChecksWakeup error guard force = force ≡ guard
 InForceAt stage.StopsSyscore error guard force = force ≡ guard
 InForceAt stage.Enters error guard force = force ≡ guard
 InForceAt _ error guard force = Unit {0}

@@ -19,7 +19,7 @@ use Rattle.sleep_laws.proofs.Made.{Made, Comes, DeviceMade, EntryMade, PastNotif
 
 -- interrupts are off at that stage (arch_suspend_disable_irqs)
 abbrev pub irqs_at : Option Stage → Bool
-irqs_at (Some stage.Checks) = true
+irqs_at (Some stage.ChecksWakeup) = true
 irqs_at (Some stage.StopsSyscore) = true
 irqs_at (Some stage.Enters) = true
 irqs_at (Some stage.StartsSyscore) = true
@@ -31,10 +31,10 @@ abbrev pub begun_at : Option Stage → Bool
 begun_at None = false
 begun_at (Some stage.Notifies) = false
 begun_at (Some (stage.Freezes g)) = false
-begun_at (Some (stage.PlatformDown down.Begin)) = false
-begun_at (Some stage.Clears) = false
+begun_at (Some (stage.PlatformDo down.Begin)) = false
+begun_at (Some stage.ClearsSavedCount) = false
 begun_at (Some (stage.Thaws those)) = false
-begun_at (Some stage.Posts) = false
+begun_at (Some stage.NotifiesPost) = false
 begun_at (Some stage.Ends) = false
 begun_at _ = true
 
@@ -42,17 +42,17 @@ begun_at _ = true
 abbrev pub prepared_at : Option Stage → Bool
 prepared_at (Some (stage.Downs phase.Late)) = true
 prepared_at (Some (stage.Downs phase.Noirq)) = true
-prepared_at (Some (stage.PlatformDown down.PrepareLate)) = true
+prepared_at (Some (stage.PlatformDo down.PrepareLate)) = true
 prepared_at (Some stage.StopsCpus) = true
 prepared_at (Some stage.StopsIrqs) = true
-prepared_at (Some stage.Checks) = true
+prepared_at (Some stage.ChecksWakeup) = true
 prepared_at (Some stage.StopsSyscore) = true
 prepared_at (Some stage.Enters) = true
 prepared_at (Some stage.StartsSyscore) = true
 prepared_at (Some stage.StartsIrqs) = true
 prepared_at (Some stage.StartsCpus) = true
-prepared_at (Some (stage.PlatformUp undo.Wake)) = true
-prepared_at (Some (stage.PlatformUp undo.Finish)) = true
+prepared_at (Some (stage.PlatformUndo undo.Wake)) = true
+prepared_at (Some (stage.PlatformUndo undo.Finish)) = true
 prepared_at (Some (stage.Ups phase.ResumeNoirq)) = true
 prepared_at (Some (stage.Ups phase.Early)) = true
 prepared_at _ = false
@@ -61,13 +61,13 @@ prepared_at _ = false
 abbrev pub late_at : Option Stage → Bool
 late_at (Some stage.StopsCpus) = true
 late_at (Some stage.StopsIrqs) = true
-late_at (Some stage.Checks) = true
+late_at (Some stage.ChecksWakeup) = true
 late_at (Some stage.StopsSyscore) = true
 late_at (Some stage.Enters) = true
 late_at (Some stage.StartsSyscore) = true
 late_at (Some stage.StartsIrqs) = true
 late_at (Some stage.StartsCpus) = true
-late_at (Some (stage.PlatformUp undo.Wake)) = true
+late_at (Some (stage.PlatformUndo undo.Wake)) = true
 late_at _ = false
 
 -- interrupts and the platform are as the stage says

@@ -32,13 +32,13 @@ use Rattle.phase_table.specs.declared.phase.Phase.TheVariants as phase
 use Rattle.phase_table.specs.Phases.{mirror, tests_wakeup}
 use Rattle.sleep_model.specs.Attempt.{failed, freeze_since, sleep_of, sleeps_now}
 use Rattle.sleep_model.specs.Autosleep.{work, seen_count}
-use Rattle.sleep_model.specs.Devices.{callback, phase_failed, phase_error, is_direct, is_async_device, state_in, waits_below, waits_above, waits_down, waits_up, next_down, next_to_schedule, next_up, next_prepared, next_completed, async_work}
+use Rattle.sleep_model.specs.Devices.{callback, phase_failed, phase_error, is_direct, is_async_device, state_in, waits_for_subordinates, waits_above, waits_down, waits_up, next_down, next_to_schedule, next_up, next_prepared, next_completed, async_work}
 use Rattle.sleep_model.specs.Due.{is_over}
 use Rattle.sleep_model.specs.Freezer.{freezing, left}
 use Rattle.sleep_model.specs.Guard.{in_force, pending}
 use Rattle.sleep_model.specs.Links.{link_add_due, link_state_due}
 use Rattle.sleep_model.specs.Lock.{holder, is_on}
-use Rattle.sleep_model.specs.Notifiers.{next_called, next_posted, next_cpu_off, next_cpu_on, next_stopped, next_started}
+use Rattle.sleep_model.specs.Notifiers.{next_notified, next_post_notified, next_cpu_off, next_cpu_on, next_syscore_suspended, next_syscore_resumed}
 use Rattle.sleep_model.specs.Numbers.{time_of}
 use Rattle.sleep_model.specs.Path.{attempts, maker, is_actor}
 use Rattle.sleep_model.specs.Runtime.{runtime_due}
@@ -70,7 +70,7 @@ pub record AtTurn (m : Machine) (past : List Entry) (p : Phase) (d : ℕ) : Type
   pub well : phase_failed past ≡ None
   pub next : next_down m past p ≡ Some d
   pub beside : is_async_device m d ≡ false
-  pub waits : waits_below m past p d ≡ None
+  pub waits : waits_for_subordinates m past p d ≡ None
 
 -- a phase on the way down ends by an error
 pub record Breaks (m : Machine) (past : List Entry) (p : Phase) (r : Errno) : Type 0 where
@@ -96,8 +96,8 @@ pub record Rises (m : Machine) (past : List Entry) (p : Phase) : Type 0 where
 
 -- what the maker makes at a stage, which has something left
 pub data Made (m : Machine) (past : List Entry) (now : EventNow) : Stage → Kind → Type 0 where
-  Notifies : (x : ℕ) → next_called m past ≡ Some x → Made m past now stage.Notifies (kind.NotifyPrepare x None)
-  NotifyFails : (x : ℕ) (r : Errno) → next_called m past ≡ Some x → Made m past now stage.Notifies (kind.NotifyPrepare x (Some r))
+  Notifies : (x : ℕ) → next_notified m past ≡ Some x → Made m past now stage.Notifies (kind.NotifyPrepare x None)
+  NotifyFails : (x : ℕ) (r : Errno) → next_notified m past ≡ Some x → Made m past now stage.Notifies (kind.NotifyPrepare x (Some r))
   FreezesUser : freeze_since past ≡ None → Made m past now (stage.Freezes group.User) (kind.Freeze group.User)
   FreezesKernel : freeze_since past ≡ None → Made m past now (stage.Freezes group.Kernel) (kind.Freeze group.Kernel)
   FrozeUser : (since : ℕ) → freeze_since past ≡ Some since → left m group.User past ≡ [] → Made m past now (stage.Freezes group.User) (kind.Froze group.User froze.AllFrozen)
@@ -106,12 +106,12 @@ pub data Made (m : Machine) (past : List Entry) (now : EventNow) : Stage → Kin
   KernelTimesOut : (since n x : ℕ) → freeze_since past ≡ Some since → Made m past now (stage.Freezes group.Kernel) (kind.Froze group.Kernel (froze.Timeout n x))
   UserWakes : (since n x : ℕ) → freeze_since past ≡ Some since → pending past now ≡ true → Made m past now (stage.Freezes group.User) (kind.Froze group.User (froze.Wakeup n x))
   KernelWakes : (since n x : ℕ) → freeze_since past ≡ Some since → pending past now ≡ true → Made m past now (stage.Freezes group.Kernel) (kind.Froze group.Kernel (froze.Wakeup n x))
-  PlatformBegins : Made m past now (stage.PlatformDown down.Begin) (kind.PlatformDo down.Begin None)
-  PlatformPrepares : Made m past now (stage.PlatformDown down.Prepare) (kind.PlatformDo down.Prepare None)
-  PlatformPreparesLate : Made m past now (stage.PlatformDown down.PrepareLate) (kind.PlatformDo down.PrepareLate None)
-  BeginFails : (r : Errno) → Made m past now (stage.PlatformDown down.Begin) (kind.PlatformDo down.Begin (Some r))
-  PrepareFails : (r : Errno) → Made m past now (stage.PlatformDown down.Prepare) (kind.PlatformDo down.Prepare (Some r))
-  PrepareLateFails : (r : Errno) → Made m past now (stage.PlatformDown down.PrepareLate) (kind.PlatformDo down.PrepareLate (Some r))
+  PlatformBegins : Made m past now (stage.PlatformDo down.Begin) (kind.PlatformDo down.Begin None)
+  PlatformPrepares : Made m past now (stage.PlatformDo down.Prepare) (kind.PlatformDo down.Prepare None)
+  PlatformPreparesLate : Made m past now (stage.PlatformDo down.PrepareLate) (kind.PlatformDo down.PrepareLate None)
+  BeginFails : (r : Errno) → Made m past now (stage.PlatformDo down.Begin) (kind.PlatformDo down.Begin (Some r))
+  PrepareFails : (r : Errno) → Made m past now (stage.PlatformDo down.Prepare) (kind.PlatformDo down.Prepare (Some r))
+  PrepareLateFails : (r : Errno) → Made m past now (stage.PlatformDo down.PrepareLate) (kind.PlatformDo down.PrepareLate (Some r))
   Prepares : (d : ℕ) (r : ℤ) → phase_failed past ≡ None → next_prepared m past ≡ Some d → Made m past now stage.Prepares (kind.Prepare d r)
   PreparesNot : (r : Errno) → phase_failed past ≡ Some r → Made m past now stage.Prepares (kind.Done phase.Prepare (Some r))
   Prepared : phase_failed past ≡ None → next_prepared m past ≡ None → Made m past now stage.Prepares (kind.Done phase.Prepare None)
@@ -129,20 +129,20 @@ pub data Made (m : Machine) (past : List Entry) (now : EventNow) : Stage → Kin
   StopsCpu : (k : ℕ) → next_cpu_off m past ≡ Some k → pending past now ≡ false → Made m past now stage.StopsCpus (kind.CpuOff k)
   FindsCpu : (k : ℕ) → next_cpu_off m past ≡ Some k → pending past now ≡ true → Made m past now stage.StopsCpus (kind.CpuBusy k)
   StopsIrqs : Made m past now stage.StopsIrqs (kind.Irqs false)
-  Checks : pending past now ≡ false → Made m past now stage.Checks (kind.SyscoreCheck None)
-  FindsCheck : pending past now ≡ true → Made m past now stage.Checks (kind.SyscoreCheck (Some EBUSY))
-  StopsPart : (x : ℕ) → next_stopped m past ≡ Some x → Made m past now stage.StopsSyscore (kind.SyscoreSuspend x None)
-  PartFails : (x : ℕ) (r : Errno) → next_stopped m past ≡ Some x → Made m past now stage.StopsSyscore (kind.SyscoreSuspend x (Some r))
+  Checks : pending past now ≡ false → Made m past now stage.ChecksWakeup (kind.SyscoreCheck None)
+  FindsCheck : pending past now ≡ true → Made m past now stage.ChecksWakeup (kind.SyscoreCheck (Some EBUSY))
+  StopsPart : (x : ℕ) → next_syscore_suspended m past ≡ Some x → Made m past now stage.StopsSyscore (kind.SyscoreSuspend x None)
+  PartFails : (x : ℕ) (r : Errno) → next_syscore_suspended m past ≡ Some x → Made m past now stage.StopsSyscore (kind.SyscoreSuspend x (Some r))
   Enters : sleep_of past ≡ None → pending past now ≡ false → Made m past now stage.Enters (kind.Enter false)
   EntersNot : sleep_of past ≡ None → pending past now ≡ true → Made m past now stage.Enters (kind.Enter true)
   Wakes : (s : Sleep) (by_event : Bool) → sleep_of past ≡ Some s → Made m past now stage.Enters (kind.Wake by_event)
-  StartsPart : (x : ℕ) → next_started m past ≡ Some x → Made m past now stage.StartsSyscore (kind.SyscoreResume x)
+  StartsPart : (x : ℕ) → next_syscore_resumed m past ≡ Some x → Made m past now stage.StartsSyscore (kind.SyscoreResume x)
   StartsIrqs : Made m past now stage.StartsIrqs (kind.Irqs true)
   StartsCpu : (k : ℕ) → next_cpu_on m past ≡ Some k → Made m past now stage.StartsCpus (kind.CpuOn k)
-  PlatformWakes : Made m past now (stage.PlatformUp undo.Wake) (kind.PlatformUndo undo.Wake)
-  PlatformFinishes : Made m past now (stage.PlatformUp undo.Finish) (kind.PlatformUndo undo.Finish)
-  PlatformRecovers : Made m past now (stage.PlatformUp undo.Recover) (kind.PlatformUndo undo.Recover)
-  PlatformEnds : Made m past now (stage.PlatformUp undo.End) (kind.PlatformUndo undo.End)
+  PlatformWakes : Made m past now (stage.PlatformUndo undo.Wake) (kind.PlatformUndo undo.Wake)
+  PlatformFinishes : Made m past now (stage.PlatformUndo undo.Finish) (kind.PlatformUndo undo.Finish)
+  PlatformRecovers : Made m past now (stage.PlatformUndo undo.Recover) (kind.PlatformUndo undo.Recover)
+  PlatformEnds : Made m past now (stage.PlatformUndo undo.End) (kind.PlatformUndo undo.End)
   EndsUp : (p q : Phase) (d : ℕ) (r : Option Errno) → Up p → callback past ≡ Some (record { phase = q; device = d }) → Made m past now (stage.Ups p) (kind.End p d r)
   SchedulesUp : (p : Phase) (d : ℕ) → Up p → callback past ≡ None → next_to_schedule m past (mirror p) ≡ Some d → Made m past now (stage.Ups p) (kind.Schedule p d)
   BeginsUp : (p : Phase) (d : ℕ) → Up p → callback past ≡ None → next_to_schedule m past (mirror p) ≡ None → next_up m past (mirror p) ≡ Some d → waits_above m past (mirror p) d ≡ None → Made m past now (stage.Ups p) (kind.Begin p d)
@@ -151,21 +151,21 @@ pub data Made (m : Machine) (past : List Entry) (now : EventNow) : Stage → Kin
   ResumeEnds : Rises m past phase.Suspend → Made m past now (stage.Ups phase.Resume) (kind.Done phase.Resume None)
   Completes : (d : ℕ) → next_completed m past ≡ Some d → Made m past now stage.Completes (kind.Complete d)
   Completed : next_completed m past ≡ None → Made m past now stage.Completes (kind.Done phase.Complete None)
-  Clears : Made m past now stage.Clears kind.Clear
+  Clears : Made m past now stage.ClearsSavedCount kind.Clear
   ThawsKernel : Made m past now (stage.Thaws thaw.Kernel) (kind.Thaw thaw.Kernel)
   ThawsAll : Made m past now (stage.Thaws thaw.All) (kind.Thaw thaw.All)
-  Posts : (x : ℕ) → next_posted m past ≡ Some x → Made m past now stage.Posts (kind.NotifyPost x)
+  Posts : (x : ℕ) → next_post_notified m past ≡ Some x → Made m past now stage.NotifiesPost (kind.NotifyPost x)
   Ends : Made m past now stage.Ends (kind.Over (attempts past) (failed past))
 
 -- the stage that the maker comes to: the one under way, or the one after it if that has nothing left
 pub data Comes (m : Machine) (past : List Entry) : Stage → Stage → Type 0 where
   AtOnce : (here : Stage) → Comes m past here here
-  PastNotifiers : next_called m past ≡ None → Comes m past stage.Notifies (stage.Freezes group.User)
+  PastNotifiers : next_notified m past ≡ None → Comes m past stage.Notifies (stage.Freezes group.User)
   PastCpus : next_cpu_off m past ≡ None → Comes m past stage.StopsCpus stage.StopsIrqs
-  PastParts : next_stopped m past ≡ None → Comes m past stage.StopsSyscore stage.Enters
-  PastPartsUp : next_started m past ≡ None → Comes m past stage.StartsSyscore stage.StartsIrqs
-  PastCpusUp : next_cpu_on m past ≡ None → Comes m past stage.StartsCpus (stage.PlatformUp undo.Wake)
-  PastPosts : next_posted m past ≡ None → Comes m past stage.Posts stage.Ends
+  PastParts : next_syscore_suspended m past ≡ None → Comes m past stage.StopsSyscore stage.Enters
+  PastPartsUp : next_syscore_resumed m past ≡ None → Comes m past stage.StartsSyscore stage.StartsIrqs
+  PastCpusUp : next_cpu_on m past ≡ None → Comes m past stage.StartsCpus (stage.PlatformUndo undo.Wake)
+  PastPosts : next_post_notified m past ≡ None → Comes m past stage.NotifiesPost stage.Ends
 
 -- ---- tasks
 
@@ -239,7 +239,7 @@ pub record ScheduledAt (m : Machine) (past : List Entry) (p : Phase) (d : ℕ) :
   pub beside : is_async_device m d ≡ true
   pub work : async_work m past d ≡ Scheduled p
   pub states : state_in m past p d ≡ phase_state.Scheduled
-  pub waits : waits_below m past p d ≡ None
+  pub waits : waits_for_subordinates m past p d ≡ None
 
 -- what device d makes of its own
 pub data DeviceMade (m : Machine) (past : List Entry) (now : EventNow) (d : ℕ) : Kind → Type 0 where

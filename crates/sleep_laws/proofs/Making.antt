@@ -31,10 +31,10 @@ use Rattle.phase_table.specs.declared.phase.Phase.TheVariants as phase
 use Rattle.phase_table.specs.Phases.{is_down, mirror, tests_wakeup}
 use Rattle.sleep_model.specs.Answers.{answer, answer_number, error_of_number}
 use Rattle.sleep_model.specs.Attempt.{answered, failed, freeze_since, gives_up_at, sleep_of, if_left, stage_due, froze_due, freeze_due, cpu_kind, enter_due, busy_error, or_next, stage_or_next, due_at}
-use Rattle.sleep_model.specs.Devices.{callback, phase_failed, phase_error, own_error, own_error_after, phase_failed_after, error_in, unless_own, is_device, is_direct, is_async_device, waits_below, waits_above, waits_down, waits_up, next_down, next_to_schedule, next_up, next_prepared, next_completed, down_due, walk_down, take_down, after_device, up_due, walk_up, prepare_due, complete_due, device_error}
+use Rattle.sleep_model.specs.Devices.{callback, phase_failed, phase_error, own_error, own_error_after, phase_failed_after, error_in, unless_own, is_device, is_direct, is_async_device, waits_for_subordinates, waits_above, waits_down, waits_up, next_down, next_to_schedule, next_up, next_prepared, next_completed, down_due, walk_down, take_down, after_device, up_due, walk_up, prepare_due, complete_due, device_error}
 use Rattle.sleep_model.specs.Freezer.{left}
 use Rattle.sleep_model.specs.Guard.{pending}
-use Rattle.sleep_model.specs.Notifiers.{next_called, next_posted, next_cpu_off, next_cpu_on, next_stopped, next_started}
+use Rattle.sleep_model.specs.Notifiers.{next_notified, next_post_notified, next_cpu_off, next_cpu_on, next_syscore_suspended, next_syscore_resumed}
 use Rattle.sleep_model.specs.Numbers.{time_of}
 use Rattle.sleep_model.specs.Path.{attempts, maker, is_actor}
 use Rattle.sleep_model.specs.Table.{stage_of, stage_after, next_stage, by_error, by_froze, by_case, stage_after_down, stage_after_platform_down, failed_platform_down, failed_freeze, failed_phase, stage_after_freeze, stage_after_platform_up, after_done}
@@ -120,11 +120,11 @@ done_proper phase.Resume r = tt
 done_proper phase.Complete r = tt
 
 after_proper : (k : Kind) (before : Option Stage) → ProperIf before → ProperIf (stage_after k before)
-after_proper (kind.NotifyPrepare x r) before h = by_error_proper r stage.Notifies stage.Posts tt tt
+after_proper (kind.NotifyPrepare x r) before h = by_error_proper r stage.Notifies stage.NotifiesPost tt tt
 after_proper (kind.Froze g end) before h = by_froze_proper end (stage_after_freeze g) (failed_freeze g) (after_freeze_proper g) (failed_freeze_proper g)
 after_proper (kind.PlatformDo step r) before h = by_error_proper r (stage_after_platform_down step) (failed_platform_down step) (after_platform_down_proper step) (failed_platform_down_proper step)
 after_proper (kind.Done p r) before h = done_proper p r
-after_proper (kind.Irqs on) before h = by_case_proper on stage.StartsCpus stage.Checks tt tt
+after_proper (kind.Irqs on) before h = by_case_proper on stage.StartsCpus stage.ChecksWakeup tt tt
 after_proper (kind.SyscoreCheck r) before h = by_error_proper r stage.StopsSyscore stage.StartsIrqs tt tt
 after_proper (kind.SyscoreSuspend x r) before h = by_error_proper r stage.StopsSyscore stage.StartsSyscore tt tt
 after_proper (kind.Enter busy) before h = by_case_proper busy stage.StartsSyscore stage.Enters tt tt
@@ -150,7 +150,7 @@ stage_proper (e ∷ past) = after_proper e.kind (stage_of past) (stage_proper pa
 
 -- ---- what a stage makes
 
-notify_made : (m : Machine) (past : List Entry) (now : EventNow) (o : Option ℕ) → next_called m past ≡ o → OnDue (Made m past now stage.Notifies) (Comes m past stage.Notifies (stage.Freezes group.User)) (if_left (λ x. kind.NotifyPrepare x (answered m past (what.Notifier x))) o)
+notify_made : (m : Machine) (past : List Entry) (now : EventNow) (o : Option ℕ) → next_notified m past ≡ o → OnDue (Made m past now stage.Notifies) (Comes m past stage.Notifies (stage.Freezes group.User)) (if_left (λ x. kind.NotifyPrepare x (answered m past (what.Notifier x))) o)
 notify_made m past now None e = PastNotifiers e
 notify_made m past now (Some x) e = by_answer (answered m past (what.Notifier x))
   where
@@ -178,7 +178,7 @@ freeze_kernel_made : (m : Machine) (past : List Entry) (now : EventNow) (none : 
 freeze_kernel_made m past now none None e = Made.FreezesKernel e
 freeze_kernel_made m past now none (Some since) e = froze_kernel_made m past now none since (left m group.Kernel past) e refl
 
-ask_made : (m : Machine) (past : List Entry) (now : EventNow) (step : PlatDo) (r : Option Errno) → Made m past now (stage.PlatformDown step) (kind.PlatformDo step r)
+ask_made : (m : Machine) (past : List Entry) (now : EventNow) (step : PlatDo) (r : Option Errno) → Made m past now (stage.PlatformDo step) (kind.PlatformDo step r)
 ask_made m past now down.Begin None = Made.PlatformBegins
 ask_made m past now down.Begin (Some r) = Made.BeginFails r
 ask_made m past now down.Prepare None = Made.PlatformPrepares
@@ -248,7 +248,7 @@ settles_made m past now _ InNoirq b = Made.NoirqEnds b
 take_made : (m : Machine) (past : List Entry) (now : EventNow) (none : Type 0) (p : Phase) (d : ℕ) → Down p → callback past ≡ None → phase_failed past ≡ None → next_down m past p ≡ Some d → OnDue (Made m past now (stage.Downs p)) none (take_down m past now p d)
 take_made m past now none p d down c f n =
     on_if _ _ (is_async_device m d) _ _ (λ a. Made.SchedulesDown p d down c f n a)
-    (λ a. on_after _ _ (waits_below m past p d) _ (λ w.
+    (λ a. on_after _ _ (waits_for_subordinates m past p d) _ (λ w.
     let at : AtTurn m past p d = record { free = c; well = f; next = n; beside = a; waits = w } in
     by_taken at (tests_wakeup p) (pending past now) (is_direct m past p d) refl refl refl))
   where
@@ -296,11 +296,11 @@ cpu_made m past now None b e f = PastCpus e
 cpu_made m past now (Some k) true e f = Made.FindsCpu k e f
 cpu_made m past now (Some k) false e f = Made.StopsCpu k e f
 
-check_made : (m : Machine) (past : List Entry) (now : EventNow) (b : Bool) → pending past now ≡ b → Made m past now stage.Checks (kind.SyscoreCheck (busy_error b))
+check_made : (m : Machine) (past : List Entry) (now : EventNow) (b : Bool) → pending past now ≡ b → Made m past now stage.ChecksWakeup (kind.SyscoreCheck (busy_error b))
 check_made m past now true e = Made.FindsCheck e
 check_made m past now false e = Made.Checks e
 
-stop_made : (m : Machine) (past : List Entry) (now : EventNow) (o : Option ℕ) → next_stopped m past ≡ o → OnDue (Made m past now stage.StopsSyscore) (Comes m past stage.StopsSyscore stage.Enters) (if_left (λ x. kind.SyscoreSuspend x (answered m past (what.Syscore x))) o)
+stop_made : (m : Machine) (past : List Entry) (now : EventNow) (o : Option ℕ) → next_syscore_suspended m past ≡ o → OnDue (Made m past now stage.StopsSyscore) (Comes m past stage.StopsSyscore stage.Enters) (if_left (λ x. kind.SyscoreSuspend x (answered m past (what.Syscore x))) o)
 stop_made m past now None e = PastParts e
 stop_made m past now (Some x) e = by_answer (answered m past (what.Syscore x))
   where
@@ -318,11 +318,11 @@ enter_made m past now none (Some s) b e f =
     on_if (Made m past now stage.Enters) none (nat_lt s.pos (position now)) _ _ (λ t. Made.Wakes s true e)
     (λ t. on_if (Made m past now stage.Enters) none (nat_le (s.since + m.alarm_ms) (time_of past)) _ _ (λ u. Made.Wakes s false e) (λ u. tt))
 
-start_made : (m : Machine) (past : List Entry) (now : EventNow) (o : Option ℕ) → next_started m past ≡ o → OnDue (Made m past now stage.StartsSyscore) (Comes m past stage.StartsSyscore stage.StartsIrqs) (if_left kind.SyscoreResume o)
+start_made : (m : Machine) (past : List Entry) (now : EventNow) (o : Option ℕ) → next_syscore_resumed m past ≡ o → OnDue (Made m past now stage.StartsSyscore) (Comes m past stage.StartsSyscore stage.StartsIrqs) (if_left kind.SyscoreResume o)
 start_made m past now None e = PastPartsUp e
 start_made m past now (Some x) e = Made.StartsPart x e
 
-cpu_on_made : (m : Machine) (past : List Entry) (now : EventNow) (o : Option ℕ) → next_cpu_on m past ≡ o → OnDue (Made m past now stage.StartsCpus) (Comes m past stage.StartsCpus (stage.PlatformUp undo.Wake)) (if_left kind.CpuOn o)
+cpu_on_made : (m : Machine) (past : List Entry) (now : EventNow) (o : Option ℕ) → next_cpu_on m past ≡ o → OnDue (Made m past now stage.StartsCpus) (Comes m past stage.StartsCpus (stage.PlatformUndo undo.Wake)) (if_left kind.CpuOn o)
 cpu_on_made m past now None e = PastCpusUp e
 cpu_on_made m past now (Some x) e = Made.StartsCpu x e
 
@@ -330,36 +330,36 @@ complete_made : (m : Machine) (past : List Entry) (now : EventNow) (none : Type 
 complete_made m past now none None e = Made.Completed e
 complete_made m past now none (Some d) e = Made.Completes d e
 
-post_made : (m : Machine) (past : List Entry) (now : EventNow) (o : Option ℕ) → next_posted m past ≡ o → OnDue (Made m past now stage.Posts) (Comes m past stage.Posts stage.Ends) (if_left kind.NotifyPost o)
+post_made : (m : Machine) (past : List Entry) (now : EventNow) (o : Option ℕ) → next_post_notified m past ≡ o → OnDue (Made m past now stage.NotifiesPost) (Comes m past stage.NotifiesPost stage.Ends) (if_left kind.NotifyPost o)
 post_made m past now None e = PastPosts e
 post_made m past now (Some x) e = Made.Posts x e
 
 -- what is made at a stage, or that it has nothing left
 stage_made : (m : Machine) (past : List Entry) (now : EventNow) (here : Stage) → Proper here → OnDue (Made m past now here) (Comes m past here (next_stage here)) (stage_due m past now here)
-stage_made m past now stage.Notifies h = notify_made m past now (next_called m past) refl
+stage_made m past now stage.Notifies h = notify_made m past now (next_notified m past) refl
 stage_made m past now (stage.Freezes group.User) h = freeze_user_made m past now _ (freeze_since past) refl
 stage_made m past now (stage.Freezes group.Kernel) h = freeze_kernel_made m past now _ (freeze_since past) refl
-stage_made m past now (stage.PlatformDown step) h = ask_made m past now step (answered m past (what.Platform step))
+stage_made m past now (stage.PlatformDo step) h = ask_made m past now step (answered m past (what.Platform step))
 stage_made m past now stage.Prepares h = prepare_made m past now _ (phase_failed past) (next_prepared m past) refl refl
 stage_made m past now (stage.Downs p) h = down_made m past now _ p h (callback past) refl
 stage_made m past now stage.StopsCpus h = cpu_made m past now (next_cpu_off m past) (pending past now) refl refl
 stage_made m past now stage.StopsIrqs h = Made.StopsIrqs
-stage_made m past now stage.Checks h = check_made m past now (pending past now) refl
-stage_made m past now stage.StopsSyscore h = stop_made m past now (next_stopped m past) refl
+stage_made m past now stage.ChecksWakeup h = check_made m past now (pending past now) refl
+stage_made m past now stage.StopsSyscore h = stop_made m past now (next_syscore_suspended m past) refl
 stage_made m past now stage.Enters h = enter_made m past now _ (sleep_of past) (pending past now) refl refl
-stage_made m past now stage.StartsSyscore h = start_made m past now (next_started m past) refl
+stage_made m past now stage.StartsSyscore h = start_made m past now (next_syscore_resumed m past) refl
 stage_made m past now stage.StartsIrqs h = Made.StartsIrqs
 stage_made m past now stage.StartsCpus h = cpu_on_made m past now (next_cpu_on m past) refl
-stage_made m past now (stage.PlatformUp undo.Wake) h = Made.PlatformWakes
-stage_made m past now (stage.PlatformUp undo.Finish) h = Made.PlatformFinishes
-stage_made m past now (stage.PlatformUp undo.Recover) h = Made.PlatformRecovers
-stage_made m past now (stage.PlatformUp undo.End) h = Made.PlatformEnds
+stage_made m past now (stage.PlatformUndo undo.Wake) h = Made.PlatformWakes
+stage_made m past now (stage.PlatformUndo undo.Finish) h = Made.PlatformFinishes
+stage_made m past now (stage.PlatformUndo undo.Recover) h = Made.PlatformRecovers
+stage_made m past now (stage.PlatformUndo undo.End) h = Made.PlatformEnds
 stage_made m past now (stage.Ups p) h = up_made m past now _ p h (callback past) refl
 stage_made m past now stage.Completes h = complete_made m past now _ (next_completed m past) refl
-stage_made m past now stage.Clears h = Made.Clears
+stage_made m past now stage.ClearsSavedCount h = Made.Clears
 stage_made m past now (stage.Thaws thaw.Kernel) h = Made.ThawsKernel
 stage_made m past now (stage.Thaws thaw.All) h = Made.ThawsAll
-stage_made m past now stage.Posts h = post_made m past now (next_posted m past) refl
+stage_made m past now stage.NotifiesPost h = post_made m past now (next_post_notified m past) refl
 stage_made m past now stage.Ends h = Made.Ends
 
 -- ---- the stage that the maker comes to

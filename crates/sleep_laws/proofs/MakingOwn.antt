@@ -35,7 +35,7 @@ use Rattle.phase_table.specs.declared.phase.Phase.TheVariants as phase
 use Rattle.phase_table.specs.Phases.{is_down, mirror, tests_wakeup}
 use Rattle.sleep_model.specs.Attempt.{sleeps_now, attempt_due}
 use Rattle.sleep_model.specs.Autosleep.{work, work_due, auto_due, may_run, auto_save}
-use Rattle.sleep_model.specs.Devices.{phase_failed, is_direct, is_async_device, state_in, waits_below, waits_above, async_work, work_by, work_in, after_device, taken, device_due, unless_failed, device_error}
+use Rattle.sleep_model.specs.Devices.{phase_failed, is_direct, is_async_device, state_in, waits_for_subordinates, waits_above, async_work, work_by, work_in, after_device, taken, device_due, unless_failed, device_error}
 use Rattle.sleep_model.specs.Due.{is_over, due, own_due, script_due}
 use Rattle.sleep_model.specs.Freezer.{freezing}
 use Rattle.sleep_model.specs.Guard.{in_force, pending}
@@ -237,9 +237,9 @@ scheduled_made m past now d p down at None f true false false e g h = DeviceMade
 scheduled_made m past now d p down at None f false b true e g h = DeviceMade.OwnLeaves p down at f (rw e refl) h
 scheduled_made m past now d p down at None f false b false e g h = DeviceMade.OwnBegins p down at f (rw e refl) h
 
-down_scheduled_made : (m : Machine) (past : List Entry) (now : EventNow) (d : ℕ) (p : Phase) (b : Bool) → is_down p ≡ b → is_async_device m d ≡ true → async_work m past d ≡ Scheduled p → WorkOfState (λ q. state_in m past q d) (Scheduled p) → OnlyMade (DeviceMade m past now d) (cond b (after_device (waits_below m past p d) (Makes (unless_failed (phase_failed past) p d (taken m past now p d)))) (after_device (waits_above m past (mirror p) d) (Makes (kind.Begin p d))))
+down_scheduled_made : (m : Machine) (past : List Entry) (now : EventNow) (d : ℕ) (p : Phase) (b : Bool) → is_down p ≡ b → is_async_device m d ≡ true → async_work m past d ≡ Scheduled p → WorkOfState (λ q. state_in m past q d) (Scheduled p) → OnlyMade (DeviceMade m past now d) (cond b (after_device (waits_for_subordinates m past p d) (Makes (unless_failed (phase_failed past) p d (taken m past now p d)))) (after_device (waits_above m past (mirror p) d) (Makes (kind.Begin p d))))
 down_scheduled_made m past now d p true e a w (inl h) =
-    only_after (DeviceMade m past now d) (waits_below m past p d) _ (λ o. scheduled_made m past now d p h.0 (record { beside = a; work = w; states = h.1; waits = o }) (phase_failed past) refl (tests_wakeup p) (pending past now) (is_direct m past p d) refl refl refl)
+    only_after (DeviceMade m past now d) (waits_for_subordinates m past p d) _ (λ o. scheduled_made m past now d p h.0 (record { beside = a; work = w; states = h.1; waits = o }) (phase_failed past) refl (tests_wakeup p) (pending past now) (is_direct m past p d) refl refl refl)
 down_scheduled_made m past now d p false e a w (inr h) = only_after (DeviceMade m past now d) (waits_above m past (mirror p) d) _ (λ o. DeviceMade.OwnRises p h.0 a w h.1 o)
 down_scheduled_made m past now d p true e a w (inr h) = absurd (true≢false (sym e ∙ up_of p h.0))
 down_scheduled_made m past now d p false e a w (inl h) = absurd (true≢false (sym (down_of p h.0) ∙ e))
@@ -335,11 +335,11 @@ stage_comes m past now _ _ k (PastPartsUp e) h = past_up m past now k h
     past_up m past now _ Made.StartsIrqs = refl
 stage_comes m past now _ _ k (PastCpusUp e) h = past_cpus_up m past now k h
   where
-    past_cpus_up : (m : Machine) (past : List Entry) (now : EventNow) (k : Kind) → Made m past now (stage.PlatformUp undo.Wake) k → stage_after k (Some stage.StartsCpus) ≡ stage_after k (Some (stage.PlatformUp undo.Wake))
+    past_cpus_up : (m : Machine) (past : List Entry) (now : EventNow) (k : Kind) → Made m past now (stage.PlatformUndo undo.Wake) k → stage_after k (Some stage.StartsCpus) ≡ stage_after k (Some (stage.PlatformUndo undo.Wake))
     past_cpus_up m past now _ Made.PlatformWakes = refl
 stage_comes m past now _ _ k (PastPosts e) h = past_posts m past now k h
   where
-    past_posts : (m : Machine) (past : List Entry) (now : EventNow) (k : Kind) → Made m past now stage.Ends k → stage_after k (Some stage.Posts) ≡ stage_after k (Some stage.Ends)
+    past_posts : (m : Machine) (past : List Entry) (now : EventNow) (k : Kind) → Made m past now stage.Ends k → stage_after k (Some stage.NotifiesPost) ≡ stage_after k (Some stage.Ends)
     past_posts m past now _ Made.Ends = refl
 
 -- what holds at the stage under way, preserved by coming to the stage at which the entry is made, and by the entry, holds after it

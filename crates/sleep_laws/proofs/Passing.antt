@@ -82,10 +82,10 @@ module _ (m : Machine) (past : List Entry) (time : ℕ) (now : EventNow) (who : 
   abbrev by : Kind → Entry
   by k = record { time = time; now = now; actor = who; kind = k }
 
-  platform_begins : DevicePhases m past (Some (stage.PlatformDown down.Begin)) → DevicePhases m (by (kind.PlatformDo down.Begin None) ∷ past) (Some stage.Prepares)
+  platform_begins : DevicePhases m past (Some (stage.PlatformDo down.Begin)) → DevicePhases m (by (kind.PlatformDo down.Begin None) ∷ past) (Some stage.Prepares)
   platform_begins h = (else_fines m past (λ q. Empty) (λ q. Fresh) false false (errs past) h.0 (λ x q i a. empty_fresh (at (three m past x) q) a) (λ x. tt), h.1)
 
-  platform_prepares : DevicePhases m past (Some (stage.PlatformDown down.Prepare)) → DevicePhases m (by (kind.PlatformDo down.Prepare None) ∷ past) (Some (stage.Downs phase.Late))
+  platform_prepares : DevicePhases m past (Some (stage.PlatformDo down.Prepare)) → DevicePhases m (by (kind.PlatformDo down.Prepare None) ∷ past) (Some (stage.Downs phase.Late))
   platform_prepares h = (else_fines m past (in_suspend Settled Fresh) (in_down phase.Late) true true (errs past) h.0 allowed (full_fine m past (in_suspend Settled Fresh) h.0), free_call m (callback past) state.Suspending phase.Late (three m past) h.1)
     where
       allowed : (x : ℕ) (q : Phase) → Down q → allows (in_suspend Settled Fresh q) (errs past) (at (three m past x) q) ≡ true → allows (in_down phase.Late q) (errs past) (at (three m past x) q) ≡ true
@@ -93,7 +93,7 @@ module _ (m : Machine) (past : List Entry) (time : ℕ) (now : EventNow) (who : 
       allowed x _ InLate a = fresh_going (errs past) (at (three m past x) phase.Late) a
       allowed x _ InNoirq a = a
 
-  prepare_fails : (r : Errno) → DevicePhases m past (Some (stage.PlatformDown down.Prepare)) → DevicePhases m (by (kind.PlatformDo down.Prepare (Some r)) ∷ past) (Some (stage.PlatformUp undo.Finish))
+  prepare_fails : (r : Errno) → DevicePhases m past (Some (stage.PlatformDo down.Prepare)) → DevicePhases m (by (kind.PlatformDo down.Prepare (Some r)) ∷ past) (Some (stage.PlatformUndo undo.Finish))
   prepare_fails r h = (else_fines m past (in_suspend Settled Fresh) (in_suspend Settled Risen) true false (errs past) h.0 allowed (λ x. tt), h.1)
     where
       allowed : (x : ℕ) (q : Phase) → Down q → allows (in_suspend Settled Fresh q) (errs past) (at (three m past x) q) ≡ true → allows (in_suspend Settled Risen q) (errs past) (at (three m past x) q) ≡ true
@@ -105,7 +105,7 @@ module _ (m : Machine) (past : List Entry) (time : ℕ) (now : EventNow) (who : 
   turns_back : (full : Bool) → Fines m past (λ q. Settled) full → Fines m past (λ q. Settled) false
   turns_back full h = else_fines m past (λ q. Settled) (λ q. Settled) full false (errs past) h (λ x q i a. a) (λ x. tt)
 
-  prepares_not : (r : Errno) → DevicePhases m past (Some stage.Prepares) → DevicePhases m (by (kind.Done phase.Prepare (Some r)) ∷ past) (Some (stage.PlatformUp undo.Recover))
+  prepares_not : (r : Errno) → DevicePhases m past (Some stage.Prepares) → DevicePhases m (by (kind.Done phase.Prepare (Some r)) ∷ past) (Some (stage.PlatformUndo undo.Recover))
   prepares_not r h = (else_fines m past (λ q. Fresh) (in_suspend Halted Risen) false false false h.0 allowed (λ x. tt), h.1)
     where
       allowed : (x : ℕ) (q : Phase) → Down q → allows Fresh (errs past) (at (three m past x) q) ≡ true → allows (in_suspend Halted Risen q) false (at (three m past x) q) ≡ true
@@ -124,7 +124,7 @@ module _ (m : Machine) (past : List Entry) (time : ℕ) (now : EventNow) (who : 
       allowed x _ InLate a = a
       allowed x _ InNoirq a = a
 
-  suspend_fails : (r : Errno) → Breaks m past phase.Suspend r → DevicePhases m past (Some (stage.Downs phase.Suspend)) → DevicePhases m (by (kind.Done phase.Suspend (Some r)) ∷ past) (Some (stage.PlatformUp undo.Recover))
+  suspend_fails : (r : Errno) → Breaks m past phase.Suspend r → DevicePhases m past (Some (stage.Downs phase.Suspend)) → DevicePhases m (by (kind.Done phase.Suspend (Some r)) ∷ past) (Some (stage.PlatformUndo undo.Recover))
   suspend_fails r b h = (else_fines m past (in_down phase.Suspend) (in_suspend Halted Risen) true false false h.0 allowed (λ x. tt), b.free)
     where
       allowed : (x : ℕ) (q : Phase) → Down q → allows (in_down phase.Suspend q) (errs past) (at (three m past x) q) ≡ true → allows (in_suspend Halted Risen q) false (at (three m past x) q) ≡ true
@@ -148,7 +148,7 @@ module _ (m : Machine) (past : List Entry) (time : ℕ) (now : EventNow) (who : 
       allowed x _ InLate a = a
       allowed x _ InNoirq a = halted_coming (at (three m past x) phase.Noirq) (stops m past (in_down phase.Noirq) true h.0 phase.Noirq InNoirq refl b.waits x)
 
-  suspend_ends : Settles m past phase.Suspend → DevicePhases m past (Some (stage.Downs phase.Suspend)) → DevicePhases m (by (kind.Done phase.Suspend None) ∷ past) (Some (stage.PlatformDown down.Prepare))
+  suspend_ends : Settles m past phase.Suspend → DevicePhases m past (Some (stage.Downs phase.Suspend)) → DevicePhases m (by (kind.Done phase.Suspend None) ∷ past) (Some (stage.PlatformDo down.Prepare))
   suspend_ends s h = (else_fines m past (in_down phase.Suspend) (in_suspend Settled Fresh) true true false h.0 allowed (full_fine m past (in_down phase.Suspend) h.0), s.free)
     where
       allowed : (x : ℕ) (q : Phase) → Down q → allows (in_down phase.Suspend q) (errs past) (at (three m past x) q) ≡ true → allows (in_suspend Settled Fresh q) false (at (three m past x) q) ≡ true
@@ -164,7 +164,7 @@ module _ (m : Machine) (past : List Entry) (time : ℕ) (now : EventNow) (who : 
       allowed x _ InLate a = settles m past (in_down phase.Late) true h.0 phase.Late InLate refl s x
       allowed x _ InNoirq a = fresh_going false (at (three m past x) phase.Noirq) a
 
-  noirq_ends : Settles m past phase.Noirq → DevicePhases m past (Some (stage.Downs phase.Noirq)) → DevicePhases m (by (kind.Done phase.Noirq None) ∷ past) (Some (stage.PlatformDown down.PrepareLate))
+  noirq_ends : Settles m past phase.Noirq → DevicePhases m past (Some (stage.Downs phase.Noirq)) → DevicePhases m (by (kind.Done phase.Noirq None) ∷ past) (Some (stage.PlatformDo down.PrepareLate))
   noirq_ends s h = (else_fines m past (in_down phase.Noirq) (λ q. Settled) true true false h.0 allowed (full_fine m past (in_down phase.Noirq) h.0), s.free)
     where
       allowed : (x : ℕ) (q : Phase) → Down q → allows (in_down phase.Noirq q) (errs past) (at (three m past x) q) ≡ true → allows Settled false (at (three m past x) q) ≡ true
@@ -172,7 +172,7 @@ module _ (m : Machine) (past : List Entry) (time : ℕ) (now : EventNow) (who : 
       allowed x _ InLate a = a
       allowed x _ InNoirq a = settles m past (in_down phase.Noirq) true h.0 phase.Noirq InNoirq refl s x
 
-  platform_wakes : DevicePhases m past (Some (stage.PlatformUp undo.Wake)) → DevicePhases m (by (kind.PlatformUndo undo.Wake) ∷ past) (Some (stage.Ups phase.ResumeNoirq))
+  platform_wakes : DevicePhases m past (Some (stage.PlatformUndo undo.Wake)) → DevicePhases m (by (kind.PlatformUndo undo.Wake) ∷ past) (Some (stage.Ups phase.ResumeNoirq))
   platform_wakes h = (else_fines m past (λ q. Settled) (in_up phase.ResumeNoirq) false false (errs past) h.0 allowed (λ x. tt), free_call m (callback past) state.Resuming phase.Noirq (three m past) h.1)
     where
       allowed : (x : ℕ) (q : Phase) → Down q → allows Settled (errs past) (at (three m past x) q) ≡ true → allows (in_up phase.ResumeNoirq q) (errs past) (at (three m past x) q) ≡ true
@@ -180,7 +180,7 @@ module _ (m : Machine) (past : List Entry) (time : ℕ) (now : EventNow) (who : 
       allowed x _ InLate a = a
       allowed x _ InNoirq a = settled_coming (at (three m past x) phase.Noirq) a
 
-  platform_finishes : DevicePhases m past (Some (stage.PlatformUp undo.Finish)) → DevicePhases m (by (kind.PlatformUndo undo.Finish) ∷ past) (Some (stage.Ups phase.Resume))
+  platform_finishes : DevicePhases m past (Some (stage.PlatformUndo undo.Finish)) → DevicePhases m (by (kind.PlatformUndo undo.Finish) ∷ past) (Some (stage.Ups phase.Resume))
   platform_finishes h = (else_fines m past (in_suspend Settled Risen) (in_up phase.Resume) false false (errs past) h.0 allowed (λ x. tt), free_call m (callback past) state.Resuming phase.Suspend (three m past) h.1)
     where
       allowed : (x : ℕ) (q : Phase) → Down q → allows (in_suspend Settled Risen q) (errs past) (at (three m past x) q) ≡ true → allows (in_up phase.Resume q) (errs past) (at (three m past x) q) ≡ true
@@ -188,7 +188,7 @@ module _ (m : Machine) (past : List Entry) (time : ℕ) (now : EventNow) (who : 
       allowed x _ InLate a = a
       allowed x _ InNoirq a = a
 
-  platform_recovers : DevicePhases m past (Some (stage.PlatformUp undo.Recover)) → DevicePhases m (by (kind.PlatformUndo undo.Recover) ∷ past) (Some (stage.Ups phase.Resume))
+  platform_recovers : DevicePhases m past (Some (stage.PlatformUndo undo.Recover)) → DevicePhases m (by (kind.PlatformUndo undo.Recover) ∷ past) (Some (stage.Ups phase.Resume))
   platform_recovers h = (else_fines m past (in_suspend Halted Risen) (in_up phase.Resume) false false (errs past) h.0 allowed (λ x. tt), free_call m (callback past) state.Resuming phase.Suspend (three m past) h.1)
     where
       allowed : (x : ℕ) (q : Phase) → Down q → allows (in_suspend Halted Risen q) (errs past) (at (three m past x) q) ≡ true → allows (in_up phase.Resume q) (errs past) (at (three m past x) q) ≡ true
@@ -204,7 +204,7 @@ module _ (m : Machine) (past : List Entry) (time : ℕ) (now : EventNow) (who : 
       allowed x _ InLate a = settled_coming (at (three m past x) phase.Late) a
       allowed x _ InNoirq a = rises m past (in_up phase.ResumeNoirq) false h.0 phase.Noirq InNoirq refl r x
 
-  early_ends : Rises m past phase.Late → DevicePhases m past (Some (stage.Ups phase.Early)) → DevicePhases m (by (kind.Done phase.Early None) ∷ past) (Some (stage.PlatformUp undo.Finish))
+  early_ends : Rises m past phase.Late → DevicePhases m past (Some (stage.Ups phase.Early)) → DevicePhases m (by (kind.Done phase.Early None) ∷ past) (Some (stage.PlatformUndo undo.Finish))
   early_ends r h = (else_fines m past (in_up phase.Early) (in_suspend Settled Risen) false false false h.0 allowed (λ x. tt), r.free)
     where
       allowed : (x : ℕ) (q : Phase) → Down q → allows (in_up phase.Early q) (errs past) (at (three m past x) q) ≡ true → allows (in_suspend Settled Risen q) false (at (three m past x) q) ≡ true
@@ -220,7 +220,7 @@ module _ (m : Machine) (past : List Entry) (time : ℕ) (now : EventNow) (who : 
       allowed x _ InLate a = a
       allowed x _ InNoirq a = a
 
-  completed : next_completed m past ≡ None → DevicePhases m past (Some stage.Completes) → DevicePhases m (by (kind.Done phase.Complete None) ∷ past) (Some (stage.PlatformUp undo.End))
+  completed : next_completed m past ≡ None → DevicePhases m past (Some stage.Completes) → DevicePhases m (by (kind.Done phase.Complete None) ∷ past) (Some (stage.PlatformUndo undo.End))
   completed n h = (else_fines m past (λ q. Risen) (λ q. Empty) false false false h.0 allowed (λ x. tt), h.1)
     where
       unprepared : (s : PhaseState) → is_prepared s ≡ false → when_empty s ≡ true

@@ -131,24 +131,24 @@ if_same P Q false f h = tt
 -- user tasks are frozen from the end of their freeze to the entering
 abbrev pub user_at : Option Stage → Bool
 user_at (Some (stage.Freezes group.Kernel)) = true
-user_at (Some (stage.PlatformDown step)) = true
+user_at (Some (stage.PlatformDo step)) = true
 user_at (Some stage.Prepares) = true
 user_at (Some (stage.Downs p)) = true
 user_at (Some stage.StopsCpus) = true
 user_at (Some stage.StopsIrqs) = true
-user_at (Some stage.Checks) = true
+user_at (Some stage.ChecksWakeup) = true
 user_at (Some stage.StopsSyscore) = true
 user_at (Some stage.Enters) = true
 user_at _ = false
 
 -- and so are kernel threads
 abbrev pub kernel_at : Option Stage → Bool
-kernel_at (Some (stage.PlatformDown step)) = true
+kernel_at (Some (stage.PlatformDo step)) = true
 kernel_at (Some stage.Prepares) = true
 kernel_at (Some (stage.Downs p)) = true
 kernel_at (Some stage.StopsCpus) = true
 kernel_at (Some stage.StopsIrqs) = true
-kernel_at (Some stage.Checks) = true
+kernel_at (Some stage.ChecksWakeup) = true
 kernel_at (Some stage.StopsSyscore) = true
 kernel_at (Some stage.Enters) = true
 kernel_at _ = false
@@ -156,7 +156,7 @@ kernel_at _ = false
 -- the other processors are off after their stopping
 abbrev pub cpus_at : Option Stage → Bool
 cpus_at (Some stage.StopsIrqs) = true
-cpus_at (Some stage.Checks) = true
+cpus_at (Some stage.ChecksWakeup) = true
 cpus_at (Some stage.StopsSyscore) = true
 cpus_at (Some stage.Enters) = true
 cpus_at _ = false

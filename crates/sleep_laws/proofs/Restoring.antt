@@ -46,7 +46,7 @@ NotifiersAt n (Some _) flags = Unit {0}
 abbrev pub CpusAt : ℕ → Option Stage → List Bool → Type 0
 CpusAt n (Some stage.StopsCpus) flags = Unit {0}
 CpusAt n (Some stage.StopsIrqs) flags = Unit {0}
-CpusAt n (Some stage.Checks) flags = Unit {0}
+CpusAt n (Some stage.ChecksWakeup) flags = Unit {0}
 CpusAt n (Some stage.StopsSyscore) flags = Unit {0}
 CpusAt n (Some stage.Enters) flags = Unit {0}
 CpusAt n (Some stage.StartsSyscore) flags = Unit {0}
@@ -65,7 +65,7 @@ PartsAt n _ flags = flags ≡ replicate n false
 abbrev pub TasksAt : List Script → Option Stage → List Freezing → Type 0
 TasksAt scripts None those = those ≡ map (λ s. unasked) scripts
 TasksAt scripts (Some stage.Notifies) those = those ≡ map (λ s. unasked) scripts
-TasksAt scripts (Some stage.Posts) those = those ≡ map (λ s. unasked) scripts
+TasksAt scripts (Some stage.NotifiesPost) those = those ≡ map (λ s. unasked) scripts
 TasksAt scripts (Some stage.Ends) those = those ≡ map (λ s. unasked) scripts
 TasksAt scripts (Some _) those = Unit {0}
 
@@ -135,7 +135,7 @@ not_asked ss fs i a e = true≢false (sym a ∙ (ap (λ gs. (freezing_at gs i).a
 task_frozen : (ss : List Script) (s : Option Stage) (fs : List Freezing) (i : ℕ) → (freezing_at fs i).asked ≡ true → TasksAt ss s fs → TasksAt ss s (put_frozen (actor.Script i) fs)
 task_frozen ss None fs i a h = absurd (not_asked ss fs i a h)
 task_frozen ss (Some stage.Notifies) fs i a h = absurd (not_asked ss fs i a h)
-task_frozen ss (Some stage.Posts) fs i a h = absurd (not_asked ss fs i a h)
+task_frozen ss (Some stage.NotifiesPost) fs i a h = absurd (not_asked ss fs i a h)
 task_frozen ss (Some stage.Ends) fs i a h = absurd (not_asked ss fs i a h)
 task_frozen ss (Some _) fs i a h = tt
 

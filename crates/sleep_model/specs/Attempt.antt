@@ -22,7 +22,7 @@ use Rattle.sleep_model.specs.Answers.{answer, answer_error}
 use Rattle.sleep_model.specs.Devices.{callback, phase_failed, down_due, up_due, prepare_due, next_prepared, complete_due, next_completed}
 use Rattle.sleep_model.specs.Freezer.{left}
 use Rattle.sleep_model.specs.Guard.{pending}
-use Rattle.sleep_model.specs.Notifiers.{next_called, next_posted, next_cpu_off, next_cpu_on, next_stopped, next_started}
+use Rattle.sleep_model.specs.Notifiers.{next_notified, next_post_notified, next_cpu_off, next_cpu_on, next_syscore_suspended, next_syscore_resumed}
 use Rattle.sleep_model.specs.Numbers.{time_of}
 use Rattle.sleep_model.specs.Path.{attempts}
 use Rattle.sleep_model.specs.Table.{stage_of, next_stage}
@@ -141,26 +141,26 @@ cpu_kind false k = kind.CpuOff k
 -- what the maker makes at a stage, if that has anything left (enter_state, suspend_devices_and_enter, suspend_enter)
 abbrev pub stage_due : Machine → List Entry → EventNow → Stage → Due
 stage_due m past now stage.Notifies =
-    if_left (λ x. kind.NotifyPrepare x (answered m past (what.Notifier x))) (next_called m past)
+    if_left (λ x. kind.NotifyPrepare x (answered m past (what.Notifier x))) (next_notified m past)
 stage_due m past now (stage.Freezes g) = freeze_due m past now g (freeze_since past)
-stage_due m past now (stage.PlatformDown step) = Makes (kind.PlatformDo step (answered m past (what.Platform step)))
+stage_due m past now (stage.PlatformDo step) = Makes (kind.PlatformDo step (answered m past (what.Platform step)))
 stage_due m past now stage.Prepares = prepare_due m past (phase_failed past) (next_prepared m past)
 stage_due m past now (stage.Downs p) = down_due m past now p (callback past)
 stage_due m past now stage.StopsCpus = if_left (cpu_kind (pending past now)) (next_cpu_off m past)
 stage_due m past now stage.StopsIrqs = Makes (kind.Irqs false)
-stage_due m past now stage.Checks = Makes (kind.SyscoreCheck (busy_error (pending past now)))
+stage_due m past now stage.ChecksWakeup = Makes (kind.SyscoreCheck (busy_error (pending past now)))
 stage_due m past now stage.StopsSyscore =
-    if_left (λ x. kind.SyscoreSuspend x (answered m past (what.Syscore x))) (next_stopped m past)
+    if_left (λ x. kind.SyscoreSuspend x (answered m past (what.Syscore x))) (next_syscore_suspended m past)
 stage_due m past now stage.Enters = enter_due m past now (sleep_of past)
-stage_due m past now stage.StartsSyscore = if_left kind.SyscoreResume (next_started m past)
+stage_due m past now stage.StartsSyscore = if_left kind.SyscoreResume (next_syscore_resumed m past)
 stage_due m past now stage.StartsIrqs = Makes (kind.Irqs true)
 stage_due m past now stage.StartsCpus = if_left kind.CpuOn (next_cpu_on m past)
-stage_due m past now (stage.PlatformUp step) = Makes (kind.PlatformUndo step)
+stage_due m past now (stage.PlatformUndo step) = Makes (kind.PlatformUndo step)
 stage_due m past now (stage.Ups p) = up_due m past p (callback past)
 stage_due m past now stage.Completes = complete_due (next_completed m past)
-stage_due m past now stage.Clears = Makes kind.Clear
+stage_due m past now stage.ClearsSavedCount = Makes kind.Clear
 stage_due m past now (stage.Thaws those) = Makes (kind.Thaw those)
-stage_due m past now stage.Posts = if_left kind.NotifyPost (next_posted m past)
+stage_due m past now stage.NotifiesPost = if_left kind.NotifyPost (next_post_notified m past)
 stage_due m past now stage.Ends = Makes (kind.Over (attempts past) (failed past))
 
 -- the first that has anything (own)

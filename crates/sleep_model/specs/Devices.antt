@@ -158,8 +158,8 @@ after_device None next = next
 after_device (Some d) next = Waits (why.Device d)
 
 -- the first device below d that is not done with phase p (dpm_wait_for_subordinate)
-abbrev pub waits_below : Machine → List Entry → Phase → ℕ → Option ℕ
-waits_below m past p d = first_where (λ e. is_not_down (state_in m past p e)) (below m past d)
+abbrev pub waits_for_subordinates : Machine → List Entry → Phase → ℕ → Option ℕ
+waits_for_subordinates m past p d = first_where (λ e. is_not_down (state_in m past p e)) (below m past d)
 
 -- the first device that is scheduled and not done with phase p (async_synchronize_full)
 abbrev pub waits_down : Machine → List Entry → Phase → Option ℕ
@@ -173,7 +173,7 @@ next_down m past p = last_where (λ d. is_ready (state_in m past p d)) (order m 
 abbrev pub take_down : Machine → List Entry → EventNow → Phase → ℕ → Due
 take_down m past now p d =
     if is_async_device m d then Makes (kind.Schedule p d)
-    else after_device (waits_below m past p d) (Makes (taken m past now p d))
+    else after_device (waits_for_subordinates m past p d) (Makes (taken m past now p d))
 
 -- the end of a phase on the way down, once all that were scheduled are done (dpm_suspend, async_synchronize_full)
 abbrev pub close_down : Machine → List Entry → Phase → Due
@@ -269,7 +269,7 @@ async_work m past d =
 abbrev pub scheduled_due : Machine → List Entry → EventNow → Phase → ℕ → Due
 scheduled_due m past now p d =
     if is_down p
-    then after_device (waits_below m past p d) (Makes (unless_failed (phase_failed past) p d (taken m past now p d)))
+    then after_device (waits_for_subordinates m past p d) (Makes (unless_failed (phase_failed past) p d (taken m past now p d)))
     else after_device (waits_above m past (mirror p) d) (Makes (kind.Begin p d))
 
 -- an asynchronous device, by the state of its work (async_suspend, async_resume)

@@ -309,18 +309,18 @@ FoundPending past now _ = Unit {0}
 -- ---- the steps of an actor: none left out, none twice, none early
 
 -- an entry of a read
-abbrev pub is_of_read : Kind → Bool
-is_of_read kind.ReadWait = true
-is_of_read (kind.Read c) = true
-is_of_read kind.ReadIntr = true
-is_of_read _ = false
+abbrev pub is_of_count_read : Kind → Bool
+is_of_count_read kind.ReadWait = true
+is_of_count_read (kind.Read c) = true
+is_of_count_read kind.ReadIntr = true
+is_of_count_read _ = false
 
 -- an entry of a save
-abbrev pub is_of_save : Kind → Bool
-is_of_save (kind.SaveWait c) = true
-is_of_save (kind.Saved c) = true
-is_of_save (kind.SaveErr c r) = true
-is_of_save _ = false
+abbrev pub is_of_count_save : Kind → Bool
+is_of_count_save (kind.SaveWait c) = true
+is_of_count_save (kind.Saved c) = true
+is_of_count_save (kind.SaveErr c r) = true
+is_of_count_save _ = false
 
 -- an entry of a write to the state, whose attempt begins and ends inside it
 abbrev pub is_of_state : Kind → Bool
@@ -388,8 +388,8 @@ is_exit _ = false
 -- an entry of that operation, or of the exit after the last
 abbrev pub is_of_op : Option Op → Kind → Bool
 is_of_op None k = is_exit k
-is_of_op (Some op.Read) k = is_of_read k
-is_of_op (Some (op.Save count)) k = is_of_save k
+is_of_op (Some op.Read) k = is_of_count_read k
+is_of_op (Some (op.Save count)) k = is_of_count_save k
 is_of_op (Some (op.State text if_saved)) k = is_of_state k
 is_of_op (Some (op.Autosleep text)) k = is_of_autosleep k
 is_of_op (Some (op.Sleep ms)) k = is_of_sleep k

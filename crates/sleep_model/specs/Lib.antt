@@ -21,7 +21,7 @@
 --   attempt_due   the stage under way is `Downs Suspend`: the last entry of a stage before it was `done prepare 0` (`stage_after`).
 --   stage_due     at `Downs p` what is due is `down_due m past now p`.
 --   down_due      there is no error, and the last device of the order that suspend has not taken is p (`next_down`): c has been taken.
---   take_down     p is synchronous, and each device below p, only c, is done with suspend (`waits_below`): `end suspend c 0` comes before.
+--   take_down     p is synchronous, and each device below p, only c, is done with suspend (`waits_for_subordinates`): `end suspend c 0` comes before.
 --   taken         no wakeup is pending, and p is not direct-complete: `Begin Suspend p`.
 
 pub mod Accepted

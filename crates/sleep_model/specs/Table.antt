@@ -28,47 +28,47 @@ pub record Row : Type 0 where
   pub failed : Stage
 
 -- a stage that may fail leads to these two
-abbrev pub to : Stage → Stage → Row
-to next failed = record { next = next; failed = failed }
+abbrev pub may_fail : Stage → Stage → Row
+may_fail next failed = record { next = next; failed = failed }
 
 -- a stage that does not fail, or whose failure changes nothing, leads there
-abbrev pub on : Stage → Row
-on next = record { next = next; failed = next }
+abbrev pub always : Stage → Row
+always next = record { next = next; failed = next }
 
 -- the table: a stage, what follows, what a failure leads to (enter_state, suspend_devices_and_enter, suspend_enter)
 abbrev pub row : Stage → Row
-row stage.Notifies = to (stage.Freezes group.User) stage.Posts
-row (stage.Freezes group.User) = to (stage.Freezes group.Kernel) (stage.Thaws thaw.All)
-row (stage.Freezes group.Kernel) = to (stage.PlatformDown down.Begin) (stage.Thaws thaw.Kernel)
-row (stage.PlatformDown down.Begin) = to stage.Prepares (stage.PlatformUp undo.End)
-row stage.Prepares = to (stage.Downs phase.Suspend) (stage.PlatformUp undo.Recover)
-row (stage.Downs phase.Suspend) = to (stage.PlatformDown down.Prepare) (stage.PlatformUp undo.Recover)
-row (stage.PlatformDown down.Prepare) = to (stage.Downs phase.Late) (stage.PlatformUp undo.Finish)
-row (stage.Downs phase.Late) = to (stage.Downs phase.Noirq) (stage.Ups phase.Early)
-row (stage.Downs phase.Noirq) = to (stage.PlatformDown down.PrepareLate) (stage.Ups phase.ResumeNoirq)
-row (stage.PlatformDown down.PrepareLate) = to stage.StopsCpus (stage.PlatformUp undo.Wake)
-row stage.StopsCpus = to stage.StopsIrqs stage.StartsCpus
-row stage.StopsIrqs = on stage.Checks
-row stage.Checks = to stage.StopsSyscore stage.StartsIrqs
-row stage.StopsSyscore = to stage.Enters stage.StartsSyscore
-row stage.Enters = on stage.StartsSyscore
-row stage.StartsSyscore = on stage.StartsIrqs
-row stage.StartsIrqs = on stage.StartsCpus
-row stage.StartsCpus = on (stage.PlatformUp undo.Wake)
-row (stage.PlatformUp undo.Wake) = on (stage.Ups phase.ResumeNoirq)
-row (stage.Ups phase.ResumeNoirq) = on (stage.Ups phase.Early)
-row (stage.Ups phase.Early) = on (stage.PlatformUp undo.Finish)
-row (stage.PlatformUp undo.Finish) = on (stage.Ups phase.Resume)
-row (stage.PlatformUp undo.Recover) = on (stage.Ups phase.Resume)
-row (stage.Ups _) = on stage.Completes
-row stage.Completes = on (stage.PlatformUp undo.End)
-row (stage.PlatformUp undo.End) = on stage.Clears
-row stage.Clears = on (stage.Thaws thaw.All)
-row (stage.Thaws thaw.Kernel) = on (stage.Thaws thaw.All)
-row (stage.Thaws thaw.All) = on stage.Posts
-row stage.Posts = on stage.Ends
-row stage.Ends = on stage.Ends
-row (stage.Downs _) = to (stage.PlatformDown down.PrepareLate) (stage.PlatformUp undo.Recover)
+row stage.Notifies = may_fail (stage.Freezes group.User) stage.NotifiesPost
+row (stage.Freezes group.User) = may_fail (stage.Freezes group.Kernel) (stage.Thaws thaw.All)
+row (stage.Freezes group.Kernel) = may_fail (stage.PlatformDo down.Begin) (stage.Thaws thaw.Kernel)
+row (stage.PlatformDo down.Begin) = may_fail stage.Prepares (stage.PlatformUndo undo.End)
+row stage.Prepares = may_fail (stage.Downs phase.Suspend) (stage.PlatformUndo undo.Recover)
+row (stage.Downs phase.Suspend) = may_fail (stage.PlatformDo down.Prepare) (stage.PlatformUndo undo.Recover)
+row (stage.PlatformDo down.Prepare) = may_fail (stage.Downs phase.Late) (stage.PlatformUndo undo.Finish)
+row (stage.Downs phase.Late) = may_fail (stage.Downs phase.Noirq) (stage.Ups phase.Early)
+row (stage.Downs phase.Noirq) = may_fail (stage.PlatformDo down.PrepareLate) (stage.Ups phase.ResumeNoirq)
+row (stage.PlatformDo down.PrepareLate) = may_fail stage.StopsCpus (stage.PlatformUndo undo.Wake)
+row stage.StopsCpus = may_fail stage.StopsIrqs stage.StartsCpus
+row stage.StopsIrqs = always stage.ChecksWakeup
+row stage.ChecksWakeup = may_fail stage.StopsSyscore stage.StartsIrqs
+row stage.StopsSyscore = may_fail stage.Enters stage.StartsSyscore
+row stage.Enters = always stage.StartsSyscore
+row stage.StartsSyscore = always stage.StartsIrqs
+row stage.StartsIrqs = always stage.StartsCpus
+row stage.StartsCpus = always (stage.PlatformUndo undo.Wake)
+row (stage.PlatformUndo undo.Wake) = always (stage.Ups phase.ResumeNoirq)
+row (stage.Ups phase.ResumeNoirq) = always (stage.Ups phase.Early)
+row (stage.Ups phase.Early) = always (stage.PlatformUndo undo.Finish)
+row (stage.PlatformUndo undo.Finish) = always (stage.Ups phase.Resume)
+row (stage.PlatformUndo undo.Recover) = always (stage.Ups phase.Resume)
+row (stage.Ups _) = always stage.Completes
+row stage.Completes = always (stage.PlatformUndo undo.End)
+row (stage.PlatformUndo undo.End) = always stage.ClearsSavedCount
+row stage.ClearsSavedCount = always (stage.Thaws thaw.All)
+row (stage.Thaws thaw.Kernel) = always (stage.Thaws thaw.All)
+row (stage.Thaws thaw.All) = always stage.NotifiesPost
+row stage.NotifiesPost = always stage.Ends
+row stage.Ends = always stage.Ends
+row (stage.Downs _) = may_fail (stage.PlatformDo down.PrepareLate) (stage.PlatformUndo undo.Recover)
 
 -- ---- its columns, by what a stage is of
 
@@ -94,11 +94,11 @@ stage_after_freeze g = (row (stage.Freezes g)).next
 
 -- after a step of the platform on the way down (suspend_devices_and_enter, suspend_enter)
 abbrev pub stage_after_platform_down : PlatDo → Stage
-stage_after_platform_down step = (row (stage.PlatformDown step)).next
+stage_after_platform_down step = (row (stage.PlatformDo step)).next
 
 -- after a step of the platform on the way up (suspend_devices_and_enter, suspend_enter)
 abbrev pub stage_after_platform_up : PlatUndo → Stage
-stage_after_platform_up step = (row (stage.PlatformUp step)).next
+stage_after_platform_up step = (row (stage.PlatformUndo step)).next
 
 -- after a thaw (suspend_freeze_processes, suspend_finish)
 abbrev pub stage_after_thaw : Thaw → Stage
@@ -106,7 +106,7 @@ stage_after_thaw those = (row (stage.Thaws those)).next
 
 -- after a step of the platform that failed (platform_resume_end, platform_resume_finish, platform_resume_noirq)
 abbrev pub failed_platform_down : PlatDo → Stage
-failed_platform_down step = (row (stage.PlatformDown step)).failed
+failed_platform_down step = (row (stage.PlatformDo step)).failed
 
 -- after a freeze that left tasks (suspend_freeze_processes)
 abbrev pub failed_freeze : Group → Stage
@@ -138,20 +138,20 @@ abbrev pub after_done : Phase → Option Errno → Stage
 after_done phase.Prepare r = by_error r (stage.Downs phase.Suspend) (failed_phase phase.Prepare)
 after_done phase.Syscore r = stage.Enters
 after_done phase.SyscoreResume r = stage.StartsIrqs
-after_done phase.Complete r = stage.PlatformUp undo.End
+after_done phase.Complete r = stage.PlatformUndo undo.End
 after_done p r = if is_down p then by_error r (stage_after_down p) (failed_phase p) else stage_after_up p
 
 -- the stage of the open attempt after an entry (enter_state, suspend_devices_and_enter, suspend_enter)
 abbrev pub stage_after : Kind → Option Stage → Option Stage
 stage_after (kind.Attempt n guarded) before = Some stage.Notifies
-stage_after (kind.NotifyPrepare x r) before = Some (by_error r stage.Notifies stage.Posts)
+stage_after (kind.NotifyPrepare x r) before = Some (by_error r stage.Notifies stage.NotifiesPost)
 stage_after (kind.Freeze g) before = Some (stage.Freezes g)
 stage_after (kind.Froze g end) before = Some (by_froze end (stage_after_freeze g) (failed_freeze g))
 stage_after (kind.PlatformDo step r) before = Some (by_error r (stage_after_platform_down step) (failed_platform_down step))
 stage_after (kind.Done p r) before = Some (after_done p r)
 stage_after (kind.CpuOff k) before = Some stage.StopsCpus
 stage_after (kind.CpuBusy k) before = Some stage.StartsCpus
-stage_after (kind.Irqs on) before = Some (by_case on stage.StartsCpus stage.Checks)
+stage_after (kind.Irqs on) before = Some (by_case on stage.StartsCpus stage.ChecksWakeup)
 stage_after (kind.SyscoreCheck r) before = Some (by_error r stage.StopsSyscore stage.StartsIrqs)
 stage_after (kind.SyscoreSuspend x r) before = Some (by_error r stage.StopsSyscore stage.StartsSyscore)
 stage_after (kind.Enter busy) before = Some (by_case busy stage.StartsSyscore stage.Enters)
@@ -161,7 +161,7 @@ stage_after (kind.CpuOn k) before = Some stage.StartsCpus
 stage_after (kind.PlatformUndo step) before = Some (stage_after_platform_up step)
 stage_after kind.Clear before = Some (stage.Thaws thaw.All)
 stage_after (kind.Thaw those) before = Some (stage_after_thaw those)
-stage_after (kind.NotifyPost x) before = Some stage.Posts
+stage_after (kind.NotifyPost x) before = Some stage.NotifiesPost
 stage_after (kind.Over n r) before = None
 stage_after _ before = before
 

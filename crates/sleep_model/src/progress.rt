@@ -64,7 +64,7 @@ pub enum Stage {
     /// A group of tasks is frozen (`freeze_processes`, `freeze_kernel_threads`).
     Freezes(Group),
     /// A step of the platform on the way down (`platform_suspend_begin` and its like).
-    PlatformDown(PlatDo),
+    PlatformDo(PlatDo),
     /// Devices are prepared (`dpm_prepare`).
     Prepares,
     /// A phase on the devices' way down (`dpm_suspend`, `dpm_suspend_late`, `dpm_suspend_noirq`).
@@ -74,7 +74,7 @@ pub enum Stage {
     /// Interrupts are turned off (`arch_suspend_disable_irqs`).
     StopsIrqs,
     /// The core tests for a wakeup (`syscore_suspend`).
-    Checks,
+    ChecksWakeup,
     /// The core's parts are suspended (`syscore_suspend`).
     StopsSyscore,
     /// The machine enters sleep, and wakes (`suspend_ops`, `enter`).
@@ -86,17 +86,17 @@ pub enum Stage {
     /// The other processors are started (`pm_sleep_enable_secondary_cpus`).
     StartsCpus,
     /// A step of the platform on the way up (`platform_resume_noirq` and its like).
-    PlatformUp(PlatUndo),
+    PlatformUndo(PlatUndo),
     /// A phase on the devices' way up (`dpm_resume_noirq`, `dpm_resume_early`, `dpm_resume`).
     Ups(Phase),
     /// Devices are completed (`dpm_complete`).
     Completes,
     /// The saved count is dropped (`enter_state`, `events_check_enabled`).
-    Clears,
+    ClearsSavedCount,
     /// Tasks are let go (`thaw_kernel_threads`, `thaw_processes`).
     Thaws(Thaw),
     /// Notifiers hear that it is over (`PM_POST_SUSPEND`).
-    Posts,
+    NotifiesPost,
     /// The attempt is over.
     Ends,
 }

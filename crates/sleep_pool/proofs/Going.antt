@@ -143,7 +143,7 @@ module _ {J : Type 0} where
       let at : (xs ys : List J) → length xs ≡ most * size → take size (drop (part * size) (xs ++ ys)) ≡ take size (drop (part * size) xs) =
       (λ xs ys e. ap (take size) (drop-append-le (part * size) xs ys (omega arith)) ∙ take-append-le size (drop (part * size) xs) ys (omega (arith, length-drop (part * size) xs))) in
       rw (at olds cs whole, at bs ds (same ∙ whole)) (h part))
-      (λ behind.
+      (λ after.
       let n = part - most in
       let is : part * size ≡ most * size + n * size = ap (λ i. i * size) (omega arith) ∙ add-mul most n size in
       let at : (xs ys : List J) → length xs ≡ most * size → take size (drop (part * size) (xs ++ ys)) ≡ take size (drop (n * size) ys) =
@@ -169,7 +169,7 @@ module _ {J : Type 0} where
       let f = drop-append-le (part * size) bs ds (omega arith) in
       let g = first_beside left (drop (part * size) olds) (drop (part * size) bs) cs ds (omega (arith, length-drop (part * size) olds)) (h part) in
       subst (λ l. FirstWent left l (drop (part * size) (bs ++ ds))) (sym e) (subst (FirstWent left (drop (part * size) olds ++ cs)) (sym f) g))
-      (λ behind.
+      (λ after.
       let n = part - most in
       let is : part * size ≡ most * size + n * size = ap (λ i. i * size) (omega arith) ∙ add-mul most n size in
       let at : (xs ys : List J) → length xs ≡ most * size → drop (part * size) (xs ++ ys) ≡ drop (n * size) ys =

@@ -67,10 +67,10 @@ pub fn one_round<W, J: Job<W>>(jobs: &mut [J], shared: &W, now: u64) -> RoundRes
     if ahead.stopped {
         return ahead;
     }
-    let behind = one_round(back, shared, now);
+    let after = one_round(back, shared, now);
     RoundResult {
-        did: ahead.did + behind.did,
-        stopped: behind.stopped,
+        did: ahead.did + after.did,
+        stopped: after.stopped,
     }
 }
 

@@ -10,7 +10,7 @@ use device_links::Links;
 use machine_plans::MachinePlans;
 use machine_rounds::{Run, RunFault};
 use run_world::Gate;
-use sleep_base::lost;
+use sleep_base::drop_for_mem;
 use sleep_model::Machine;
 use std::alloc::Global;
 use std::sync::Wait;
@@ -41,7 +41,7 @@ pub fn run_machine<R: Threads + Wait + Sync, G: Gate + Sync>(
     ensures fault { IfErr result (Fails machine.now) }
 {
     let Ok(plans) = MachinePlans::new(alloc, machine) else {
-        return Err(RunFault::from(lost(links)));
+        return Err(RunFault::from(drop_for_mem(links)));
     };
     let run = Run::new(alloc, &plans, links)?;
     let log = run.to_end(rt, alloc, workers, gate)?;

@@ -28,14 +28,14 @@ abbrev pub drawn_device : ℕ → ℕ → ℕ → Device
 drawn_device seed devices i = record { name = codes "d" ++ decimal i; parent = drawn_parent seed i; flags = record { 0 = draw seed (devices + i) 2 } }
 
 -- a link from that supplier to that consumer, after these
-abbrev pub with_link : ℕ → ℕ → List Link → List Link
-with_link u v links =
+abbrev pub with_new_link : ℕ → ℕ → List Link → List Link
+with_new_link u v links =
     if nat_lt u v && not (list_any (λ l. l.supplier == u && l.consumer == v) links) then links ++ record { supplier = u; consumer = v; active = true } ∷ [] else links
 
 -- the links after n tries; each draws its supplier and its consumer, and gives one if the first is the smaller and they have none (own)
 abbrev pub drawn_links : ℕ → ℕ → ℕ → List Link
 drawn_links seed devices zero = []
-drawn_links seed devices (suc n) = with_link (draw seed (2 * devices + 2 * n) devices) (draw seed (2 * devices + 2 * n + 1) devices) (drawn_links seed devices n)
+drawn_links seed devices (suc n) = with_new_link (draw seed (2 * devices + 2 * n) devices) (draw seed (2 * devices + 2 * n + 1) devices) (drawn_links seed devices n)
 
 -- an operation, made once
 abbrev pub once : Op → Step

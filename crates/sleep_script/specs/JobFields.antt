@@ -31,10 +31,10 @@ seen_job j = record {
 }
 
 -- the plan has the actor's calls, and that number of calls is due (own)
-pub record IsJob (j : Inside) : Type 0 where
+pub record JobInvariant (j : Inside) : Type 0 where
   pub plan_is : IsPlanOf (option_copied j.plan) j.plans.now j.who
   pub due_is : j.due ≡ length (map noted j.reports.now ++ drop j.made (calls_of_turn j.plans.now j.who j.turns))
 
 -- the plan has the actor's calls, and that number of calls is due (own)
 abbrev pub job_invariant : Inside → Type 0
-job_invariant j = IsJob j
+job_invariant j = JobInvariant j

@@ -45,8 +45,8 @@ is_exit kind.Exit = true
 is_exit _ = false
 
 -- after a turn of its own steps, after which its actor may have calls to make (own)
-abbrev pub after_step : JobState → JobState
-after_step job = record job { turns = job.turns + 1; pending = calls_of_turn job.machine job.who (job.turns + 1) }
+abbrev pub job_after_turn : JobState → JobState
+job_after_turn job = record job { turns = job.turns + 1; pending = calls_of_turn job.machine job.who (job.turns + 1) }
 
 -- after an entry: due are the reports of the callback it begins, and the calls up to the next turn (pm_wakeup_event)
 abbrev pub after_turn : Stamp → Kind → ℕ → JobState → JobState

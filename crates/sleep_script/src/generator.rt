@@ -4,7 +4,7 @@ ghost use Rattle.std.specs.Prelude.{◌≡◌, ◌==◌, ◌&&◌, ◌<◌, ◌�
 ghost use Rattle.std.specs.List.{list_any, range_with_len};
 ghost use Rattle.sleep_model.specs.Accepted.{IsAccepted};
 ghost use Rattle.sleep_model.specs.Places.{places};
-ghost use Rattle.sleep_script.specs.Generated.{drawn_parent, drawn_device, with_link, drawn_links, once, sleeper, drawn_event, line, after_links, generated};
+ghost use Rattle.sleep_script.specs.Generated.{drawn_parent, drawn_device, with_new_link, drawn_links, once, sleeper, drawn_event, line, after_links, generated};
 
 use crate::draws::Draws;
 use bitflags::Flags;
@@ -94,7 +94,7 @@ fn is_linked(links: &[Link], supplier: u32, consumer: u32) -> bool
 
 /// Puts a link from a lesser to a greater device after the others, if these have none.
 fn add_link(links: &mut Vec<Link>, supplier: u32, consumer: u32) -> Result<(), Mem>
-    ensures { OnOk result (links.new.items ≡ with_link supplier consumer links.old.items) }
+    ensures { OnOk result (links.new.items ≡ with_new_link supplier consumer links.old.items) }
 {
     if supplier < consumer && !is_linked(links, supplier, consumer) {
         links.push(Link {

@@ -82,7 +82,7 @@ impl<'m> ActorJob<'m> {
     ghost use Rattle.script_plan.specs.CallPlans.{noted};
     ghost use Rattle.sleep_model.specs.Calls.{calls_of_turn, report_calls};
     ghost use Rattle.sleep_script.specs.JobFields.{IsPlanOf};
-    ghost use Rattle.sleep_script.specs.Jobs.{IsWanted, first_job, after_turn, after_step, after_call, raised};
+    ghost use Rattle.sleep_script.specs.Jobs.{IsWanted, first_job, after_turn, job_after_turn, after_call, raised};
 
     /// The job of an actor before its first entry, with the plan of its own steps.
     fn new(plans: &'m MachinePlans<'_>, who: Actor, plan: Option<&'m Plan<'m>>) -> Self
@@ -167,7 +167,7 @@ impl<'m> ActorJob<'m> {
     fn end_turn(&mut self)
         requires made { self.old.pending ≡ [] }
         requires few { self.old.turns < 2 ^ 63 }
-        ensures { self.new ≡ after_step self.old }
+        ensures { self.new ≡ job_after_turn self.old }
     {
         let turns = self.turns + 1;
         self.due = calls_before(self.plan, turns).len();

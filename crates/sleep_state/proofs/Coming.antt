@@ -8,7 +8,7 @@ use Rattle.sleep_model.specs.declared.progress.ScriptPosition.{ScriptPosition}
 use Rattle.sleep_model.specs.Legal.{sooner}
 use Rattle.sleep_model.specs.Positions.{first_position, position_at}
 use Rattle.sleep_state.specs.Sleepers.{is_later, HasSlept, NoneSlept}
-use Rattle.sleep_state.specs.Trees.{least_of, AreJoined}
+use Rattle.sleep_state.specs.Trees.{least_of, AreLeastBelow}
 use Rattle.sleep_state.proofs.Sleeping.{all_later, least_end_is}
 
 -- ---- nodes
@@ -24,7 +24,7 @@ other_come (Some a) None now h l = absurd (false≢true (sym h ∙ l))
 other_come (Some a) (Some b) now h l = grind (arith, nat_tests)
 
 -- of two nodes below one whose moment has come the other's has, if the first one's has not
-pub come_other : (nodes : List (Option ℕ)) (many k now : ℕ) → AreJoined many nodes → 0 < k → k < many → is_later (slice_index_or nodes k None) now ≡ false → is_later (slice_index_or nodes (2 * k) None) now ≡ true → is_later (slice_index_or nodes (2 * k + 1) None) now ≡ false
+pub come_other : (nodes : List (Option ℕ)) (many k now : ℕ) → AreLeastBelow many nodes → 0 < k → k < many → is_later (slice_index_or nodes k None) now ≡ false → is_later (slice_index_or nodes (2 * k) None) now ≡ true → is_later (slice_index_or nodes (2 * k + 1) None) now ≡ false
 come_other nodes many k now joined some l h later =
     other_come (slice_index_or nodes (2 * k) None) (slice_index_or nodes (2 * k + 1) None) now (ap (λ (o : Option ℕ). is_later o now) (sym (joined k some l)) ∙ h) later
 

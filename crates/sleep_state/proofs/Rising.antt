@@ -4,7 +4,7 @@ use Rattle.std.proofs.Math.Nat.{min_comm}
 use Rattle.std.proofs.lemmas.Bool.Decides.{nat_tests}
 use Rattle.std.proofs.lemmas.List.{get_or-drop, length-drop}
 use Rattle.sleep_model.specs.Legal.{sooner}
-use Rattle.sleep_state.specs.Trees.{least_among, least_of, IsJoined, AreJoined, AreJoinedBut}
+use Rattle.sleep_state.specs.Trees.{least_among, least_of, IsLeastBelow, AreLeastBelow, AreJoinedBut}
 
 -- ---- the lesser of two
 
@@ -49,7 +49,7 @@ module _ (nodes : List (Option ℕ)) where
       ∙ ap (λ k. sooner (at a) (sooner (at k) (from (suc a) n))) (let same : a + suc n ≡ suc a + n = omega arith in same))
 
   -- the nodes from k to below 2k have the same least as those from k + 1 to below 2k + 2
-  from_next : (j : ℕ) → IsJoined nodes (suc j) → from (suc j) (suc j) ≡ from (suc (suc j)) (suc (suc j))
+  from_next : (j : ℕ) → IsLeastBelow nodes (suc j) → from (suc j) (suc j) ≡ from (suc (suc j)) (suc (suc j))
   from_next j h =
       let k : ℕ = suc j in
       from_front k j
@@ -57,7 +57,7 @@ module _ (nodes : List (Option ℕ)) where
       ∙ (sym (sooner_assoc (at (2 * k + 1)) (at (2 * k)) (from (suc k) j))
       ∙ ap₂ (λ x y. sooner (at x) (sooner (at y) (from (suc k) j))) (let one : 2 * k + 1 ≡ suc k + suc j = omega arith in one) (let two : 2 * k ≡ suc k + j = omega arith in two)))
 
-  from_first : (many j : ℕ) → AreJoined many nodes → suc j ≤ many → at 1 ≡ from (suc j) (suc j)
+  from_first : (many j : ℕ) → AreLeastBelow many nodes → suc j ≤ many → at 1 ≡ from (suc j) (suc j)
   from_first many zero h l = sym (sooner_none (at 1)) ∙ ap (λ k. sooner (at k) None) (let same : 1 ≡ 1 + 0 = omega arith in same)
   from_first many (suc j) h l = from_first many j h (omega (arith, l)) ∙ from_next j (h (suc j) (omega arith) (omega (arith, l)))
 
@@ -65,7 +65,7 @@ module _ (nodes : List (Option ℕ)) where
   from_own many zero = refl
   from_own many (suc n) = ap₂ sooner (sym (get_or-drop many nodes n None)) (from_own many n)
 
-pub first_least : (many : ℕ) (nodes : List (Option ℕ)) → length nodes ≡ 2 * many → AreJoined many nodes → slice_index_or nodes 1 None ≡ least_of (drop many nodes)
+pub first_least : (many : ℕ) (nodes : List (Option ℕ)) → length nodes ≡ 2 * many → AreLeastBelow many nodes → slice_index_or nodes 1 None ≡ least_of (drop many nodes)
 first_least zero [] e h = refl
 first_least zero (x ∷ xs) e h = absurd (omega (arith, e))
 first_least (suc j) nodes e h =
@@ -81,11 +81,11 @@ read_is (y ∷ ys) (suc i) x l e = read_is ys i x (omega (arith, l)) e
 -- ---- a node that stays as it was
 
 -- if the one that was left out is joined all are
-pub joined_here : (many i : ℕ) (nodes : List (Option ℕ)) → AreJoinedBut many i nodes → IsJoined nodes i → AreJoined many nodes
+pub joined_here : (many i : ℕ) (nodes : List (Option ℕ)) → AreJoinedBut many i nodes → IsLeastBelow nodes i → AreLeastBelow many nodes
 joined_here many i nodes h here k some l = by_same (k == i) refl
   where
-    by_same : (b : Bool) → (k == i) ≡ b → IsJoined nodes k
-    by_same true e = subst (IsJoined nodes) (let same : i ≡ k = grind (arith, nat_tests) in same) here
+    by_same : (b : Bool) → (k == i) ≡ b → IsLeastBelow nodes k
+    by_same true e = subst (IsLeastBelow nodes) (let same : i ≡ k = grind (arith, nat_tests) in same) here
     by_same false e = h k some l (λ same. absurd (grind (arith, nat_tests)))
 
 -- ---- nodes without a moment
@@ -96,7 +96,7 @@ none_at (suc n) zero = refl
 none_at (suc n) (suc k) = none_at n k
 
 -- nodes without a moment are joined
-pub joined_first : (many n : ℕ) → AreJoined many (replicate n None)
+pub joined_first : (many n : ℕ) → AreLeastBelow many (replicate n None)
 joined_first many n k there l = none_at n k ∙ sym (ap₂ sooner (none_at n (2 * k)) (none_at n (2 * k + 1)))
 
 drop_none : (many n : ℕ) → drop {A = Option ℕ} many (replicate (many + n) None) ≡ replicate n None

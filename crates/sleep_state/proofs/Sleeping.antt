@@ -8,7 +8,7 @@ use Rattle.sleep_model.specs.declared.progress.ScriptPosition.{ScriptPosition}
 use Rattle.sleep_model.specs.Legal.{sooner}
 use Rattle.sleep_model.specs.Places.{one_if}
 use Rattle.sleep_model.specs.Positions.{first_position, position_at, all_exited}
-use Rattle.sleep_state.specs.Sleepers.{is_awake, is_there, count_of, end_of, is_later, sleeps_past, is_stopped, AreStopped}
+use Rattle.sleep_state.specs.Sleepers.{is_awake, is_there, count_of, earliest_end, is_later, sleeps_past, is_stopped, AreStopped}
 use Rattle.sleep_state.specs.Trees.{least_among, least_of}
 
 -- ---- how many have such a position
@@ -80,11 +80,11 @@ ends_first (suc n) = ap (λ xs. None ∷ xs) (ends_first n)
 
 -- ---- the least end
 
-least_end_among : (positions : List ScriptPosition) (n : ℕ) → least_among (map (λ (x : ScriptPosition). x.until) positions) n ≡ end_of positions n
+least_end_among : (positions : List ScriptPosition) (n : ℕ) → least_among (map (λ (x : ScriptPosition). x.until) positions) n ≡ earliest_end positions n
 least_end_among positions zero = refl
 least_end_among positions (suc n) = ap₂ sooner (get_or-map (λ (x : ScriptPosition). x.until) positions n first_position) (least_end_among positions n)
 
-pub least_end_is : (positions : List ScriptPosition) → least_of (map (λ (x : ScriptPosition). x.until) positions) ≡ end_of positions (length positions)
+pub least_end_is : (positions : List ScriptPosition) → least_of (map (λ (x : ScriptPosition). x.until) positions) ≡ earliest_end positions (length positions)
 least_end_is positions = ap (least_among (map (λ (x : ScriptPosition). x.until) positions)) (length-map positions (λ (x : ScriptPosition). x.until)) ∙ least_end_among positions (length positions)
 
 later_than : (a b : Option ℕ) (time : ℕ) → is_later (sooner a b) time ≡ true → (is_later a time ≡ true) × (is_later b time ≡ true)
@@ -92,14 +92,14 @@ later_than None b time h = (refl, h)
 later_than (Some a) None time h = (h, refl)
 later_than (Some a) (Some b) time h = (grind (arith, nat_tests), grind (arith, nat_tests))
 
-pub all_later : (positions : List ScriptPosition) (n time : ℕ) → is_later (end_of positions n) time ≡ true → (i : ℕ) → i < n → is_later (position_at positions i).until time ≡ true
+pub all_later : (positions : List ScriptPosition) (n time : ℕ) → is_later (earliest_end positions n) time ≡ true → (i : ℕ) → i < n → is_later (position_at positions i).until time ≡ true
 all_later positions zero time h i l = absurd (omega (arith, l))
-all_later positions (suc n) time h i l = by_last (nat_lt i n) refl (λ k. all_later positions n time (later_than (position_at positions n).until (end_of positions n) time h).1 i k)
+all_later positions (suc n) time h i l = by_last (nat_lt i n) refl (λ k. all_later positions n time (later_than (position_at positions n).until (earliest_end positions n) time h).1 i k)
   where
     by_last : (b : Bool) → nat_lt i n ≡ b → (i < n → is_later (position_at positions i).until time ≡ true) → is_later (position_at positions i).until time ≡ true
     by_last true e before = before (grind (arith, nat_tests))
     by_last false e before =
-        subst (λ (k : ℕ). is_later (position_at positions k).until time ≡ true) (let same : n ≡ i = grind (arith, nat_tests) in same) (later_than (position_at positions n).until (end_of positions n) time h).0
+        subst (λ (k : ℕ). is_later (position_at positions k).until time ≡ true) (let same : n ≡ i = grind (arith, nat_tests) in same) (later_than (position_at positions n).until (earliest_end positions n) time h).0
 
 still_of : (position : ScriptPosition) (time : ℕ) → one_if (is_awake position) ≡ 0 → is_later position.until time ≡ true → is_stopped position time ≡ true
 still_of position time none later = by_parts position.exited position.until none later
@@ -109,10 +109,10 @@ still_of position time none later = by_parts position.exited position.until none
     by_parts false (Some u) a l = l
     by_parts false None a l = absurd (omega (arith, a))
 
-pub still_all : (positions : List ScriptPosition) (time : ℕ) → count_of is_awake positions ≡ 0 → is_later (end_of positions (length positions)) time ≡ true → AreStopped positions time
+pub still_all : (positions : List ScriptPosition) (time : ℕ) → count_of is_awake positions ≡ 0 → is_later (earliest_end positions (length positions)) time ≡ true → AreStopped positions time
 still_all positions time none later i l = still_of (position_at positions i) time (omega (arith, count_least is_awake positions i (position_at positions i) (get_position positions i l), none)) (all_later positions (length positions) time later i l)
 
 -- what the two tests say
-pub stopped_shown : (positions : List ScriptPosition) (time : ℕ) (b : Bool) → (b ≡ true → count_of is_awake positions ≡ 0) → (b ≡ true → is_later (end_of positions (length positions)) time ≡ true) → OnTrue b (AreStopped positions time)
+pub stopped_shown : (positions : List ScriptPosition) (time : ℕ) (b : Bool) → (b ≡ true → count_of is_awake positions ≡ 0) → (b ≡ true → is_later (earliest_end positions (length positions)) time ≡ true) → OnTrue b (AreStopped positions time)
 stopped_shown positions time true none later = still_all positions time (none refl) (later refl)
 stopped_shown positions time false none later = tt

@@ -19,9 +19,9 @@ count_of so [] = 0
 count_of so (position ∷ positions) = one_if (so position) + count_of so positions
 
 -- the least end of the first n scripts' sleeps, if there is any (own)
-abbrev pub end_of : List ScriptPosition → ℕ → Option ℕ
-end_of positions zero = None
-end_of positions (suc n) = sooner (position_at positions n).until (end_of positions n)
+abbrev pub earliest_end : List ScriptPosition → ℕ → Option ℕ
+earliest_end positions zero = None
+earliest_end positions (suc n) = sooner (position_at positions n).until (earliest_end positions n)
 
 -- a moment, if there is one, is later than that time (own)
 abbrev pub is_later : Option ℕ → ℕ → Bool

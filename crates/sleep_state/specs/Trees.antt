@@ -12,13 +12,13 @@ abbrev pub least_of : List (Option ℕ) → Option ℕ
 least_of moments = least_among moments (length moments)
 
 -- a node has the lesser moment of the two below it (own)
-abbrev pub IsJoined : List (Option ℕ) → ℕ → Type 0
-IsJoined nodes k = slice_index_or nodes k None ≡ sooner (slice_index_or nodes (2 * k) None) (slice_index_or nodes (2 * k + 1) None)
+abbrev pub IsLeastBelow : List (Option ℕ) → ℕ → Type 0
+IsLeastBelow nodes k = slice_index_or nodes k None ≡ sooner (slice_index_or nodes (2 * k) None) (slice_index_or nodes (2 * k + 1) None)
 
 -- so has each above the last n, but one (own)
 abbrev pub AreJoinedBut : ℕ → ℕ → List (Option ℕ) → Type 0
-AreJoinedBut n but nodes = (k : ℕ) → 0 < k → k < n → k ≢ but → IsJoined nodes k
+AreJoinedBut n but nodes = (k : ℕ) → 0 < k → k < n → k ≢ but → IsLeastBelow nodes k
 
 -- so has each above the last n (own)
-abbrev pub AreJoined : ℕ → List (Option ℕ) → Type 0
-AreJoined n nodes = (k : ℕ) → 0 < k → k < n → IsJoined nodes k
+abbrev pub AreLeastBelow : ℕ → List (Option ℕ) → Type 0
+AreLeastBelow n nodes = (k : ℕ) → 0 < k → k < n → IsLeastBelow nodes k

@@ -16,39 +16,39 @@ macro_rules! ladder {
     };
     ($column:ident of $from:expr) => {
         ladder! { @$column $from;
-            Stage::Notifies => Stage::Freezes(Group::User), Stage::Posts;
+            Stage::Notifies => Stage::Freezes(Group::User), Stage::NotifiesPost;
             Stage::Freezes(Group::User) => Stage::Freezes(Group::Kernel), Stage::Thaws(Thaw::All);
-            Stage::Freezes(Group::Kernel) => Stage::PlatformDown(PlatDo::Begin), Stage::Thaws(Thaw::Kernel);
-            Stage::PlatformDown(PlatDo::Begin) => Stage::Prepares, Stage::PlatformUp(PlatUndo::End);
-            Stage::Prepares => Stage::Downs(Phase::Suspend), Stage::PlatformUp(PlatUndo::Recover);
-            Stage::Downs(Phase::Suspend) => Stage::PlatformDown(PlatDo::Prepare), Stage::PlatformUp(PlatUndo::Recover);
-            Stage::PlatformDown(PlatDo::Prepare) => Stage::Downs(Phase::Late), Stage::PlatformUp(PlatUndo::Finish);
+            Stage::Freezes(Group::Kernel) => Stage::PlatformDo(PlatDo::Begin), Stage::Thaws(Thaw::Kernel);
+            Stage::PlatformDo(PlatDo::Begin) => Stage::Prepares, Stage::PlatformUndo(PlatUndo::End);
+            Stage::Prepares => Stage::Downs(Phase::Suspend), Stage::PlatformUndo(PlatUndo::Recover);
+            Stage::Downs(Phase::Suspend) => Stage::PlatformDo(PlatDo::Prepare), Stage::PlatformUndo(PlatUndo::Recover);
+            Stage::PlatformDo(PlatDo::Prepare) => Stage::Downs(Phase::Late), Stage::PlatformUndo(PlatUndo::Finish);
             Stage::Downs(Phase::Late) => Stage::Downs(Phase::Noirq), Stage::Ups(Phase::Early);
-            Stage::Downs(Phase::Noirq) => Stage::PlatformDown(PlatDo::PrepareLate), Stage::Ups(Phase::ResumeNoirq);
-            Stage::PlatformDown(PlatDo::PrepareLate) => Stage::StopsCpus, Stage::PlatformUp(PlatUndo::Wake);
+            Stage::Downs(Phase::Noirq) => Stage::PlatformDo(PlatDo::PrepareLate), Stage::Ups(Phase::ResumeNoirq);
+            Stage::PlatformDo(PlatDo::PrepareLate) => Stage::StopsCpus, Stage::PlatformUndo(PlatUndo::Wake);
             Stage::StopsCpus => Stage::StopsIrqs, Stage::StartsCpus;
-            Stage::StopsIrqs => Stage::Checks, Stage::Checks;
-            Stage::Checks => Stage::StopsSyscore, Stage::StartsIrqs;
+            Stage::StopsIrqs => Stage::ChecksWakeup, Stage::ChecksWakeup;
+            Stage::ChecksWakeup => Stage::StopsSyscore, Stage::StartsIrqs;
             Stage::StopsSyscore => Stage::Enters, Stage::StartsSyscore;
             Stage::Enters => Stage::StartsSyscore, Stage::StartsSyscore;
             Stage::StartsSyscore => Stage::StartsIrqs, Stage::StartsIrqs;
             Stage::StartsIrqs => Stage::StartsCpus, Stage::StartsCpus;
-            Stage::StartsCpus => Stage::PlatformUp(PlatUndo::Wake), Stage::PlatformUp(PlatUndo::Wake);
-            Stage::PlatformUp(PlatUndo::Wake) => Stage::Ups(Phase::ResumeNoirq), Stage::Ups(Phase::ResumeNoirq);
+            Stage::StartsCpus => Stage::PlatformUndo(PlatUndo::Wake), Stage::PlatformUndo(PlatUndo::Wake);
+            Stage::PlatformUndo(PlatUndo::Wake) => Stage::Ups(Phase::ResumeNoirq), Stage::Ups(Phase::ResumeNoirq);
             Stage::Ups(Phase::ResumeNoirq) => Stage::Ups(Phase::Early), Stage::Ups(Phase::Early);
-            Stage::Ups(Phase::Early) => Stage::PlatformUp(PlatUndo::Finish), Stage::PlatformUp(PlatUndo::Finish);
-            Stage::PlatformUp(PlatUndo::Finish) => Stage::Ups(Phase::Resume), Stage::Ups(Phase::Resume);
-            Stage::PlatformUp(PlatUndo::Recover) => Stage::Ups(Phase::Resume), Stage::Ups(Phase::Resume);
+            Stage::Ups(Phase::Early) => Stage::PlatformUndo(PlatUndo::Finish), Stage::PlatformUndo(PlatUndo::Finish);
+            Stage::PlatformUndo(PlatUndo::Finish) => Stage::Ups(Phase::Resume), Stage::Ups(Phase::Resume);
+            Stage::PlatformUndo(PlatUndo::Recover) => Stage::Ups(Phase::Resume), Stage::Ups(Phase::Resume);
             Stage::Ups(Phase::Resume) => Stage::Completes, Stage::Completes;
-            Stage::Completes => Stage::PlatformUp(PlatUndo::End), Stage::PlatformUp(PlatUndo::End);
-            Stage::PlatformUp(PlatUndo::End) => Stage::Clears, Stage::Clears;
-            Stage::Clears => Stage::Thaws(Thaw::All), Stage::Thaws(Thaw::All);
+            Stage::Completes => Stage::PlatformUndo(PlatUndo::End), Stage::PlatformUndo(PlatUndo::End);
+            Stage::PlatformUndo(PlatUndo::End) => Stage::ClearsSavedCount, Stage::ClearsSavedCount;
+            Stage::ClearsSavedCount => Stage::Thaws(Thaw::All), Stage::Thaws(Thaw::All);
             Stage::Thaws(Thaw::Kernel) => Stage::Thaws(Thaw::All), Stage::Thaws(Thaw::All);
-            Stage::Thaws(Thaw::All) => Stage::Posts, Stage::Posts;
-            Stage::Posts => Stage::Ends, Stage::Ends;
+            Stage::Thaws(Thaw::All) => Stage::NotifiesPost, Stage::NotifiesPost;
+            Stage::NotifiesPost => Stage::Ends, Stage::Ends;
             Stage::Ends => Stage::Ends, Stage::Ends;
             // No walk has another phase.
-            Stage::Downs(_) => Stage::PlatformDown(PlatDo::PrepareLate), Stage::PlatformUp(PlatUndo::Recover);
+            Stage::Downs(_) => Stage::PlatformDo(PlatDo::PrepareLate), Stage::PlatformUndo(PlatUndo::Recover);
             Stage::Ups(_) => Stage::Completes, Stage::Completes;
         }
     };
@@ -62,7 +62,7 @@ pub fn next_stage(stage: Stage) -> Stage
 }
 
 /// The stage that follows a stage that failed.
-pub(crate) fn failed(stage: Stage) -> Stage
+pub(crate) fn failed_at(stage: Stage) -> Stage
     ensures { result ≡ failed_at stage }
 {
     ladder!(failed of stage)
@@ -73,7 +73,7 @@ pub(crate) fn leave(stage: Stage, fails: bool) -> Stage
     ensures { result ≡ by_case fails (failed_at stage) (next_stage stage) }
 {
     if fails {
-        failed(stage)
+        failed_at(stage)
     } else {
         next_stage(stage)
     }
@@ -83,5 +83,5 @@ pub(crate) fn leave(stage: Stage, fails: bool) -> Stage
 pub(crate) fn stay(stage: Stage, fails: bool) -> Stage
     ensures { result ≡ by_case fails (failed_at stage) stage }
 {
-    if fails { failed(stage) } else { stage }
+    if fails { failed_at(stage) } else { stage }
 }

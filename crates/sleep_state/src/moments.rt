@@ -4,7 +4,7 @@ ghost use Rattle.std.specs.Prelude.{◌≡◌, ◌≤◌, ◌<◌, ◌+◌, ◌*
 ghost use Rattle.std.specs.Bool.{OnTrue};
 ghost use Rattle.sleep_model.specs.Legal.{sooner};
 ghost use Rattle.sleep_state.specs.Sleepers.{is_later};
-ghost use Rattle.sleep_state.specs.Trees.{AreJoined, AreJoinedBut};
+ghost use Rattle.sleep_state.specs.Trees.{AreLeastBelow, AreJoinedBut};
 
 use sleep_base::Mem;
 use std::alloc::Global;
@@ -85,7 +85,7 @@ fn rise(nodes: &mut [Option<u64>], many: usize, above: usize)
     requires within { above < many }
     requires joined { AreJoinedBut many above nodes.old }
     ensures size { length nodes.new ≡ length nodes.old }
-    ensures joined { AreJoined many nodes.new }
+    ensures joined { AreLeastBelow many nodes.new }
     ensures own { drop many nodes.new ≡ drop many nodes.old }
 {
     let mut at = above;
@@ -130,7 +130,7 @@ pub(crate) fn is_later(moment: Option<u64>, time: u64) -> bool
 #[tactic(auto, using(crate::proofs::Coming::come_other))]
 fn come_below(nodes: &[Option<u64>], many: usize, now: u64) -> usize
     requires size { length nodes.now ≡ 2 * many }
-    requires joined { AreJoined many nodes.now }
+    requires joined { AreLeastBelow many nodes.now }
     requires come { is_later (slice_index_or nodes.now 1 None) now ≡ false }
     ensures own { many ≤ result }
     ensures come { is_later (slice_index_or nodes.now result None) now ≡ false }

@@ -6,7 +6,7 @@ ghost use Rattle.sleep_model.specs.Walk.{or_else};
 ghost use Rattle.sleep_model.specs.declared.progress.Stage.{Stage};
 ghost use Rattle.sleep_model.specs.Table.{stage_after, after_done, by_froze, by_case};
 
-use crate::ladder::{failed, leave, next_stage, stay};
+use crate::ladder::{failed_at, leave, next_stage, stay};
 use sleep_base::Errno;
 use sleep_model::{Actor, FrozeEnd, Kind, Phase, Sleep, Stage};
 use std::marker::Model;
@@ -68,22 +68,22 @@ fn stage_after(kind: Kind, before: Option<Stage>) -> Option<Stage>
         Kind::NotifyPrepare(_, r) => stay(Stage::Notifies, r.is_some()),
         Kind::Freeze(group) => Stage::Freezes(group),
         Kind::Froze(group, end) => leave(Stage::Freezes(group), is_broken(end)),
-        Kind::PlatformDo(step, r) => leave(Stage::PlatformDown(step), r.is_some()),
+        Kind::PlatformDo(step, r) => leave(Stage::PlatformDo(step), r.is_some()),
         Kind::Done(phase, r) => after_done(phase, r),
         Kind::CpuOff(_) => Stage::StopsCpus,
-        Kind::CpuBusy(_) => failed(Stage::StopsCpus),
+        Kind::CpuBusy(_) => failed_at(Stage::StopsCpus),
         Kind::Irqs { on: false } => next_stage(Stage::StopsIrqs),
-        Kind::SyscoreCheck(r) => leave(Stage::Checks, r.is_some()),
+        Kind::SyscoreCheck(r) => leave(Stage::ChecksWakeup, r.is_some()),
         Kind::SyscoreSuspend(_, r) => stay(Stage::StopsSyscore, r.is_some()),
         Kind::Enter { busy } => stay(Stage::Enters, busy),
         Kind::Wake { .. } => next_stage(Stage::Enters),
         Kind::SyscoreResume(_) => Stage::StartsSyscore,
         Kind::Irqs { on: true } => next_stage(Stage::StartsIrqs),
         Kind::CpuOn(_) => Stage::StartsCpus,
-        Kind::PlatformUndo(step) => next_stage(Stage::PlatformUp(step)),
-        Kind::Clear => next_stage(Stage::Clears),
+        Kind::PlatformUndo(step) => next_stage(Stage::PlatformUndo(step)),
+        Kind::Clear => next_stage(Stage::ClearsSavedCount),
         Kind::Thaw(those) => next_stage(Stage::Thaws(those)),
-        Kind::NotifyPost(_) => Stage::Posts,
+        Kind::NotifyPost(_) => Stage::NotifiesPost,
         Kind::Over { .. } => return None,
         _ => return before,
     })

@@ -149,7 +149,7 @@ impl ScriptPositions {
     ghost use Rattle.std.specs.Bool.{OnTrue};
     ghost use Rattle.sleep_model.specs.Positions.{first_position, position_after, position_at, position_effect, all_exited};
     ghost use Rattle.sleep_state.specs.TaskStates.{IsSmallPosition};
-    ghost use Rattle.sleep_state.specs.Sleepers.{end_of, AreStopped, HasSlept, NoneSlept};
+    ghost use Rattle.sleep_state.specs.Sleepers.{earliest_end, AreStopped, HasSlept, NoneSlept};
 
     /// So many scripts at their first steps. `Mem` if there is no memory.
     #[tactic(auto, using(crate::proofs::Sleeping::ends_first, crate::proofs::Sleeping::awake_first, crate::proofs::Sleeping::there_first))]
@@ -198,7 +198,7 @@ impl ScriptPositions {
 
     /// The least end of all sleeps.
     pub(crate) fn least_end(&self) -> Option<u64>
-        ensures { result ≡ end_of self.now (length self.now) }
+        ensures { result ≡ earliest_end self.now (length self.now) }
     {
         self.ends.least()
     }

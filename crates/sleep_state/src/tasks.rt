@@ -69,7 +69,7 @@ impl Tasks {
     ghost use Rattle.sleep_model.specs.Marks.{mark_at};
     ghost use Rattle.sleep_model.specs.Positions.{position_at, all_exited};
     ghost use Rattle.sleep_state.specs.TaskStates.{PositionIsSmall, MarksAreSmall, tasks_after, first_tasks};
-    ghost use Rattle.sleep_state.specs.Sleepers.{end_of, AreStopped, HasSlept, NoneSlept};
+    ghost use Rattle.sleep_state.specs.Sleepers.{earliest_end, AreStopped, HasSlept, NoneSlept};
 
     /// All scripts at their first steps, and no mark raised. `Mem` if there is no memory.
     pub fn new(alloc: Global, scripts: usize, marks: usize) -> Result<Self, Mem>
@@ -121,7 +121,7 @@ impl Tasks {
 
     /// The least end of all scripts' sleeps.
     pub fn least_end(&self) -> Option<u64>
-        ensures { result ≡ end_of self.now.positions (length self.now.positions) }
+        ensures { result ≡ earliest_end self.now.positions (length self.now.positions) }
     {
         self.positions.least_end()
     }

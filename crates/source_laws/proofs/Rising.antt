@@ -43,14 +43,14 @@ in_downs phase.Noirq _ e InEarly h = never h
 in_downs phase.Noirq _ e InResumeNoirq h = never h
 in_downs _ _ e i h = never h
 
-in_platform_down : (a : PlatDo) (q : Phase) (e : Bool) → Up q → allows (mood (stage.PlatformDown a) (mirror q)) e state.Rescheduled ≡ true → ⊥
+in_platform_down : (a : PlatDo) (q : Phase) (e : Bool) → Up q → allows (mood (stage.PlatformDo a) (mirror q)) e state.Rescheduled ≡ true → ⊥
 in_platform_down down.Begin _ e i h = never h
 in_platform_down down.Prepare _ e InResume h = never h
 in_platform_down down.Prepare _ e InEarly h = never h
 in_platform_down down.Prepare _ e InResumeNoirq h = never h
 in_platform_down down.PrepareLate _ e i h = never h
 
-in_platform_up : (a : PlatUndo) (q : Phase) (e : Bool) → Up q → allows (mood (stage.PlatformUp a) (mirror q)) e state.Rescheduled ≡ true → ⊥
+in_platform_up : (a : PlatUndo) (q : Phase) (e : Bool) → Up q → allows (mood (stage.PlatformUndo a) (mirror q)) e state.Rescheduled ≡ true → ⊥
 in_platform_up undo.Recover _ e InResume h = never h
 in_platform_up undo.Recover _ e InEarly h = never h
 in_platform_up undo.Recover _ e InResumeNoirq h = never h
@@ -63,8 +63,8 @@ in_platform_up undo.End _ e i h = never h
 rescheduled_at : (st : Option Stage) (q : Phase) (e : Bool) → Up q → allows (mood_if st (mirror q)) e state.Rescheduled ≡ true → st ≡ Some (stage.Ups q)
 rescheduled_at (Some (stage.Ups p)) q e i h = ap Some (in_ups p q e i h)
 rescheduled_at (Some (stage.Downs p)) q e i h = absurd (in_downs p q e i h)
-rescheduled_at (Some (stage.PlatformDown a)) q e i h = absurd (in_platform_down a q e i h)
-rescheduled_at (Some (stage.PlatformUp a)) q e i h = absurd (in_platform_up a q e i h)
+rescheduled_at (Some (stage.PlatformDo a)) q e i h = absurd (in_platform_down a q e i h)
+rescheduled_at (Some (stage.PlatformUndo a)) q e i h = absurd (in_platform_up a q e i h)
 rescheduled_at None q e i h = never h
 rescheduled_at (Some _) q e i h = never h
 

@@ -59,7 +59,7 @@ impl Syscore {
     /// The part that is resumed next, the first that is suspended. None exactly if none is
     /// (`syscore_resume`).
     #[tactic(auto, using(sleep_model::proofs::Searches::find_is_first))]
-    pub fn next_started(&self) -> Option<u32>
+    pub fn next_syscore_resumed(&self) -> Option<u32>
         ensures { result ≡ next_resumed self.now }
     {
         first_set(&self.suspended, self.n)
@@ -88,7 +88,7 @@ impl Syscore {
         ensures kind { result ≡ resume_entry self.old }
         ensures after { self.new ≡ syscore_after_any result self.old }
     {
-        let x = self.next_started()?;
+        let x = self.next_syscore_resumed()?;
         let kind = Kind::SyscoreResume(x);
         self.note(kind);
         Some(kind)

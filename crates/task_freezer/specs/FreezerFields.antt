@@ -9,7 +9,7 @@ abbrev pub freezer : Inside → FreezerState
 freezer f = record { scripts = f.scripts.now; freezings = f.freezings.items; exited_flags = f.exited_flags.items }
 
 -- each script has its own freezing, and those that freezes wait for are counted
-pub record AreCounted (f : Inside) : Type 0 where
+pub record FreezerInvariant (f : Inside) : Type 0 where
   pub few : length f.scripts.now < 2 ^ 31
   pub freezings : length f.freezings.items ≡ length f.scripts.now
   pub exited_flags : length f.exited_flags.items ≡ length f.scripts.now

@@ -45,11 +45,11 @@ impl<'m> Model for Freezer<'m> {
 
     ghost Value = { FreezerState };
 
-    ghost use Rattle.task_freezer.specs.FreezerFields.{freezer, AreCounted};
+    ghost use Rattle.task_freezer.specs.FreezerFields.{freezer, FreezerInvariant};
 
     ghost view = { freezer };
 
-    ghost invariant = { AreCounted };
+    ghost invariant = { FreezerInvariant };
 }
 
 impl<'m> Freezer<'m> {

@@ -177,12 +177,12 @@ fn goes_on(job: &mut ActorJob<'_>) -> Result<bool, Mem>
     turn(job, Kind::Read(0))?;
     let before = call(job)?;
     turn(job, Kind::AutoSet(State::Mem))?;
-    let behind = call(job)?;
+    let after = call(job)?;
     turn(job, Kind::AutoDone)?;
     let event = call(job)?;
     turn(job, Kind::Exit)?;
     let both = matches!(
-        (before, behind),
+        (before, after),
         ((1, SourceCall::Awake), (1, SourceCall::Relax))
     );
     let is_event = matches!(event, (0, SourceCall::Event { ms: 50, hard: true }));

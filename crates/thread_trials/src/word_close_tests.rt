@@ -1,6 +1,6 @@
 //! The table of the word is closed after steps of two workers.
 ghost use Rattle.std.specs.Prelude.{◌≡◌, [], IfOk};
-ghost use Rattle.event_word.specs.Seats.{AreAll, AreNew, number_of, made_of};
+ghost use Rattle.event_word.specs.Seats.{AreAllSeats, AreNew, number_of, made_of};
 ghost use Rattle.event_word.specs.Lists.{tokens};
 
 use crate::word_table_tests::{step, word};
@@ -36,7 +36,7 @@ fn twice<R: Threads + Wait + Sync>(
 ) -> Result<Vec<EventSeat>, AllocError>
     requires look { look.now.token.table_id ≡ table.now.cells.shared.table_id }
     requires seats { AreNew look.now.token (tokens seats.items) }
-    ensures { IfOk result (λ back. AreAll look.now.token (tokens back.items)) }
+    ensures { IfOk result (λ back. AreAllSeats look.now.token (tokens back.items)) }
 {
     let _ = look;
     let came = AtomicBool::new(false);

@@ -1,6 +1,6 @@
 //! Many workers make steps of the event word: each finds another position.
 ghost use Rattle.std.specs.Prelude.{◌≡◌, ◌≤◌, [], map, IfOk};
-ghost use Rattle.event_word.specs.Seats.{AreAll, AreNew, number_of, made_of};
+ghost use Rattle.event_word.specs.Seats.{AreAllSeats, AreNew, number_of, made_of};
 ghost use Rattle.event_word.specs.Lists.{tokens};
 
 use crate::word_table_tests::step;
@@ -67,7 +67,7 @@ fn burst<R: Threads + Wait + Sync>(
     requires look { look.now.token.table_id ≡ table.now.cells.shared.table_id }
     requires seats { AreNew look.now.token (tokens seats.items) }
     requires turns { turns ≤ 10000 }
-    ensures { IfOk result (λ done. AreAll look.now.token (map (λ d. d.seat.token) done.items)) }
+    ensures { IfOk result (λ done. AreAllSeats look.now.token (map (λ d. d.seat.token) done.items)) }
 {
     let _ = look;
     let one = |seat: EventSeat| -> Done

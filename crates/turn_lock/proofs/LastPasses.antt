@@ -10,7 +10,7 @@ use Rattle.atomic_table.proofs.Lists.{at_map, at_index}
 use Rattle.atomic_table.specs.Seated.{TableId}
 use Rattle.turn_lock.specs.declared.view.Made.{Made}
 use Rattle.turn_lock.specs.declared.table.Pass.{Pass}
-use Rattle.turn_lock.specs.Passes.{Token, IsPass, IsPassOf, AreAll, first_of, made_of, number_of}
+use Rattle.turn_lock.specs.Passes.{LockToken, IsPass, IsPassOf, AreAll, first_of, made_of, number_of}
 use Rattle.turn_lock.specs.Passing.{tokens, made_lists, AreOut, AreFull}
 use Rattle.turn_lock.specs.Locks.{IsObject, AreClosed}
 use Rattle.turn_lock.proofs.Invariance.{at_end, within, there, Ended}
@@ -51,7 +51,7 @@ module _ {A : Type 0} where
 
 module _ {V I : Type 0} where
   -- the pass that comes next has the number of its index
-  pub came : (own : Token V I) (passes yielded left rest : List (Pass V I)) (p : Pass V I) → AreAll own (tokens passes) → yielded ++ left ≡ passes → left ≡ p ∷ rest
+  pub came : (own : LockToken V I) (passes yielded left rest : List (Pass V I)) (p : Pass V I) → AreAll own (tokens passes) → yielded ++ left ≡ passes → left ≡ p ∷ rest
       → IsPassOf own p.token × (number_of p.token ≡ Some (length yielded))
   came own passes yielded left rest p are whole next = are.each_is (length yielded) p.token
       (at_map (λ (q : Pass V I). q.token) passes (length yielded) p (ap (λ l. get_elem? l (length yielded)) (sym whole ∙ ap (λ l. yielded ++ l) next) ∙ at_middle yielded rest p))
@@ -59,10 +59,10 @@ module _ {V I : Type 0} where
   pub known_length : (yielded : List (Pass V I)) (known : List (List (Made I))) → known ≡ made_lists yielded → length known ≡ length yielded
   known_length yielded known e = ap length e ∙ length-map yielded (λ (p : Pass V I). made_of p.token)
 
-  pub all_in : (own own' : Token V I) (passes : List (Pass V I)) → AreAll own (tokens passes) → own'.me.0.next ≡ own.me.0.next → own'.me.0.known ≡ made_lists passes → own'.me.0.next ≡ length own'.me.0.known
+  pub all_in : (own own' : LockToken V I) (passes : List (Pass V I)) → AreAll own (tokens passes) → own'.me.0.next ≡ own.me.0.next → own'.me.0.known ≡ made_lists passes → own'.me.0.next ≡ length own'.me.0.known
   all_in own own' passes are same known = same ∙ (sym are.counted ∙ (length-map passes (λ (p : Pass V I). p.token) ∙ sym (known_length passes own'.me.0.known known)))
 
-  at_unmapped : (ps : List (Pass V I)) (k : ℕ) (p : Token V I) → get_elem? (tokens ps) k ≡ some p → (q : Pass V I) × (get_elem? ps k ≡ some q) × (q.token ≡ p)
+  at_unmapped : (ps : List (Pass V I)) (k : ℕ) (p : LockToken V I) → get_elem? (tokens ps) k ≡ some p → (q : Pass V I) × (get_elem? ps k ≡ some q) × (q.token ≡ p)
   at_unmapped [] k p e = absurd (some-ne-none p (sym e))
   at_unmapped (q ∷ ps) zero p e = (q, refl, some-injective q.token p e)
   at_unmapped (q ∷ ps) (suc k) p e = at_unmapped ps k p e
@@ -73,11 +73,11 @@ module _ {V I : Type 0} where
   read_at (q ∷ ps) (suc k) p d e = read_at ps k p d e
 
   -- each of all passes is one of the table
-  pub one_of_all : (own : Token V I) (ps : List (Pass V I)) (i : ℕ) (p : Pass V I) → AreAll own (tokens ps) → i < length ps → p ≡ get_or ps i p → IsPassOf own p.token
+  pub one_of_all : (own : LockToken V I) (ps : List (Pass V I)) (i : ℕ) (p : Pass V I) → AreAll own (tokens ps) → i < length ps → p ≡ get_or ps i p → IsPassOf own p.token
   one_of_all own ps i p are low e = (are.each_is i p.token (at_map (λ (q : Pass V I). q.token) ps i p (at_index ps i p low e))).0
 
   -- passes that come back in their order, each with its number, are all passes
-  pub all_back : (own : Token V I) (before after : List (Pass V I)) → AreAll own (tokens before) → length after ≡ length before
+  pub all_back : (own : LockToken V I) (before after : List (Pass V I)) → AreAll own (tokens before) → length after ≡ length before
       → ((i : ℕ) (d : Pass V I) → i < length before → IsPassOf own (get_or after i d).token × (number_of (get_or after i d).token ≡ number_of (get_or before i d).token)) → AreAll own (tokens after)
   all_back own before after are same each = record {
     counted = length-map after (λ (q : Pass V I). q.token) ∙ (same ∙ (sym (length-map before (λ (q : Pass V I). q.token)) ∙ are.counted));
@@ -88,7 +88,7 @@ module _ {V I : Type 0} where
         let was = are.each_is k b.0.token (at_map (λ (x : Pass V I). x.token) before k b.0 b.1) in
         let e = each k q.0 (omega arith) in
         let now : get_or after k q.0 ≡ q.0 = read_at after k q.0 q.0 q.1 in
-        subst (λ (x : Token V I). IsPassOf own x × (number_of x ≡ Some k)) (ap (λ (x : Pass V I). x.token) now ∙ q.2)
+        subst (λ (x : LockToken V I). IsPassOf own x × (number_of x ≡ Some k)) (ap (λ (x : Pass V I). x.token) now ∙ q.2)
         (e.0, e.1 ∙ (ap (λ (x : Pass V I). number_of x.token) (read_at before k b.0 q.0 b.1) ∙ was.1));
   }
 
@@ -109,7 +109,7 @@ module _ {V I R : Type 0} (root : V → R) (entries : V → List I) where
   }
 
 -- the same, by what the pass itself says
-pub one_of_all_alone : {V I : Type 0} (own : Token V I) (z : TableId) (n : ℕ) (ps : List (Pass V I)) (i : ℕ) (p : Pass V I) → own.table_id ≡ z → n ≤ length (first_of own) → AreAll own (tokens ps) → i < length ps
+pub one_of_all_alone : {V I : Type 0} (own : LockToken V I) (z : TableId) (n : ℕ) (ps : List (Pass V I)) (i : ℕ) (p : Pass V I) → own.table_id ≡ z → n ≤ length (first_of own) → AreAll own (tokens ps) → i < length ps
     → p ≡ get_or ps i p → IsPass z (first_of p.token) p.token × (n ≤ length (first_of p.token))
 one_of_all_alone own z n ps i p table long are low e =
     let is = one_of_all own ps i p are low e in

@@ -9,35 +9,35 @@ use Rattle.turn_lock.specs.declared.view.PassView.{PassView}
 use Rattle.turn_lock.specs.Bookings.{placed}
 
 -- a seat at a table of objects of the type V with entries of the type I
-abbrev pub Token : Type 0 → Type 0 → Type 0
-Token V I = Seat (Option V) (PassView V I)
+abbrev pub LockToken : Type 0 → Type 0 → Type 0
+LockToken V I = Seat (Option V) (PassView V I)
 
 module _ {V I : Type 0} where
   -- the values that the table of a seat was made of
-  abbrev pub first_of : Token V I → List V
+  abbrev pub first_of : LockToken V I → List V
   first_of p = p.me.0.first
 
   -- what a pass made since then
-  abbrev pub made_of : Token V I → List (Made I)
+  abbrev pub made_of : LockToken V I → List (Made I)
   made_of p = p.me.0.made
 
   -- the pass's number
-  abbrev pub number_of : Token V I → Option ℕ
+  abbrev pub number_of : LockToken V I → Option ℕ
   number_of p = p.me.0.number
 
   -- the list of what a pass holds, as it was taken
-  abbrev pub had_by : Token V I → List I
+  abbrev pub had_by : LockToken V I → List I
   had_by p = p.me.0.had
 
   -- the table's own seat, after that many passes
-  pub record IsOwn (own : Token V I) : Type 0 where
+  pub record IsOwn (own : LockToken V I) : Type 0 where
     pub keeps : own.me.0.keeps ≡ true
     pub idle : own.me.0.out ≡ None
     pub unnumbered : own.me.0.number ≡ None
     pub empty : own.me.1 ≡ []
 
   -- a pass of the table with these first values, which holds nothing
-  pub record IsPass (table_id : TableId) (first : List V) (p : Token V I) : Type 0 where
+  pub record IsPass (table_id : TableId) (first : List V) (p : LockToken V I) : Type 0 where
     pub table : p.table_id ≡ table_id
     pub first_is : first_of p ≡ first
     pub plain : p.me.0.keeps ≡ false
@@ -47,11 +47,11 @@ module _ {V I : Type 0} where
     pub shaped : table_id.words ≡ length first
 
   -- a pass of the table with this seat of its own, which holds nothing
-  abbrev pub IsPassOf : Token V I → Token V I → Type 0
+  abbrev pub IsPassOf : LockToken V I → LockToken V I → Type 0
   IsPassOf own p = IsPass own.table_id (first_of own) p
 
   -- a pass of the table with these first values that holds the object
-  pub record Holds (table_id : TableId) (first : List V) (object : ℕ) (p : Token V I) : Type 0 where
+  pub record Holds (table_id : TableId) (first : List V) (object : ℕ) (p : LockToken V I) : Type 0 where
     pub table : p.table_id ≡ table_id
     pub first_is : first_of p ≡ first
     pub plain : p.me.0.keeps ≡ false
@@ -62,15 +62,15 @@ module _ {V I : Type 0} where
     pub shaped : table_id.words ≡ length first
 
   -- the passes of a table, each at the index of its number
-  pub record AreAll (own : Token V I) (ps : List (Token V I)) : Type 0 where
+  pub record AreAll (own : LockToken V I) (ps : List (LockToken V I)) : Type 0 where
     pub counted : length ps ≡ own.me.0.next
     pub unused : own.me.0.known ≡ []
-    pub each_is : (k : ℕ) (p : Token V I) → get_elem? ps k ≡ some p → IsPassOf own p × (number_of p ≡ Some k)
+    pub each_is : (k : ℕ) (p : LockToken V I) → get_elem? ps k ≡ some p → IsPassOf own p × (number_of p ≡ Some k)
 
   -- the same, and none of them has made anything yet
-  pub record AreNew (own : Token V I) (ps : List (Token V I)) : Type 0 where
+  pub record AreNew (own : LockToken V I) (ps : List (LockToken V I)) : Type 0 where
     pub all_are : AreAll own ps
-    pub empty : (k : ℕ) (p : Token V I) → get_elem? ps k ≡ some p → made_of p ≡ []
+    pub empty : (k : ℕ) (p : LockToken V I) → get_elem? ps k ≡ some p → made_of p ≡ []
 
 module _ {V I R : Type 0} (root : V → R) (entries : V → List I) where
   -- the list is the one at the take, with entries added at its end

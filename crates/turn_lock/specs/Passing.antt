@@ -2,13 +2,13 @@
 use Rattle.std.specs.Prelude.{◌≡◌, ℕ, ◌<◌, List, map, length, Option, Some}
 use mathlib.Core.Option.{some}
 use lib.ListN.{get_elem?}
-use Rattle.turn_lock.specs.Passes.{Token, made_of}
+use Rattle.turn_lock.specs.Passes.{LockToken, made_of}
 use Rattle.turn_lock.specs.declared.view.Made.{Made}
 use Rattle.turn_lock.specs.declared.table.Pass.{Pass}
 
 module _ {V I : Type 0} where
   -- the token of each pass
-  abbrev pub tokens : List (Pass V I) → List (Token V I)
+  abbrev pub tokens : List (Pass V I) → List (LockToken V I)
   tokens ps = map (λ (p : Pass V I). p.token) ps
 
   -- what each pass made

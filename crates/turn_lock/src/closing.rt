@@ -9,7 +9,7 @@ ghost use Rattle.turn_lock.specs.Passing.{tokens, made_lists, AreOut, AreFull};
 
 use crate::booked::Booked;
 use crate::plays::Glue;
-use crate::table::{LockTable, Pass, SharedLocks, Token};
+use crate::table::{LockTable, LockToken, Pass, SharedLocks};
 use atomic_table::Closed;
 use sleep_base::Mem;
 use std::alloc::Global;
@@ -17,7 +17,7 @@ use std::alloc::Global;
 /// What the passes made comes to the table's own seat.
 fn gather<V: Booked>(
     table: &SharedLocks<V, V::Item>,
-    own: &mut Token<V, V::Item>,
+    own: &mut LockToken<V, V::Item>,
     passes: Vec<Pass<V>>,
 )
     requires table { (own.old.table_id ≡ table.now.shared.table_id) × (0 < own.old.table_id.words) }

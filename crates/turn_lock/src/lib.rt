@@ -19,5 +19,5 @@ mod view;
 
 pub use booked::Booked;
 pub use closing::close_locks;
-pub use table::{Held, LockTable, Pass, SharedLocks, Token, give, take};
+pub use table::{Held, LockTable, LockToken, Pass, SharedLocks, give, take};
 pub use view::{Made, PassView};

@@ -15,7 +15,7 @@ use std::snapshot::Snapshot;
 use std::sync::Wait;
 
 /// A seat at the table of objects of the type `V`.
-pub type Token<V, I> = Seat<Option<V>, PassView<V, I>>;
+pub type LockToken<V, I> = Seat<Option<V>, PassView<V, I>>;
 
 /// The locks, each round an object, which threads share.
 pub type SharedLocks<V, I> = Table<Option<V>, PassView<V, I>, Snapshot<Vec<V>>, Booking, Global>;
@@ -24,7 +24,7 @@ pub type SharedLocks<V, I> = Table<Option<V>, PassView<V, I>, Snapshot<Vec<V>>, 
 #[derive(Drop)]
 pub struct LockTable<V: Booked> {
     pub cells: Table<Option<V>, PassView<V, V::Item>, Snapshot<Vec<V>>, Booking, Global>,
-    pub own: Token<V, V::Item>,
+    pub own: LockToken<V, V::Item>,
     ghost seated: { own.table_id ≡ cells.shared.table_id },
     ghost shaped: { (own.table_id.words ≡ length (first_of own)) × (own.table_id.slots ≡ length (first_of own)) × (0 < own.table_id.words) },
     ghost kept: { IsOwn own },
@@ -33,7 +33,7 @@ pub struct LockTable<V: Booked> {
 /// The right to take one object at a time. It knows what it made.
 #[derive(Drop)]
 pub struct Pass<V: Booked> {
-    pub token: Token<V, V::Item>,
+    pub token: LockToken<V, V::Item>,
 }
 
 /// An object that a pass has taken.
@@ -41,7 +41,7 @@ pub struct Pass<V: Booked> {
 pub struct Held<V: Booked> {
     value: V,
     object: usize,
-    pub token: Token<V, V::Item>,
+    pub token: LockToken<V, V::Item>,
 }
 
 impl<V: Booked> LockTable<V> {
@@ -61,7 +61,7 @@ impl<V: Booked> LockTable<V> {
 fn lock<R: Wait, V: Booked>(
     cells: &SharedLocks<V, V::Item>,
     rt: &R,
-    token: &mut Token<V, V::Item>,
+    token: &mut LockToken<V, V::Item>,
     object: usize,
 )
     requires { IsPass cells.now.shared.table_id (first_of token.old) token.old × (object < length (first_of token.old)) }

@@ -11,12 +11,12 @@ use Rattle.sleep_model.specs.declared.word.EventNow.{EventNow}
 use Rattle.sleep_model.specs.Numbers.{numbers}
 use Rattle.sleep_model.specs.Places.{one_if}
 use Rattle.sleep_model.specs.Sources.{since, expiry, makes, has_expired}
-use Rattle.wakeup_source.specs.SourceStates.{SourceState, unstamped, latest, note_entry, step_entry}
+use Rattle.wakeup_source.specs.SourceStates.{SourceState, unstamped_source, latest, note_entry, step_entry}
 use Rattle.wakeup_source.specs.Shown.{source_call, after_steps, word_after_kinds, MayCall}
 use Rattle.wakeup_source.specs.declared.call_by.CallBy.{CallBy}
 use Rattle.event_word.specs.Steps.{has_room_for_all}
-use Rattle.wake_locks.specs.Locks.{maker, own_after}
-use Rattle.wake_locks.specs.LockFields.{IsLock, IsMade, status_of, status_from, SourceInvariant, IsMeant, IsNotBefore}
+use Rattle.wake_locks.specs.Locks.{maker, entries_after_call}
+use Rattle.wake_locks.specs.LockFields.{IsLock, GainsCall, status_of, status_from, SourceInvariant, IsMeant, IsNotBefore}
 use Rattle.wake_locks.specs.declared.status.LockStatus.{LockStatus}
 use Rattle.wake_locks.specs.LockStatuses.{status_after, is_due}
 
@@ -87,7 +87,7 @@ stands_by call.Expire now own None end h meant = rw h.since_is refl
 stands_by call.Expire now own (Some b) end h meant = refl
 
 -- the status of the lock after it
-pub stands : (made : SourceCall) (now : ℕ) (own : List Entry) → SourceInvariant own → IsMeant made now (status_of own) → status_after made now (status_of own) ≡ status_of (own_after made now own)
+pub stands : (made : SourceCall) (now : ℕ) (own : List Entry) → SourceInvariant own → IsMeant made now (status_of own) → status_after made now (status_of own) ≡ status_of (entries_after_call made now own)
 stands made now own kept meant = stands_by made now own (since own) (expiry own) (stands_now own kept) meant
 
 moves_by : (made : SourceCall) (now : ℕ) (own : List Entry) (began : Option ℕ) (status : Option ℕ) → IsMeant made now (status_from began status) → word_after_kinds (makes made began) (numbers own) ≡ numbers (entries made now own began)
@@ -102,7 +102,7 @@ moves_by call.Expire now own None end meant = refl
 moves_by call.Expire now own (Some b) end meant = refl
 
 -- and the word
-pub word_moves : (made : SourceCall) (now : ℕ) (own : List Entry) → IsMeant made now (status_of own) → word_after_kinds (makes made (since own)) (numbers own) ≡ numbers (own_after made now own)
+pub word_moves : (made : SourceCall) (now : ℕ) (own : List Entry) → IsMeant made now (status_of own) → word_after_kinds (makes made (since own)) (numbers own) ≡ numbers (entries_after_call made now own)
 word_moves made now own meant = moves_by made now own (since own) (expiry own) meant
 
 some_none : (n : ℕ) → Some n ≡ None → ⊥
@@ -157,29 +157,29 @@ keeps_by call.Expire now own None end h time meant = record {
 keeps_by call.Expire now own (Some b) end h time meant = record { in_progress = omega (arith, h.in_progress); finished = omega (arith, h.finished); rests = λ _. refl; ends = tt }
 
 -- what holds of the entries holds after the call
-pub keeps : (made : SourceCall) (now : ℕ) (own : List Entry) → SourceInvariant own → latest own ≤ now → IsMeant made now (status_of own) → SourceInvariant (own_after made now own)
+pub keeps : (made : SourceCall) (now : ℕ) (own : List Entry) → SourceInvariant own → latest own ≤ now → IsMeant made now (status_of own) → SourceInvariant (entries_after_call made now own)
 keeps made now own kept time meant = keeps_by made now own (since own) (expiry own) (stands_now own kept) time meant
 
 -- ---- a lock
 
-pub unstamped_length : (past : List SourceEntry) → length (unstamped past) ≡ length past
+pub unstamped_length : (past : List SourceEntry) → length (unstamped_source past) ≡ length past
 unstamped_length [] = refl
 unstamped_length (e ∷ past) = omega (arith, unstamped_length past)
 
 -- a source of that number, at that word, gains the entries of the call
-pub gains : (by : CallBy) (made : SourceCall) (word later : EventNow) (old new : SourceState) → by.actor ≡ maker made → old.id ≡ 0 → word ≡ numbers (unstamped old.past) → IsMade by made word later old new
-    → unstamped new.past ≡ own_after made by.now (unstamped old.past)
+pub gains : (by : CallBy) (made : SourceCall) (word later : EventNow) (old new : SourceState) → by.actor ≡ maker made → old.id ≡ 0 → word ≡ numbers (unstamped_source old.past) → GainsCall by made word later old new
+    → unstamped_source new.past ≡ entries_after_call made by.now (unstamped_source old.past)
 gains by made word later old new a n w h =
-    h.entries ∙ ap (λ i. source_call i made by.actor by.now word (unstamped old.past) ++ unstamped old.past) n
-    ∙ ap (λ who. source_call 0 made who by.now word (unstamped old.past) ++ unstamped old.past) a
-    ∙ ap (λ at. source_call 0 made (maker made) by.now at (unstamped old.past) ++ unstamped old.past) w
+    h.entries ∙ ap (λ i. source_call i made by.actor by.now word (unstamped_source old.past) ++ unstamped_source old.past) n
+    ∙ ap (λ who. source_call 0 made who by.now word (unstamped_source old.past) ++ unstamped_source old.past) a
+    ∙ ap (λ at. source_call 0 made (maker made) by.now at (unstamped_source old.past) ++ unstamped_source old.past) w
 
 -- after a call it is a lock
-pub lock_after : (by : CallBy) (made : SourceCall) (word later : EventNow) (old new : SourceState) (before after : LockStatus) → by.actor ≡ maker made → IsLock before old word → latest (unstamped old.past) ≤ by.now → IsMeant made by.now before
-    → after ≡ status_after made by.now before → IsMade by made word later old new → IsLock after new later
+pub lock_after : (by : CallBy) (made : SourceCall) (word later : EventNow) (old new : SourceState) (before after : LockStatus) → by.actor ≡ maker made → IsLock before old word → latest (unstamped_source old.past) ≤ by.now → IsMeant made by.now before
+    → after ≡ status_after made by.now before → GainsCall by made word later old new → IsLock after new later
 lock_after by made word later old new before after a h time meant s m =
-    let own = unstamped old.past in
-    let is : unstamped new.past ≡ own_after made by.now own = gains by made word later old new a h.number h.word_is m in
+    let own = unstamped_source old.past in
+    let is : unstamped_source new.past ≡ entries_after_call made by.now own = gains by made word later old new a h.number h.word_is m in
     let means : IsMeant made by.now (status_of own) = subst (IsMeant made by.now) h.stands meant in
     record {
       stands = s ∙ ap (status_after made by.now) h.stands ∙ stands made by.now own h.kept means ∙ ap status_of (sym is);

@@ -8,15 +8,15 @@ use Rattle.sleep_model.specs.Sources.{since}
 use Rattle.wakeup_source.specs.SourceStates.{latest}
 use Rattle.wake_locks.specs.declared.status.LockStatus.{LockStatus}
 use Rattle.wake_locks.specs.declared.status.LockStatus.TheVariants.{Inactive, Endless, Until}
-use Rattle.wake_locks.specs.Expiries.{IsAdvance, Due, Advanced, first_of, due_of, next_due, after_expiry, after_next, stopped, onward, expiries}
+use Rattle.wake_locks.specs.Expiries.{IsAdvance, Due, Advanced, earlier_of, due_of, next_due, locks_after_expiry, after_next, stopped, onward, expiries}
 use Rattle.wake_locks.specs.LockFields.{MatchDue}
-use Rattle.wake_locks.specs.Locks.{LockState, after_call, put, NoneDue}
+use Rattle.wake_locks.specs.Locks.{LockState, lock_after_call, put, NoneDue}
 use Rattle.wake_locks.specs.LockStatuses.{is_due}
 use Rattle.wake_locks.specs.declared.answer.LockFault.{LockFault}
 use Rattle.wake_locks.specs.declared.answer.LockFault.TheVariants.{Full, Mem}
 use Rattle.wake_locks.specs.declared.answer.LockAnswer.{LockAnswer}
 use Rattle.wake_locks.specs.Writes.{WriteEnded, IsFull}
-use Rattle.wake_locks.specs.Locks.{AreBefore, AreSortedByName, own_after}
+use Rattle.wake_locks.specs.Locks.{AreBefore, AreSortedByName, entries_after_call}
 use Rattle.wake_locks.proofs.Calls.{entries}
 use Rattle.wake_locks.proofs.Placed.{put_there, put_before, at_place}
 
@@ -30,11 +30,11 @@ pub record Next (to : ℕ) (locks : List LockState) (at end : ℕ) : Type 0 wher
   pub lock_is : (d : LockState) → get_or locks at d ≡ due.lock
   pub end_is : end ≡ due.at
   pub stands : due.lock.status ≡ Until due.at
-  pub behind : latest due.lock.own ≤ due.at
+  pub after : latest due.lock.own ≤ due.at
 
 matched_by : (to : ℕ) (locks : List LockState) (o : Option Due) (at end : ℕ) → next_due to locks ≡ o → MatchDue locks o (Some (at, end)) → Next to locks at end
 matched_by to locks None at end e m = absurd m
-matched_by to locks (Some due) at end e m = record { due = due; is = e; in_range = m.0; lock_is = m.1; end_is = m.2; stands = m.3; behind = m.4 }
+matched_by to locks (Some due) at end e m = record { due = due; is = e; in_range = m.0; lock_is = m.1; end_is = m.2; stands = m.3; after = m.4 }
 
 pub matched : (to : ℕ) (locks : List LockState) (at end : ℕ) → MatchDue locks (next_due to locks) (Some (at, end)) → Next to locks at end
 matched to locks at end m = matched_by to locks (next_due to locks) at end refl m
@@ -50,7 +50,7 @@ due_there to locks at end d n =
     rw (n.lock_is d, n.stands) same
 
 pub after_there : (to : ℕ) (locks : List LockState) (at end : ℕ) (d : LockState) → Next to locks at end → latest (get_or locks at d).own ≤ end
-after_there to locks at end d n = rw (n.lock_is d) (omega (arith, n.behind, n.end_is))
+after_there to locks at end d n = rw (n.lock_is d) (omega (arith, n.after, n.end_is))
 
 -- ---- one after another
 
@@ -66,7 +66,7 @@ full_stops places to n locks due e l =
     rw (e, full) refl
 
 -- an expiry is made
-pub one_made : (places to n : ℕ) (locks : List LockState) (due : Due) → next_due to locks ≡ Some due → ¬ (places < length due.lock.own + 4) → expiries places to (suc n) locks ≡ expiries places to n (after_expiry due locks)
+pub one_made : (places to n : ℕ) (locks : List LockState) (due : Due) → next_due to locks ≡ Some due → ¬ (places < length due.lock.own + 4) → expiries places to (suc n) locks ≡ expiries places to n (locks_after_expiry due locks)
 one_made places to n locks due e l =
     let room : nat_lt places (length due.lock.own + 4) ≡ false = grind (arith, nat_tests) in
     rw (e, room) refl
@@ -121,7 +121,7 @@ none_counted to (x ∷ xs) e = go (is_due to x.status) refl e (none_counted to x
     go true f e more = absurd (omega (arith, e))
     go false f e more = (f, more (omega (arith, e)))
 
-first_some : (lock : LockState) (at : ℕ) (o : Option Due) → first_of lock at o ≡ None → ⊥
+first_some : (lock : LockState) (at : ℕ) (o : Option Due) → earlier_of lock at o ≡ None → ⊥
 first_some lock at None e = cc
 first_some lock at (Some due) e = go (nat_le at due.at) e
   where
@@ -134,7 +134,7 @@ due_of_none to lock Inactive o e = (refl, e)
 due_of_none to lock Endless o e = (refl, e)
 due_of_none to lock (Until end) o e = go (nat_le end to) e
   where
-    go : (b : Bool) → cond b (first_of lock end o) o ≡ None → (b ≡ false) × (o ≡ None)
+    go : (b : Bool) → cond b (earlier_of lock end o) o ≡ None → (b ≡ false) × (o ≡ None)
     go true e = absurd (first_some lock end o e)
     go false e = (refl, e)
 
@@ -164,11 +164,11 @@ next_is_due to (x ∷ xs) due e = go x.status (next_due to xs) e (next_is_due to
     choose true end later l e more = let same : record { lock = x; at = end } ≡ due = cc in omega (arith, l, ap (λ (d : Due). d.at) same)
     choose false end later l e more = more e
 
-    fst : (end : ℕ) (o : Option Due) → end ≤ to → first_of x end o ≡ Some due → (o ≡ Some due → due.at ≤ to) → due.at ≤ to
+    fst : (end : ℕ) (o : Option Due) → end ≤ to → earlier_of x end o ≡ Some due → (o ≡ Some due → due.at ≤ to) → due.at ≤ to
     fst end None l e more = let same : record { lock = x; at = end } ≡ due = cc in omega (arith, l, ap (λ (d : Due). d.at) same)
     fst end (Some later) l e more = choose (nat_le end later.at) end later l e more
 
-    by_end : (b : Bool) (end : ℕ) (o : Option Due) → nat_le end to ≡ b → cond b (first_of x end o) o ≡ Some due → (o ≡ Some due → due.at ≤ to) → due.at ≤ to
+    by_end : (b : Bool) (end : ℕ) (o : Option Due) → nat_le end to ≡ b → cond b (earlier_of x end o) o ≡ Some due → (o ≡ Some due → due.at ≤ to) → due.at ≤ to
     by_end true end o n e more = fst end o (leb-true end to n) e more
     by_end false end o n e more = more e
 
@@ -183,7 +183,7 @@ expired_by : (now : ℕ) (own : List Entry) (o : Option ℕ) → latest (entries
 expired_by now own None = refl
 expired_by now own (Some b) = refl
 
-expired_at : (now : ℕ) (own : List Entry) → latest (own_after call.Expire now own) ≡ now
+expired_at : (now : ℕ) (own : List Entry) → latest (entries_after_call call.Expire now own) ≡ now
 expired_at now own = expired_by now own (since own)
 
 module _ (places to at end : ℕ) (d : LockState) (start locks later : List LockState) (n : Next to locks at end) (count : ℕ) (so_far : expiries places to count start ≡ stopped locks None) where
@@ -200,8 +200,8 @@ module _ (places to at end : ℕ) (d : LockState) (start locks later : List Lock
 
   -- an expiry that was made
   module _ (a : LockAnswer) (w : WriteEnded places (Ok (record { lock = get_or locks at d; made = call.Expire })) end locks later (Ok a)) where
-    pub later_is : later ≡ after_expiry n.due locks
-    later_is = w.1 ∙ ap (λ (x : LockState). put (after_call call.Expire end x) locks) (n.lock_is d) ∙ ap (λ e. put (after_call call.Expire e n.due.lock) locks) n.end_is
+    pub later_is : later ≡ locks_after_expiry n.due locks
+    later_is = w.1 ∙ ap (λ (x : LockState). put (lock_after_call call.Expire end x) locks) (n.lock_is d) ∙ ap (λ e. put (lock_after_call call.Expire e n.due.lock) locks) n.end_is
 
     pub made_so_far : expiries places to (count + 1) start ≡ stopped later None
     made_so_far =
@@ -212,16 +212,16 @@ module _ (places to at end : ℕ) (d : LockState) (start locks later : List Lock
     pub made_before : AreBefore to locks → AreBefore to later
     made_before h =
         subst (AreBefore to) (sym later_is)
-        (put_before to (after_call call.Expire n.due.at n.due.lock) locks (omega (arith, expired_at n.due.at n.due.lock.own, next_is_due to locks n.due n.is)) h)
+        (put_before to (lock_after_call call.Expire n.due.at n.due.lock) locks (omega (arith, expired_at n.due.at n.due.lock.own, next_is_due to locks n.due n.is)) h)
 
-    pub made_there : AreSortedByName locks → later ≡ set locks at (after_call call.Expire end (get_or locks at d))
-    made_there h = w.1 ∙ put_there (after_call call.Expire end (get_or locks at d)) locks at (at_place locks h at d n.in_range)
+    pub made_there : AreSortedByName locks → later ≡ set locks at (lock_after_call call.Expire end (get_or locks at d))
+    made_there h = w.1 ∙ put_there (lock_after_call call.Expire end (get_or locks at d)) locks at (at_place locks h at d n.in_range)
 
     pub made_fewer : AreSortedByName locks → due_count to later + 1 ≡ due_count to locks
     made_fewer h =
         let is = made_there h in
         let was : is_due to (get_or locks at d).status ≡ true = rw (n.lock_is d, n.stands) (grind (arith, nat_tests, next_is_due to locks n.due n.is)) in
-        subst (λ (xs : List LockState). due_count to xs + 1 ≡ due_count to locks) (sym is) (count_less to locks at d (after_call call.Expire end (get_or locks at d)) n.in_range was refl)
+        subst (λ (xs : List LockState). due_count to xs + 1 ≡ due_count to locks) (sym is) (count_less to locks at d (lock_after_call call.Expire end (get_or locks at d)) n.in_range was refl)
 
 -- a fault leaves all as before
 pub failed_same : (places at end : ℕ) (d : LockState) (locks later : List LockState) (fault : LockFault) → WriteEnded places (Ok (record { lock = get_or locks at d; made = call.Expire })) end locks later (Err fault) → later ≡ locks

@@ -8,7 +8,7 @@ use Rattle.std.proofs.lemmas.Cmp.{nat_list_cmp_total, alike_right, tied_itself}
 use Rattle.std.proofs.lemmas.Bool.{cases_lt}
 use Rattle.wakeup_source.specs.SourceStates.{latest}
 use Rattle.wake_locks.specs.Locks.{LockState, by_name, find, put, inserted, PrecedesEach, AreSortedByName, AreBefore, NoneDue}
-use Rattle.wake_locks.specs.LockFields.{IsAt, IsGapFor, AreAllBefore}
+use Rattle.wake_locks.specs.LockFields.{IsLockAt, IsGapFor, AreAllBefore}
 use Rattle.wake_locks.specs.LockStatuses.{is_due}
 
 -- ---- by indices
@@ -16,20 +16,20 @@ use Rattle.wake_locks.specs.LockStatuses.{is_due}
 tail_before : (name : List ℕ) (x : LockState) (xs : List LockState) (i : ℕ) → AreAllBefore name (x ∷ xs) (suc i) → AreAllBefore name xs i
 tail_before name x xs i h j d l = h (suc j) d (omega arith)
 
-tail_at : (name : List ℕ) (x : LockState) (xs : List LockState) (i : ℕ) → IsAt name (x ∷ xs) (suc i) → IsAt name xs i
+tail_at : (name : List ℕ) (x : LockState) (xs : List LockState) (i : ℕ) → IsLockAt name (x ∷ xs) (suc i) → IsLockAt name xs i
 tail_at name x xs i h = record { in_range = omega (arith, h.in_range); before = tail_before name x xs i h.before; here = λ d. h.here d }
 
 tail_gap : (name : List ℕ) (x : LockState) (xs : List LockState) (i : ℕ) → IsGapFor name (x ∷ xs) (suc i) → IsGapFor name xs i
-tail_gap name x xs i h = record { in_range = omega (arith, h.in_range); before = tail_before name x xs i h.before; behind = λ d l. h.behind d (omega (arith, l)) }
+tail_gap name x xs i h = record { in_range = omega (arith, h.in_range); before = tail_before name x xs i h.before; after = λ d l. h.after d (omega (arith, l)) }
 
 -- the lock there is found
-pub find_there : (name : List ℕ) (locks : List LockState) (at : ℕ) (d : LockState) → IsAt name locks at → find name locks ≡ Some (get_or locks at d)
+pub find_there : (name : List ℕ) (locks : List LockState) (at : ℕ) (d : LockState) → IsLockAt name locks at → find name locks ≡ Some (get_or locks at d)
 find_there name [] at d h = absurd (omega (arith, h.in_range))
 find_there name (x ∷ xs) zero d h = rw (h.here x) refl
 find_there name (x ∷ xs) (suc i) d h = rw (h.before 0 x (omega arith)) (find_there name xs i d (tail_at name x xs i h))
 
 -- a lock of its name goes to its index
-pub put_there : (new : LockState) (locks : List LockState) (at : ℕ) → IsAt new.name locks at → put new locks ≡ set locks at new
+pub put_there : (new : LockState) (locks : List LockState) (at : ℕ) → IsLockAt new.name locks at → put new locks ≡ set locks at new
 put_there new [] at h = absurd (omega (arith, h.in_range))
 put_there new (x ∷ xs) zero h = rw (h.here x) refl
 put_there new (x ∷ xs) (suc i) h = rw (h.before 0 x (omega arith)) (ap (λ (ys : List LockState). x ∷ ys) (put_there new xs i (tail_at new.name x xs i h)))
@@ -37,14 +37,14 @@ put_there new (x ∷ xs) (suc i) h = rw (h.before 0 x (omega arith)) (ap (λ (ys
 -- in a gap none is found
 pub find_gap : (name : List ℕ) (locks : List LockState) (at : ℕ) → IsGapFor name locks at → find name locks ≡ None
 find_gap name [] at h = refl
-find_gap name (x ∷ xs) zero h = rw (h.behind x (omega arith)) refl
+find_gap name (x ∷ xs) zero h = rw (h.after x (omega arith)) refl
 find_gap name (x ∷ xs) (suc i) h = rw (h.before 0 x (omega arith)) (find_gap name xs i (tail_gap name x xs i h))
 
 -- a lock goes into its gap
 pub put_gap : (new : LockState) (locks : List LockState) (at : ℕ) → IsGapFor new.name locks at → put new locks ≡ insert locks at new
 put_gap new [] zero h = refl
 put_gap new [] (suc i) h = absurd (omega (arith, h.in_range))
-put_gap new (x ∷ xs) zero h = rw (h.behind x (omega arith)) refl
+put_gap new (x ∷ xs) zero h = rw (h.after x (omega arith)) refl
 put_gap new (x ∷ xs) (suc i) h = rw (h.before 0 x (omega arith)) (ap (λ (ys : List LockState). x ∷ ys) (put_gap new xs i (tail_gap new.name x xs i h)))
 
 -- ---- in order
@@ -67,7 +67,7 @@ any_of (y ∷ ys) zero d e l = refl
 any_of (y ∷ ys) (suc i) d e l = any_of ys i d e (omega (arith, l))
 
 -- each lock is at its index
-pub at_place : (locks : List LockState) → AreSortedByName locks → (at : ℕ) (d : LockState) → at < length locks → IsAt (get_or locks at d).name locks at
+pub at_place : (locks : List LockState) → AreSortedByName locks → (at : ℕ) (d : LockState) → at < length locks → IsLockAt (get_or locks at d).name locks at
 at_place locks h at d l = record {
   in_range = l;
   before = λ j e k. ap (λ (x : LockState). by_name x.name (get_or locks at d).name) (any_of locks j e d (omega (arith, k, l))) ∙ ordered locks h j at d k l;
@@ -94,7 +94,7 @@ high_more name locks at e h l more j d k m = elim (cases_lt at j) [
 ]
 
 -- a lock of the name is at its index
-pub found_at : (name : List ℕ) (locks : List LockState) (at : ℕ) (e : LockState) → AreSortedByName locks → at < length locks → by_name (get_or locks at e).name name ≡ Equal → IsAt name locks at
+pub found_at : (name : List ℕ) (locks : List LockState) (at : ℕ) (e : LockState) → AreSortedByName locks → at < length locks → by_name (get_or locks at e).name name ≡ Equal → IsLockAt name locks at
 found_at name locks at e h l equal = record {
   in_range = l;
   before = λ j d k. sym (alike_right nat_list_cmp_total (get_or locks at d).name name (get_or locks j d).name (ap (λ (x : LockState). by_name x.name name) (any_of locks at d e l) ∙ equal)) ∙ ordered locks h j at d k l;
@@ -115,10 +115,10 @@ put_after : (name : List ℕ) (new : LockState) (locks : List LockState) → by_
 put_after name new [] e h = (e, tt)
 put_after name new (x ∷ xs) e h = go (by_name x.name new.name) (put new xs) (put_after name new xs e h.1)
   where
-    go : (o : Ordering) (behind : List LockState) → PrecedesEach name behind → PrecedesEach name (inserted o new x xs behind)
-    go Less behind k = (h.0, k)
-    go Equal behind k = (e, h.1)
-    go Greater behind k = (e, h)
+    go : (o : Ordering) (after : List LockState) → PrecedesEach name after → PrecedesEach name (inserted o new x xs after)
+    go Less after k = (h.0, k)
+    go Equal after k = (e, h.1)
+    go Greater after k = (e, h)
 
 -- the order
 pub put_in_order : (new : LockState) (locks : List LockState) → AreSortedByName locks → AreSortedByName (put new locks)
@@ -137,20 +137,20 @@ pub put_before : (now : ℕ) (new : LockState) (locks : List LockState) → late
 put_before now new [] e h = (e, tt)
 put_before now new (x ∷ xs) e h = go (by_name x.name new.name) (put new xs) (put_before now new xs e h.1)
   where
-    go : (o : Ordering) (behind : List LockState) → AreBefore now behind → AreBefore now (inserted o new x xs behind)
-    go Less behind k = (h.0, k)
-    go Equal behind k = (e, h.1)
-    go Greater behind k = (e, h)
+    go : (o : Ordering) (after : List LockState) → AreBefore now after → AreBefore now (inserted o new x xs after)
+    go Less after k = (h.0, k)
+    go Equal after k = (e, h.1)
+    go Greater after k = (e, h)
 
 -- that none is due
 pub put_none_due : (now : ℕ) (new : LockState) (locks : List LockState) → is_due now new.status ≡ false → NoneDue now locks → NoneDue now (put new locks)
 put_none_due now new [] e h = (e, tt)
 put_none_due now new (x ∷ xs) e h = go (by_name x.name new.name) (put new xs) (put_none_due now new xs e h.1)
   where
-    go : (o : Ordering) (behind : List LockState) → NoneDue now behind → NoneDue now (inserted o new x xs behind)
-    go Less behind k = (h.0, k)
-    go Equal behind k = (e, h.1)
-    go Greater behind k = (e, h)
+    go : (o : Ordering) (after : List LockState) → NoneDue now after → NoneDue now (inserted o new x xs after)
+    go Less after k = (h.0, k)
+    go Equal after k = (e, h.1)
+    go Greater after k = (e, h)
 
 -- that a lock's entries are not later
 pub before_at : (now : ℕ) (locks : List LockState) → AreBefore now locks → (at : ℕ) (d : LockState) → at < length locks → latest (get_or locks at d).own ≤ now

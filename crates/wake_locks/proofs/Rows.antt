@@ -83,14 +83,14 @@ within_none never at locks j d f k = absurd (omega (arith, f, k))
 skip_one : (to floor : ℕ) (locks : List LockState) (found : Soonest) (at : ℕ) → to < floor → found.others ≤ floor → at < length locks → ((d : LockState) → floor ≤ end_or_never (get_or locks at d).status) → IsSoonest to locks (suc at) found → IsSoonest to locks at found
 skip_one to floor locks found at late few l f h = record {
   within = omega (arith, l);
-  behind = omega (arith, h.behind);
+  after = omega (arith, h.after);
   last = h.last;
   few = h.few;
   first = subst (λ (xs : List LockState). MatchDue locks (next_due to xs) (found_by to found)) (sym left)
       (subst (λ o. MatchDue locks o (found_by to found)) (sym (not_due to x x.status (next_due to (drop (suc at) locks)) (omega (arith, late, f (new_lock []))))) h.first);
   least = subst (NoneEndsBefore (min found.end found.others)) (sym left) (omega (arith, few, f (new_lock [])), h.least);
   others = subst (NoOtherEndsBefore found.others (found.at - at)) (sym left)
-      (subst (λ n. NoOtherEndsBefore found.others n (x ∷ drop (suc at) locks)) {x = suc (found.at - suc at)} (omega (arith, h.behind)) (omega (arith, few, f (new_lock [])), h.others));
+      (subst (λ n. NoOtherEndsBefore found.others n (x ∷ drop (suc at) locks)) {x = suc (found.at - suc at)} (omega (arith, h.after)) (omega (arith, few, f (new_lock [])), h.others));
 }
   where
     x : LockState
@@ -109,7 +109,7 @@ skip_on to floor locks found (suc n) from late few l f h =
 floored : (to floor : ℕ) (locks : List LockState) (from : ℕ) (found : Soonest) → IsSoonest to locks from found → IsSoonest to locks from (with_floor floor found)
 floored to floor locks from found h = record {
   within = h.within;
-  behind = h.behind;
+  after = h.after;
   last = h.last;
   few = omega (arith, h.few);
   first = h.first;

@@ -7,7 +7,7 @@ use Rattle.wakeup_source.specs.SourceStates.{latest}
 use Rattle.wake_locks.specs.declared.soonest.Soonest.{Soonest}
 use Rattle.wake_locks.specs.declared.status.LockStatus.{LockStatus}
 use Rattle.wake_locks.specs.declared.status.LockStatus.TheVariants.{Inactive, Endless, Until}
-use Rattle.wake_locks.specs.Expiries.{Due, first_of, due_of, next_due}
+use Rattle.wake_locks.specs.Expiries.{Due, earlier_of, due_of, next_due}
 use Rattle.wake_locks.specs.LockFields.{IsNotBefore, IsSoonest, MatchDue, NoneEndsBefore, NoOtherEndsBefore, found_by, with_lock}
 use Rattle.wake_locks.specs.Locks.{LockState}
 use Rattle.wake_locks.specs.LockStatuses.{end_of, end_or_never, never}
@@ -60,7 +60,7 @@ none_by to soonest (x ∷ xs) l h = not_due to x x.status (next_due to xs) (omeg
 pub none_after : (to : ℕ) (locks : List LockState) (at : ℕ) → to < never → at ≡ length locks → IsSoonest to locks at (record { at = at; end = never; others = never })
 none_after to locks at l e = record {
   within = omega (arith, e);
-  behind = omega arith;
+  after = omega arith;
   last = omega arith;
   few = omega arith;
   first = subst (λ (xs : List LockState). MatchDue locks (next_due to xs) (found_by to (record { at = at; end = never; others = never }))) (sym (nothing locks at e)) later;
@@ -98,14 +98,14 @@ module _ (locks : List LockState) (to : ℕ) (found : Soonest) where
 
   module _ (at : ℕ) (lock : LockState) (in_range : at < length locks) (is : (d : LockState) → get_or locks at d ≡ lock) where
     -- a lock that ends first of all is the one that is due
-    first_due : (end : ℕ) (o : Option Due) → lock.status ≡ Until end → latest lock.own ≤ end → nat_le end found.end ≡ true → MatchDue locks o (found_by to found) → MatchDue locks (first_of lock end o) (Some (at, end))
+    first_due : (end : ℕ) (o : Option Due) → lock.status ≡ Until end → latest lock.own ≤ end → nat_le end found.end ≡ true → MatchDue locks o (found_by to found) → MatchDue locks (earlier_of lock end o) (Some (at, end))
     first_due end None s b e m = (in_range, is, refl, s, b)
     first_due end (Some due) s b e m =
         let sooner : nat_le end due.at ≡ true = grind (arith, nat_tests, found_is due m) in
         rw sooner (in_range, is, refl, s, b)
 
     -- one that ends later is not
-    later_due : (end : ℕ) (o : Option Due) → nat_le end found.end ≡ false → nat_le end to ≡ true → MatchDue locks o (found_by to found) → MatchDue locks (first_of lock end o) (found_by to found)
+    later_due : (end : ℕ) (o : Option Due) → nat_le end found.end ≡ false → nat_le end to ≡ true → MatchDue locks o (found_by to found) → MatchDue locks (earlier_of lock end o) (found_by to found)
     later_due end None e t m = absurd (let no : nat_le found.end to ≡ false = none_found m in grind (arith, nat_tests))
     later_due end (Some due) e t m =
         let later : nat_le end due.at ≡ false = grind (arith, nat_tests, found_is due m) in
@@ -131,7 +131,7 @@ module _ (locks : List LockState) (to : ℕ) (found : Soonest) where
     end_due : (end : ℕ) (o : Option Due) → lock.status ≡ Until end → latest lock.own ≤ end → MatchDue locks o (found_by to found) → MatchDue locks (due_of to lock (Until end) o) (found_by to (with_lock at end found))
     end_due end o s b m = go (nat_le end found.end) refl (nat_le end to) refl
       where
-        go : (first : Bool) → nat_le end found.end ≡ first → (due : Bool) → nat_le end to ≡ due → MatchDue locks (cond due (first_of lock end o) o) (found_by to (cond first (record { at = at; end = end; others = min found.others found.end }) (record { at = found.at; end = found.end; others = min found.others end })))
+        go : (first : Bool) → nat_le end found.end ≡ first → (due : Bool) → nat_le end to ≡ due → MatchDue locks (cond due (earlier_of lock end o) o) (found_by to (cond first (record { at = at; end = end; others = min found.others found.end }) (record { at = found.at; end = found.end; others = min found.others end })))
         go true e true t = rw t (first_due end o s b e m)
         go true e false t = rw t (late_due end o e t m)
         go false e true t = later_due end o e t m
@@ -171,14 +171,14 @@ pub one_more : (to : ℕ) (locks : List LockState) (at : ℕ) (lock : LockState)
     → IsSoonest to locks at (with_lock at end found)
 one_more to locks at lock end found k l is e b h = record {
   within = omega (arith, l);
-  behind = index_of (nat_le end found.end);
+  after = index_of (nat_le end found.end);
   last = last_more (nat_le end found.end) refl;
   few = few_more (nat_le end found.end);
   first = subst (λ (xs : List LockState). MatchDue locks (next_due to xs) (found_by to (with_lock at end found))) (sym left)
       (subst (λ n. MatchDue locks (next_due to (lock ∷ drop (suc at) locks)) (found_by to (with_lock at n found))) (sym e)
       (more_due locks to found at lock l (λ d. any locks at d l ∙ sym is) lock.status (next_due to (drop (suc at) locks)) refl b k h.first));
   least = subst (NoneEndsBefore (min (with_lock at end found).end (with_lock at end found).others)) (sym left) (least_more at end found lock (drop (suc at) locks) e h.least);
-  others = subst (NoOtherEndsBefore (with_lock at end found).others ((with_lock at end found).at - at)) (sym left) (others_more at end found lock (drop (suc at) locks) e h.behind h.least h.others);
+  others = subst (NoOtherEndsBefore (with_lock at end found).others ((with_lock at end found).at - at)) (sym left) (others_more at end found lock (drop (suc at) locks) e h.after h.least h.others);
 }
   where
     left : drop at locks ≡ lock ∷ drop (suc at) locks
@@ -191,7 +191,7 @@ one_more to locks at lock end found k l is e b h = record {
 
     index_of : (b : Bool) → at ≤ (cond {A = Soonest} b (record { at = at; end = end; others = min found.others found.end }) (record { at = found.at; end = found.end; others = min found.others end })).at
     index_of true = omega arith
-    index_of false = omega (arith, h.behind)
+    index_of false = omega (arith, h.after)
 
     last_more : (b : Bool) → nat_le end found.end ≡ b → (cond {A = Soonest} b (record { at = at; end = end; others = min found.others found.end }) (record { at = found.at; end = found.end; others = min found.others end })).end ≤ never
     last_more true t = let l : end ≤ found.end = grind (arith, nat_tests) in omega (arith, l, h.last)

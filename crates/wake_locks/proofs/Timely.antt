@@ -13,7 +13,7 @@ use Rattle.wake_locks.specs.declared.answer.LockFault.TheVariants.{Full, Mem}
 use Rattle.wake_locks.specs.declared.status.LockStatus.{LockStatus}
 use Rattle.wake_locks.specs.declared.status.LockStatus.TheVariants.{Inactive, Endless, Until}
 use Rattle.wake_locks.specs.LockFields.{IsMeant}
-use Rattle.wake_locks.specs.Locks.{LockState, new_lock, after_call, own_after, ExpiriesAreDue, AreBefore}
+use Rattle.wake_locks.specs.Locks.{LockState, new_lock, lock_after_call, entries_after_call, ExpiriesAreDue, AreBefore}
 use Rattle.wake_locks.specs.LockStatuses.{status_after, is_due}
 use Rattle.wake_locks.specs.Writes.{WriteEnded, on_lock}
 use Rattle.wake_locks.proofs.Calls.{entries, lasts}
@@ -31,7 +31,7 @@ latest_by call.Expire now own s None m = refl
 latest_by call.Expire now own s (Some b) m = refl
 
 -- the newest entry is of the call's moment
-pub latest_after : (made : SourceCall) (now : ℕ) (own : List Entry) (s : LockStatus) → IsMeant made now s → latest (own_after made now own) ≡ now
+pub latest_after : (made : SourceCall) (now : ℕ) (own : List Entry) (s : LockStatus) → IsMeant made now s → latest (entries_after_call made now own) ≡ now
 latest_after made now own s m = latest_by made now own s (since own) m
 
 -- after a call nothing is due
@@ -50,8 +50,8 @@ pub timely_at : (places : ℕ) (lock : LockState) (made : SourceCall) (now : ℕ
     → ExpiriesAreDue now new
 timely_at places lock made now old new (Ok a) w m h =
     subst (ExpiriesAreDue now) (sym w.1) (record {
-      before = put_before now (after_call made now lock) old (omega (arith, latest_after made now lock.own lock.status m)) h.before;
-      none_due = put_none_due now (after_call made now lock) old (not_due made now lock.status m) h.none_due;
+      before = put_before now (lock_after_call made now lock) old (omega (arith, latest_after made now lock.own lock.status m)) h.before;
+      none_due = put_none_due now (lock_after_call made now lock) old (not_due made now lock.status m) h.none_due;
     })
 timely_at places lock made now old new (Err (Full name)) w m h = subst (ExpiriesAreDue now) (sym w.0) h
 timely_at places lock made now old new (Err Mem) w m h = subst (ExpiriesAreDue now) (sym w.0) h

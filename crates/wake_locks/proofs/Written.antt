@@ -9,8 +9,8 @@ use Rattle.wake_locks.specs.declared.answer.LockAnswer.TheVariants.{Done, BadTex
 use Rattle.wake_locks.specs.declared.answer.LockFault.{LockFault}
 use Rattle.wake_locks.specs.declared.answer.LockFault.TheVariants.{Full, Mem}
 use Rattle.wake_locks.specs.declared.status.LockStatus.{LockStatus}
-use Rattle.wake_locks.specs.LockFields.{IsAt, IsGapFor, IsMeant}
-use Rattle.wake_locks.specs.Locks.{LockState, new_lock, after_call, put, AreSortedByName}
+use Rattle.wake_locks.specs.LockFields.{IsLockAt, IsGapFor, IsMeant}
+use Rattle.wake_locks.specs.Locks.{LockState, new_lock, lock_after_call, put, AreSortedByName}
 use Rattle.sleep_model.specs.NameBytes.{is_name}
 use Rattle.wake_locks.specs.Texts.{timed, timeout, asked_in, line_of, lock_text, unlock_text}
 use Rattle.wake_locks.specs.Writes.{IsFull, WriteEnded, answered, on_lock, locks_by, asked_lock, off_lock, unlocks_by, asked_unlock}
@@ -18,7 +18,7 @@ use Rattle.wake_locks.proofs.Placed.{find_there, find_gap, put_there, put_in_ord
 
 -- what a lock's call says
 pub record Called (places : ℕ) (made : SourceCall) (now : ℕ) (old new : LockState) (r : Result (Unit {0}) LockFault) : Type 0 where
-  pub done : OnOk r (new ≡ after_call made now old)
+  pub done : OnOk r (new ≡ lock_after_call made now old)
   pub full : (name : List ℕ) → (r ≡ Err (Full name)) ↔ ((name ≡ old.name) × IsFull places old)
   pub err : OnErr r (new ≡ old)
 
@@ -36,7 +36,7 @@ pub at_ended : (places : ℕ) (made : SourceCall) (now at : ℕ) (locks : List L
     → WriteEnded places (Ok (record { lock = get_or locks at d; made = made })) now locks (set locks at new) (answered r)
 at_ended places made now at locks new d (Ok u) h l c = (
   refl,
-  ap (set locks at) c.done ∙ sym (put_there (after_call made now (get_or locks at d)) locks at (at_place locks h at d l)),
+  ap (set locks at) c.done ∙ sym (put_there (lock_after_call made now (get_or locks at d)) locks at (at_place locks h at d l)),
   λ f. absurd (let e : Ok u ≡ Err (Full (get_or locks at d).name) = (c.full (get_or locks at d).name).1 (refl, f) in cc),
 )
 at_ended places made now at locks new d (Err (Full name)) h l c = (ap (set locks at) c.err ∙ set_same locks at d l, (c.full name).0 refl)
@@ -49,8 +49,8 @@ at_ended places made now at locks new d (Err Mem) h l c = (
 pub at_preserved : (places : ℕ) (made : SourceCall) (now at : ℕ) (locks : List LockState) (new d : LockState) (r : Result (Unit {0}) LockFault) → AreSortedByName locks → at < length locks → Called places made now (get_or locks at d) new r
     → AreSortedByName (set locks at new)
 at_preserved places made now at locks new d (Ok u) h l c =
-    let e : set locks at new ≡ put (after_call made now (get_or locks at d)) locks = ap (set locks at) c.done ∙ sym (put_there (after_call made now (get_or locks at d)) locks at (at_place locks h at d l)) in
-    subst AreSortedByName (sym e) (put_in_order (after_call made now (get_or locks at d)) locks h)
+    let e : set locks at new ≡ put (lock_after_call made now (get_or locks at d)) locks = ap (set locks at) c.done ∙ sym (put_there (lock_after_call made now (get_or locks at d)) locks at (at_place locks h at d l)) in
+    subst AreSortedByName (sym e) (put_in_order (lock_after_call made now (get_or locks at d)) locks h)
 at_preserved places made now at locks new d (Err fault) h l c = subst AreSortedByName (sym (ap (set locks at) c.err ∙ set_same locks at d l)) h
 
 few_is : (n : ℕ) → n < 100 → nat_lt n 100 ≡ true
@@ -115,7 +115,7 @@ pub lock_meant : (text : List ℕ) (p : List ℕ × SourceCall) (now : ℕ) (s :
 lock_meant text p now s e = asked_meant (position (λ b. b == 32) (line_of text)) (line_of text) p now s e
 
 -- a lock of a known name
-pub lock_known : (text : List ℕ) (p : List ℕ × SourceCall) (locks : List LockState) (at : ℕ) (d : LockState) → lock_text text ≡ Some p → IsAt p.0 locks at
+pub lock_known : (text : List ℕ) (p : List ℕ × SourceCall) (locks : List LockState) (at : ℕ) (d : LockState) → lock_text text ≡ Some p → IsLockAt p.0 locks at
     → asked_lock text locks ≡ Ok (record { lock = get_or locks at d; made = p.1 })
 lock_known text p locks at d e h = ap (λ (o : Option (List ℕ × SourceCall)). locks_by o locks) e ∙ ap (on_lock p.0 p.1 (length locks)) (find_there p.0 locks at d h)
 
@@ -125,7 +125,7 @@ pub lock_new : (text : List ℕ) (p : List ℕ × SourceCall) (locks : List Lock
 lock_new text p locks at e h = ap (λ (o : Option (List ℕ × SourceCall)). locks_by o locks) e ∙ ap (on_lock p.0 p.1 (length locks)) (find_gap p.0 locks at h)
 
 -- an unlock of a known name
-pub unlock_known : (text name : List ℕ) (locks : List LockState) (at : ℕ) (d : LockState) → unlock_text text ≡ Some name → IsAt name locks at
+pub unlock_known : (text name : List ℕ) (locks : List LockState) (at : ℕ) (d : LockState) → unlock_text text ≡ Some name → IsLockAt name locks at
     → asked_unlock text locks ≡ Ok (record { lock = get_or locks at d; made = call.Relax })
 unlock_known text name locks at d e h = ap (λ (o : Option (List ℕ)). unlocks_by o locks) e ∙ ap off_lock (find_there name locks at d h)
 

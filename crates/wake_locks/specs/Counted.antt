@@ -11,10 +11,10 @@ lock_stats now lock = record { name = lock.name; stats = stats_at lock.own now }
 
 -- its status is that of its source's entries: inactive without an event in progress, else until that ends (wakeup_source_activate,
 -- wakeup_source_deactivate)
-abbrev pub Agrees : LockState → Type 0
-Agrees lock = lock.status ≡ status_of lock.own
+abbrev pub StatusAgrees : LockState → Type 0
+StatusAgrees lock = lock.status ≡ status_of lock.own
 
 -- each of them does
 abbrev pub AllAgree : List LockState → Type 0
 AllAgree [] = Unit {0}
-AllAgree (lock ∷ locks) = Agrees lock × AllAgree locks
+AllAgree (lock ∷ locks) = StatusAgrees lock × AllAgree locks

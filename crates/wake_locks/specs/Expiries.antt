@@ -5,7 +5,7 @@ use Rattle.wake_locks.specs.declared.answer.LockFault.{LockFault}
 use Rattle.wake_locks.specs.declared.answer.LockFault.TheVariants.{Full, Mem}
 use Rattle.wake_locks.specs.declared.status.LockStatus.{LockStatus}
 use Rattle.wake_locks.specs.declared.status.LockStatus.TheVariants.{Inactive, Endless, Until}
-use Rattle.wake_locks.specs.Locks.{LockState, after_call, put}
+use Rattle.wake_locks.specs.Locks.{LockState, lock_after_call, put}
 
 -- a lock that ends by itself, and when
 pub record Due : Type 0 where
@@ -13,15 +13,15 @@ pub record Due : Type 0 where
   pub at : ℕ
 
 -- this one, unless another ends before it
-abbrev pub first_of : LockState → ℕ → Option Due → Option Due
-first_of lock at None = Some (record { lock = lock; at = at })
-first_of lock at (Some later) = if nat_le at later.at then Some (record { lock = lock; at = at }) else Some later
+abbrev pub earlier_of : LockState → ℕ → Option Due → Option Due
+earlier_of lock at None = Some (record { lock = lock; at = at })
+earlier_of lock at (Some later) = if nat_le at later.at then Some (record { lock = lock; at = at }) else Some later
 
 -- this lock, if it ends by itself by that moment and none after it ends before it
 abbrev pub due_of : ℕ → LockState → LockStatus → Option Due → Option Due
-due_of to lock Inactive behind = behind
-due_of to lock Endless behind = behind
-due_of to lock (Until end) behind = if nat_le end to then first_of lock end behind else behind
+due_of to lock Inactive after = after
+due_of to lock Endless after = after
+due_of to lock (Until end) after = if nat_le end to then earlier_of lock end after else after
 
 -- the lock that ends first by that moment; of those that end together the first by name (pm_wakeup_timer_fn)
 abbrev pub next_due : ℕ → List LockState → Option Due
@@ -29,8 +29,8 @@ next_due to [] = None
 next_due to (lock ∷ locks) = due_of to lock lock.status (next_due to locks)
 
 -- the locks after an expiry at its own moment
-abbrev pub after_expiry : Due → List LockState → List LockState
-after_expiry due locks = put (after_call call.Expire due.at due.lock) locks
+abbrev pub locks_after_expiry : Due → List LockState → List LockState
+locks_after_expiry due locks = put (lock_after_call call.Expire due.at due.lock) locks
 
 -- the locks after expiries, and the lock that stopped them since its source is full
 pub record Advanced : Type 0 where
@@ -44,7 +44,7 @@ stopped locks full = record { locks = locks; full = full }
 -- the locks after the next expiry, if one is due
 abbrev pub after_next : Option Due → List LockState → List LockState
 after_next None locks = locks
-after_next (Some due) locks = after_expiry due locks
+after_next (Some due) locks = locks_after_expiry due locks
 
 -- if none is due all are made; a full source stops them; else it goes on
 abbrev pub onward : ℕ → Option Due → List LockState → Advanced → Advanced

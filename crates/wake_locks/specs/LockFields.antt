@@ -9,7 +9,7 @@ use Rattle.sleep_model.specs.Numbers.{numbers}
 use Rattle.sleep_model.specs.Places.{one_if}
 use Rattle.sleep_model.specs.Sources.{makes, since, expiry, most_entries}
 use Rattle.wakeup_source.specs.declared.call_by.CallBy.{CallBy}
-use Rattle.wakeup_source.specs.SourceStates.{SourceState, unstamped, latest}
+use Rattle.wakeup_source.specs.SourceStates.{SourceState, unstamped_source, latest}
 use Rattle.wakeup_source.specs.Shown.{source_call, word_after_kinds}
 use Rattle.wake_locks.specs.declared.status.LockStatus.{LockStatus}
 use Rattle.wake_locks.specs.declared.status.LockStatus.TheVariants.{Inactive, Endless, Until}
@@ -46,17 +46,17 @@ pub record SourceInvariant (own : List Entry) : Type 0 where
 
 -- and of the fields of a lock
 pub record IsLock (status : LockStatus) (source : SourceState) (word : EventNow) : Type 0 where
-  pub stands : status ≡ status_of (unstamped source.past)
+  pub stands : status ≡ status_of (unstamped_source source.past)
   pub number : source.id ≡ 0
-  pub word_is : word ≡ numbers (unstamped source.past)
-  pub kept : SourceInvariant (unstamped source.past)
+  pub word_is : word ≡ numbers (unstamped_source source.past)
+  pub kept : SourceInvariant (unstamped_source source.past)
   pub short : length source.past ≤ most_entries
 
 -- the source has gained the entries of a call, and the word has made its steps
-pub record IsMade (by : CallBy) (made : SourceCall) (word later : EventNow) (old new : SourceState) : Type 0 where
+pub record GainsCall (by : CallBy) (made : SourceCall) (word later : EventNow) (old new : SourceState) : Type 0 where
   pub number : new.id ≡ old.id
-  pub entries : unstamped new.past ≡ source_call old.id made by.actor by.now word (unstamped old.past) ++ unstamped old.past
-  pub word_is : later ≡ word_after_kinds (makes made (since (unstamped old.past))) word
+  pub entries : unstamped_source new.past ≡ source_call old.id made by.actor by.now word (unstamped_source old.past) ++ unstamped_source old.past
+  pub word_is : later ≡ word_after_kinds (makes made (since (unstamped_source old.past))) word
   pub short : length new.past ≤ most_entries
 
 -- a call that a lock may have: an event has a length and is no hard one, an expiry comes when it is due
@@ -72,7 +72,7 @@ abbrev pub AreAllBefore : List ℕ → List LockState → ℕ → Type 0
 AreAllBefore name locks at = (j : ℕ) (d : LockState) → j < at → by_name (slice_index_or locks j d).name name ≡ Less
 
 -- the lock of that name is there
-pub record IsAt (name : List ℕ) (locks : List LockState) (at : ℕ) : Type 0 where
+pub record IsLockAt (name : List ℕ) (locks : List LockState) (at : ℕ) : Type 0 where
   pub in_range : at < length locks
   pub before : AreAllBefore name locks at
   pub here : (d : LockState) → by_name (slice_index_or locks at d).name name ≡ Equal
@@ -81,7 +81,7 @@ pub record IsAt (name : List ℕ) (locks : List LockState) (at : ℕ) : Type 0 w
 pub record IsGapFor (name : List ℕ) (locks : List LockState) (at : ℕ) : Type 0 where
   pub in_range : at ≤ length locks
   pub before : AreAllBefore name locks at
-  pub behind : (d : LockState) → at < length locks → by_name (slice_index_or locks at d).name name ≡ Greater
+  pub after : (d : LockState) → at < length locks → by_name (slice_index_or locks at d).name name ≡ Greater
 
 -- what is found as due: its index and its moment, which is not before its last entry
 abbrev pub MatchDue : List LockState → Option Due → Option (ℕ × ℕ) → Type 0
@@ -133,7 +133,7 @@ found_by to found = if nat_le found.end to then Some (found.at, found.end) else 
 -- what is found of the locks from that index on: which ends first, if one ends by that moment, and that no other ends before `others`
 pub record IsSoonest (to : ℕ) (locks : List LockState) (from : ℕ) (found : Soonest) : Type 0 where
   pub within : from ≤ length locks
-  pub behind : from ≤ found.at
+  pub after : from ≤ found.at
   pub last : found.end ≤ never
   pub few : found.others ≤ never
   pub first : MatchDue locks (next_due to (drop from locks)) (found_by to found)

@@ -34,15 +34,15 @@ maker (call.Event ms hard) = who.Script 0
 maker call.Expire = who.Timer 0
 
 -- the entries of a source after one more call on it, each with the steps on the word that this source made
-abbrev pub own_after : SourceCall → ℕ → List Entry → List Entry
-own_after made now own = source_call 0 made (maker made) now (numbers own) own ++ own
+abbrev pub entries_after_call : SourceCall → ℕ → List Entry → List Entry
+entries_after_call made now own = source_call 0 made (maker made) now (numbers own) own ++ own
 
 -- a lock after one more call on its source
-abbrev pub after_call : SourceCall → ℕ → LockState → LockState
-after_call made now lock = record {
+abbrev pub lock_after_call : SourceCall → ℕ → LockState → LockState
+lock_after_call made now lock = record {
   name = lock.name;
   status = status_after made now lock.status;
-  own = own_after made now lock.own;
+  own = entries_after_call made now lock.own;
 }
 
 -- how two names compare, byte by byte
@@ -51,9 +51,9 @@ by_name = slice_cmp nat_cmp
 
 -- this lock if the names are the same, none if its name comes later, else what is found after it
 abbrev pub found_lock : Ordering → LockState → Option LockState → Option LockState
-found_lock Less lock behind = behind
-found_lock Equal lock behind = Some lock
-found_lock Greater lock behind = None
+found_lock Less lock after = after
+found_lock Equal lock after = Some lock
+found_lock Greater lock after = None
 
 -- the known lock of that name (wakelock_lookup_add)
 abbrev pub find : List ℕ → List LockState → Option LockState
@@ -62,9 +62,9 @@ find name (lock ∷ locks) = found_lock (by_name lock.name name) lock (find name
 
 -- before a lock that comes later, in place of one of the same name, else after
 abbrev pub inserted : Ordering → LockState → LockState → List LockState → List LockState → List LockState
-inserted Less new lock locks behind = lock ∷ behind
-inserted Equal new lock locks behind = new ∷ locks
-inserted Greater new lock locks behind = new ∷ lock ∷ locks
+inserted Less new lock locks after = lock ∷ after
+inserted Equal new lock locks after = new ∷ locks
+inserted Greater new lock locks after = new ∷ lock ∷ locks
 
 -- the locks with this one at its index (wakelock_lookup_add)
 abbrev pub put : LockState → List LockState → List LockState

@@ -6,7 +6,7 @@ use Rattle.wake_locks.specs.declared.answer.LockAnswer.{LockAnswer}
 use Rattle.wake_locks.specs.declared.answer.LockAnswer.TheVariants.{Done, BadText, NoSpace}
 use Rattle.wake_locks.specs.declared.answer.LockFault.{LockFault}
 use Rattle.wake_locks.specs.declared.answer.LockFault.TheVariants.{Full, Mem}
-use Rattle.wake_locks.specs.Locks.{LockState, new_lock, after_call, find, put}
+use Rattle.wake_locks.specs.Locks.{LockState, new_lock, lock_after_call, find, put}
 use Rattle.wake_locks.specs.Texts.{lock_text, unlock_text}
 
 -- a call on a lock's source
@@ -49,7 +49,7 @@ answer_of (Err why) = why
 
 -- the locks after it: a refused write changes nothing
 abbrev pub after_write : Result Asked LockAnswer → ℕ → List LockState → List LockState
-after_write (Ok asked) now locks = put (after_call asked.made now asked.lock) locks
+after_write (Ok asked) now locks = put (lock_after_call asked.made now asked.lock) locks
 after_write (Err why) now locks = locks
 
 -- the answer to a call that was made, or its fault
@@ -67,12 +67,12 @@ FillsUp places (Ok asked) name = (name ≡ asked.lock.name) × IsFull places ask
 FillsUp places (Err why) name = ⊥
 
 -- no call is to be made on a full source
-abbrev pub HasRoom : ℕ → Result Asked LockAnswer → Type 0
-HasRoom places (Ok asked) = ¬ (IsFull places asked.lock)
-HasRoom places (Err why) = Unit {0}
+abbrev pub CallHasRoom : ℕ → Result Asked LockAnswer → Type 0
+CallHasRoom places (Ok asked) = ¬ (IsFull places asked.lock)
+CallHasRoom places (Err why) = Unit {0}
 
 -- how a write ends: answered, with the locks after it; or as before, at a full source, which is named, or if it is out of memory
 abbrev pub WriteEnded : ℕ → Result Asked LockAnswer → ℕ → List LockState → List LockState → Result LockAnswer LockFault → Type 0
-WriteEnded places asked now old new (Ok answer) = (answer ≡ answer_of asked) × (new ≡ after_write asked now old) × HasRoom places asked
+WriteEnded places asked now old new (Ok answer) = (answer ≡ answer_of asked) × (new ≡ after_write asked now old) × CallHasRoom places asked
 WriteEnded places asked now old new (Err (Full name)) = (new ≡ old) × FillsUp places asked name
-WriteEnded places asked now old new (Err Mem) = (new ≡ old) × HasRoom places asked
+WriteEnded places asked now old new (Err Mem) = (new ≡ old) × CallHasRoom places asked

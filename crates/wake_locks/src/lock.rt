@@ -34,9 +34,9 @@ impl<const CAP: usize> Model for Lock<CAP> {
     ghost Value = { LockState };
 
     ghost use Rattle.wake_locks.specs.LockFields.{IsLock};
-    ghost use Rattle.wakeup_source.specs.SourceStates.{unstamped};
+    ghost use Rattle.wakeup_source.specs.SourceStates.{unstamped_source};
 
-    ghost view = { λ l. record { name = l.name; status = l.status; own = unstamped l.source.past } };
+    ghost view = { λ l. record { name = l.name; status = l.status; own = unstamped_source l.source.past } };
 
     ghost invariant = { λ l. IsLock l.status l.source l.events };
 }
@@ -45,13 +45,13 @@ ghost use Rattle.std.specs.Prelude.{◌≡◌, ◌≤◌, ◌<◌, ◌+◌, ◌^
 ghost use Rattle.event_word.specs.Steps.{has_room_for_all};
 ghost use Rattle.sleep_model.specs.Sources.{makes, since, most_entries, stats_at};
 ghost use Rattle.wakeup_source.specs.declared.fault.SourceFault.TheVariants as SourceFault;
-ghost use Rattle.wakeup_source.specs.SourceStates.{unstamped, latest};
+ghost use Rattle.wakeup_source.specs.SourceStates.{unstamped_source, latest};
 ghost use Rattle.wakeup_source.specs.Shown.{MayCall};
 ghost use Rattle.wake_locks.specs.declared.answer.LockFault.TheVariants.{Full};
-ghost use Rattle.wake_locks.specs.Locks.{new_lock, after_call, by_name, maker, is_as_asked};
-ghost use Rattle.wake_locks.specs.LockFields.{IsNotBefore, IsMade, IsMeant};
+ghost use Rattle.wake_locks.specs.Locks.{new_lock, lock_after_call, by_name, maker, is_as_asked};
+ghost use Rattle.wake_locks.specs.LockFields.{IsNotBefore, GainsCall, IsMeant};
 ghost use Rattle.wake_locks.specs.LockStatuses.{end_of, end_or_never};
-ghost use Rattle.wake_locks.specs.Counted.{Agrees, lock_stats};
+ghost use Rattle.wake_locks.specs.Counted.{StatusAgrees, lock_stats};
 ghost use Rattle.wake_locks.specs.Writes.{IsFull};
 
 /// Who makes a call.
@@ -72,11 +72,11 @@ fn make<R: Wait, const CAP: usize>(
     by: CallBy,
     call: SourceCall,
 ) -> Result<(), SourceFault>
-    requires time { latest (unstamped source.old.past) ≤ by.now }
+    requires time { latest (unstamped_source source.old.past) ≤ by.now }
     requires small { by.now ≤ 2 ^ 63 }
-    requires can { has_room_for_all events.old (makes call (since (unstamped source.old.past))) ≡ true }
-    requires may { MayCall call (unstamped source.old.past) by.now }
-    ensures made { OnOk result (IsMade by call events.old events.new source.old source.new) }
+    requires can { has_room_for_all events.old (makes call (since (unstamped_source source.old.past))) ≡ true }
+    requires may { MayCall call (unstamped_source source.old.past) by.now }
+    ensures made { OnOk result (GainsCall by call events.old events.new source.old source.new) }
     ensures full { (result ≡ Err SourceFault.Full) ↔ (CAP < length source.old.past + 4) }
     ensures err { OnErr result ((source.new ≡ source.old) × (events.new ≡ events.old)) }
 {
@@ -134,7 +134,7 @@ impl<const CAP: usize> Lock<CAP> {
     /// When it ends by itself, which is not before its last entry; never, if it does not.
     pub(crate) fn end_or_never(&self) -> u64
         ensures end { result ≡ end_or_never self.now.status }
-        ensures behind { IsNotBefore (latest self.now.own) (end_of self.now.status) }
+        ensures following { IsNotBefore (latest self.now.own) (end_of self.now.status) }
     {
         self.status.end_or_never()
     }
@@ -149,7 +149,7 @@ impl<const CAP: usize> Lock<CAP> {
         requires time { latest self.old.own ≤ now }
         requires small { now ≤ 2 ^ 63 }
         requires meant { IsMeant call now self.old.status }
-        ensures done { OnOk result (self.new ≡ after_call call now self.old) }
+        ensures done { OnOk result (self.new ≡ lock_after_call call now self.old) }
         ensures full { (name : List ℕ) → (result ≡ Err (Full name)) ↔ ((name ≡ self.old.name) × IsFull CAP self.old) }
         ensures err { OnErr result (self.new ≡ self.old) }
     {
@@ -183,7 +183,7 @@ impl<const CAP: usize> Lock<CAP> {
         requires time { latest self.now.own ≤ now }
         requires small { now ≤ 2 ^ 63 }
         ensures is { result ≡ lock_stats now self.now }
-        ensures agrees { Agrees self.now }
+        ensures agrees { StatusAgrees self.now }
     {
         LockStats {
             name: self.name,

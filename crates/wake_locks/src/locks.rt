@@ -50,9 +50,9 @@ ghost use Rattle.wake_locks.specs.declared.answer.LockFault.TheVariants as LockF
 ghost use Rattle.wakeup_source.specs.SourceStates.{latest};
 ghost use Rattle.wake_locks.specs.declared.status.LockStatus.TheVariants as LockStatus;
 ghost use Rattle.wake_locks.specs.Expiries.{IsAdvance, next_due};
-ghost use Rattle.wake_locks.specs.LockFields.{IsAt, IsGapFor, IsMeant, IsSoonest, MatchDue, NoOtherEndsBefore, NoneEndsWithin, index_and_end};
+ghost use Rattle.wake_locks.specs.LockFields.{IsLockAt, IsGapFor, IsMeant, IsSoonest, MatchDue, NoOtherEndsBefore, NoneEndsWithin, index_and_end};
 ghost use Rattle.wake_locks.specs.LockStatuses.{never};
-ghost use Rattle.wake_locks.specs.Locks.{LockState, new_lock, after_call, put, find, names_of, AreBefore, AreSortedByName, ExpiriesAreDue};
+ghost use Rattle.wake_locks.specs.Locks.{LockState, new_lock, lock_after_call, put, find, names_of, AreBefore, AreSortedByName, ExpiriesAreDue};
 ghost use Rattle.wake_locks.specs.Writes.{asked_lock, asked_unlock, on_lock, WriteEnded};
 
 impl<const CAP: usize> WakeLocks<CAP> {
@@ -71,7 +71,7 @@ impl<const CAP: usize> WakeLocks<CAP> {
 
     /// The index of the lock of that name, or the one that it would get.
     fn index_of(&self, name: &Name) -> Result<usize, usize>
-        ensures found { IfOk result (IsAt name.now self.now) }
+        ensures found { IfOk result (IsLockAt name.now self.now) }
         ensures absent { IfErr result (IsGapFor name.now self.now) }
     {
         let mut low = 0;
@@ -261,7 +261,7 @@ impl<const CAP: usize> WakeLocks<CAP> {
     fn past_row(&mut self, to: u64, row: usize, found: Soonest) -> Soonest
         requires small { to < never }
         requires in_range { row * 8 < length self.old }
-        requires behind { IsSoonest to self.old (min (row * 8 + 8) (length self.old)) found }
+        requires after { IsSoonest to self.old (min (row * 8 + 8) (length self.old)) found }
         ensures same { self.new ≡ self.old }
         ensures first { IsSoonest to self.old (row * 8) result }
     {
@@ -278,14 +278,14 @@ impl<const CAP: usize> WakeLocks<CAP> {
 
     /// The same with the locks between two indices, which come before the others, and a moment before which
     /// none of these ends.
-    fn with_row(&self, from: usize, until: usize, behind: Soonest) -> (Soonest, u64)
+    fn with_row(&self, from: usize, until: usize, after: Soonest) -> (Soonest, u64)
         requires ordered { from ≤ until }
         requires in_range { until ≤ length self.now }
-        ensures first { (to : ℕ) → to < never → IsSoonest to self.now until behind → IsSoonest to self.now from result.0 }
+        ensures first { (to : ℕ) → to < never → IsSoonest to self.now until after → IsSoonest to self.now from result.0 }
         ensures least { NoneEndsWithin result.1 from until self.now }
     {
         let mut at = until;
-        let mut found = behind;
+        let mut found = after;
         let mut least = NEVER;
         while at > from {
             at -= 1;

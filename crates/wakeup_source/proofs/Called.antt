@@ -14,7 +14,7 @@ use Rattle.event_word.specs.Steps.{shown_after, made_after}
 use Rattle.wakeup_source.specs.declared.call_by.CallBy.{CallBy}
 use Rattle.wakeup_source.specs.Called.{SourceView, Notes, Steps, Calls, after_note, CanGoOnAll}
 use Rattle.wakeup_source.specs.Called as called
-use Rattle.wakeup_source.specs.SourceStates.{unstamped, note_entry, step_entry}
+use Rattle.wakeup_source.specs.SourceStates.{unstamped_source, note_entry, step_entry}
 use Rattle.wakeup_source.specs.Shown.{word_after_kinds, after_steps, IsShownCall, steps_in, AreOwnSteps}
 
 -- steps after steps
@@ -26,12 +26,12 @@ more_steps by (step ∷ first) second old mid new h k = (h.0, h.1, h.2, more_ste
 
 -- steps at a known word
 shown_steps : (by : CallBy) (steps : List WordKind) (old new : SourceView) (word : EventNow) → old.shown ≡ Some word → Steps by steps old new
-    → (unstamped new.source.past ≡ after_steps old.source.id by.actor by.now word steps (unstamped old.source.past)) × (new.shown ≡ Some (word_after_kinds steps word))
-shown_steps by [] old new word t h = (ap (λ (s : SourceView). unstamped s.source.past) h, ap (λ (s : SourceView). s.shown) h ∙ t)
+    → (unstamped_source new.source.past ≡ after_steps old.source.id by.actor by.now word steps (unstamped_source old.source.past)) × (new.shown ≡ Some (word_after_kinds steps word))
+shown_steps by [] old new word t h = (ap (λ (s : SourceView). unstamped_source s.source.past) h, ap (λ (s : SourceView). s.shown) h ∙ t)
 shown_steps by (step ∷ rest) old new word t h =
     let at : h.0 ≡ word = subst (λ o. IsShown o h.0) t h.1 in
     let on = shown_steps by rest (called.after_step by step h.0 old) new (after_step (Some step) word) (ap (shown_after step) t) h.3 in
-    (subst (λ (w : EventNow). unstamped new.source.past ≡ after_steps old.source.id by.actor by.now (after_step (Some step) word) rest (step_entry old.source.id step by.actor by.now w ∷ unstamped old.source.past)) at on.0, on.1)
+    (subst (λ (w : EventNow). unstamped_source new.source.past ≡ after_steps old.source.id by.actor by.now (after_step (Some step) word) rest (step_entry old.source.id step by.actor by.now w ∷ unstamped_source old.source.past)) at on.0, on.1)
 
 -- steps after entries that follow others
 upon : (s : ℕ) (who : Actor) (time : ℕ) (word : EventNow) (steps : List WordKind) (new own : List Entry) → after_steps s who time word steps (new ++ own) ≡ after_steps s who time word steps new ++ own
@@ -47,19 +47,19 @@ told_source by made old new h = by_shown old.shown refl
     untold (step ∷ rest) old new t h = untold rest (called.after_step by step h.0 old) new (ap (shown_after step) t) h.3
 
     by_shown : (shown : Option EventNow) → old.shown ≡ shown → IsShownCall by made shown new.shown old.source new.source
-    by_shown None t = untold (makes made (since (unstamped old.source.past))) h.0 new (ap (λ (s : SourceView). s.shown) h.1.6 ∙ t) h.2
+    by_shown None t = untold (makes made (since (unstamped_source old.source.past))) h.0 new (ap (λ (s : SourceView). s.shown) h.1.6 ∙ t) h.2
     by_shown (Some word) t =
         let noted = h.0 in
         let at : h.1.0 ≡ word = subst (λ o. IsShown o h.1.0) t h.1.1 in
         let is : noted ≡ after_note by made h.1.0 noted.looked old = h.1.6 in
-        let steps = makes made (since (unstamped old.source.past)) in
+        let steps = makes made (since (unstamped_source old.source.past)) in
         let on = shown_steps by steps noted new word (ap (λ (s : SourceView). s.shown) is ∙ t) h.2 in
-        let first : unstamped noted.source.past ≡ note_entry old.source.id made by.actor by.now word ∷ unstamped old.source.past =
-        ap (λ (s : SourceView). unstamped s.source.past) is ∙ ap (λ w. note_entry old.source.id made by.actor by.now w ∷ unstamped old.source.past) at in
+        let first : unstamped_source noted.source.past ≡ note_entry old.source.id made by.actor by.now word ∷ unstamped_source old.source.past =
+        ap (λ (s : SourceView). unstamped_source s.source.past) is ∙ ap (λ w. note_entry old.source.id made by.actor by.now w ∷ unstamped_source old.source.past) at in
         let own : noted.source.id ≡ old.source.id = ap (λ (s : SourceView). s.source.id) is in (
-          on.0 ∙ ap (λ (s : ℕ). after_steps s by.actor by.now word steps (unstamped noted.source.past)) own
+          on.0 ∙ ap (λ (s : ℕ). after_steps s by.actor by.now word steps (unstamped_source noted.source.past)) own
               ∙ ap (after_steps old.source.id by.actor by.now word steps) first
-              ∙ upon old.source.id by.actor by.now word steps (note_entry old.source.id made by.actor by.now word ∷ []) (unstamped old.source.past),
+              ∙ upon old.source.id by.actor by.now word steps (note_entry old.source.id made by.actor by.now word ∷ []) (unstamped_source old.source.past),
           on.1,
         )
 
@@ -77,17 +77,17 @@ no_step (call.Event ms hard) s who time seen own = refl
 no_step call.Expire s who time seen own = refl
 
 own_steps : (by : CallBy) (steps : List WordKind) (old new : SourceView) → Steps by steps old new → AreOwnSteps old.made new.made old.source new.source
-own_steps by [] old new h m = ap (λ (s : SourceView). s.made) h ∙ m ∙ ap (λ (s : SourceView). Some (steps_in (unstamped s.source.past))) (sym h)
+own_steps by [] old new h m = ap (λ (s : SourceView). s.made) h ∙ m ∙ ap (λ (s : SourceView). Some (steps_in (unstamped_source s.source.past))) (sym h)
 own_steps by (step ∷ rest) old new h m =
     own_steps by rest (called.after_step by step h.0 old) new h.3
-    (ap (made_after step h.0) m ∙ made_more step old.source.id by.actor by.now h.0 (unstamped old.source.past))
+    (ap (made_after step h.0) m ∙ made_more step old.source.id by.actor by.now h.0 (unstamped_source old.source.past))
 
 -- a call of a bump that makes its steps known
 pub own_call : (by : CallBy) (made : SourceCall) (old new : SourceView) → Calls by made old new → AreOwnSteps old.made new.made old.source new.source
 own_call by made old new h m =
     let is : h.0 ≡ after_note by made h.1.0 h.0.looked old = h.1.6 in
-    own_steps by (makes made (since (unstamped old.source.past))) h.0 new h.2
-    (ap (λ (s : SourceView). s.made) is ∙ m ∙ ap Some (no_step made old.source.id by.actor by.now h.1.0 (unstamped old.source.past)) ∙ ap (λ (s : SourceView). Some (steps_in (unstamped s.source.past))) (sym is))
+    own_steps by (makes made (since (unstamped_source old.source.past))) h.0 new h.2
+    (ap (λ (s : SourceView). s.made) is ∙ m ∙ ap Some (no_step made old.source.id by.actor by.now h.1.0 (unstamped_source old.source.past)) ∙ ap (λ (s : SourceView). Some (steps_in (unstamped_source s.source.past))) (sym is))
 
 -- ---- what can be made
 
@@ -101,12 +101,12 @@ finishing_is None = refl
 finishing_is (Some since) = refl
 
 -- an event is its note, a start if none was in progress, a hard step if it is hard, and a finish if it has no length
-pub event_calls : (by : CallBy) (ms : ℕ) (hard : Bool) (old noted started counted new : SourceView) → Notes by (call.Event ms hard) old noted → Steps by (starting (since (unstamped noted.source.past))) noted started
+pub event_calls : (by : CallBy) (ms : ℕ) (hard : Bool) (old noted started counted new : SourceView) → Notes by (call.Event ms hard) old noted → Steps by (starting (since (unstamped_source noted.source.past))) noted started
     → Steps by (cond hard (step.Hard ∷ []) []) started counted → Steps by (cond (ms == 0) (step.Finish ∷ []) []) counted new → Calls by (call.Event ms hard) old new
 event_calls by ms hard old noted started counted new n a b d =
-    let first : Steps by (starting (since (unstamped old.source.past))) noted started = subst (λ o. Steps by (starting o) noted started) (ap (λ (s : SourceView). since (unstamped s.source.past)) n.6) a in (
+    let first : Steps by (starting (since (unstamped_source old.source.past))) noted started = subst (λ o. Steps by (starting o) noted started) (ap (λ (s : SourceView). since (unstamped_source s.source.past)) n.6) a in (
       noted,
       n,
-      more_steps by (starting (since (unstamped old.source.past)) ++ cond hard (step.Hard ∷ []) []) (cond (ms == 0) (step.Finish ∷ []) []) noted counted new
-          (more_steps by (starting (since (unstamped old.source.past))) (cond hard (step.Hard ∷ []) []) noted started counted first b) d,
+      more_steps by (starting (since (unstamped_source old.source.past)) ++ cond hard (step.Hard ∷ []) []) (cond (ms == 0) (step.Finish ∷ []) []) noted counted new
+          (more_steps by (starting (since (unstamped_source old.source.past))) (cond hard (step.Hard ∷ []) []) noted started counted first b) d,
     )

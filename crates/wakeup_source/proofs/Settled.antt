@@ -16,23 +16,23 @@ use Rattle.sleep_model.specs.Word.{position}
 use Rattle.wakeup_source.specs.declared.call_by.CallBy.{CallBy}
 use Rattle.wakeup_source.specs.Called.{SourceView, Notes, Steps, Calls, after_note}
 use Rattle.wakeup_source.specs.Called as called
-use Rattle.wakeup_source.specs.SourceStates.{unstamped, latest, note_entry, note_tick, step_entry, RisesAfter, RiseUpTo, IsOwnHistory, IsSettled}
+use Rattle.wakeup_source.specs.SourceStates.{unstamped_source, latest, note_entry, note_tick, step_entry, RisesAfter, RiseUpTo, IsOwnHistory, IsSettled}
 use Rattle.wakeup_source.specs.Shown.{MayCall}
 
 -- between a call's note and its last step: these steps are owed to that caller
 record IsInside (by : CallBy) (steps : List WordKind) (s : SourceView) : Type 0 where
-  owes : owed (unstamped s.source.past) ≡ steps
-  calls : caller (unstamped s.source.past) ≡ Some by.actor
-  legal : IsOwnHistory s.source.id (unstamped s.source.past)
+  owes : owed (unstamped_source s.source.past) ≡ steps
+  calls : caller (unstamped_source s.source.past) ≡ Some by.actor
+  legal : IsOwnHistory s.source.id (unstamped_source s.source.past)
   in_order : RiseUpTo s.source.floor s.source.past
-  time : latest (unstamped s.source.past) ≡ by.now
+  time : latest (unstamped_source s.source.past) ≡ by.now
   floor : s.source.floor.pos ≤ s.floor
 
 same : (s : ℕ) → (s == s) ≡ true
 same s = grind (arith, nat_tests)
 
 -- a new entry comes after the others
-above : (floor : Stamp) (e : SourceEntry) (past : List SourceEntry) → RiseUpTo floor past → floor.pos ≤ e.stamp.pos → floor.tick < e.stamp.tick → latest (unstamped past) ≤ e.entry.time → RisesAfter e past
+above : (floor : Stamp) (e : SourceEntry) (past : List SourceEntry) → RiseUpTo floor past → floor.pos ≤ e.stamp.pos → floor.tick < e.stamp.tick → latest (unstamped_source past) ≤ e.entry.time → RisesAfter e past
 above floor e [] h p t l = tt
 above floor e (x ∷ past) h p t l = (omega (arith, h.0, p), omega (arith, h.1, t), l, h.2)
 
@@ -61,9 +61,9 @@ step_moves step.Hard s who time before stamp = refl
 
 inside_step : (by : CallBy) (made : WordKind) (rest : List WordKind) (before : EventNow) (s : SourceView) → IsInside by (made ∷ rest) s → s.floor ≤ position before → IsInside by rest (called.after_step by made before s)
 inside_step by made rest before s h l = record {
-  owes = step_owed made s.source.id by.actor by.now before (unstamped s.source.past) ∙ ap steps_after_first h.owes;
-  calls = step_caller made s.source.id by.actor by.now before (unstamped s.source.past) ∙ h.calls;
-  legal = step_legal made s.source.id by.actor by.now before (unstamped s.source.past) h.legal (subst (IsNext made) (sym h.owes) refl) h.calls;
+  owes = step_owed made s.source.id by.actor by.now before (unstamped_source s.source.past) ∙ ap steps_after_first h.owes;
+  calls = step_caller made s.source.id by.actor by.now before (unstamped_source s.source.past) ∙ h.calls;
+  legal = step_legal made s.source.id by.actor by.now before (unstamped_source s.source.past) h.legal (subst (IsNext made) (sym h.owes) refl) h.calls;
   in_order = (
     omega (arith, step_moves made s.source.id by.actor by.now before (record { pos = position before; tick = s.source.floor.tick + 1 })),
     omega arith,
@@ -104,12 +104,12 @@ note_stays call.Relax s who time seen stamp = refl
 note_stays (call.Event ms hard) s who time seen stamp = refl
 note_stays call.Expire s who time seen stamp = refl
 
-inside_note : (by : CallBy) (made : SourceCall) (seen : EventNow) (looked : Option (List EventNow)) (s : SourceView) → IsSettled s.source → latest (unstamped s.source.past) ≤ by.now → MayCall made (unstamped s.source.past) by.now → s.source.floor.pos ≤ position seen
-    → IsInside by (makes made (since (unstamped s.source.past))) (after_note by made seen looked s)
+inside_note : (by : CallBy) (made : SourceCall) (seen : EventNow) (looked : Option (List EventNow)) (s : SourceView) → IsSettled s.source → latest (unstamped_source s.source.past) ≤ by.now → MayCall made (unstamped_source s.source.past) by.now → s.source.floor.pos ≤ position seen
+    → IsInside by (makes made (since (unstamped_source s.source.past))) (after_note by made seen looked s)
 inside_note by made seen looked s h t m p = record {
-  owes = note_owed made s.source.id by.actor by.now seen (unstamped s.source.past);
-  calls = note_caller made s.source.id by.actor by.now seen (unstamped s.source.past);
-  legal = note_legal made s.source.id by.actor by.now seen (unstamped s.source.past) h.legal h.owes_none m;
+  owes = note_owed made s.source.id by.actor by.now seen (unstamped_source s.source.past);
+  calls = note_caller made s.source.id by.actor by.now seen (unstamped_source s.source.past);
+  legal = note_legal made s.source.id by.actor by.now seen (unstamped_source s.source.past) h.legal h.owes_none m;
   in_order = (
     omega (arith, note_stays made s.source.id by.actor by.now seen (record { pos = position seen; tick = note_tick by s.source })),
     omega arith,
@@ -153,14 +153,14 @@ entries_of by (step ∷ rest) old new h = omega (arith, entries_of by rest (call
 -- a call makes at most four entries
 pub call_short : (by : CallBy) (made : SourceCall) (old new : SourceView) → Calls by made old new → length new.source.past ≤ length old.source.past + 4
 call_short by made old new h =
-    omega (arith, entries_of by (makes made (since (unstamped old.source.past))) h.0 new h.2, ap (λ (s : SourceView). length s.source.past) h.1.6, short_call made (since (unstamped old.source.past)))
+    omega (arith, entries_of by (makes made (since (unstamped_source old.source.past))) h.0 new h.2, ap (λ (s : SourceView). length s.source.past) h.1.6, short_call made (since (unstamped_source old.source.past)))
 
 -- after a call a source is settled
-pub settles : (by : CallBy) (made : SourceCall) (old new : SourceView) → IsSettled old.source → latest (unstamped old.source.past) ≤ by.now → MayCall made (unstamped old.source.past) by.now → length old.source.past + 4 ≤ most_entries → Calls by made old new
+pub settles : (by : CallBy) (made : SourceCall) (old new : SourceView) → IsSettled old.source → latest (unstamped_source old.source.past) ≤ by.now → MayCall made (unstamped_source old.source.past) by.now → length old.source.past + 4 ≤ most_entries → Calls by made old new
     → IsSettled new.source
 settles by made old new s t m l h =
-    let first = subst (IsInside by (makes made (since (unstamped old.source.past)))) (sym h.1.6) (inside_note by made h.1.0 h.0.looked old s t m h.1.5) in
-    let end = inside_steps by (makes made (since (unstamped old.source.past))) h.0 new first h.2 in
+    let first = subst (IsInside by (makes made (since (unstamped_source old.source.past)))) (sym h.1.6) (inside_note by made h.1.0 h.0.looked old s t m h.1.5) in
+    let end = inside_steps by (makes made (since (unstamped_source old.source.past))) h.0 new first h.2 in
     record {
       owes_none = end.owes;
       legal = end.legal;

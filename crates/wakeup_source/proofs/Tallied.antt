@@ -11,7 +11,7 @@ use Rattle.sleep_model.specs.declared.word.WordKind.TheVariants as step
 use Rattle.sleep_model.specs.Sources.{run_time}
 use Rattle.wakeup_source.specs.declared.call_by.CallBy.{CallBy}
 use Rattle.wakeup_source.specs.declared.tally.Tally.{Tally}
-use Rattle.wakeup_source.specs.SourceStates.{unstamped, latest, note_entry, step_entry}
+use Rattle.wakeup_source.specs.SourceStates.{unstamped_source, latest, note_entry, step_entry}
 use Rattle.wakeup_source.specs.Tallies.{tally_of, tally_noted, tally_stepped, HasBegunBy, IsTimely, IsFew, IsTallied}
 
 -- what a note counts
@@ -63,11 +63,11 @@ few_step step.Finish tally now n h = record { starts = omega (arith, h.starts); 
 few_step step.Hard tally now n h = record { starts = omega (arith, h.starts); events = omega (arith, h.events); expiries = omega (arith, h.expiries) }
 
 -- after a note
-pub tallied_note : (s : ℕ) (by : CallBy) (made : SourceCall) (seen : EventNow) (stamp : Stamp) (tally : Tally) (past : List SourceEntry) → IsTallied tally past → latest (unstamped past) ≤ by.now
+pub tallied_note : (s : ℕ) (by : CallBy) (made : SourceCall) (seen : EventNow) (stamp : Stamp) (tally : Tally) (past : List SourceEntry) → IsTallied tally past → latest (unstamped_source past) ≤ by.now
     → IsTallied (tally_noted made by.now tally) (record { stamp = stamp; entry = note_entry s made by.actor by.now seen } ∷ past)
 tallied_note s by made seen stamp tally past h l = record {
-  of = ap (tally_noted made by.now) h.of ∙ of_note s by made seen (unstamped past);
-  timely = timely_note made tally (latest (unstamped past)) by.now h.timely l;
+  of = ap (tally_noted made by.now) h.of ∙ of_note s by made seen (unstamped_source past);
+  timely = timely_note made tally (latest (unstamped_source past)) by.now h.timely l;
   few = more (length past) (few_note made tally by.now (length past) h.few);
 }
   where
@@ -75,11 +75,11 @@ tallied_note s by made seen stamp tally past h l = record {
     more n f = record { starts = omega (arith, f.starts); events = omega (arith, f.events); expiries = omega (arith, f.expiries) }
 
 -- after a step
-pub tallied_step : (s : ℕ) (by : CallBy) (made : WordKind) (before : EventNow) (stamp : Stamp) (tally : Tally) (past : List SourceEntry) → IsTallied tally past → latest (unstamped past) ≤ by.now
+pub tallied_step : (s : ℕ) (by : CallBy) (made : WordKind) (before : EventNow) (stamp : Stamp) (tally : Tally) (past : List SourceEntry) → IsTallied tally past → latest (unstamped_source past) ≤ by.now
     → IsTallied (tally_stepped made by.now tally) (record { stamp = stamp; entry = step_entry s made by.actor by.now before } ∷ past)
 tallied_step s by made before stamp tally past h l = record {
-  of = ap (tally_stepped made by.now) h.of ∙ of_step s by made before (unstamped past);
-  timely = timely_step made tally (latest (unstamped past)) by.now h.timely l;
+  of = ap (tally_stepped made by.now) h.of ∙ of_step s by made before (unstamped_source past);
+  timely = timely_step made tally (latest (unstamped_source past)) by.now h.timely l;
   few = more (length past) (few_step made tally by.now (length past) h.few);
 }
   where

@@ -8,7 +8,7 @@ use Rattle.sleep_model.specs.Word.{position}
 use Rattle.event_word.specs.Looks.{IsShown, GrewTo}
 use Rattle.event_word.specs.Steps.{MadeStep, shown_after, made_after}
 use Rattle.wakeup_source.specs.declared.call_by.CallBy.{CallBy}
-use Rattle.wakeup_source.specs.SourceStates.{SourceState, unstamped, with_note, with_step}
+use Rattle.wakeup_source.specs.SourceStates.{SourceState, unstamped_source, with_note, with_step}
 
 -- what a bump makes known, and the source that it is a bump of
 pub record SourceView : Type 0 where
@@ -60,7 +60,7 @@ Notes by call old new =
 -- a whole call: its note, and the steps that it makes
 abbrev pub Calls : CallBy → SourceCall → SourceView → SourceView → Type 0
 Calls by call old new =
-    (noted : SourceView) × Notes by call old noted × Steps by (makes call (since (unstamped old.source.past))) noted new
+    (noted : SourceView) × Notes by call old noted × Steps by (makes call (since (unstamped_source old.source.past))) noted new
 
 -- what could be made after these steps can be made once they are made
 abbrev pub CanGoOnAll : List WordKind → (List WordKind → Bool) → (List WordKind → Bool) → Type 0

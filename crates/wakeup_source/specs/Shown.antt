@@ -11,7 +11,7 @@ use Rattle.sleep_model.specs.EntryClasses.{EntryClass, Moves, class_of}
 use Rattle.sleep_model.specs.Sources.{makes, since, expiry, has_expired}
 use Rattle.event_word.specs.Steps.{MadeStep}
 use Rattle.wakeup_source.specs.declared.call_by.CallBy.{CallBy}
-use Rattle.wakeup_source.specs.SourceStates.{SourceState, unstamped, note_entry, step_entry}
+use Rattle.wakeup_source.specs.SourceStates.{SourceState, unstamped_source, note_entry, step_entry}
 
 -- the word after these steps
 abbrev pub word_after_kinds : List WordKind → EventNow → EventNow
@@ -33,8 +33,8 @@ source_call s call who time word own =
 abbrev pub IsShownCall : CallBy → SourceCall → Option EventNow → Option EventNow → SourceState → SourceState → Type 0
 IsShownCall by call None shown old new = shown ≡ None
 IsShownCall by call (Some word) shown old new =
-    (unstamped new.past ≡ source_call old.id call by.actor by.now word (unstamped old.past) ++ unstamped old.past)
-    × (shown ≡ Some (word_after_kinds (makes call (since (unstamped old.past))) word))
+    (unstamped_source new.past ≡ source_call old.id call by.actor by.now word (unstamped_source old.past) ++ unstamped_source old.past)
+    × (shown ≡ Some (word_after_kinds (makes call (since (unstamped_source old.past))) word))
 
 -- an entry's step on the word put before others, if it is one
 abbrev pub step_by : EntryClass → EventNow → List MadeStep → List MadeStep
@@ -49,7 +49,7 @@ steps_in (e ∷ own) = step_by (class_of e.kind) e.now (steps_in own)
 -- if a bump showed the history's steps as its own, it shows them after the call
 abbrev pub AreOwnSteps : Option (List MadeStep) → Option (List MadeStep) → SourceState → SourceState → Type 0
 AreOwnSteps old_made new_made old new =
-    old_made ≡ Some (steps_in (unstamped old.past)) → new_made ≡ Some (steps_in (unstamped new.past))
+    old_made ≡ Some (steps_in (unstamped_source old.past)) → new_made ≡ Some (steps_in (unstamped_source new.past))
 
 -- a call may be made: an expiry only if its moment has come (pm_wakeup_timer_fn)
 abbrev pub MayCall : SourceCall → List Entry → ℕ → Type 0

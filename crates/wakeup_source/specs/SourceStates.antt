@@ -24,9 +24,9 @@ pub record SourceState : Type 0 where
   pub floor : Stamp
 
 -- the entries without their stamps
-abbrev pub unstamped : List SourceEntry → List Entry
-unstamped [] = []
-unstamped (e ∷ past) = e.entry ∷ unstamped past
+abbrev pub unstamped_source : List SourceEntry → List Entry
+unstamped_source [] = []
+unstamped_source (e ∷ past) = e.entry ∷ unstamped_source past
 
 -- a source that was never called
 abbrev pub new_source : ℕ → SourceState
@@ -105,13 +105,13 @@ IsOwnHistory s (e ∷ own) =
 
 -- between calls: no step is owed, the history is legal, in order, and not too long
 pub record IsSettled (source : SourceState) : Type 0 where
-  pub owes_none : owed (unstamped source.past) ≡ []
-  pub legal : IsOwnHistory source.id (unstamped source.past)
+  pub owes_none : owed (unstamped_source source.past) ≡ []
+  pub legal : IsOwnHistory source.id (unstamped_source source.past)
   pub in_order : RiseUpTo source.floor source.past
   pub short : length source.past ≤ most_entries
 
 -- and it has that number of places
-pub record IsSourceOf (cap : ℕ) (source : SourceState) : Type 0 where
+pub record HasPlaces (cap : ℕ) (source : SourceState) : Type 0 where
   pub settled : IsSettled source
   pub places : length source.past ≤ cap
   pub few : cap ≤ most_entries

@@ -9,7 +9,7 @@ use Rattle.sleep_model.specs.declared.word.WordKind.{WordKind}
 use Rattle.sleep_model.specs.declared.word.WordKind.TheVariants as step
 use Rattle.sleep_model.specs.Sources.{since, expiry, later, is_start, is_event, is_expiry, count_where, run_time, total, longest, last}
 use Rattle.wakeup_source.specs.declared.tally.Tally.{Tally}
-use Rattle.wakeup_source.specs.SourceStates.{unstamped, latest}
+use Rattle.wakeup_source.specs.SourceStates.{unstamped_source, latest}
 
 -- what a history counts
 abbrev pub tally_of : List Entry → Tally
@@ -46,8 +46,8 @@ expiry_by ms now before = if ms == 0 then before else later (now + ms) before
 
 -- what is counted is of these entries, its times lie before the newest, and no number is more than the entries
 pub record IsTallied (tally : Tally) (past : List SourceEntry) : Type 0 where
-  pub of : tally ≡ tally_of (unstamped past)
-  pub timely : IsTimely tally (latest (unstamped past))
+  pub of : tally ≡ tally_of (unstamped_source past)
+  pub timely : IsTimely tally (latest (unstamped_source past))
   pub few : IsFew tally (length past)
 
 -- what is counted after a note

@@ -16,13 +16,13 @@ pub struct WakeSource<const CAP: usize> {
 }
 
 impl<const CAP: usize> Model for WakeSource<CAP> {
-    ghost use Rattle.wakeup_source.specs.SourceStates.{SourceState, IsSourceOf};
+    ghost use Rattle.wakeup_source.specs.SourceStates.{SourceState, HasPlaces};
 
     ghost Value = { SourceState };
 
     ghost view = { λ s. s.source_history.source };
 
-    ghost invariant = { λ s. IsSourceOf CAP s.source_history.source };
+    ghost invariant = { λ s. HasPlaces CAP s.source_history.source };
 }
 
 impl<const CAP: usize> WakeSource<CAP> {
@@ -30,7 +30,7 @@ impl<const CAP: usize> WakeSource<CAP> {
     ghost use Rattle.sleep_model.specs.declared.machine.SourceCall.TheVariants.{Awake, Relax, Event, Expire};
     ghost use Rattle.sleep_model.specs.Sources.{makes, since, expiry, has_expired, most_entries, stats_at};
     ghost use Rattle.wakeup_source.specs.Called.{viewed_source, Calls, CanGoOnAll};
-    ghost use Rattle.wakeup_source.specs.SourceStates.{new_source, unstamped, latest, later_stamp, IsSettled};
+    ghost use Rattle.wakeup_source.specs.SourceStates.{new_source, unstamped_source, latest, later_stamp, IsSettled};
     ghost use Rattle.wakeup_source.specs.Shown.{IsShownCall, AreOwnSteps, OnDone};
 
     /// The source with that number, never called. `CAP` is at most `MOST_ENTRIES`.
@@ -51,9 +51,9 @@ impl<const CAP: usize> WakeSource<CAP> {
         events: &mut B,
         by: CallBy,
     ) -> Result<Stamp, SourceFault>
-        requires time { latest (unstamped self.old.past) ≤ by.now }
+        requires time { latest (unstamped_source self.old.past) ≤ by.now }
         requires small { by.now ≤ 2 ^ 63 }
-        requires can { B.can events.old (makes Awake (since (unstamped self.old.past))) ≡ true }
+        requires can { B.can events.old (makes Awake (since (unstamped_source self.old.past))) ≡ true }
         ensures calls { OnOk result (Calls by Awake
             (viewed_source (B.shows events.old) (B.made events.old) (B.looked events.old) (B.floor events.old) self.old)
             (viewed_source (B.shows events.new) (B.made events.new) (B.looked events.new) (B.floor events.new) self.new)) }
@@ -62,9 +62,9 @@ impl<const CAP: usize> WakeSource<CAP> {
         ensures stamp { IfOk result (λ stamp. stamp ≡ self.new.floor) }
         ensures full { (result ≡ Err SourceFault.Full) ↔ (CAP < length self.old.past + 4) }
         ensures err { OnErr result ((self.new ≡ self.old) × (events.new ≡ events.old)) }
-        ensures time { latest (unstamped self.new.past) ≤ by.now }
+        ensures time { latest (unstamped_source self.new.past) ≤ by.now }
         ensures settled { IsSettled self.new }
-        ensures can { OnOk result (CanGoOnAll (makes Awake (since (unstamped self.old.past)))
+        ensures can { OnOk result (CanGoOnAll (makes Awake (since (unstamped_source self.old.past)))
             (B.can events.old) (B.can events.new)) }
         ensures root { B.root events.new ≡ B.root events.old }
     {
@@ -81,9 +81,9 @@ impl<const CAP: usize> WakeSource<CAP> {
         events: &mut B,
         by: CallBy,
     ) -> Result<Stamp, SourceFault>
-        requires time { latest (unstamped self.old.past) ≤ by.now }
+        requires time { latest (unstamped_source self.old.past) ≤ by.now }
         requires small { by.now ≤ 2 ^ 63 }
-        requires can { B.can events.old (makes Relax (since (unstamped self.old.past))) ≡ true }
+        requires can { B.can events.old (makes Relax (since (unstamped_source self.old.past))) ≡ true }
         ensures calls { OnOk result (Calls by Relax
             (viewed_source (B.shows events.old) (B.made events.old) (B.looked events.old) (B.floor events.old) self.old)
             (viewed_source (B.shows events.new) (B.made events.new) (B.looked events.new) (B.floor events.new) self.new)) }
@@ -92,9 +92,9 @@ impl<const CAP: usize> WakeSource<CAP> {
         ensures stamp { IfOk result (λ stamp. stamp ≡ self.new.floor) }
         ensures full { (result ≡ Err SourceFault.Full) ↔ (CAP < length self.old.past + 4) }
         ensures err { OnErr result ((self.new ≡ self.old) × (events.new ≡ events.old)) }
-        ensures time { latest (unstamped self.new.past) ≤ by.now }
+        ensures time { latest (unstamped_source self.new.past) ≤ by.now }
         ensures settled { IsSettled self.new }
-        ensures can { OnOk result (CanGoOnAll (makes Relax (since (unstamped self.old.past)))
+        ensures can { OnOk result (CanGoOnAll (makes Relax (since (unstamped_source self.old.past)))
             (B.can events.old) (B.can events.new)) }
         ensures root { B.root events.new ≡ B.root events.old }
     {
@@ -115,9 +115,9 @@ impl<const CAP: usize> WakeSource<CAP> {
         ms: u32,
         hard: bool,
     ) -> Result<Stamp, SourceFault>
-        requires time { latest (unstamped self.old.past) ≤ by.now }
+        requires time { latest (unstamped_source self.old.past) ≤ by.now }
         requires small { by.now ≤ 2 ^ 63 }
-        requires can { B.can events.old (makes (Event ms hard) (since (unstamped self.old.past))) ≡ true }
+        requires can { B.can events.old (makes (Event ms hard) (since (unstamped_source self.old.past))) ≡ true }
         ensures calls { OnOk result (Calls by (Event ms hard)
             (viewed_source (B.shows events.old) (B.made events.old) (B.looked events.old) (B.floor events.old) self.old)
             (viewed_source (B.shows events.new) (B.made events.new) (B.looked events.new) (B.floor events.new) self.new)) }
@@ -127,9 +127,9 @@ impl<const CAP: usize> WakeSource<CAP> {
         ensures stamp { IfOk result (λ stamp. stamp ≡ self.new.floor) }
         ensures full { (result ≡ Err SourceFault.Full) ↔ (CAP < length self.old.past + 4) }
         ensures err { OnErr result ((self.new ≡ self.old) × (events.new ≡ events.old)) }
-        ensures time { latest (unstamped self.new.past) ≤ by.now }
+        ensures time { latest (unstamped_source self.new.past) ≤ by.now }
         ensures settled { IsSettled self.new }
-        ensures can { OnOk result (CanGoOnAll (makes (Event ms hard) (since (unstamped self.old.past)))
+        ensures can { OnOk result (CanGoOnAll (makes (Event ms hard) (since (unstamped_source self.old.past)))
             (B.can events.old) (B.can events.new)) }
         ensures root { B.root events.new ≡ B.root events.old }
     {
@@ -150,9 +150,9 @@ impl<const CAP: usize> WakeSource<CAP> {
         events: &mut B,
         by: CallBy,
     ) -> Result<Option<Stamp>, SourceFault>
-        requires time { latest (unstamped self.old.past) ≤ by.now }
+        requires time { latest (unstamped_source self.old.past) ≤ by.now }
         requires small { by.now ≤ 2 ^ 63 }
-        requires can { B.can events.old (makes Expire (since (unstamped self.old.past))) ≡ true }
+        requires can { B.can events.old (makes Expire (since (unstamped_source self.old.past))) ≡ true }
         ensures calls { OnDone result (Calls by Expire
             (viewed_source (B.shows events.old) (B.made events.old) (B.looked events.old) (B.floor events.old) self.old)
             (viewed_source (B.shows events.new) (B.made events.new) (B.looked events.new) (B.floor events.new) self.new)) }
@@ -160,14 +160,14 @@ impl<const CAP: usize> WakeSource<CAP> {
             (B.shows events.old) (B.shows events.new) self.old self.new) }
         ensures made { OnDone result (AreOwnSteps (B.made events.old) (B.made events.new) self.old self.new) }
         ensures stamp { IfOk result (λ answer. IfSome answer (λ stamp. stamp ≡ self.new.floor)) }
-        ensures none { (result ≡ Ok None) ↔ (has_expired (expiry (unstamped self.old.past)) by.now ≡ false) }
+        ensures none { (result ≡ Ok None) ↔ (has_expired (expiry (unstamped_source self.old.past)) by.now ≡ false) }
         ensures rests { result ≡ Ok None → (self.new ≡ self.old) × (events.new ≡ events.old) }
         ensures full { (result ≡ Err SourceFault.Full)
-            ↔ ((has_expired (expiry (unstamped self.old.past)) by.now ≡ true) × (CAP < length self.old.past + 4)) }
+            ↔ ((has_expired (expiry (unstamped_source self.old.past)) by.now ≡ true) × (CAP < length self.old.past + 4)) }
         ensures err { OnErr result ((self.new ≡ self.old) × (events.new ≡ events.old)) }
-        ensures time { latest (unstamped self.new.past) ≤ by.now }
+        ensures time { latest (unstamped_source self.new.past) ≤ by.now }
         ensures settled { IsSettled self.new }
-        ensures can { OnDone result (CanGoOnAll (makes Expire (since (unstamped self.old.past)))
+        ensures can { OnDone result (CanGoOnAll (makes Expire (since (unstamped_source self.old.past)))
             (B.can events.old) (B.can events.new)) }
         ensures root { B.root events.new ≡ B.root events.old }
     {
@@ -183,7 +183,7 @@ impl<const CAP: usize> WakeSource<CAP> {
 
     /// When the event in progress ends by itself, in ms, if it does (`ws->timer_expires`).
     pub fn due(&self) -> Option<u64>
-        ensures due { result ≡ expiry (unstamped self.now.past) }
+        ensures due { result ≡ expiry (unstamped_source self.now.past) }
         ensures settled { IsSettled self.now }
     {
         self.source_history.expiry()
@@ -191,9 +191,9 @@ impl<const CAP: usize> WakeSource<CAP> {
 
     /// The statistics at that moment, not before the last entry's (`print_wakeup_source_stats`).
     pub fn stats(&self, now: u64) -> Stats
-        requires time { latest (unstamped self.now.past) ≤ now }
+        requires time { latest (unstamped_source self.now.past) ≤ now }
         requires small { now ≤ 2 ^ 63 }
-        ensures { result ≡ stats_at (unstamped self.now.past) now }
+        ensures { result ≡ stats_at (unstamped_source self.now.past) now }
     {
         self.source_history.stats(now)
     }

@@ -21,13 +21,13 @@ pub(crate) struct SourceHistory {
 }
 
 impl Model for SourceHistory {
-    ghost use Rattle.wakeup_source.specs.SourceHistories.{HistoryState};
+    ghost use Rattle.wakeup_source.specs.SourceHistories.{SourceHistoryState};
 
-    ghost Value = { HistoryState };
+    ghost Value = { SourceHistoryState };
 
-    ghost use Rattle.wakeup_source.specs.SourceHistoryFields.{history_seen, IsSourceHistory};
+    ghost use Rattle.wakeup_source.specs.SourceHistoryFields.{source_history_view, IsSourceHistory};
 
-    ghost view = { history_seen };
+    ghost view = { source_history_view };
 
     ghost invariant = { IsSourceHistory };
 }
@@ -35,8 +35,8 @@ impl Model for SourceHistory {
 impl SourceHistory {
     ghost use Rattle.std.specs.Prelude.{◌≡◌, ◌≤◌, ◌<◌, ◌+◌, ◌^◌, length, reverse, is_some, OnOk, OnErr};
     ghost use Rattle.sleep_model.specs.Sources.{expiry, has_expired, since, stats_at};
-    ghost use Rattle.wakeup_source.specs.SourceHistories.{IsReady, after_noting, stepped};
-    ghost use Rattle.wakeup_source.specs.SourceStates.{new_source, unstamped, latest, later_stamp};
+    ghost use Rattle.wakeup_source.specs.SourceHistories.{HasRoomFor, after_noting, stepped};
+    ghost use Rattle.wakeup_source.specs.SourceStates.{new_source, unstamped_source, latest, later_stamp};
 
     /// The history of a source that was never called.
     pub(crate) fn new(alloc: Global, id: u32) -> Self
@@ -106,30 +106,30 @@ impl SourceHistory {
     /// Whether an event is in progress.
     #[inline(always)]
     pub(crate) fn is_active(&self) -> bool
-        ensures { result ≡ is_some (since (unstamped self.now.source.past)) }
+        ensures { result ≡ is_some (since (unstamped_source self.now.source.past)) }
     {
         self.tally.since.is_some()
     }
 
     /// When it ends by itself, if it does.
     pub(crate) fn expiry(&self) -> Option<u64>
-        ensures { result ≡ expiry (unstamped self.now.source.past) }
+        ensures { result ≡ expiry (unstamped_source self.now.source.past) }
     {
         self.tally.expiry
     }
 
     /// Whether that moment has come.
     pub(crate) fn has_expired(&self, now: u64) -> bool
-        ensures { result ≡ has_expired (expiry (unstamped self.now.source.past)) now }
+        ensures { result ≡ has_expired (expiry (unstamped_source self.now.source.past)) now }
     {
         self.tally.has_expired(now)
     }
 
     /// The statistics at that moment.
     pub(crate) fn stats(&self, now: u64) -> Stats
-        requires time { latest (unstamped self.now.source.past) ≤ now }
+        requires time { latest (unstamped_source self.now.source.past) ≤ now }
         requires small { now ≤ 2 ^ 63 }
-        ensures { result ≡ stats_at (unstamped self.now.source.past) now }
+        ensures { result ≡ stats_at (unstamped_source self.now.source.past) now }
     {
         self.tally.stats(now)
     }
@@ -137,7 +137,7 @@ impl SourceHistory {
     /// Appends the note of a call that saw that word.
     #[inline(always)]
     pub(crate) fn note(&mut self, by: CallBy, call: SourceCall, seen: EventNow)
-        requires { IsReady 1 by self.old }
+        requires { HasRoomFor 1 by self.old }
         ensures { self.new ≡ after_noting by call seen self.old }
     {
         let stamp = Stamp {
@@ -158,7 +158,7 @@ impl SourceHistory {
     /// Appends a step of the call on the word, with the word before it.
     #[inline(always)]
     pub(crate) fn step(&mut self, by: CallBy, step: WordKind, before: EventNow)
-        requires { IsReady 1 by self.old }
+        requires { HasRoomFor 1 by self.old }
         ensures { self.new ≡ stepped by step before self.old }
     {
         let stamp = Stamp {

@@ -13,9 +13,9 @@ impl SourceHistory {
     ghost use Rattle.event_word.specs.Steps.{CanMake};
     ghost use Rattle.sleep_model.specs.declared.word.WordKind.TheVariants.{Start, Finish, Hard};
     ghost use Rattle.sleep_model.specs.Sources.{since, starting, most_entries};
-    ghost use Rattle.wakeup_source.specs.SourceHistories.{IsReady};
+    ghost use Rattle.wakeup_source.specs.SourceHistories.{HasRoomFor};
     ghost use Rattle.wakeup_source.specs.Called.{viewed_source, Notes, Steps, CanGoOnAll};
-    ghost use Rattle.wakeup_source.specs.SourceStates.{unstamped, latest};
+    ghost use Rattle.wakeup_source.specs.SourceStates.{unstamped_source, latest};
 
     /// Sees that the four entries that a call may make have places and ticks. `Full` if so many entries leave
     /// fewer than four places, `Mem` if there is no memory: nothing has changed then. Ticks that would pass
@@ -28,10 +28,10 @@ impl SourceHistory {
         places: usize,
     ) -> Result<(), SourceFault>
         requires few { places ≤ most_entries }
-        requires time { latest (unstamped self.old.source.past) ≤ by.now }
+        requires time { latest (unstamped_source self.old.source.past) ≤ by.now }
         requires small { by.now ≤ 2 ^ 63 }
         ensures source { self.new.source ≡ self.old.source }
-        ensures ready { OnOk result (IsReady 4 by self.new) }
+        ensures ready { OnOk result (HasRoomFor 4 by self.new) }
         ensures full { (result ≡ Err SourceFault.Full) ↔ (places < length self.old.source.past + 4) }
         ensures err { OnErr result (self.new ≡ self.old) }
     {
@@ -52,12 +52,12 @@ impl SourceHistory {
         by: CallBy,
         call: SourceCall,
     )
-        requires { IsReady 4 by self.old }
+        requires { HasRoomFor 4 by self.old }
         ensures notes { Notes by call
             (viewed_source (B.shows events.old) (B.made events.old) (B.looked events.old) (B.floor events.old) self.old.source)
             (viewed_source (B.shows events.new) (B.made events.new) (B.looked events.new) (B.floor events.new)
             self.new.source) }
-        ensures ready { IsReady 3 by self.new }
+        ensures ready { HasRoomFor 3 by self.new }
         ensures floor { self.new.source.floor.pos ≤ B.floor events.new }
         ensures can { B.can events.new ≡ B.can events.old }
         ensures root { B.root events.new ≡ B.root events.old }
@@ -70,16 +70,16 @@ impl SourceHistory {
     /// The event begins, unless one is in progress (`wakeup_source_report_event`).
     #[inline(always)]
     pub(crate) fn start_unless_active<B: Bump>(&mut self, events: &mut B, by: CallBy)
-        requires ready { IsReady 3 by self.old }
+        requires ready { HasRoomFor 3 by self.old }
         requires floor { self.old.source.floor.pos ≤ B.floor events.old }
-        requires can { since (unstamped self.old.source.past) ≡ None → CanMake (B.can events.old) Start }
-        ensures steps { Steps by (starting (since (unstamped self.old.source.past)))
+        requires can { since (unstamped_source self.old.source.past) ≡ None → CanMake (B.can events.old) Start }
+        ensures steps { Steps by (starting (since (unstamped_source self.old.source.past)))
             (viewed_source (B.shows events.old) (B.made events.old) (B.looked events.old) (B.floor events.old) self.old.source)
             (viewed_source (B.shows events.new) (B.made events.new) (B.looked events.new) (B.floor events.new)
             self.new.source) }
-        ensures ready { IsReady 2 by self.new }
+        ensures ready { HasRoomFor 2 by self.new }
         ensures floor { self.new.source.floor.pos ≤ B.floor events.new }
-        ensures can { CanGoOnAll (starting (since (unstamped self.old.source.past))) (B.can events.old) (B.can events.new) }
+        ensures can { CanGoOnAll (starting (since (unstamped_source self.old.source.past))) (B.can events.old) (B.can events.new) }
         ensures root { B.root events.new ≡ B.root events.old }
     {
         if self.is_active() {
@@ -92,14 +92,14 @@ impl SourceHistory {
     /// A hard event is counted, if it is one (`pm_system_wakeup`).
     #[inline(always)]
     pub(crate) fn hard_if<B: Bump>(&mut self, events: &mut B, by: CallBy, hard: bool)
-        requires ready { IsReady 2 by self.old }
+        requires ready { HasRoomFor 2 by self.old }
         requires floor { self.old.source.floor.pos ≤ B.floor events.old }
         requires can { hard ≡ true → CanMake (B.can events.old) Hard }
         ensures steps { Steps by (if hard then Hard ∷ [] else [])
             (viewed_source (B.shows events.old) (B.made events.old) (B.looked events.old) (B.floor events.old) self.old.source)
             (viewed_source (B.shows events.new) (B.made events.new) (B.looked events.new) (B.floor events.new)
             self.new.source) }
-        ensures ready { IsReady 1 by self.new }
+        ensures ready { HasRoomFor 1 by self.new }
         ensures floor { self.new.source.floor.pos ≤ B.floor events.new }
         ensures can { CanGoOnAll (if hard then Hard ∷ [] else []) (B.can events.old) (B.can events.new) }
         ensures root { B.root events.new ≡ B.root events.old }
@@ -114,7 +114,7 @@ impl SourceHistory {
     /// The event in progress is registered, if it ends (`wakeup_source_deactivate`).
     #[inline(always)]
     pub(crate) fn finish_if<B: Bump>(&mut self, events: &mut B, by: CallBy, ends: bool)
-        requires ready { IsReady 1 by self.old }
+        requires ready { HasRoomFor 1 by self.old }
         requires floor { self.old.source.floor.pos ≤ B.floor events.old }
         requires can { ends ≡ true → CanMake (B.can events.old) Finish }
         ensures steps { Steps by (if ends then Finish ∷ [] else [])

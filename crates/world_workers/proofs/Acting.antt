@@ -17,7 +17,7 @@ use Rattle.sleep_script.specs.Jobs.{IsWanted, JobState, TimerState}
 use Rattle.wakeup_source.specs.declared.fault.SourceFault.{SourceFault}
 use Rattle.fit_laws.specs.Ranged.{is_ranged}
 use Rattle.turn_lock.specs.declared.view.Made.{Made}
-use Rattle.turn_lock.specs.Passes.{Token, made_of}
+use Rattle.turn_lock.specs.Passes.{LockToken, made_of}
 use Rattle.run_laws.specs.Passes.{Noted}
 use Rattle.run_world.specs.declared.object.WorldObject.{WorldObject}
 use Rattle.run_world.specs.Objects.{IsWorldPass}
@@ -36,7 +36,7 @@ append_none [] = refl
 append_none (x ∷ l) = ap (λ (k : List (Made Noted)). x ∷ k) (append_none l)
 
 -- nothing was tried
-pub acted_still : (m : Machine) (table locks : TableId) (moment : ℕ) (t : Task) (p : Token WorldObject Noted) → GoesIn m table locks moment t p → HasActed m table locks moment t t p p
+pub acted_still : (m : Machine) (table locks : TableId) (moment : ℕ) (t : Task) (p : LockToken WorldObject Noted) → GoesIn m table locks moment t p → HasActed m table locks moment t t p p
 acted_still m table locks moment t p goes = record {
   gains = [];
   goes = goes;
@@ -46,7 +46,7 @@ acted_still m table locks moment t p goes = record {
   turns = omega arith;
 }
 
-module _ (m : Machine) (table locks : TableId) (moment : ℕ) (before after : Token WorldObject Noted)
+module _ (m : Machine) (table locks : TableId) (moment : ℕ) (before after : LockToken WorldObject Noted)
     (pass : IsWorldPass m table locks moment after) (gains : List (Made Noted)) (made : HasMade before after gains) where
   -- a try that did nothing
   acted_none : (t : Task) → IsTaskIn m t → gains ≡ [] → HasActed m table locks moment t t before after

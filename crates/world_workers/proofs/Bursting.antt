@@ -3,12 +3,12 @@ use Rattle.std.proofs.Common.{◌≡◌, ◌∙◌, ◌+◌, ℕ, suc, List, ◌
 use Rattle.std.proofs.lemmas.List.{drop_all, take_all}
 use Rattle.atomic_table.specs.Seated.{TableId}
 use Rattle.turn_lock.specs.declared.table.Pass.{Pass}
-use Rattle.turn_lock.specs.Passes.{AreAll, Token, first_of}
+use Rattle.turn_lock.specs.Passes.{AreAll, LockToken, first_of}
 use Rattle.turn_lock.specs.Passing.{made_lists, tokens}
 use Rattle.run_laws.specs.Passes.{Noted}
 use Rattle.run_objects.specs.Objects.{SourcesInvariant, SeatedCoreState, SeatedSourceState}
 use Rattle.run_world.specs.declared.object.WorldObject.{WorldObject}
-use Rattle.run_world.specs.ObjectLists.{AreAll as AreAllObjects, IsClosedWorld}
+use Rattle.run_world.specs.ObjectLists.{AreObjectsOf as AreAllObjects, IsClosedWorld}
 use Rattle.run_world.specs.Objects.{AreObjects}
 use Rattle.run_world.specs.declared.task.Task.{Task}
 use Rattle.run_world.specs.Bursts.{AllPlayed}
@@ -28,7 +28,7 @@ written len new old same is =
 pub world_count : (moment : ℕ) (core : SeatedCoreState) (sources : List SeatedSourceState) (objects : List WorldObject) → AreAllObjects moment core sources objects → length objects ≡ suc (length sources)
 world_count moment core sources objects all = ap (λ (l : List WorldObject). length l) all.are ∙ ap (λ (n : ℕ). suc n) (those_count sources all.rest all.those)
 
-module _ (b : Began) (own : Token WorldObject Noted) (locks : TableId) (workers : List Worker) (o : IsOpened b own locks workers) where
+module _ (b : Began) (own : LockToken WorldObject Noted) (locks : TableId) (workers : List Worker) (o : IsOpened b own locks workers) where
   world : AreObjects b.machine b.table b.moment o.objects
   world = objects_are b.machine b.table b.moment b.core b.sources b.tasks o.ready o.kept o.objects o.all
 
@@ -40,7 +40,7 @@ module _ (b : Began) (own : Token WorldObject Noted) (locks : TableId) (workers 
   pub start : AreWorkersOf b.machine b.table locks b.moment workers
   start = fresh_workers b.machine b.table locks b.moment workers o.passes b.tasks o.contents o.fresh (new_passes b.machine b.table locks b.moment own o.objects o.passes o.place o.first world o.new) o.ready.tasks_in
 
-module _ (b : Began) (own : Token WorldObject Noted) (locks : TableId) (workers : List Worker) (r : HasRun b own locks workers) (backs : List (Pass WorldObject Noted)) (thens : List Task)
+module _ (b : Began) (own : LockToken WorldObject Noted) (locks : TableId) (workers : List Worker) (r : HasRun b own locks workers) (backs : List (Pass WorldObject Noted)) (thens : List Task)
     (after : AreContents workers backs thens) where
   played : AllPlayed (length b.machine.sources + 1) b.moment b.tasks (made_lists backs) thens × AreSame r.opened.passes backs
   played = all_played b.machine b.table locks b.moment r.before workers r.did r.opened.passes backs b.tasks thens r.gone r.opened.contents r.opened.fresh
@@ -69,7 +69,7 @@ module _ (b : Began) (own : Token WorldObject Noted) (locks : TableId) (workers 
 -- ---- a burst from its parts
 
 -- the workers of a burst that was opened have run, all written over in their vector
-pub has_run : (b : Began) (own : Token WorldObject Noted) (locks : TableId) (len : ℕ) (given new olds : List Worker) (did : ℕ) → IsOpened b own locks olds
+pub has_run : (b : Began) (own : LockToken WorldObject Noted) (locks : TableId) (len : ℕ) (given new olds : List Worker) (did : ℕ) → IsOpened b own locks olds
     → given ≡ olds → length new ≡ length given → len ≡ length olds → HaveTurned given new did → AreWorkersOf b.machine b.table locks b.moment new
     → HasRun b own locks (take len (new ++ drop (length new) olds))
 has_run b own locks len given new olds did o same many count gone goes =

@@ -5,7 +5,7 @@ use mathlib.Core.Option.{some}
 use lib.ListN.{get_elem?}
 use Rattle.sleep_model.specs.declared.machine.Machine.{Machine}
 use Rattle.atomic_table.specs.Seated.{TableId}
-use Rattle.event_word.specs.Seats.{Token}
+use Rattle.event_word.specs.Seats.{WordToken}
 use Rattle.turn_lock.specs.declared.view.Made.{Made}
 use Rattle.run_laws.specs.Passes.{Noted}
 use Rattle.run_objects.specs.Objects.{SourcesInvariant, SeatedCoreState, SeatedSourceState}
@@ -53,7 +53,7 @@ module _ (m : Machine) (table : TableId) (moment : ℕ) (first : List WorldObjec
           let back = source_back k x.0 x.1 in
           let place : x.0.seat.table_id ≡ core.seat.table_id = ap (λ (r : WorldRoot). r.table) back ∙ sym (ap (λ (r : WorldRoot). r.table) machine_back) in
           let number = (preserved_at sources kept k x.0 x.1).number ∙ ap (λ (r : WorldRoot). Some r.number) back in
-          subst (λ (y : Token). (y.table_id ≡ core.seat.table_id) × (y.me.0.number ≡ Some k)) (sym x.2) (place, number);
+          subst (λ (y : WordToken). (y.table_id ≡ core.seat.table_id) × (y.me.0.number ≡ Some k)) (sym x.2) (place, number);
     };
     count = sources_count;
     tasks_in = tasks_in;

@@ -5,11 +5,11 @@ use mathlib.Core.Option.{some, none}
 use lib.ListN.{get_elem?}
 use Rattle.sleep_model.specs.declared.machine.Machine.{Machine}
 use Rattle.atomic_table.specs.Seated.{TableId}
-use Rattle.event_word.specs.Seats.{Token, sources_of}
+use Rattle.event_word.specs.Seats.{WordToken, source_count}
 use Rattle.run_objects.specs.Objects.{SourcesInvariant, IsSeatedSource, SeatedCoreState, SeatedSourceState, seats_of}
 use Rattle.run_world.specs.declared.object.WorldObject.{WorldObject}
 use Rattle.run_world.specs.declared.object.WorldObject.TheVariants as object
-use Rattle.run_world.specs.ObjectLists.{AreAll, AreAt, AreThose}
+use Rattle.run_world.specs.ObjectLists.{AreObjectsOf, AreAtMoment, AreThose}
 use Rattle.run_world.specs.Roots.{machine_root, source_root}
 use Rattle.run_world.specs.Objects.{AreObjects, root_of}
 use Rattle.run_world.specs.declared.task.Task.{Task}
@@ -21,7 +21,7 @@ some_same : {A : Type 0} (x y : A) → some x ≡ some y → x ≡ y
 some_same x y e = cc
 
 -- a seat among those of sources is one of theirs
-pub seat_at : (sources : List SeatedSourceState) (k : ℕ) (t : Token) → get_elem? (seats_of sources) k ≡ some t
+pub seat_at : (sources : List SeatedSourceState) (k : ℕ) (t : WordToken) → get_elem? (seats_of sources) k ≡ some t
     → (x : SeatedSourceState) × (get_elem? sources k ≡ some x) × (t ≡ x.seat)
 seat_at [] k t at = absurd (let e : none ≡ some t = at in cc)
 seat_at (x ∷ sources) zero t at = (x, refl, sym (some_same x.seat t at))
@@ -47,7 +47,7 @@ those_count (x ∷ sources) [] are = absurd are
 those_count (x ∷ sources) (y ∷ objects) are = ap (λ (n : ℕ). suc n) (those_count sources objects are.1)
 
 -- an object among those of sources is one of them
-object_at : (moment : ℕ) (sources : List SeatedSourceState) (objects : List WorldObject) → AreThose sources objects → AreAt moment objects
+object_at : (moment : ℕ) (sources : List SeatedSourceState) (objects : List WorldObject) → AreThose sources objects → AreAtMoment moment objects
     → (k : ℕ) (u : WorldObject) → get_elem? objects k ≡ some u → (x : SeatedSourceState) × (get_elem? sources k ≡ some x) × (root_of u ≡ source_root x moment)
 object_at moment [] [] are at k u is = absurd (let e : none ≡ some u = is in cc)
 object_at moment [] (y ∷ objects) are at k u is = absurd are
@@ -58,7 +58,7 @@ object_at moment (x ∷ sources) (object.Source s ∷ objects) are at zero u is 
 object_at moment (x ∷ sources) (y ∷ objects) are at (suc k) u is = object_at moment sources objects are.1 at.1 k u is
 
 -- a source has its object among theirs
-pub that_at : (moment : ℕ) (sources : List SeatedSourceState) (objects : List WorldObject) → AreThose sources objects → AreAt moment objects
+pub that_at : (moment : ℕ) (sources : List SeatedSourceState) (objects : List WorldObject) → AreThose sources objects → AreAtMoment moment objects
     → (k : ℕ) (x : SeatedSourceState) → get_elem? sources k ≡ some x → (u : WorldObject) × (get_elem? objects k ≡ some u) × (root_of u ≡ source_root x moment)
 that_at moment [] objects are at k x is = absurd (let e : none ≡ some x = is in cc)
 that_at moment (y ∷ sources) [] are at k x is = absurd are
@@ -84,13 +84,13 @@ module _ (m : Machine) (table : TableId) (moment : ℕ) (core : SeatedCoreState)
 
     machine_is : machine_root core ≡ record { machine = Some m; table = table; number = length m.sources + 1; moment = 0 }
     machine_is =
-        let many : sources_of core.seat ≡ length m.sources + 1 = sym ready.seats.counted ∙ length-map sources (λ s. s.seat) ∙ ready.count in
-        ap (λ (x : Machine). record { machine = Some x; table = core.seat.table_id; number = sources_of core.seat; moment = 0 }) ready.machine
-        ∙ ap (λ (t : TableId). record { machine = Some m; table = t; number = sources_of core.seat; moment = 0 }) ready.table_is
+        let many : source_count core.seat ≡ length m.sources + 1 = sym ready.seats.counted ∙ length-map sources (λ s. s.seat) ∙ ready.count in
+        ap (λ (x : Machine). record { machine = Some x; table = core.seat.table_id; number = source_count core.seat; moment = 0 }) ready.machine
+        ∙ ap (λ (t : TableId). record { machine = Some m; table = t; number = source_count core.seat; moment = 0 }) ready.table_is
         ∙ ap (λ (n : ℕ). record { machine = Some m; table = table; number = n; moment = 0 }) many
 
     -- what goes in is a world
-    pub objects_are : (objects : List WorldObject) → AreAll moment core sources objects → AreObjects m table moment objects
+    pub objects_are : (objects : List WorldObject) → AreObjectsOf moment core sources objects → AreObjects m table moment objects
     objects_are objects all = record {
       count = ap (λ (l : List WorldObject). length l) all.are ∙ ap (λ (n : ℕ). suc n) (those_count sources all.rest all.those ∙ ready.count) ∙ omega arith;
       machine = λ u at.

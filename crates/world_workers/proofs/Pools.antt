@@ -8,7 +8,7 @@ use Rattle.atomic_table.specs.Seated.{TableId}
 use Rattle.sleep_pool.specs.declared.turns.Turn.{Turn}
 use Rattle.turn_lock.specs.declared.table.Pass.{Pass}
 use Rattle.turn_lock.specs.declared.view.Made.{Made}
-use Rattle.turn_lock.specs.Passes.{AreAll, AreNew, IsPass, IsPassOf, Token, first_of, made_of, number_of}
+use Rattle.turn_lock.specs.Passes.{AreAll, AreNew, IsPass, IsPassOf, LockToken, first_of, made_of, number_of}
 use Rattle.turn_lock.specs.Passing.{made_lists, tokens}
 use Rattle.run_laws.specs.Passes.{Noted}
 use Rattle.run_world.specs.declared.object.WorldObject.{WorldObject}
@@ -19,7 +19,7 @@ use Rattle.run_world.specs.Bursts.{AllPlayed}
 use Rattle.world_workers.specs.declared.worker.Worker.{Worker}
 use Rattle.world_workers.specs.Tries.{HasMade, IsTaskIn}
 use Rattle.world_workers.specs.Bursts.{AreTasksIn}
-use Rattle.world_workers.specs.Workers.{AreFresh, AreOneMore, AreContents, AreWorkersOf, HaveTurned, IsWorkerOf, Moment, Since, WentOn}
+use Rattle.world_workers.specs.Workers.{AreFresh, AreOneMore, AreContents, AreWorkersOf, HaveTurned, IsWorkerOf, Moment, Since, WorkerWentOn}
 use Rattle.world_workers.proofs.Acting.{append_none}
 
 abbrev WorldPass : Type 0
@@ -36,7 +36,7 @@ no_length (x ∷ l) h = absurd (omega (arith, h))
 pass_same : (p q : WorldPass) → Some p ≡ Some q → p ≡ q
 pass_same p q e = cc
 
-token_same : (p q : Token WorldObject Noted) → some p ≡ some q → p ≡ q
+token_same : (p q : LockToken WorldObject Noted) → some p ≡ some q → p ≡ q
 token_same p q e = cc
 
 -- ---- one worker more
@@ -132,8 +132,8 @@ same_count [] (q ∷ backs) are = absurd are
 same_count (p ∷ passes) [] are = absurd are
 same_count (p ∷ passes) (q ∷ backs) are = ap (λ (n : ℕ). suc n) (same_count passes backs are.1)
 
-same_at : (passes backs : List WorldPass) → AreSame passes backs → (k : ℕ) (q : Token WorldObject Noted) → get_elem? (tokens backs) k ≡ some q
-    → (p : Token WorldObject Noted) × (get_elem? (tokens passes) k ≡ some p) × (number_of q ≡ number_of p) × (first_of q ≡ first_of p)
+same_at : (passes backs : List WorldPass) → AreSame passes backs → (k : ℕ) (q : LockToken WorldObject Noted) → get_elem? (tokens backs) k ≡ some q
+    → (p : LockToken WorldObject Noted) × (get_elem? (tokens passes) k ≡ some p) × (number_of q ≡ number_of p) × (first_of q ≡ first_of p)
 same_at passes [] are k q at = absurd (let e : none ≡ some q = at in cc)
 same_at [] (b ∷ backs) are k q at = absurd are
 same_at (p ∷ passes) (b ∷ backs) are zero q at =
@@ -163,12 +163,12 @@ module _ (m : Machine) (table locks : TableId) (moment : ℕ) where
   AreLent [] = Unit {0}
   AreLent (p ∷ passes) = (IsWorldPass m table locks moment p.token × (made_of p.token ≡ [])) × AreLent passes
 
-  lent_all : (passes : List WorldPass) → ((k : ℕ) (p : Token WorldObject Noted) → get_elem? (tokens passes) k ≡ some p → IsWorldPass m table locks moment p × (made_of p ≡ [])) → AreLent passes
+  lent_all : (passes : List WorldPass) → ((k : ℕ) (p : LockToken WorldObject Noted) → get_elem? (tokens passes) k ≡ some p → IsWorldPass m table locks moment p × (made_of p ≡ [])) → AreLent passes
   lent_all [] each = tt
   lent_all (p ∷ passes) each = (each 0 p.token refl, lent_all passes (λ k q at. each (suc k) q at))
 
   -- the passes of a new table of the world's objects
-  pub new_passes : (own : Token WorldObject Noted) (objects : List WorldObject) (passes : List WorldPass) → own.table_id ≡ locks → first_of own ≡ objects → AreObjects m table moment objects
+  pub new_passes : (own : LockToken WorldObject Noted) (objects : List WorldObject) (passes : List WorldPass) → own.table_id ≡ locks → first_of own ≡ objects → AreObjects m table moment objects
       → AreNew own (tokens passes) → AreLent passes
   new_passes own objects passes place first_is world are = lent_all passes (λ k p at.
       let is : IsPassOf own p = (are.all_are.each_is k p at).0 in
@@ -208,7 +208,7 @@ module _ (m : Machine) (table locks : TableId) (moment : ℕ) where
 
   -- a pass that is brought back is one of the world
   pass_back : (workers : List Worker) (passes : List WorldPass) (tasks : List Task) → AreContents workers passes tasks → AreWorkersOf m table locks moment workers
-      → (k : ℕ) (q : Token WorldObject Noted) → get_elem? (tokens passes) k ≡ some q → IsWorldPass m table locks moment q
+      → (k : ℕ) (q : LockToken WorldObject Noted) → get_elem? (tokens passes) k ≡ some q → IsWorldPass m table locks moment q
   pass_back workers [] tasks are go k q at = absurd (let e : none ≡ some q = at in cc)
   pass_back [] (p ∷ passes) tasks are go k q at = absurd are
   pass_back (w ∷ workers) (p ∷ passes) [] are go k q at = absurd are
@@ -218,7 +218,7 @@ module _ (m : Machine) (table locks : TableId) (moment : ℕ) where
   pass_back (w ∷ workers) (p ∷ passes) (t ∷ tasks) are go (suc k) q at = pass_back workers passes tasks are.1 go.1 k q at
 
   -- so they are all passes of the table
-  pub all_back : (own : Token WorldObject Noted) (passes backs : List WorldPass) (workers : List Worker) (tasks : List Task) → own.table_id ≡ locks → AreNew own (tokens passes) → AreSame passes backs
+  pub all_back : (own : LockToken WorldObject Noted) (passes backs : List WorldPass) (workers : List Worker) (tasks : List Task) → own.table_id ≡ locks → AreNew own (tokens passes) → AreSame passes backs
       → AreContents workers backs tasks → AreWorkersOf m table locks moment workers → AreAll own (tokens backs)
   all_back own passes backs workers tasks place are same contents go = record {
     counted = same_count passes backs same ∙ are.all_are.counted;
@@ -236,7 +236,7 @@ module _ (m : Machine) (table locks : TableId) (moment : ℕ) where
   -- ---- what each did
 
   module _ (old new : Worker) (p q : WorldPass) (t u : Task) (has : old.pass ≡ Some p) (is : old.task ≡ t) (has_now : new.pass ≡ Some q) (is_now : new.task ≡ u) (time : old.moment ≡ moment)
-      (lent : IsWorldPass m table locks moment p.token) (empty : made_of p.token ≡ []) (turns : List Turn) (went : WentOn old turns new) where
+      (lent : IsWorldPass m table locks moment p.token) (empty : made_of p.token ≡ []) (turns : List Turn) (went : WorkerWentOn old turns new) where
     begun : Moment
     begun = record { sources = length m.sources + 1; time = moment; task = t; token = p.token }
 
@@ -287,7 +287,7 @@ module _ (m : Machine) (table locks : TableId) (moment : ℕ) where
   all_played (old ∷ olds) (new ∷ news) did (p ∷ passes) (q ∷ backs) (t ∷ tasks) [] gone contents fresh lent after = absurd after
   all_played (old ∷ olds) (new ∷ news) did (p ∷ passes) (q ∷ backs) (t ∷ tasks) (u ∷ thens) gone contents fresh lent after =
       let rest = all_played olds news gone.1 passes backs tasks thens gone.3 contents.1 fresh.1 lent.1 after.1 in
-      let went : WentOn old gone.0 new = gone.2.0 in
+      let went : WorkerWentOn old gone.0 new = gone.2.0 in
       let played = one_played old new p q t u contents.0.0 contents.0.1 after.0.0 after.0.1 fresh.0.0 lent.0.0 lent.0.1 gone.0 went in
       let same = one_same old new p q t u contents.0.0 contents.0.1 after.0.0 after.0.1 fresh.0.0 lent.0.0 lent.0.1 gone.0 went in
       ((played, rest.0), (same, rest.1))

@@ -2,7 +2,7 @@
 use Rattle.std.specs.Prelude.{◌≡◌, ◌<◌, ◌+◌, ◌^◌, List, [], ◌∷◌, length}
 use Rattle.sleep_model.specs.declared.machine.Machine.{Machine}
 use Rattle.atomic_table.specs.Seated.{TableId}
-use Rattle.event_word.specs.Seats.{AreAll}
+use Rattle.event_word.specs.Seats.{AreAllSeats}
 use Rattle.run_objects.specs.Objects.{SeatedCoreState, SeatedSourceState, seats_of}
 use Rattle.run_world.specs.declared.task.Task.{Task}
 use Rattle.world_workers.specs.Tries.{IsTaskIn, turns_of}
@@ -21,6 +21,6 @@ HaveTurns (t ∷ tasks) = (turns_of t + 1000 < 2 ^ 63) × HaveTurns tasks
 pub record AreReady (m : Machine) (table : TableId) (core : SeatedCoreState) (sources : List SeatedSourceState) (tasks : List Task) : Type 0 where
   pub machine : core.core.machine ≡ m
   pub table_is : core.seat.table_id ≡ table
-  pub seats : AreAll core.seat (seats_of sources)
+  pub seats : AreAllSeats core.seat (seats_of sources)
   pub count : length sources ≡ length m.sources + 1
   pub tasks_in : AreTasksIn m tasks

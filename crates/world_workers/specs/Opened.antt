@@ -4,12 +4,12 @@ use Rattle.sleep_model.specs.declared.machine.Machine.{Machine}
 use Rattle.sleep_model.specs.Fits.{is_word64}
 use Rattle.atomic_table.specs.Seated.{TableId}
 use Rattle.turn_lock.specs.declared.table.Pass.{Pass}
-use Rattle.turn_lock.specs.Passes.{AreNew, Token, first_of}
+use Rattle.turn_lock.specs.Passes.{AreNew, LockToken, first_of}
 use Rattle.turn_lock.specs.Passing.{tokens}
 use Rattle.run_laws.specs.Passes.{Noted}
 use Rattle.run_objects.specs.Objects.{SourcesInvariant, SeatedCoreState, SeatedSourceState}
 use Rattle.run_world.specs.declared.object.WorldObject.{WorldObject}
-use Rattle.run_world.specs.ObjectLists.{AreAll}
+use Rattle.run_world.specs.ObjectLists.{AreObjectsOf}
 use Rattle.run_world.specs.declared.task.Task.{Task}
 use Rattle.run_world.specs.Acts.{actor_of}
 use Rattle.run_world.specs.Bursts.{IsBurst}
@@ -27,13 +27,13 @@ pub record Began : Type 0 where
   pub tasks : List Task
 
 -- locks guard the core and the sources, and each task has a worker with a pass that has made nothing
-pub record IsOpened (b : Began) (own : Token WorldObject Noted) (locks : TableId) (workers : List Worker) : Type 0 where
+pub record IsOpened (b : Began) (own : LockToken WorldObject Noted) (locks : TableId) (workers : List Worker) : Type 0 where
   pub objects : List WorldObject
   pub passes : List (Pass WorldObject Noted)
   pub timed : is_word64 b.moment ≡ true
   pub ready : AreReady b.machine b.table b.core b.sources b.tasks
   pub kept : SourcesInvariant b.sources
-  pub all : AreAll b.moment b.core b.sources objects
+  pub all : AreObjectsOf b.moment b.core b.sources objects
   pub first : first_of own ≡ objects
   pub place : own.table_id ≡ locks
   pub new : AreNew own (tokens passes)
@@ -41,7 +41,7 @@ pub record IsOpened (b : Began) (own : Token WorldObject Noted) (locks : TableId
   pub fresh : AreFresh b.moment workers
 
 -- the workers of a burst that was opened went on
-pub record HasRun (b : Began) (own : Token WorldObject Noted) (locks : TableId) (workers : List Worker) : Type 0 where
+pub record HasRun (b : Began) (own : LockToken WorldObject Noted) (locks : TableId) (workers : List Worker) : Type 0 where
   pub before : List Worker
   pub opened : IsOpened b own locks before
   pub did : ℕ

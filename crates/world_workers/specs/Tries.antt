@@ -11,7 +11,7 @@ use Rattle.wakeup_source.specs.declared.fault.SourceFault.{SourceFault}
 use Rattle.sleep_script.specs.Jobs.{JobState, TimerState, after_call, after_expiry, after_turn}
 use Rattle.fit_laws.specs.Ranged.{is_ranged}
 use Rattle.turn_lock.specs.declared.view.Made.{Made}
-use Rattle.turn_lock.specs.Passes.{Token, first_of, made_of, number_of}
+use Rattle.turn_lock.specs.Passes.{LockToken, first_of, made_of, number_of}
 use Rattle.run_laws.specs.Passes.{Noted}
 use Rattle.run_world.specs.declared.object.WorldObject.{WorldObject}
 use Rattle.run_world.specs.Objects.{IsWorldPass}
@@ -50,18 +50,18 @@ turns_of (task.Acts job) = job.turns
 turns_of (task.Fires timer) = 0
 
 -- the pass has made these more, and is the same else
-pub record HasMade (old new : Token WorldObject Noted) (gains : List (Made Noted)) : Type 0 where
+pub record HasMade (old new : LockToken WorldObject Noted) (gains : List (Made Noted)) : Type 0 where
   pub made : made_of new ≡ made_of old ++ gains
   pub number : number_of new ≡ number_of old
   pub first : first_of new ≡ first_of old
 
 -- a task and its pass go with a machine's world
-pub record GoesIn (m : Machine) (table locks : TableId) (moment : ℕ) (t : Task) (p : Token WorldObject Noted) : Type 0 where
+pub record GoesIn (m : Machine) (table locks : TableId) (moment : ℕ) (t : Task) (p : LockToken WorldObject Noted) : Type 0 where
   pub pass : IsWorldPass m table locks moment p
   pub is_in : IsTaskIn m t
 
 -- after a try they agree: the task did one act, and the pass made what it added
-pub record HasActed (m : Machine) (table locks : TableId) (moment : ℕ) (old new : Task) (before after : Token WorldObject Noted) : Type 0 where
+pub record HasActed (m : Machine) (table locks : TableId) (moment : ℕ) (old new : Task) (before after : LockToken WorldObject Noted) : Type 0 where
   pub gains : List (Made Noted)
   pub goes : GoesIn m table locks moment new after
   pub made : HasMade before after gains

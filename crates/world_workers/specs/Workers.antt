@@ -6,7 +6,7 @@ use Rattle.sleep_pool.specs.declared.turns.Turn.{Turn}
 use Rattle.sleep_pool.specs.Turns.{AllWent, Went}
 use Rattle.turn_lock.specs.declared.table.Pass.{Pass}
 use Rattle.turn_lock.specs.declared.view.Made.{Made}
-use Rattle.turn_lock.specs.Passes.{Token, first_of}
+use Rattle.turn_lock.specs.Passes.{LockToken, first_of}
 use Rattle.run_laws.specs.Passes.{Noted}
 use Rattle.run_world.specs.declared.object.WorldObject.{WorldObject}
 use Rattle.run_world.specs.declared.task.Task.{Task}
@@ -15,8 +15,8 @@ use Rattle.world_workers.specs.declared.worker.Worker.{Worker}
 use Rattle.world_workers.specs.Tries.{GoesIn, HasMade}
 
 -- how many turns a worker can still make
-abbrev pub left_of : Worker → ℕ
-left_of w = w.left
+abbrev pub turns_left : Worker → ℕ
+turns_left w = w.left
 
 -- a worker has its pass, and goes with its task in a machine's world
 pub record IsWorkerOf (m : Machine) (table locks : TableId) (moment : ℕ) (w : Worker) : Type 0 where
@@ -35,7 +35,7 @@ pub record Moment : Type 0 where
   pub sources : ℕ
   pub time : ℕ
   pub task : Task
-  pub token : Token WorldObject Noted
+  pub token : LockToken WorldObject Noted
 
 -- since that moment the worker's task did these acts, and its pass made just what they added
 pub record Since (s : Moment) (w : Worker) : Type 0 where
@@ -48,12 +48,12 @@ pub record Since (s : Moment) (w : Worker) : Type 0 where
   pub plays : Plays s.sources s.time s.task acts w.task
 
 -- from whatever moment a worker went on, it goes on, by these turns
-abbrev pub WentOn : Worker → List Turn → Worker → Type 0
-WentOn old turns new = (s : Moment) → Since s old → Since s new
+abbrev pub WorkerWentOn : Worker → List Turn → Worker → Type 0
+WorkerWentOn old turns new = (s : Moment) → Since s old → Since s new
 
 -- each worker went on by turns of its own, and n of all these turns did something
 abbrev pub HaveTurned : List Worker → List Worker → ℕ → Type 0
-HaveTurned olds news did = AllWent (Went WentOn left_of true 1000) olds news did
+HaveTurned olds news did = AllWent (Went WorkerWentOn turns_left true 1000) olds news did
 
 -- the workers have these passes, and these tasks
 abbrev pub AreContents : List Worker → List (Pass WorldObject Noted) → List Task → Type 0

@@ -18,7 +18,7 @@ use crate::pool::{Brought, came_to, taken_apart, workers_of};
 use crate::worker::Worker;
 use fit_laws::moments_are_ranged;
 use run_world::{Gate, SharedWorld, World, WorldObject, close_world, world_objects};
-use sleep_base::{Mem, lost};
+use sleep_base::{Mem, drop_for_mem};
 use sleep_model::Actor;
 use sleep_pool::burst;
 use std::alloc::Global;
@@ -55,13 +55,13 @@ fn open_burst<'m>(
     } = contents;
     let count = tasks.len() as u32;
     let Ok(objects) = world_objects(alloc, core, sources, moment) else {
-        return Err(lost(tasks));
+        return Err(drop_for_mem(tasks));
     };
     let Ok((locks, passes)) = LockTable::new(alloc, objects, count) else {
-        return Err(lost(tasks));
+        return Err(drop_for_mem(tasks));
     };
     let Ok(workers) = workers_of(alloc, passes, tasks, actors, moment) else {
-        return Err(lost(locks));
+        return Err(drop_for_mem(locks));
     };
     Ok((locks, workers))
 }
@@ -108,11 +108,11 @@ fn close_burst<'m>(
 {
     let (stop, beside) = came_to(workers.as_slice());
     let Ok(brought) = taken_apart(alloc, workers) else {
-        return Err(lost(locks));
+        return Err(drop_for_mem(locks));
     };
     let Brought { passes, tasks } = brought;
     let Ok((core, sources)) = close_world(alloc, locks, passes) else {
-        return Err(lost(tasks));
+        return Err(drop_for_mem(tasks));
     };
     Ok(Burst {
         contents: BurstContents {

@@ -10,7 +10,7 @@ ghost use Rattle.world_workers.specs.Workers.{AreFresh, AreOneMore, AreContents,
 use crate::contents::{Stop, graver};
 use crate::worker::Worker;
 use run_world::{Task, WorldPass};
-use sleep_base::{Mem, lost};
+use sleep_base::{Mem, drop_for_mem};
 use sleep_model::Actor;
 use std::alloc::Global;
 
@@ -30,7 +30,7 @@ pub(crate) fn workers_of<'m>(
     ensures fresh { IfOk result (λ workers. AreFresh moment workers.items) }
 {
     let Ok(mut workers) = Vec::with_capacity(alloc, tasks.len()) else {
-        return Err(lost((passes, tasks)));
+        return Err(drop_for_mem((passes, tasks)));
     };
     let mut left = passes.into_iter();
     for task in tasks {
@@ -40,7 +40,7 @@ pub(crate) fn workers_of<'m>(
         };
         let worker = Worker::new(pass, task, actors[place], place as u32, moment);
         let Ok(()) = workers.push(worker) else {
-            return Err(lost((workers, left)));
+            return Err(drop_for_mem((workers, left)));
         };
     }
     Ok(workers)
@@ -100,11 +100,11 @@ pub(crate) fn taken_apart<'m>(alloc: Global, workers: Vec<Worker<'m>>) -> Result
     ensures { IfOk result (λ brought. AreContents workers.entry.items brought.passes.items brought.tasks.items) }
 {
     let Ok(mut brought) = Brought::new(alloc, workers.len()) else {
-        return Err(lost(workers));
+        return Err(drop_for_mem(workers));
     };
     for worker in workers {
         let Ok(()) = brought.push(worker) else {
-            return Err(lost(brought));
+            return Err(drop_for_mem(brought));
         };
     }
     Ok(brought)

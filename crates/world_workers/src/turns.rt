@@ -1,7 +1,7 @@
 //! The turns of a worker.
 
 ghost use Rattle.std.specs.Prelude.{◌≡◌, Some, IsSome};
-ghost use Rattle.world_workers.specs.Workers.{IsWorkerOf, WentOn, left_of};
+ghost use Rattle.world_workers.specs.Workers.{IsWorkerOf, WorkerWentOn, turns_left};
 
 use crate::acts::act;
 use crate::contents::Stop;
@@ -30,12 +30,12 @@ fn taken<'m>(place: &mut Option<WorldPass<'m>>) -> WorldPass<'m>
 }
 
 impl<'w, 'm, R: Wait, G: Gate> Work<World<'w, 'm, R, G>> for Worker<'m> {
-    ghost left = { left_of };
+    ghost left = { turns_left };
 
     ghost goes = { λ w world now. IsWorkerOf world.machine.now world.table.now.cells.shared.table_id
         world.cells.now.shared.table_id world.moment w };
 
-    ghost made = { WentOn };
+    ghost made = { WorkerWentOn };
 
     /// One act of the worker's task by its pass, unless the worker skips the round.
     fn turn(&mut self, shared: &World<'w, 'm, R, G>, now: u64) -> Turn {

@@ -38,7 +38,7 @@ READING = [
             ("program_ending", "Endings", ["status_of", "text_of"]),
         ],
     ),
-    ("What is a run?", [("machine_rounds", "Runs", ["IsRun", "IsFull"])]),
+    ("What is a run?", [("machine_rounds", "Runs", ["IsRun", "MayFillSource"])]),
     ("Which machine do these bytes spell?", [("machine_file", "Whole", ["machine_in", "SpellsWhole", "first_broken", "rule"])]),
     (
         "When is a log legal, and at its end?",
@@ -229,7 +229,7 @@ PROMISED = [
     ("machine_file", "Spelling", ["AllReadBack"]),
     ("lock_commands", "TextAnswers", ["AgreeAfter"]),
     ("idle_loop", "Laws", ["LosesNone", "SleepsOverNone"]),
-    ("idle_loop", "Merging", ["Merges", "MergesToLegal"]),
+    ("idle_loop", "Merging", ["Merges", "IdleMergesToLegal"]),
     ("sleep_pool", "Turns", ["AllWent", "Went", "FirstsWent", "PartsEnded", "OfParts", "GoesRound", "part_size"]),
     ("turn_lock", "Passes", ["Holds", "gained", "made_of", "number_of", "had_by"]),
     ("run_laws", "Passes", ["LogSaysWho"]),

@@ -5,7 +5,7 @@ use crate::reading::names::{
     names_of_devices, names_of_notifiers, names_of_scripts, names_of_sources,
 };
 use crate::writing::ready::ReadyNames;
-use sleep_base::{Mem, lost};
+use sleep_base::{Mem, drop_for_mem};
 use sleep_model::{Machine, Name};
 use std::alloc::Global;
 use std::marker::Model;
@@ -45,10 +45,10 @@ impl<'a> MachineNames<'a> {
     {
         let names = ReadyNames::new(alloc, machine)?;
         let Ok(things) = index_of_things(alloc, machine) else {
-            return Err(lost(names));
+            return Err(drop_for_mem(names));
         };
         let Ok(tasks) = index_of_tasks(alloc, machine) else {
-            return Err(lost((names, things)));
+            return Err(drop_for_mem((names, things)));
         };
         let (devices, syscore, notifiers) = things;
         let (sources, marks, scripts) = tasks;
@@ -181,10 +181,10 @@ fn index_of_things(alloc: Global, machine: &Machine) -> Result<ThreeIndexes, Mem
 {
     let devices = index_of_devices(alloc, machine)?;
     let Ok(syscore) = index_of_names(alloc, machine.syscore.as_slice()) else {
-        return Err(lost(devices));
+        return Err(drop_for_mem(devices));
     };
     let Ok(notifiers) = index_of_notifiers(alloc, machine) else {
-        return Err(lost((devices, syscore)));
+        return Err(drop_for_mem((devices, syscore)));
     };
     Ok((devices, syscore, notifiers))
 }
@@ -197,10 +197,10 @@ fn index_of_tasks(alloc: Global, machine: &Machine) -> Result<ThreeIndexes, Mem>
 {
     let sources = index_of_sources(alloc, machine)?;
     let Ok(marks) = index_of_names(alloc, machine.marks.as_slice()) else {
-        return Err(lost(sources));
+        return Err(drop_for_mem(sources));
     };
     let Ok(scripts) = index_of_scripts(alloc, machine) else {
-        return Err(lost((sources, marks)));
+        return Err(drop_for_mem((sources, marks)));
     };
     Ok((sources, marks, scripts))
 }

@@ -15,7 +15,7 @@ use crate::reading::lines::{first_line, next_number};
 use crate::reading::machine_names::MachineNames;
 use crate::reading::reader::LineReader;
 use crate::spelling::fixed::FINISHED;
-use sleep_base::{Mem, lost};
+use sleep_base::{Mem, drop_for_mem};
 use sleep_model::{AUTOSLEEP, EntryList, ListOf, Log, LogEnd, Machine, Stats, Waiting};
 use std::alloc::Global;
 
@@ -38,16 +38,16 @@ fn read_entries<'a>(
     let mut number = 1;
     while !left.is_empty() {
         let Ok(next) = reader.next_entry(machine_names, left) else {
-            return Err(lost(entries));
+            return Err(drop_for_mem(entries));
         };
         let Some((entry, after_piece)) = next else {
             return Ok((entries, left, number));
         };
         let Ok(()) = entries.push(entry) else {
-            return Err(lost(entries));
+            return Err(drop_for_mem(entries));
         };
         let Ok(following) = next_number(number) else {
-            return Err(lost(entries));
+            return Err(drop_for_mem(entries));
         };
         number = following;
         left = after_piece;

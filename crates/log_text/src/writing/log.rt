@@ -5,7 +5,7 @@ use crate::writing::gathered::GatheredBytes;
 use crate::writing::ready::ReadyNames;
 use crate::writing::stream::LogText;
 use crate::writing::writer::{LineWriter, put_finished, put_source, put_waiting};
-use sleep_base::{Failed, Mem, lost};
+use sleep_base::{Failed, Mem, drop_for_mem};
 use sleep_model::{AUTOSLEEP, Log, LogEnd, Machine, Stats, Waiting};
 use std::alloc::Global;
 
@@ -19,7 +19,7 @@ pub fn write_log(alloc: Global, machine: &Machine, log: &Log) -> Result<Vec<u8>,
     drop(text);
     match written {
         Ok(()) => Ok(bytes.into_bytes()),
-        Err(Failed) => Err(lost(bytes)),
+        Err(Failed) => Err(drop_for_mem(bytes)),
     }
 }
 

@@ -12,7 +12,7 @@ use crate::reading::names::{
 };
 use crate::spelling::short::ShortText;
 use crate::spelling::words::script_word;
-use sleep_base::{Mem, lost};
+use sleep_base::{Mem, drop_for_mem};
 use sleep_model::{Actor, Device, Machine, Name, Script};
 use std::alloc::Global;
 use std::marker::Model;
@@ -62,10 +62,10 @@ impl<'a> ReadyNames<'a> {
     {
         let actors = makers_of(alloc, machine)?;
         let Ok(things) = texts_of_things(alloc, machine) else {
-            return Err(lost(actors));
+            return Err(drop_for_mem(actors));
         };
         let Ok(tasks) = texts_of_tasks(alloc, machine) else {
-            return Err(lost((actors, things)));
+            return Err(drop_for_mem((actors, things)));
         };
         let (makers, scripts, timers) = actors;
         let (devices, syscore, notifiers) = things;
@@ -234,10 +234,10 @@ fn texts_of_things(alloc: Global, machine: &Machine) -> Result<ThreeTexts, Mem>
 {
     let devices = texts_of_devices(alloc, machine)?;
     let Ok(syscore) = name_texts(alloc, machine.syscore.as_slice()) else {
-        return Err(lost(devices));
+        return Err(drop_for_mem(devices));
     };
     let Ok(notifiers) = texts_of_notifiers(alloc, machine) else {
-        return Err(lost((devices, syscore)));
+        return Err(drop_for_mem((devices, syscore)));
     };
     Ok((devices, syscore, notifiers))
 }
@@ -250,10 +250,10 @@ fn texts_of_tasks(alloc: Global, machine: &Machine) -> Result<ThreeTexts, Mem>
 {
     let sources = texts_of_sources(alloc, machine)?;
     let Ok(marks) = name_texts(alloc, machine.marks.as_slice()) else {
-        return Err(lost(sources));
+        return Err(drop_for_mem(sources));
     };
     let Ok(tasks) = texts_of_scripts(alloc, machine) else {
-        return Err(lost((sources, marks)));
+        return Err(drop_for_mem((sources, marks)));
     };
     Ok((sources, marks, tasks))
 }
@@ -278,10 +278,10 @@ fn makers_of(alloc: Global, machine: &Machine) -> Result<ThreeTexts, Mem>
 {
     let makers = device_makers(alloc, machine.devices.as_slice())?;
     let Ok(scripts) = script_makers(alloc, machine.actors.as_slice()) else {
-        return Err(lost(makers));
+        return Err(drop_for_mem(makers));
     };
     let Ok(timers) = timer_makers(alloc, machine) else {
-        return Err(lost((makers, scripts)));
+        return Err(drop_for_mem((makers, scripts)));
     };
     Ok((makers, scripts, timers))
 }

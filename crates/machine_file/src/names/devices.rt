@@ -31,11 +31,11 @@ use std::marker::Model;
 /// The devices of a file, of which each is found by its name of 1 to 32 bytes. Contracts see the list of the
 /// devices.
 #[derive(Drop)]
-pub(crate) struct Devices {
+pub(crate) struct NamedDevices {
     tree: Tree,
 }
 
-impl Model for Devices {
+impl Model for NamedDevices {
     ghost use Rattle.std.specs.Prelude.{List};
     ghost use Rattle.sleep_model.specs.declared.machine.Device.{Device};
     ghost use Rattle.machine_file.specs.Registered.{AreShort};
@@ -47,17 +47,17 @@ impl Model for Devices {
     ghost invariant = { λ d. AreShort d.tree };
 }
 
-impl Devices {
+impl NamedDevices {
     ghost use Rattle.std.specs.Prelude.{◌≡◌, ◌++◌, ◌∷◌, [], bytes_eq, length, OnOk, position};
     ghost use Rattle.device_tree.specs.Refusal.{refusal, RefusesDevice};
     ghost use Rattle.machine_file.specs.Fitting.{IsShort};
     ghost use Rattle.machine_file.specs.Knows.{names};
 
-    fn new(alloc: Global) -> Devices
+    fn new(alloc: Global) -> NamedDevices
         ensures { result ≡ [] }
     {
         let tree = Tree::new(alloc);
-        Devices { tree }
+        NamedDevices { tree }
     }
 
     fn register(&mut self, device: Device) -> Result<u32, TreeFault>
@@ -93,14 +93,14 @@ impl Devices {
 }
 
 /// Whether a name is that of a device.
-pub(crate) fn is_device(devices: &Devices, name: &str) -> bool
+pub(crate) fn is_device(devices: &NamedDevices, name: &str) -> bool
     ensures { result ≡ is_among_names (names devices.now) name.now }
 {
     devices.find(name).is_some()
 }
 
 /// The number of the device that is named at a member, and 0 if it is none.
-pub(crate) fn device_named(value: &Value<'_>, member: &str, devices: &Devices) -> u32
+pub(crate) fn device_named(value: &Value<'_>, member: &str, devices: &NamedDevices) -> u32
     ensures { result ≡ index_among (names devices.now) (text_at member.now (view value.now)) }
 {
     devices.find(text_at(value, member)).unwrap_or(0)
@@ -108,7 +108,7 @@ pub(crate) fn device_named(value: &Value<'_>, member: &str, devices: &Devices) -
 
 /// The number of a device's parent. If the parent is none of these devices, it is one that none of them has,
 /// and the tree refuses it.
-fn parent_of(device: &Value<'_>, devices: &Devices) -> Option<u32>
+fn parent_of(device: &Value<'_>, devices: &NamedDevices) -> Option<u32>
     ensures { result ≡ parent_after (names devices.now) (view device.now) }
 {
     let parent = word_at(device, "parent")?;
@@ -119,7 +119,7 @@ fn parent_of(device: &Value<'_>, devices: &Devices) -> Option<u32>
 }
 
 /// A device as it is registered after these.
-fn device_of(device: &Value<'_>, devices: &Devices) -> Device
+fn device_of(device: &Value<'_>, devices: &NamedDevices) -> Device
     requires { HasShortName (view device.now) }
     ensures { result ≡ device_after (names devices.now) (view device.now) }
 {
@@ -138,7 +138,7 @@ struct Refused {
 }
 
 /// Registers these devices in turn, up to the first that is refused.
-fn register_all(devices: &mut Devices, list: &[Value<'_>]) -> Result<(), Refused>
+fn register_all(devices: &mut NamedDevices, list: &[Value<'_>]) -> Result<(), Refused>
     requires empty { devices.old ≡ [] }
     requires few { length list.now ≤ 1000 }
     requires short { All HasShortName (map view list.now) }
@@ -180,13 +180,16 @@ fn rule_broken(alloc: Global, tree: &Value<'_>, refused: Refused) -> Result<Brok
 }
 
 /// The devices of a file, or the first rule on their names and parents that is broken.
-pub(crate) fn devices_in(alloc: Global, tree: &Value<'_>) -> Result<Result<Devices, Broken>, Mem>
+pub(crate) fn devices_in(
+    alloc: Global,
+    tree: &Value<'_>,
+) -> Result<Result<NamedDevices, Broken>, Mem>
     requires { broken_form (view tree.now) ≡ None }
     ensures broken { IfOk result (λ r. IfErr r (λ b. broken_devices (view tree.now) ≡ Some (broken_view b))) }
     ensures unbroken { IfOk result (λ r. IfOk r (λ _. broken_devices (view tree.now) ≡ None)) }
     ensures devices { IfOk result (λ r. IfOk r (λ d. d ≡ whole_devices (view tree.now))) }
 {
-    let mut devices = Devices::new(alloc);
+    let mut devices = NamedDevices::new(alloc);
     match register_all(&mut devices, items(tree, Member::Devices)) {
         Ok(()) => Ok(Ok(devices)),
         Err(refused) => {

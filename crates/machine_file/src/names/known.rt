@@ -9,13 +9,13 @@ ghost use Rattle.machine_file.specs.Operations.{whole_marks};
 ghost use Rattle.machine_file.specs.Knows.{Knows, texts};
 ghost use Rattle.machine_file.specs.Broken.{member_name, place_of};
 
-use crate::names::devices::Devices;
+use crate::names::devices::NamedDevices;
 use crate::names::marks::marks_in;
 use crate::names::{first_repeated, names_in, texts_in};
 use crate::value::place::{Member, Place};
 use borrowed_json::Value;
 use key_index::KeyIndex;
-use sleep_base::{Mem, lost};
+use sleep_base::{Mem, drop_for_mem};
 use sleep_model::AUTOSLEEP;
 use std::alloc::Global;
 
@@ -23,7 +23,7 @@ use std::alloc::Global;
 #[derive(Drop)]
 pub(crate) struct Known<'v> {
     /// The devices, by name and number.
-    pub(crate) devices: Devices,
+    pub(crate) devices: NamedDevices,
     pub(crate) syscore: KeyIndex<&'v str>,
     pub(crate) notifiers: KeyIndex<&'v str>,
     pub(crate) sources: KeyIndex<&'v str>,
@@ -59,22 +59,22 @@ fn marked_in<'v>(alloc: Global, tree: &Value<'v>) -> Result<KeyIndex<&'v str>, M
 pub(crate) fn known_in<'v>(
     alloc: Global,
     tree: &Value<'v>,
-    devices: Devices,
+    devices: NamedDevices,
 ) -> Result<Known<'v>, Mem>
     requires { devices ≡ whole_devices (view tree.now) }
     ensures { IfOk result (λ k. Knows k (view tree.now)) }
 {
     let Ok(syscore) = listed_names(alloc, tree, Member::Syscore) else {
-        return Err(lost(devices));
+        return Err(drop_for_mem(devices));
     };
     let Ok(notifiers) = named_in(alloc, tree, Member::Notifiers) else {
-        return Err(lost((devices, syscore)));
+        return Err(drop_for_mem((devices, syscore)));
     };
     let Ok(sources) = listed_names(alloc, tree, Member::Sources) else {
-        return Err(lost((devices, syscore, notifiers)));
+        return Err(drop_for_mem((devices, syscore, notifiers)));
     };
     let Ok(marks) = marked_in(alloc, tree) else {
-        return Err(lost((devices, syscore, notifiers, sources)));
+        return Err(drop_for_mem((devices, syscore, notifiers, sources)));
     };
     Ok(Known {
         devices,
@@ -124,7 +124,7 @@ fn first_reserved<'x>(
     ensures { IfOk result (λ n. n ≡ first_not_after
         (λ before name. not (is_among_names (reserved.now ∷ before) name)) [] 0 (texts names.now)) }
 {
-    let all = behind(alloc, reserved, names)?;
+    let all = after_reserved(alloc, reserved, names)?;
     let all = KeyIndex::new(alloc, all)?;
     let number = one_less(first_repeated(&all));
     drop(all);
@@ -132,7 +132,11 @@ fn first_reserved<'x>(
 }
 
 /// The reserved name, and these after it.
-fn behind<'x>(alloc: Global, reserved: &'x str, names: &[&'x str]) -> Result<Vec<&'x str>, Mem>
+fn after_reserved<'x>(
+    alloc: Global,
+    reserved: &'x str,
+    names: &[&'x str],
+) -> Result<Vec<&'x str>, Mem>
     ensures { IfOk result (λ v. texts v.items ≡ reserved.now ∷ texts names.now) }
 {
     let mut all = Vec::with_capacity(alloc, 1)?;

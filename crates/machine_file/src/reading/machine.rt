@@ -19,7 +19,7 @@ use crate::rules::{
 };
 use crate::value::place::{Member, Place};
 use borrowed_json::Value;
-use sleep_base::{Mem, lost};
+use sleep_base::{Mem, drop_for_mem};
 use std::alloc::Global;
 
 /// The first rule on form that is broken.
@@ -142,7 +142,7 @@ fn linked_by(
 {
     let linking = linking_of(alloc, tree, known, places)?;
     let Ok(broken) = first_after(alloc, tree, known, linking.added.cycle) else {
-        return Err(lost(linking));
+        return Err(drop_for_mem(linking));
     };
     match broken {
         Some(broken) => {

@@ -23,7 +23,7 @@ use crate::rules::cycles::{Added, Linking};
 use crate::value::look::number_at;
 use crate::value::place::{Member, items};
 use borrowed_json::Value;
-use sleep_base::{Mem, lost};
+use sleep_base::{Mem, drop_for_mem};
 use sleep_model::{Answer, Device, Link, ListOf, Machine, Name, Notifier, Script};
 use std::alloc::Global;
 
@@ -96,10 +96,10 @@ fn things_in(alloc: Global, tree: &Value<'_>, known: &Known<'_>) -> Result<Thing
 {
     let devices = Vec::from_slice(alloc, known.devices.all())?;
     let Ok(syscore) = syscore_in(alloc, tree, known) else {
-        return Err(lost(devices));
+        return Err(drop_for_mem(devices));
     };
     let Ok(notifiers) = notifiers_in(alloc, tree) else {
-        return Err(lost((devices, syscore)));
+        return Err(drop_for_mem((devices, syscore)));
     };
     Ok((devices, syscore, notifiers))
 }
@@ -117,7 +117,7 @@ fn named_in(
 {
     let sources = sources_in(alloc, tree, known)?;
     let Ok(marks) = marks_of(alloc, tree, known) else {
-        return Err(lost(sources));
+        return Err(drop_for_mem(sources));
     };
     Ok((sources, marks))
 }
@@ -136,7 +136,7 @@ fn acts_in(
 {
     let actors = scripts_in(alloc, tree, known)?;
     let Ok(answers) = answers_in(alloc, tree, known) else {
-        return Err(lost(actors));
+        return Err(drop_for_mem(actors));
     };
     Ok((actors, answers))
 }
@@ -155,13 +155,13 @@ fn machine_of(
     ensures { IfOk result (λ m. m ≡ whole_machine (view tree.now)) }
 {
     let Ok(things) = things_in(alloc, tree, known) else {
-        return Err(lost(links));
+        return Err(drop_for_mem(links));
     };
     let Ok(named) = named_in(alloc, tree, known) else {
-        return Err(lost((links, things)));
+        return Err(drop_for_mem((links, things)));
     };
     let Ok(acts) = acts_in(alloc, tree, known) else {
-        return Err(lost((links, things, named)));
+        return Err(drop_for_mem((links, things, named)));
     };
     let (devices, syscore, notifiers) = things;
     let (sources, marks) = named;
@@ -197,7 +197,7 @@ pub(crate) fn read_of(
         cycle: _,
     } = added;
     let Ok(machine) = machine_of(alloc, tree, known, links) else {
-        return Err(lost(tied));
+        return Err(drop_for_mem(tied));
     };
     Ok(ReadMachine {
         machine,

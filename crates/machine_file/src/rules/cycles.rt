@@ -19,7 +19,7 @@ use crate::value::place::{Member, items};
 use borrowed_json::Value;
 use device_links::{LinkFault, Links};
 use key_index::KeyIndex;
-use sleep_base::{Mem, lost};
+use sleep_base::{Mem, drop_for_mem};
 use sleep_model::{Link, link_word, parents_of};
 use std::alloc::Global;
 
@@ -94,7 +94,7 @@ pub(crate) fn add_links(
                     cycle: Some(i),
                 });
             }
-            Err(LinkFault::Mem) => return Err(lost(added)),
+            Err(LinkFault::Mem) => return Err(drop_for_mem(added)),
             Err(_) => unreachable!(),
         }
     }

@@ -14,7 +14,7 @@ ghost use Rattle.machine_file.specs.OperationRows.{operation_of_word, first_vers
 ghost use Rattle.machine_file.specs.Knows.{Knows, names, texts};
 ghost use Rattle.machine_file.specs.Broken.{place_of};
 
-use crate::names::devices::{Devices, is_device};
+use crate::names::devices::{NamedDevices, is_device};
 use crate::names::known::{Known, contains};
 use crate::rules::form::{DAY, has_ends, link_states, statuses};
 use crate::rules::items::must_be_name;
@@ -284,7 +284,7 @@ fn is_of_version(second: bool, word: Word) -> bool
 }
 
 /// Whether the devices that it names, if it names any, are of these.
-fn names_devices(operation: &Value<'_>, devices: &Devices) -> bool
+fn names_devices(operation: &Value<'_>, devices: &NamedDevices) -> bool
     ensures { result ≡ names_device (names devices.now) (view operation.now) }
 {
     names_one_device(operation, "device", devices)
@@ -293,7 +293,7 @@ fn names_devices(operation: &Value<'_>, devices: &Devices) -> bool
 }
 
 /// Whether the device that it names there, if it names one, is of these.
-fn names_one_device(operation: &Value<'_>, member: &str, devices: &Devices) -> bool
+fn names_one_device(operation: &Value<'_>, member: &str, devices: &NamedDevices) -> bool
     ensures { result ≡ is_none_or (is_among_names (names devices.now)) (word_at member.now (view operation.now)) }
 {
     match word_at(operation, member) {
@@ -386,7 +386,7 @@ fn names_its_source(word: Word, operation: &Value<'_>, sources: &KeyIndex<&str>)
 }
 
 /// Whether the devices that an operation of that word names, if it names any, are known.
-fn names_its_devices(word: Word, operation: &Value<'_>, devices: &Devices) -> bool
+fn names_its_devices(word: Word, operation: &Value<'_>, devices: &NamedDevices) -> bool
     requires { fits_row (view operation.now) (operation_of_word word) ≡ true }
     ensures { result ≡ names_device (names devices.now) (view operation.now) }
 {

@@ -16,7 +16,7 @@ use crate::value::look::{text_at, word_at};
 use crate::value::place::{Member, Place, items};
 use borrowed_json::Value;
 use indexmap::IndexMap;
-use sleep_base::{Mem, lost};
+use sleep_base::{Mem, drop_for_mem};
 use std::alloc::Global;
 
 /// The ends of a link, by name.
@@ -129,7 +129,7 @@ fn first_again(alloc: Global, ends: &[LinkEnds]) -> Result<Option<usize>, Mem>
     for i in 0..ends.len() {
         let key = ends[i];
         let Ok(before) = seen.insert(key, i) else {
-            return Err(lost(seen));
+            return Err(drop_for_mem(seen));
         };
         if is_again(&key, before) {
             drop(seen);

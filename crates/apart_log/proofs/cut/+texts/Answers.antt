@@ -16,5 +16,5 @@ returns g t c =
     let back : joined_texts c.in_ok-back.field-0.items ≡ slice_lines m c.from_on-high.result entries =
     IfOk-at_ok (λ v. joined_texts v.items ≡ slice_lines m c.from_on-high.result entries) c.in_ok-back.was c.join-front.ensures.second in
     c.in_ok-texts.ensures
-    ∙ halves_joined m entries c.args.range c.below-low.result c.from_on-high.result c.middle-middle.result c.middle-middle.ensures.behind c.middle-middle.ensures.before
+    ∙ halves_joined m entries c.args.range c.below-low.result c.from_on-high.result c.middle-middle.result c.middle-middle.ensures.after c.middle-middle.ensures.before
     c.below-low.ensures c.from_on-high.ensures _ _ front back

@@ -9,5 +9,5 @@ returns t c =
     let source = c.args.source.now in
     let entries = all_entries (map of_source c.args.journal.now) source.histories.now in
     c.in_ok-texts.ensures
-    ∙ halves_joined source.machine.now entries c.args.range c.below.result c.from_on.result c.middle-middle.result c.middle-middle.ensures.behind c.middle-middle.ensures.before
+    ∙ halves_joined source.machine.now entries c.args.range c.below.result c.from_on.result c.middle-middle.result c.middle-middle.ensures.after c.middle-middle.ensures.before
     c.below.ensures c.from_on.ensures _ _ c.in_ok-front.ensures c.in_ok-back.ensures

@@ -9,7 +9,7 @@ pub returns-then-not-branch : goal.returns-then-not-branch
 returns-then-not-branch c = (
   meant c.rule_at-rule.result,
   (
-    sym c.number_of.ensures,
+    sym c.rule_number.ensures,
     breaks c.args.past.now.machine (past_of c.args.past.now) c.args.e c.loop-place.place c.in_ok-keeps.field-0 (meant c.rule_at-rule.result)
         c.rule_at-rule.ensures c.in_ok-keeps.ensures c.if-not-branch.true c.loop-place.invariant,
   ),

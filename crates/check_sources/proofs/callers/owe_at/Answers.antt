@@ -7,5 +7,5 @@ use Rattle.check_sources.proofs.callers.owe_at.Goals as goal
 pub returns-then-is_empty-2 : goal.returns-then-is_empty-2
 returns-then-is_empty-2 c =
     let reports : length c.args.reports.now ≡ 0 = grind (arith, nat_tests) in
-    let behind : length c.args.behind.now ≡ 0 = grind (arith, nat_tests) in
-    none_owed c.args.later.now.items c.args.place c.args.reports.now c.args.behind.now reports behind
+    let after : length c.args.after.now ≡ 0 = grind (arith, nat_tests) in
+    none_owed c.args.later.now.items c.args.place c.args.reports.now c.args.after.now reports after

@@ -1,8 +1,8 @@
 -- The invariant of the loop of `sources_of`.
 use Rattle.std.proofs.Common.{ℕ}
 use Rattle.run_objects.specs.Objects.{SourcesInvariant}
-use Rattle.run_world.specs.ObjectLists.{AreAt, AreThose}
+use Rattle.run_world.specs.ObjectLists.{AreAtMoment, AreThose}
 use Rattle.run_world.proofs.closing.sources_of.Given as goal
 
 abbrev pub invariant-loop-object : goal.invariant-loop-object
-invariant-loop-object l = AreThose l.sources.items l.yielded × ((moment : ℕ) × AreAt moment l.object-iterator.rest.items) × SourcesInvariant l.sources.items
+invariant-loop-object l = AreThose l.sources.items l.yielded × ((moment : ℕ) × AreAtMoment moment l.object-iterator.rest.items) × SourcesInvariant l.sources.items

@@ -26,7 +26,7 @@ returns-clause-went g t c =
     let laws = g.met.J.Job in
     let cut = c.split_at_mut-front in
     let r = c.one_round-ahead in
-    let s = c.one_round-behind in
+    let s = c.one_round-after in
     let R = Went g.J.Job.made g.J.Job.left in
     let ahead = subst (λ b. AllWent (R b 1) cut.result.0.now r.new.jobs r.result.did) c.if-ahead.false r.ensures.went in
     subst (λ l. AllWent (R s.result.stopped 1) l (r.new.jobs ++ s.new.jobs) (r.result.did + s.result.did)) (sym cut.ensures.value)
@@ -37,7 +37,7 @@ returns-clause-left g t c n h =
     let cut = c.split_at_mut-front in
     let front = subst (All (λ j. n < g.J.Job.left j)) (sym cut.ensures.front) (All-take (λ j. n < g.J.Job.left j) (length c.args.jobs.now / 2) c.args.jobs.now h) in
     let back = subst (All (λ j. n < g.J.Job.left j)) (sym cut.ensures.back) (All-drop (λ j. n < g.J.Job.left j) (length c.args.jobs.now / 2) c.args.jobs.now h) in
-    All-append (λ j. n ≤ g.J.Job.left j) c.one_round-ahead.new.jobs c.one_round-behind.new.jobs (c.one_round-ahead.ensures.left n front) (c.one_round-behind.ensures.left n back)
+    All-append (λ j. n ≤ g.J.Job.left j) c.one_round-ahead.new.jobs c.one_round-after.new.jobs (c.one_round-ahead.ensures.left n front) (c.one_round-after.ensures.left n back)
 
 pub returns-then-ahead-clause-stop : goal.returns-then-ahead-clause-stop
 returns-then-ahead-clause-stop g t c is =
@@ -51,7 +51,7 @@ pub returns-clause-on : goal.returns-clause-on
 returns-clause-on g t c is =
     let cut = c.split_at_mut-front in
     let r = c.one_round-ahead in
-    let s = c.one_round-behind in
+    let s = c.one_round-after in
     let O = WentOn g.J.Job.made g.J.Job.left 1 in
     subst (λ l. AllWent O l (r.new.jobs ++ s.new.jobs) (r.result.did + s.result.did)) (sym cut.ensures.value)
     (beside O cut.result.0.now r.new.jobs cut.result.1.now s.new.jobs r.result.did s.result.did (r.ensures.on c.if-ahead.false) (s.ensures.on is))
@@ -60,6 +60,6 @@ pub returns-clause-stop : goal.returns-clause-stop
 returns-clause-stop g t c is =
     let cut = c.split_at_mut-front in
     let r = c.one_round-ahead in
-    let s = c.one_round-behind in
+    let s = c.one_round-after in
     subst (λ l. CutShort g.J.Job.made g.J.Job.left 0 l (r.new.jobs ++ s.new.jobs)) (sym cut.ensures.value)
     (cut_back g.J.Job.made g.J.Job.left 0 cut.result.0.now r.new.jobs cut.result.1.now s.new.jobs r.result.did (r.ensures.on c.if-ahead.false) (s.ensures.stop is))

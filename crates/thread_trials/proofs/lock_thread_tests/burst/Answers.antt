@@ -8,7 +8,7 @@ use Rattle.atomic_table.specs.Seated.{TableId}
 use Rattle.thread_trials.specs.declared.list_tests.PassHolder.{PassHolder}
 use Rattle.turn_lock.specs.declared.table.Pass.{Pass}
 use Rattle.thread_trials.specs.declared.lock_tests.NumberList.{NumberList}
-use Rattle.turn_lock.specs.Passes.{Token, IsPass, IsPassOf, AreAll, first_of, number_of}
+use Rattle.turn_lock.specs.Passes.{LockToken, IsPass, IsPassOf, AreAll, first_of, number_of}
 use Rattle.turn_lock.specs.Passing.{tokens}
 use Rattle.turn_lock.proofs.Invariance.{there}
 use Rattle.turn_lock.proofs.LastPasses.{all_back, one_of_all, one_of_all_alone}
@@ -26,10 +26,10 @@ map_vec-requires-after_bounds g c κs within = λ i x low e.
     (is.0, c.requires.passes.empty i x.token (at_map (λ (q : Pass NumberList ℕ). q.token) c.args.passes.items i x (at_index c.args.passes.items i x low e)), is.1)
 
 -- what a worker hands back is its own pass
-returned : (own : Token NumberList ℕ) (z : TableId) (job back : Token NumberList ℕ) → own.table_id ≡ z → IsPassOf own job → IsPass z (first_of job) back → IsPassOf own back
+returned : (own : LockToken NumberList ℕ) (z : TableId) (job back : LockToken NumberList ℕ) → own.table_id ≡ z → IsPassOf own job → IsPass z (first_of job) back → IsPassOf own back
 returned own z job back table is done = subst (λ t. IsPass t (first_of own) back) (sym table) (subst (λ l. IsPass z l back) is.first_is done)
 
-all_done : (own : Token NumberList ℕ) (z : TableId) (passes : List (Pass NumberList ℕ)) (workers : List PassHolder) → own.table_id ≡ z → AreAll own (tokens passes) → length workers ≡ length passes
+all_done : (own : LockToken NumberList ℕ) (z : TableId) (passes : List (Pass NumberList ℕ)) (workers : List PassHolder) → own.table_id ≡ z → AreAll own (tokens passes) → length workers ≡ length passes
     → ((k : ℕ) (w : PassHolder) → k < length passes → (job : Pass NumberList ℕ) × (job ≡ get_or passes k job) × IsPass z (first_of job.token) (get_or workers k w).pass.token × (number_of (get_or workers k w).pass.token ≡ number_of job.token))
     → AreAll own (tokens (map (λ (w : PassHolder). w.pass) workers))
 all_done own z passes workers table are same each = all_back own passes (map (λ (w : PassHolder). w.pass) workers) are (length-map workers (λ (w : PassHolder). w.pass) ∙ same) (λ i d low.

@@ -5,7 +5,7 @@ use mathlib.Core.Option.{some, some-injective, some-ne-none}
 use lib.ListN.{get_elem?}
 use Rattle.atomic_table.proofs.Lists.{at_index, at_map}
 use Rattle.event_word.specs.declared.table.EventSeat.{EventSeat}
-use Rattle.event_word.specs.Seats.{Token, AreNew, AreAll, number_of}
+use Rattle.event_word.specs.Seats.{WordToken, AreNew, AreAllSeats, number_of}
 use Rattle.event_word.specs.Lists.{tokens}
 use Rattle.event_word.proofs.Seating.{all_back, new_at}
 use Rattle.thread_trials.proofs.word_close_tests.twice.Goals as goal
@@ -19,7 +19,7 @@ pub map_vec-requires-after_bounds : goal.map_vec-requires-after_bounds
 map_vec-requires-after_bounds g c κs inside = λ i x low e.
     let one = new_at c.args.look.now.token _ c.args.seats.items i x c.requires.look c.requires.seats low e in (one.0, one.1)
 
-at_unmapped : (ds : List EventSeat) (k : ℕ) (t : Token) → get_elem? (map (λ (d : EventSeat). d.token) ds) k ≡ some t → (d : EventSeat) × (get_elem? ds k ≡ some d) × (d.token ≡ t)
+at_unmapped : (ds : List EventSeat) (k : ℕ) (t : WordToken) → get_elem? (map (λ (d : EventSeat). d.token) ds) k ≡ some t → (d : EventSeat) × (get_elem? ds k ≡ some d) × (d.token ≡ t)
 at_unmapped [] k t e = absurd (some-ne-none t (sym e))
 at_unmapped (d ∷ ds) zero t e = (d, refl, some-injective d.token t e)
 at_unmapped (d ∷ ds) (suc k) t e = at_unmapped ds k t e
@@ -31,9 +31,9 @@ module _ {A : Type 0} where
   read_at (y ∷ ys) (suc k) x d e = read_at ys k x d e
 
 -- the workers' seats are those that they were given
-all_done : (look : Token) (seats : List EventSeat) (done : List EventSeat) → AreNew look (tokens seats) → length done ≡ length seats
+all_done : (look : WordToken) (seats : List EventSeat) (done : List EventSeat) → AreNew look (tokens seats) → length done ≡ length seats
     → ((k : ℕ) (d : EventSeat) → k < length seats → (s : EventSeat) × (s ≡ get_or seats k s) × ((get_or done k d).token.table_id ≡ s.token.table_id) × (number_of (get_or done k d).token ≡ number_of s.token))
-    → AreAll look (map (λ (d : EventSeat). d.token) done)
+    → AreAllSeats look (map (λ (d : EventSeat). d.token) done)
 all_done look seats done are same each =
     all_back look (tokens seats) (map (λ (d : EventSeat). d.token) done) are.all_are
     (length-map done (λ (d : EventSeat). d.token) ∙ (same ∙ sym (length-map seats (λ (s : EventSeat). s.token)))) (λ k t at.
@@ -43,8 +43,8 @@ all_done look seats done are same each =
     let now : (get_or done k u.0).token ≡ t = ap (λ (d : EventSeat). d.token) (read_at done k u.0 u.0 u.1) ∙ u.2 in (
       e.0.token,
       at_map (λ (s : EventSeat). s.token) seats k e.0 (at_index seats k e.0 (omega arith) e.1),
-      subst (λ (x : Token). x.table_id ≡ e.0.token.table_id) now e.2,
-      subst (λ (x : Token). number_of x ≡ number_of e.0.token) now e.3,
+      subst (λ (x : WordToken). x.table_id ≡ e.0.token.table_id) now e.2,
+      subst (λ (x : WordToken). number_of x ≡ number_of e.0.token) now e.3,
     ))
 
 pub returns : goal.returns

@@ -3,7 +3,7 @@ use Rattle.std.proofs.Common.{◌<◌, ◌∙◌, ℕ, length, reverse, ap, sym,
 use Rattle.sleep_model.specs.Order.{dependents, is_among}
 use Rattle.sleep_model.proofs.Acyclic.{order_within}
 use Rattle.device_links.specs.Linked.{Linked}
-use Rattle.device_links.specs.Moves.{Leaves}
+use Rattle.device_links.specs.Moves.{LeavesOrder}
 use Rattle.device_links.specs.Walks.{IsWalked}
 use Rattle.device_links.proofs.Moving.{leaves_moved}
 use Rattle.device_links.proofs.links.Links.moved_last.Goals as goal
@@ -28,5 +28,5 @@ returns c =
     let marks = c.args.marks.now in
     let found = c.args.below.now in
     let w = subst (λ (v : Linked). IsWalked (length v.parents) (dependents v.parents v.links) l.consumer l.supplier found marks) (sym c.self.view_is) c.requires in
-    subst (λ (v : Linked). IfOk c.moved_last.result (λ o. Leaves v l o.items)) c.self.view_is
+    subst (λ (v : Linked). IfOk c.moved_last.result (λ o. LeavesOrder v l o.items)) c.self.view_is
     (leaves_moved ps k.after ls k.linked l c.deref.result.now found marks (c.deref.ensures.value ∙ k.ordered) w c.moved_last.result c.moved_last.ensures)

@@ -7,7 +7,7 @@ use Rattle.sleep_model.specs.Order.{dependents, superiors, order_by}
 use Rattle.device_rows.specs.Table.{with_number, room_at}
 use Rattle.link_rows.specs.Rows.{is_left_out}
 use Rattle.device_links.specs.Linked.{Linked}
-use Rattle.device_links.specs.Moves.{Leaves, after_move}
+use Rattle.device_links.specs.Moves.{LeavesOrder, after_move}
 use Rattle.device_links.specs.Adds.{IsOpen}
 use Rattle.device_links.specs.Invariant.{HaveRoomForAll, AreNumbered}
 use Rattle.device_links.proofs.Invariant.{preserved_more, kept_as, room_more, dependents_count, holding_count}
@@ -24,7 +24,7 @@ invariant_of-self-2 c =
     let d = l.consumer in
     let k = c.self.invariant.kept in
     let open' = subst (λ (v : Linked). IsOpen v s d) (sym c.self.view_is) c.requires.open in
-    let leaves = subst (λ (v : Linked). Leaves v l (after_move c.args.moved (order_by v.parents v.links))) (sym c.self.view_is) c.requires.leaves in
+    let leaves = subst (λ (v : Linked). LeavesOrder v l (after_move c.args.moved (order_by v.parents v.links))) (sym c.self.view_is) c.requires.leaves in
     let left_out = c.is_left_out-left_out.result in
     let is : left_out ≡ is_left_out ps l = c.is_left_out-left_out.ensures ∙ ap (λ qs. is_left_out qs l) c.deref.ensures.value in
     let links : reverse c.push-3.new.self.items ≡ l ∷ ls = ap reverse (c.in-Ok.ensures.items ∙ ap (λ xs. xs ++ l ∷ []) c.make_room.ensures.links) ∙ reverse-append old.links.items (l ∷ []) in

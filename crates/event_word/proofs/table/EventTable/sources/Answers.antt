@@ -1,6 +1,6 @@
 -- Proof by hand of `sources`: its loop, by the lemmas of `Seating`.
 use Rattle.std.proofs.Common.{rules, arith, ap, ◌∙◌, ◌≡◌, ◌+◌}
-use Rattle.event_word.specs.Seats.{sources_of}
+use Rattle.event_word.specs.Seats.{source_count}
 use Rattle.event_word.proofs.Seating.{seats_more}
 use Rattle.event_word.proofs.table.EventTable.sources.Goals as goal
 
@@ -8,7 +8,7 @@ pub loop-preserved : goal.loop-preserved
 loop-preserved c =
     let is = c.loop.invariant in
     let me = c.source.ensures.look in
-    let next : sources_of c.source.new.look.token ≡ sources_of c.loop.look.token + 1 = ap (λ m. m.0.next) me ∙ omega arith in (
+    let next : source_count c.source.new.look.token ≡ source_count c.loop.look.token + 1 = ap (λ m. m.0.next) me ∙ omega arith in (
       c.source.ensures.table ∙ is.0,
       search rules,
       omega arith,

@@ -14,13 +14,13 @@ linking_of-requires-clause-joined c = joined_groups (view c.args.tree.now) c.req
 pub returns-in-None-clause-sound : goal.returns-in-None-clause-sound
 returns-in-None-clause-sound c =
     let d = view c.args.tree.now in
-    let behind = option_or (broken_cycle d) (broken_rest d) in
-    let none : behind ≡ None = sym c.in-Ok.ensures ∙ ap (option_map broken_view) c.in-None.is in
+    let after_reserved = option_or (broken_cycle d) (broken_rest d) in
+    let none : after_reserved ≡ None = sym c.in-Ok.ensures ∙ ap (option_map broken_view) c.in-None.is in
     record {
       unbroken =
-          ap (λ (o : Option Broken). option_or o (option_or (broken_devices d) (option_or (broken_ends d) behind))) c.requires.form
-          ∙ ap (λ (o : Option Broken). option_or o (option_or (broken_ends d) behind)) c.requires.devices
-          ∙ ap (λ (o : Option Broken). option_or o behind) c.requires.ends
+          ap (λ (o : Option Broken). option_or o (option_or (broken_devices d) (option_or (broken_ends d) after_reserved))) c.requires.form
+          ∙ ap (λ (o : Option Broken). option_or o (option_or (broken_ends d) after_reserved)) c.requires.devices
+          ∙ ap (λ (o : Option Broken). option_or o after_reserved) c.requires.ends
           ∙ none;
       knows = c.requires.knows;
       few = few_known c.args.known.now d c.requires.knows c.requires.form;

@@ -4,7 +4,7 @@ use Rattle.sleep_model.specs.declared.entry.Actor.TheVariants.{Script, Dev}
 use Rattle.sleep_model.specs.Places.{one_if}
 use Rattle.sleep_script.specs.Jobs.{JobState}
 use Rattle.machine_rounds.specs.JobsOf.{owes, owing_of}
-use Rattle.machine_rounds.proofs.JobsPreserved.{first_len}
+use Rattle.machine_rounds.proofs.JobsChanged.{first_len}
 use Rattle.machine_rounds.proofs.Owing.{devices_owe_none}
 use Rattle.machine_rounds.proofs.jobs.Jobs.new.Goals as goal
 

@@ -12,7 +12,7 @@ use Rattle.running_laws.specs.Running.{calls_made}
 use Rattle.running_laws.proofs.Invariant.{enabled_is}
 use Rattle.machine_rounds.specs.JobsOf.{job_at}
 use Rattle.machine_rounds.proofs.Fields.{goes_on, has_all}
-use Rattle.machine_rounds.proofs.JobsPreserved.{has_job}
+use Rattle.machine_rounds.proofs.JobsChanged.{has_job}
 use Rattle.machine_rounds.proofs.run.Run.act_by.Goals as goal
 
 pub next-requires : goal.next-requires

@@ -6,7 +6,7 @@ use Rattle.sleep_script.proofs.Following.{wanted_source, wanted_core}
 use Rattle.running_laws.specs.Running.{calls_made}
 use Rattle.machine_rounds.specs.JobsOf.{job_at}
 use Rattle.machine_rounds.proofs.Fields.{goes_on, has_all}
-use Rattle.machine_rounds.proofs.JobsPreserved.{has_job}
+use Rattle.machine_rounds.proofs.JobsChanged.{has_job}
 use Rattle.machine_rounds.proofs.run.Run.ask.Goals as goal
 
 pub next-requires : goal.next-requires

@@ -23,8 +23,8 @@ use Rattle.machine_rounds.specs.JobsOf.{AreAllJobs, JobsState, job_at, with_job}
 use Rattle.machine_rounds.specs.RunFields.{RunFieldsInvariant, sources_of, state}
 use Rattle.machine_rounds.specs.Runs.{RunState, entries_made}
 use Rattle.machine_rounds.proofs.Calling.{at_table, more_entries, not_later, old_is, put_running, put_seats, refused, refused_put, wanted, within}
-use Rattle.machine_rounds.proofs.JobsPreserved.{all_jobs_with, has_job, jobs_with}
-use Rattle.machine_rounds.proofs.SeatsPreserved.{seats_set, sources_set}
+use Rattle.machine_rounds.proofs.JobsChanged.{all_jobs_with, has_job, jobs_with}
+use Rattle.machine_rounds.proofs.SeatedSources.{seats_set, sources_set}
 use Rattle.machine_rounds.proofs.run.Run.call.Goals as goal
 
 next : (r : Inside) (s : RunState) → state r ≡ s → (who : Actor) (source : ℕ) (call : SourceCall) → CallsNext s.machine s.journal s.sources who source call → CallsNext r.machine.now r.seated.core.past (sources_of r.sources.items) who source call

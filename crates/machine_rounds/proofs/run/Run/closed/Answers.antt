@@ -9,7 +9,7 @@ use Rattle.machine_rounds.specs.JobsOf.{job_at}
 use Rattle.machine_rounds.specs.RunFields.{state}
 use Rattle.machine_rounds.specs.Runs.{RunState}
 use Rattle.machine_rounds.proofs.Fields.{goes_on}
-use Rattle.machine_rounds.proofs.SeatsPreserved.{histories_preserved}
+use Rattle.machine_rounds.proofs.SeatedSources.{histories_preserved}
 use Rattle.machine_rounds.proofs.run.Run.closed.Goals as goal
 
 same : (r : Inside) (s : RunState) → state r ≡ s → histories_of r.sources.items ≡ journal_histories s.sources

@@ -11,7 +11,7 @@ use Rattle.sleep_model.specs.Sources.{expiry, has_expired, most_entries}
 use Rattle.sleep_state.specs.JournalRooms.{entries}
 use Rattle.sleep_core.specs.Cores.{CoreState}
 use Rattle.wakeup_source.specs.declared.call_by.CallBy.{CallBy}
-use Rattle.wakeup_source.specs.SourceStates.{SourceState, unstamped}
+use Rattle.wakeup_source.specs.SourceStates.{SourceState, unstamped_source}
 use Rattle.run_objects.specs.Objects.{SeatedSourceState, viewed_source_of}
 use Rattle.running_laws.specs.Running.{IsRunning, histories, of_sources}
 use Rattle.running_laws.proofs.Calls.{IsCalledNow, running_expire}
@@ -22,8 +22,8 @@ use Rattle.machine_rounds.specs.JobsOf.{job_at}
 use Rattle.machine_rounds.specs.RunFields.{sources_of, state}
 use Rattle.machine_rounds.specs.Runs.{RunState, entries_made}
 use Rattle.machine_rounds.proofs.Calling.{at_table, history_is, more_entries, not_later, old_is, put_running, put_seats, refused, refused_put, wanted, within}
-use Rattle.machine_rounds.proofs.JobsPreserved.{not_timer}
-use Rattle.machine_rounds.proofs.SeatsPreserved.{seats_set, sources_set}
+use Rattle.machine_rounds.proofs.JobsChanged.{not_timer}
+use Rattle.machine_rounds.proofs.SeatedSources.{seats_set, sources_set}
 use Rattle.machine_rounds.proofs.run.Run.expire.Goals as goal
 
 there : (r : Inside) (s : RunState) → state r ≡ s → (source : ℕ) → source ≤ length s.machine.sources → source ≤ length r.machine.now.sources
@@ -32,12 +32,12 @@ there r s same source h = subst (λ (x : RunState). source ≤ length x.machine.
 time : (r : Inside) (s : RunState) → state r ≡ s → (core : CoreState) (at : ℕ) → core ≡ record { machine = s.machine; past = s.journal } → at ≡ time_of (entries core.past) → at ≡ time_of (entries r.seated.core.past)
 time r s same core at is now = now ∙ (ap (λ (x : CoreState). time_of (entries x.past)) is ∙ sym (ap (λ (x : RunState). time_of (entries x.journal)) same))
 
-due : (r : Inside) (s : RunState) → state r ≡ s → (source at : ℕ) (one : SourceState) → histories (sources_of r.sources.items) source ≡ unstamped one.past → at ≡ time_of (entries r.seated.core.past)
-    → has_expired (expiry (histories s.sources source)) (time_of (entries s.journal)) ≡ true → has_expired (expiry (unstamped one.past)) at ≡ true
+due : (r : Inside) (s : RunState) → state r ≡ s → (source at : ℕ) (one : SourceState) → histories (sources_of r.sources.items) source ≡ unstamped_source one.past → at ≡ time_of (entries r.seated.core.past)
+    → has_expired (expiry (histories s.sources source)) (time_of (entries s.journal)) ≡ true → has_expired (expiry (unstamped_source one.past)) at ≡ true
 due r s same source at one own now h =
     let mine : has_expired (expiry (histories (sources_of r.sources.items) source)) (time_of (entries r.seated.core.past)) ≡ true =
     subst (λ (x : RunState). has_expired (expiry (histories x.sources source)) (time_of (entries x.journal)) ≡ true) (sym same) h in
-    subst (λ (t : ℕ). has_expired (expiry (unstamped one.past)) t ≡ true) (sym now) (subst (λ (xs : List Entry). has_expired (expiry xs) (time_of (entries r.seated.core.past)) ≡ true) own mine)
+    subst (λ (t : ℕ). has_expired (expiry (unstamped_source one.past)) t ≡ true) (sym now) (subst (λ (xs : List Entry). has_expired (expiry xs) (time_of (entries r.seated.core.past)) ≡ true) own mine)
 
 pub index_mut-one-requires : goal.index_mut-one-requires
 index_mut-one-requires g c =

@@ -3,7 +3,7 @@ use Rattle.std.proofs.Common.{◌≡◌, ◌+◌, ◌∙◌, ℕ, length, sym, a
 use Rattle.std.proofs.lemmas.List.{length-map}
 use Rattle.run_objects.specs.Objects.{SeatedSourceState}
 use Rattle.machine_rounds.specs.Runs.{RunState, entries_made}
-use Rattle.machine_rounds.specs.TasksOf.{tasks_of}
+use Rattle.machine_rounds.specs.TasksOf.{all_tasks}
 use Rattle.machine_rounds.proofs.run.Run.leave.Goals as goal
 
 pub returns-clause-during : goal.returns-clause-during
@@ -17,7 +17,7 @@ returns-clause-during c =
       all_jobs = k.all_jobs;
       machine_is = k.machine_is;
       running = k.running;
-      tasks_are = c.in-Ok.ensures ∙ ap (λ (n : ℕ). tasks_of r.floor n r.jobs) many;
+      tasks_are = c.in-Ok.ensures ∙ ap (λ (n : ℕ). all_tasks r.floor n r.jobs) many;
       few = omega (arith, c.requires, ap (λ (s : RunState). length s.journal) c.self.view_is);
       table_is = k.table;
       seats = k.seats;

@@ -9,8 +9,8 @@ use Rattle.run_objects.specs.Objects.{SeatedSourceState}
 use Rattle.sleep_script.specs.Jobs.{no_stamp}
 use Rattle.machine_rounds.specs.JobsOf.{AreAllJobs, JobsState, job_at}
 use Rattle.machine_rounds.specs.RunFields.{sources_of}
-use Rattle.machine_rounds.proofs.JobsPreserved.{all_jobs_first, job_first}
-use Rattle.machine_rounds.proofs.SeatsPreserved.{uncalled_at}
+use Rattle.machine_rounds.proofs.JobsChanged.{all_jobs_first, job_first}
+use Rattle.machine_rounds.proofs.SeatedSources.{uncalled_at}
 use Rattle.machine_rounds.proofs.run.Run.of_components.Goals as goal
 
 pub invariant_of-result : goal.invariant_of-result

@@ -7,7 +7,7 @@ use Rattle.sleep_model.specs.Fits.{is_word64}
 use Rattle.sleep_model.specs.Numbers.{time_of}
 use Rattle.sleep_model.specs.Path.{attempts}
 use Rattle.sleep_state.specs.JournalRooms.{entries}
-use Rattle.event_word.specs.Seats.{AreAll, Token}
+use Rattle.event_word.specs.Seats.{AreAllSeats, WordToken}
 use Rattle.sleep_core.specs.declared.turns.CoreTurn.{CoreTurn}
 use Rattle.sleep_core.specs.Cores.{CoreState, IsActor, made_entry}
 use Rattle.sleep_core.specs.Turned.{AfterTurn}
@@ -18,8 +18,8 @@ use Rattle.running_laws.proofs.Turns.{running_turn}
 use Rattle.machine_rounds.specs.declared.run.Run.TheInside.{Inside}
 use Rattle.machine_rounds.specs.JobsOf.{AreAllJobs, JobsState, job_at, with_job}
 use Rattle.machine_rounds.specs.RunFields.{sources_of, state}
-use Rattle.machine_rounds.specs.Runs.{IsSeen, RunState}
-use Rattle.machine_rounds.proofs.JobsPreserved.{all_jobs_with, jobs_with}
+use Rattle.machine_rounds.specs.Runs.{IsLastLook, RunState}
+use Rattle.machine_rounds.proofs.JobsChanged.{all_jobs_with, jobs_with}
 use Rattle.machine_rounds.proofs.Turning.{few_turns, last_low, legal_after, looked_machine, looked_running}
 use Rattle.machine_rounds.proofs.run.Run.turn_by.Goals as goal
 
@@ -50,7 +50,7 @@ invariant_of-self-in-Did g c =
     let sources = sources_of r.sources.items in
     let who = c.args.who in
     let word = c.args.word in
-    let high = (subst (λ (x : RunState). IsSeen x word) (sym c.self.view_is) c.requires.seen).high in
+    let high = (subst (λ (x : RunState). IsLastLook x word) (sym c.self.view_is) c.requires.seen).high in
     let kind = c.in-Did.kind in
     let new = c.turn_by.new.self in
     let did = subst (λ (x : CoreTurn). AfterTurn r.seated.core new.core who word r.floor (Ok x)) c.in-Did.is c.in_ok-turn.ensures.turn in
@@ -70,8 +70,8 @@ invariant_of-self-in-Did g c =
           (job_at (with_job r.jobs who job)) c.in-Did.stamp c.in-Did.attempt did.2 (did.3 ∙ ap (λ (p : List JournalEntry). attempts (entries p)) past)
           (jobs_with m r.jobs who job k.all_jobs a) timed c.kinds_are_ranged.ensures));
       all_jobs = subst (AreAllJobs m) (sym c.told_core.ensures) (all_jobs_with m r.jobs who job k.all_jobs);
-      table = ap (λ (t : Token). t.table_id) c.in_ok-turn.ensures.seat ∙ k.table;
-      seats = subst (λ (t : Token). AreAll t (seats_of r.sources.items)) (sym c.in_ok-turn.ensures.seat) k.seats;
+      table = ap (λ (t : WordToken). t.table_id) c.in_ok-turn.ensures.seat ∙ k.table;
+      seats = subst (λ (t : WordToken). AreAllSeats t (seats_of r.sources.items)) (sym c.in_ok-turn.ensures.seat) k.seats;
     }
 
 pub invariant_of-self : goal.invariant_of-self
@@ -83,6 +83,6 @@ invariant_of-self g c =
       machine_is = looked_machine r k new c.in_err-turn.ensures.turn.2;
       running = looked_running r k new c.in_err-turn.ensures.turn.2;
       all_jobs = k.all_jobs;
-      table = ap (λ (t : Token). t.table_id) c.in_err-turn.ensures.seat ∙ k.table;
-      seats = subst (λ (t : Token). AreAll t (seats_of r.sources.items)) (sym c.in_err-turn.ensures.seat) k.seats;
+      table = ap (λ (t : WordToken). t.table_id) c.in_err-turn.ensures.seat ∙ k.table;
+      seats = subst (λ (t : WordToken). AreAllSeats t (seats_of r.sources.items)) (sym c.in_err-turn.ensures.seat) k.seats;
     }

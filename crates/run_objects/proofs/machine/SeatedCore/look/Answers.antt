@@ -1,6 +1,6 @@
 -- Proof that `SeatedCore::look` keeps the invariant of its type.
 use Rattle.std.proofs.Common.{◌≡◌, ◌∙◌, ◌≤◌, refl, sym, ap, subst, arith}
-use Rattle.event_word.specs.Seats.{Token, floor_of}
+use Rattle.event_word.specs.Seats.{WordToken, floor_of}
 use Rattle.run_objects.specs.Objects.{IsSeatedCore, SeatedCoreState}
 use Rattle.run_objects.specs.ObjectFields.{look_seat}
 use Rattle.run_objects.proofs.Machines.{looked}
@@ -10,10 +10,10 @@ pub invariant_of-self : goal.invariant_of-self
 invariant_of-self g c =
     let place : look_seat c.self.inside.seat ≡ c.taken.result.token = ap look_seat c.taken.ensures in
     let token : look_seat c.self.inside.seat ≡ c.on-events.result.token = place ∙ sym c.on-events.ensures in
-    let on : Token → SeatedCoreState = λ t. record { core = c.self.inside.core; seat = t } in
-    let kept : IsSeatedCore (on c.on-events.result.token) = subst (λ (t : Token). IsSeatedCore (on t)) token c.self.invariant.kept in
+    let on : WordToken → SeatedCoreState = λ t. record { core = c.self.inside.core; seat = t } in
+    let kept : IsSeatedCore (on c.on-events.result.token) = subst (λ (t : WordToken). IsSeatedCore (on t)) token c.self.invariant.kept in
     let rises : floor_of c.on-events.result.token ≤ floor_of c.look_from-word.new.events.token = omega (arith, c.look_from-word.ensures.rises, c.look_from-word.ensures.floor) in
     let is : IsSeatedCore (on c.look_from-word.new.events.token) =
     looked (on c.on-events.result.token) (on c.look_from-word.new.events.token) c.look_from-word.result kept c.look_from-word.new.events.seated c.look_from-word.new.events.unused
     refl c.look_from-word.ensures.grows rises in
-    record { placed = refl; kept = subst (λ (t : Token). IsSeatedCore (on t)) (sym c.off.ensures) is }
+    record { placed = refl; kept = subst (λ (t : WordToken). IsSeatedCore (on t)) (sym c.off.ensures) is }

@@ -1,7 +1,7 @@
 -- Proof that `SeatedSource::call` meets its contract, and that it keeps the invariant of its type, and that it meets what `make` requires.
 use Rattle.std.proofs.Common.{◌≡◌, ◌∙◌, refl, sym, ap, subst}
 use Rattle.event_word.specs.declared.seats.TableSeat.{TableSeat}
-use Rattle.event_word.specs.Seats.{Token, made_of, number_of}
+use Rattle.event_word.specs.Seats.{WordToken, made_of, number_of}
 use Rattle.run_objects.specs.Objects.{IsSeatedSource, SeatedSourceState}
 use Rattle.run_objects.specs.ObjectFields.{event_seat, source_state}
 use Rattle.run_objects.proofs.Sources.{IsLeft, called, can_call, on_err, second}
@@ -20,14 +20,14 @@ left : (g : Over) (c : goal.Joined-self g) → IsLeft (source_state c.self.insid
 left g c =
     let place : event_seat c.self.inside.seat ≡ c.taken.result.token = ap event_seat c.taken.ensures in
     let token : event_seat c.self.inside.seat ≡ c.on-events.result.token = place ∙ sym c.on-events.ensures in
-    let old : Token → SeatedSourceState = λ t. record { source = c.self.inside.source; seat = t } in
-    let new : Token → SeatedSourceState = λ t. record { source = c.make-answer.new.source; seat = t } in
-    let kept : IsSeatedSource (old c.on-events.result.token) = subst (λ (t : Token). IsSeatedSource (old t)) token c.self.invariant.kept in
+    let old : WordToken → SeatedSourceState = λ t. record { source = c.self.inside.source; seat = t } in
+    let new : WordToken → SeatedSourceState = λ t. record { source = c.make-answer.new.source; seat = t } in
+    let kept : IsSeatedSource (old c.on-events.result.token) = subst (λ (t : WordToken). IsSeatedSource (old t)) token c.self.invariant.kept in
     let number : number_of c.make-answer.new.events.token ≡ number_of c.on-events.result.token = second c.make-answer.ensures.root in
     let is : IsLeft (old c.on-events.result.token) (new c.make-answer.new.events.token) =
     called c.make-answer.result c.args.by c.args.call (old c.on-events.result.token) (new c.make-answer.new.events.token) kept c.make-answer.new.events.seated number
     c.make-answer.ensures.settled c.make-answer.ensures.calls c.make-answer.ensures.made (on_err c.make-answer.result (λ h. (h.0, ap (λ (e : TableSeat). e.token) h.1)) c.make-answer.ensures.err) in
-    subst (λ (t : Token). IsLeft (source_state c.self.inside) (new t)) (sym c.off.ensures) (subst (λ (t : Token). IsLeft (old t) (new c.make-answer.new.events.token)) (sym token) is)
+    subst (λ (t : WordToken). IsLeft (source_state c.self.inside) (new t)) (sym c.off.ensures) (subst (λ (t : WordToken). IsLeft (old t) (new c.make-answer.new.events.token)) (sym token) is)
 
 pub invariant_of-self : goal.invariant_of-self
 invariant_of-self g c = record { placed = refl; kept = (left g c).kept }

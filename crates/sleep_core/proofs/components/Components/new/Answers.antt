@@ -4,7 +4,7 @@ use Rattle.sleep_model.specs.Order.{parents_of}
 use Rattle.sleep_model.specs.Runtime.{is_async}
 use Rattle.async_board.proofs.Agreement.{board_first}
 use Rattle.async_board.specs.Boards.{first_board}
-use Rattle.platform_steps.specs.Steps.{first_steps}
+use Rattle.platform_steps.specs.PlatformState.{first_steps}
 use Rattle.sleep_state.specs.DeviceStates.{undisturbed}
 use Rattle.task_freezer.specs.Freezers.{first_freezer}
 use Rattle.sleep_core.proofs.Freezing.{freezer_first}

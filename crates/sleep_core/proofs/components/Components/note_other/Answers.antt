@@ -5,7 +5,7 @@ use Rattle.autosleep_loop.specs.Autosleeps.{autosleep_after}
 use Rattle.sleep_state.specs.DeviceStates.{devices_after}
 use Rattle.sleep_state.specs.Paths.{path_after}
 use Rattle.sleep_state.specs.TaskStates.{tasks_after}
-use Rattle.platform_steps.specs.Steps.{steps_after}
+use Rattle.platform_steps.specs.PlatformState.{steps_after}
 use Rattle.syscore_ops.specs.SyscoreStates.{syscore_after}
 use Rattle.task_freezer.specs.Freezers.{freezer_after}
 use Rattle.wakeup_guard.specs.Guarded.{guarded_after}

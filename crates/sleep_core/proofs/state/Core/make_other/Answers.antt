@@ -14,7 +14,7 @@ use Rattle.sleep_model.specs.Path.{is_actor, maker}
 use Rattle.sleep_state.specs.JournalRooms.{entries}
 use Rattle.sleep_core.specs.Cores.{CoreState, IsActor}
 use Rattle.sleep_core.specs.CoreFields.{IsCore}
-use Rattle.sleep_core.specs.Numbered.{Leaves}
+use Rattle.sleep_core.specs.Numbered.{NumbersStayInRange}
 use Rattle.sleep_core.specs.Reports.{counts_of}
 use Rattle.sleep_core.proofs.Linked.{settles}
 use Rattle.sleep_core.proofs.Reporting.{counts_same}
@@ -44,7 +44,7 @@ append-requires c =
     record {
       other = c.requires.other;
       admits = admits_more h c.make_room.new.self e c.is_own-own.result c.self.invariant.core makes
-          (subst (λ (s : CoreState). Leaves s.machine c.args.kind (entries s.past)) (sym c.self.view_is) c.if-not-leaves.ensures.fits)
+          (subst (λ (s : CoreState). NumbersStayInRange s.machine c.args.kind (entries s.past)) (sym c.self.view_is) c.if-not-leaves.ensures.fits)
           (subst (λ (s : CoreState). c.is_own-own.result ≡ (is_actor c.args.who (maker (entries s.past)) || is_device c.args.who)) (sym c.self.view_is) c.is_own-own.ensures)
           has (omega (arith, c.len-made.ensures.len, c.len-made.ensures.small));
       board = subst (λ (x : Machine). Settles x (entries c.make_room.new.self.past) e) (sym has.machine)
@@ -62,7 +62,7 @@ invariant_of-self-2 c =
           (subst (λ (s : CoreState). IsActor s.machine c.args.who) (sym c.self.view_is) c.requires.actor)
           (subst (λ (s : CoreState). due s.machine (entries s.past) c.args.who c.args.now ≡ Makes c.args.kind) (sym c.self.view_is) c.requires.due)
           (ap (λ (xs : List JournalEntry). time_of (entries xs)) has.past)
-          (subst (λ (s : CoreState). Leaves s.machine c.args.kind (entries s.past)) (sym c.self.view_is) c.if-not-leaves.ensures.fits).attempts
+          (subst (λ (s : CoreState). NumbersStayInRange s.machine c.args.kind (entries s.past)) (sym c.self.view_is) c.if-not-leaves.ensures.fits).attempts
           (subst (λ (s : CoreState). c.is_own-own.result ≡ (is_actor c.args.who (maker (entries s.past)) || is_device c.args.who)) (sym c.self.view_is) c.is_own-own.ensures)
           has c.in-Ok-append.ensures.ok;
       plans_are = c.self.invariant.plans_are ∙ sym same;

@@ -5,7 +5,7 @@ use Rattle.sleep_model.specs.declared.entry.Actor.{Actor}
 use Rattle.sleep_model.specs.Legal.{next_sleep}
 use Rattle.sleep_model.specs.Path.{maker}
 use Rattle.sleep_state.specs.JournalRooms.{entries}
-use Rattle.sleep_state.specs.Sleepers.{end_of}
+use Rattle.sleep_state.specs.Sleepers.{earliest_end}
 use Rattle.sleep_state.specs.TaskStates.{TaskState}
 use Rattle.sleep_core.specs.Cores.{CoreState}
 use Rattle.sleep_core.proofs.Stopped.{ends_pending}
@@ -21,4 +21,4 @@ returns-else-is_open c =
     let shut : is_some (maker (entries h.past)) ≡ false = subst (λ (s : CoreState). is_some (maker (entries s.past)) ≡ false) (sym c.self.view_is) (sym c.is_open.ensures ∙ c.if-is_open.false) in
     subst (λ (s : CoreState). c.least_end.result ≡ next_sleep s.machine (entries s.past) (length s.machine.actors)) c.self.view_is
     (c.least_end.ensures
-    ∙ (ap (λ (t : TaskState). end_of t.positions (length t.positions)) c.tasks.ensures ∙ ends_pending h.machine (entries h.past) c.self.invariant.core.legal (none_there (maker (entries h.past)) shut)))
+    ∙ (ap (λ (t : TaskState). earliest_end t.positions (length t.positions)) c.tasks.ensures ∙ ends_pending h.machine (entries h.past) c.self.invariant.core.legal (none_there (maker (entries h.past)) shut)))

@@ -2,7 +2,7 @@
 use Rattle.std.proofs.Common.{◌≡◌, true, ◌≤◌, ◌∙◌, length, Err, sym, ap, subst, arith}
 use Rattle.sleep_model.specs.Sources.{makes, since}
 use Rattle.event_word.specs.Steps.{has_room_for_all}
-use Rattle.wakeup_source.specs.SourceStates.{unstamped, latest}
+use Rattle.wakeup_source.specs.SourceStates.{unstamped_source, latest}
 use Rattle.wakeup_source.specs.declared.fault.SourceFault.TheVariants as SourceFault
 use Rattle.wake_locks.specs.declared.answer.LockFault.TheVariants.{Full}
 use Rattle.wake_locks.specs.Locks.{LockState}
@@ -12,7 +12,7 @@ use Rattle.wake_locks.proofs.lock.Lock.call.Goals as goal
 
 pub make-requires : goal.make-requires
 make-requires g c =
-    let own = unstamped c.self.inside.source.past in
+    let own = unstamped_source c.self.inside.source.past in
     let time : latest own ≤ c.args.now = subst (λ (s : LockState). latest s.own ≤ c.args.now) (sym c.self.view_is) c.requires.time in
     let meant = subst (IsMeant c.args.call c.args.now) (sym (ap (λ (s : LockState). s.status) c.self.view_is) ∙ c.self.invariant.stands) c.requires.meant in
     let short : length own ≤ 60000 = omega (arith, unstamped_length c.self.inside.source.past, c.self.invariant.short) in (

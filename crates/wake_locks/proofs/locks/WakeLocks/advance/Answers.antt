@@ -3,7 +3,7 @@
 use Rattle.std.proofs.Common.{◌≡◌, ◌≤◌, ◌+◌, Err, None, ◌-◌, ◌∙◌, List, [], length, get_or, sym, ap, subst, refl, arith}
 use Rattle.std.proofs.lemmas.Grind.{common_steps}
 use Rattle.wake_locks.specs.Expiries.{next_due, expiries, stopped, IsAdvance}
-use Rattle.wake_locks.specs.Locks.{LockState, new_lock, after_call, AreBefore, AreSortedByName, ExpiriesAreDue}
+use Rattle.wake_locks.specs.Locks.{LockState, new_lock, lock_after_call, AreBefore, AreSortedByName, ExpiriesAreDue}
 use Rattle.wake_locks.proofs.Expired.{Next, due_count, made_there, matched, unmatched, due_there, after_there, next_is_due, none_more, go_on, count_few, none_counted, none_due, failed, failed_same, at_failed, made_so_far, made_before, made_fewer}
 use Rattle.wake_locks.proofs.Sooner.{other_set}
 use Rattle.sleep_model.specs.declared.machine.SourceCall.TheVariants.{Expire}
@@ -100,7 +100,7 @@ invariant_of-self g c =
       in_order = c.self-in-loop.invariant.in_order;
       few = c.self-in-loop.invariant.few;
       places_few = c.self-in-loop.invariant.places_few;
-      none_sooner = subst (NoneEndsBefore found.others) (sym (c.self-in-loop.view_is ∙ is)) (other_set found.others found.at locks (after_call Expire found.end (get_or locks found.at (new_lock []))) c.in-Some.ensures.few others);
+      none_sooner = subst (NoneEndsBefore found.others) (sym (c.self-in-loop.view_is ∙ is)) (other_set found.others found.at locks (lock_after_call Expire found.end (get_or locks found.at (new_lock []))) c.in-Some.ensures.few others);
       floors_are = c.self-in-loop.invariant.floors_are;
     }
 

@@ -1,7 +1,7 @@
 -- Proof that the loop of `WakeLocks::all_stats` keeps its invariant, and that it meets what `lock_stats` requires.
 use Rattle.std.proofs.Common.{◌≤◌, ◌∙◌, get_or, sym, subst, arith}
 use Rattle.std.proofs.lemmas.Grind.{common_steps}
-use Rattle.wake_locks.specs.Counted.{Agrees}
+use Rattle.wake_locks.specs.Counted.{StatusAgrees}
 use Rattle.wake_locks.proofs.Agreeing.{agree_more}
 use Rattle.wakeup_source.specs.SourceStates.{latest}
 use Rattle.wake_locks.specs.Locks.{LockState, AreBefore}
@@ -19,7 +19,7 @@ lock_stats-requires g c =
 pub loop-lock-preserved : goal.loop-lock-preserved
 loop-lock-preserved g c =
     let lock = c.lock-item.result in
-    let one : Agrees (get_or c.deref-lock-items.result.now c.loop-lock.lock-index lock) = subst Agrees c.lock-item.is c.lock_stats.ensures.agrees in
+    let one : StatusAgrees (get_or c.deref-lock-items.result.now c.loop-lock.lock-index lock) = subst StatusAgrees c.lock-item.is c.lock_stats.ensures.agrees in
     record {
       lock_stats = grind (arith, common_steps);
       agree = agree_more c.loop-lock.lock-index c.deref-lock-items.result.now lock c.loop-lock-test.true c.loop-lock.invariant.agree one;

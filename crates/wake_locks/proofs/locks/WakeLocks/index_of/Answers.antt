@@ -14,7 +14,7 @@ loop-low-preserved-in-Less g c =
     let l : at < length locks = omega (arith, c.loop-low-test.true, c.loop-low.invariant.within) in
     let is = subst (λ (xs : List LockState). lock ≡ get_or xs at lock) c.self.view_is c.index.ensures in
     let less : by_name (get_or locks at lock).name c.args.name.now ≡ Less = ap (λ (x : LockState). by_name x.name c.args.name.now) (sym is) ∙ sym c.in-Less.ensures in
-    record { in_range = omega (arith, c.loop-low-test.true); within = c.loop-low.invariant.within; before = low_more c.args.name.now locks at lock in_order l less; behind = c.loop-low.invariant.behind }
+    record { in_range = omega (arith, c.loop-low-test.true); within = c.loop-low.invariant.within; before = low_more c.args.name.now locks at lock in_order l less; after = c.loop-low.invariant.after }
 
 pub returns-in-Equal-clause-found : goal.returns-in-Equal-clause-found
 returns-in-Equal-clause-found g c =
@@ -36,4 +36,4 @@ loop-low-preserved g c =
     let l : at < length locks = omega (arith, c.loop-low-test.true, c.loop-low.invariant.within) in
     let is = subst (λ (xs : List LockState). lock ≡ get_or xs at lock) c.self.view_is c.index.ensures in
     let more : by_name (get_or locks at lock).name c.args.name.now ≡ Greater = ap (λ (x : LockState). by_name x.name c.args.name.now) (sym is) ∙ sym c.in-Greater.ensures in
-    record { in_range = omega arith; within = omega (arith, l); before = c.loop-low.invariant.before; behind = high_more c.args.name.now locks at lock in_order l more }
+    record { in_range = omega arith; within = omega (arith, l); before = c.loop-low.invariant.before; after = high_more c.args.name.now locks at lock in_order l more }

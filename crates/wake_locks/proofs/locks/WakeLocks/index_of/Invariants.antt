@@ -9,7 +9,7 @@ invariant-loop-low g l = record {
   in_range : l.low ≤ l.high;
   within : l.high ≤ length l.self;
   before : AreAllBefore l.name l.self l.low;
-  behind : ArePreceded l.name l.self l.high;
+  after : ArePreceded l.name l.self l.high;
 }
 
 abbrev pub decreases-loop-low : goal.decreases-loop-low

@@ -22,7 +22,7 @@ returns-then-to-floor-clause-first g c =
     let floors : AreFloors moments c.args.self.now = subst (AreFloors moments) c.self.view_is c.self.invariant.floors_are in
     let is : c.with_floor.result ≡ with_floor (get_or moments c.args.row 0) c.args.found = c.with_floor.ensures ∙ ap (λ floor. with_floor floor c.args.found) c.of_row-floor.ensures in
     subst (IsSoonest c.args.to c.args.self.now (c.args.row * 8)) (sym is)
-    (passed c.args.to moments c.args.row c.args.self.now c.args.found floors c.requires.in_range (omega (arith, c.if-to-floor.true, c.of_row-floor.ensures)) c.requires.behind)
+    (passed c.args.to moments c.args.row c.args.self.now c.args.found floors c.requires.in_range (omega (arith, c.if-to-floor.true, c.of_row-floor.ensures)) c.requires.after)
 
 pub with_row-least-requires : goal.with_row-least-requires
 with_row-least-requires g c =
@@ -32,7 +32,7 @@ with_row-least-requires g c =
 pub returns-clause-first : goal.returns-clause-first
 returns-clause-first g c =
     let many : c.len.result ≡ length c.args.self.now = omega (arith, c.len.ensures, ap (λ (xs : List LockState). length xs) c.self.view_is) in
-    c.with_row-least.ensures.first c.args.to c.requires.small (subst (λ n. IsSoonest c.args.to c.args.self.now n c.args.found) (omega (arith, many, c.min-until.ensures)) c.requires.behind)
+    c.with_row-least.ensures.first c.args.to c.requires.small (subst (λ n. IsSoonest c.args.to c.args.self.now n c.args.found) (omega (arith, many, c.min-until.ensures)) c.requires.after)
 
 pub invariant_of-self : goal.invariant_of-self
 invariant_of-self g c =

@@ -8,7 +8,7 @@ abbrev pub invariant-loop-at : goal.invariant-loop-at
 invariant-loop-at g l = record {
   below : l.at ≤ l.until;
   in_range : l.from ≤ l.at;
-  soonest : (to : ℕ) → to < never → IsSoonest to l.self l.until l.fn.behind → IsSoonest to l.self l.at l.found;
+  soonest : (to : ℕ) → to < never → IsSoonest to l.self l.until l.fn.after → IsSoonest to l.self l.at l.found;
   none : NoneEndsWithin l.least l.at l.until l.self;
 }
 

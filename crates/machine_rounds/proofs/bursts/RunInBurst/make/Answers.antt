@@ -1,8 +1,8 @@
--- Proof that `DuringBurst::make` meets its contract, and that it meets what `make_burst` requires.
+-- Proof that `RunInBurst::make` meets its contract, and that it meets what `make_burst` requires.
 use Rattle.std.proofs.Common.{◌+◌, ◌∙◌, ℕ, length, sym, ap, arith}
 use Rattle.machine_rounds.specs.TasksOf.{all_actors}
-use Rattle.machine_rounds.proofs.DuringBurst.{during_actors, during_few, during_ready, during_some, during_timely, during_turns, grown_of, is_back_of}
-use Rattle.machine_rounds.proofs.bursts.DuringBurst.make.Goals as goal
+use Rattle.machine_rounds.proofs.RunInBurst.{during_actors, during_few, during_ready, during_some, during_timely, during_turns, grown_of, is_back_of}
+use Rattle.machine_rounds.proofs.bursts.RunInBurst.make.Goals as goal
 
 pub make_burst-requires-clause-ready : goal.make_burst-requires-clause-ready
 make_burst-requires-clause-ready g c = λ κs h. during_ready _ _ _ _ _ _ c.requires.during

@@ -1,5 +1,5 @@
--- Proof that `DuringBurst::joined` keeps the invariant of its type.
-use Rattle.machine_rounds.proofs.bursts.DuringBurst.joined.Goals as goal
+-- Proof that `RunInBurst::joined` keeps the invariant of its type.
+use Rattle.machine_rounds.proofs.bursts.RunInBurst.joined.Goals as goal
 
 pub invariant_of-result : goal.invariant_of-result
 invariant_of-result c =

@@ -1,8 +1,8 @@
--- Proof that `DuringBurst::come_back` meets what `of_tasks` and `joined` require.
+-- Proof that `RunInBurst::come_back` meets what `of_tasks` and `joined` require.
 use Rattle.std.proofs.Common.{◌<◌, ◌∙◌, ℕ, length, sym, ap, subst}
 use Rattle.machine_rounds.specs.TasksOf.{AreJobsOf, highest, jobs_in}
-use Rattle.machine_rounds.proofs.DuringBurst.{back_few, back_jobs, back_running, back_there}
-use Rattle.machine_rounds.proofs.bursts.DuringBurst.come_back.Goals as goal
+use Rattle.machine_rounds.proofs.RunInBurst.{back_few, back_jobs, back_running, back_there}
+use Rattle.machine_rounds.proofs.bursts.RunInBurst.come_back.Goals as goal
 
 pub of_tasks-requires-clause-few : goal.of_tasks-requires-clause-few
 of_tasks-requires-clause-few c = back_few _ _ _ _ _ _ c.requires

@@ -21,10 +21,10 @@ use Rattle.run_world.specs.Acts.{actor_of}
 use Rattle.run_world.specs.Bursts.{IsBurst}
 use Rattle.world_workers.specs.declared.contents.Burst.{Burst}
 use Rattle.world_workers.specs.Bursts.{AreReady, AreTasksIn, HaveTurns}
-use Rattle.machine_rounds.specs.BurstsOf.{IsDuringBurst, IsBack, entries_of}
+use Rattle.machine_rounds.specs.BurstsOf.{IsRunInBurst, IsBack, entries_of}
 use Rattle.machine_rounds.specs.JobsOf.{AreAllJobs, JobsState, job_at}
 use Rattle.machine_rounds.specs.RunFields as fields
-use Rattle.machine_rounds.specs.TasksOf.{AreJobsOf, acts, all_actors, highest, jobs_in, tasks_of, timers}
+use Rattle.machine_rounds.specs.TasksOf.{AreJobsOf, acts, all_actors, highest, jobs_in, all_tasks, timers}
 use Rattle.machine_rounds.proofs.BurstContents.{are_in, sources_back, timely_all, turns_left}
 use Rattle.machine_rounds.proofs.Bursting.{all_back, back, goes_on_after, grown}
 use Rattle.machine_rounds.proofs.CameBack.{CameBack, same_jobs}
@@ -34,7 +34,7 @@ counted : (xs : List JournalEntry) → length (entries xs) ≡ length xs
 counted [] = refl
 counted (e ∷ xs) = ap suc (counted xs)
 
-tasks_count : (floor : Stamp) (n : ℕ) (jobs : JobsState) → length (tasks_of floor n jobs) ≡ length jobs.scripts + (1 + (length jobs.devices + n))
+tasks_count : (floor : Stamp) (n : ℕ) (jobs : JobsState) → length (all_tasks floor n jobs) ≡ length jobs.scripts + (1 + (length jobs.devices + n))
 tasks_count floor n jobs =
     omega (
       arith,
@@ -45,7 +45,7 @@ tasks_count floor n jobs =
       timers_long floor n,
     )
 
-module _ (m : Machine) (table : TableId) (floor : Stamp) (core : SeatedCoreState) (sources : List SeatedSourceState) (tasks : List Task) (a : IsDuringBurst m table floor core sources tasks) where
+module _ (m : Machine) (table : TableId) (floor : Stamp) (core : SeatedCoreState) (sources : List SeatedSourceState) (tasks : List Task) (a : IsRunInBurst m table floor core sources tasks) where
   its_actor : (who : Actor) → IsActor m who → (job_at a.jobs who).who ≡ who
   its_actor = named m core.core.past (fields.sources_of sources) a.jobs floor a.all_jobs a.running
 
@@ -88,7 +88,7 @@ module _ (m : Machine) (table : TableId) (floor : Stamp) (core : SeatedCoreState
   module _ (core_then : SeatedCoreState) (sources_then : List SeatedSourceState) (tasks_then : List Task)
       (b : IsBurst (time_of (entries core.core.past)) core sources tasks core_then sources_then tasks_then)
       (ready : AreReady m table core_then sources_then tasks_then) (kept : SourcesInvariant sources_then) where
-    of_these : IsBurst (time_of (entries core.core.past)) core sources (tasks_of floor (length m.sources + 1) a.jobs) core_then sources_then tasks_then
+    of_these : IsBurst (time_of (entries core.core.past)) core sources (all_tasks floor (length m.sources + 1) a.jobs) core_then sources_then tasks_then
     of_these = subst (λ (ts : List Task). IsBurst (time_of (entries core.core.past)) core sources ts core_then sources_then tasks_then) a.tasks_are b
 
     sources_are : AreSources m (fields.sources_of sources_then)

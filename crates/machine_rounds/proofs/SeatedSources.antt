@@ -3,14 +3,14 @@ use Rattle.std.proofs.Common.{◌≡◌, ◌<◌, ◌∙◌, ◌⊎◌, inl, inr
 use Rattle.std.proofs.lemmas.List.{length-map, length-set}
 use mathlib.Core.Option.{some}
 use lib.ListN.{get_elem?}
-use Rattle.event_word.specs.Seats.{AreAll, IsSeatOf, Token, number_of, sources_of}
+use Rattle.event_word.specs.Seats.{AreAllSeats, IsSeatOf, WordToken, number_of, source_count}
 use Rattle.wakeup_source.specs.SourceStates.{SourceState, new_source}
 use Rattle.sleep_model.specs.declared.entry.SourceEntry.{SourceEntry}
 use Rattle.run_objects.specs.Closed.{histories_of}
 use Rattle.running_laws.specs.Running.{journal_histories}
 use Rattle.run_objects.specs.Objects.{AreUncalled, SeatedSourceState, seats_of}
 use Rattle.machine_rounds.specs.RunFields as fields
-use Rattle.running_laws.specs.Running.{entries_in}
+use Rattle.running_laws.specs.Running.{source_entry_count}
 
 -- ---- lists
 
@@ -56,7 +56,7 @@ pub source_is : (xs : List SeatedSourceState) (i : ℕ) (x : SeatedSourceState) 
 source_is xs i x is = ap (λ (s : SeatedSourceState). s.source) is ∙ sym (index_mapped (λ (s : SeatedSourceState). s.source) xs i x)
 
 -- its seat is at the table
-pub seat_is : (look : Token) (xs : List SeatedSourceState) (i : ℕ) (x : SeatedSourceState) → AreAll look (seats_of xs) → i < length xs → x ≡ slice_index_or xs i x → IsSeatOf look.table_id i x.seat
+pub seat_is : (look : WordToken) (xs : List SeatedSourceState) (i : ℕ) (x : SeatedSourceState) → AreAllSeats look (seats_of xs) → i < length xs → x ≡ slice_index_or xs i x → IsSeatOf look.table_id i x.seat
 seat_is look xs i x all l is =
     let there : get_elem? (seats_of xs) i ≡ some x.seat =
     elem_at (seats_of xs) i x.seat (omega (arith, l, length-map xs (λ (s : SeatedSourceState). s.seat)))
@@ -64,22 +64,22 @@ seat_is look xs i x all l is =
     all.each_is i x.seat there
 
 -- and stays the source's there
-pub seats_set : (look : Token) (xs : List SeatedSourceState) (i : ℕ) (x new : SeatedSourceState) → AreAll look (seats_of xs) → i < length xs → x ≡ slice_index_or xs i x
-    → new.seat.table_id ≡ x.seat.table_id → number_of new.seat ≡ number_of x.seat → AreAll look (seats_of (slice_set xs i new))
+pub seats_set : (look : WordToken) (xs : List SeatedSourceState) (i : ℕ) (x new : SeatedSourceState) → AreAllSeats look (seats_of xs) → i < length xs → x ≡ slice_index_or xs i x
+    → new.seat.table_id ≡ x.seat.table_id → number_of new.seat ≡ number_of x.seat → AreAllSeats look (seats_of (slice_set xs i new))
 seats_set look xs i x new all l is table number = record {
   counted = length-map (slice_set xs i new) (λ (s : SeatedSourceState). s.seat) ∙ (length-set xs i new ∙ (sym (length-map xs (λ (s : SeatedSourceState). s.seat)) ∙ all.counted));
-  each_is = λ k t e. each k t (elem_set (seats_of xs) i k new.seat t (ap (λ (ts : List Token). get_elem? ts k) (sym (set_mapped (λ (s : SeatedSourceState). s.seat) xs i new)) ∙ e));
+  each_is = λ k t e. each k t (elem_set (seats_of xs) i k new.seat t (ap (λ (ts : List WordToken). get_elem? ts k) (sym (set_mapped (λ (s : SeatedSourceState). s.seat) xs i new)) ∙ e));
 }
   where
     here : IsSeatOf look.table_id i new.seat
     here = let was = seat_is look xs i x all l is in (table ∙ was.0, number ∙ was.1)
 
-    each : (k : ℕ) (t : Token) → ((k ≡ i) × (t ≡ new.seat)) ⊎ (get_elem? (seats_of xs) k ≡ some t) → IsSeatOf look.table_id k t
-    each k t (inl h) = subst (λ (n : ℕ). IsSeatOf look.table_id n t) (sym h.0) (subst (λ (u : Token). IsSeatOf look.table_id i u) (sym h.1) here)
+    each : (k : ℕ) (t : WordToken) → ((k ≡ i) × (t ≡ new.seat)) ⊎ (get_elem? (seats_of xs) k ≡ some t) → IsSeatOf look.table_id k t
+    each k t (inl h) = subst (λ (n : ℕ). IsSeatOf look.table_id n t) (sym h.0) (subst (λ (u : WordToken). IsSeatOf look.table_id i u) (sym h.1) here)
     each k t (inr h) = all.each_is k t h
 
 -- the seat that looks stays at its table
-pub seats_same : (look new : Token) (ts : List Token) → new.table_id ≡ look.table_id → sources_of new ≡ sources_of look → AreAll look ts → AreAll new ts
+pub seats_same : (look new : WordToken) (ts : List WordToken) → new.table_id ≡ look.table_id → source_count new ≡ source_count look → AreAllSeats look ts → AreAllSeats new ts
 seats_same look new ts table sources all = record {
   counted = all.counted ∙ sym sources;
   each_is = λ k t e. (let h = all.each_is k t e in (h.0 ∙ sym table, h.1));
@@ -87,7 +87,7 @@ seats_same look new ts table sources all = record {
 
 -- ---- how many entries there are
 
-pub more_set : (xs : List SourceState) (i : ℕ) (x new : SourceState) → i < length xs → x ≡ slice_index_or xs i x → length x.past < length new.past → entries_in xs < entries_in (slice_set xs i new)
+pub more_set : (xs : List SourceState) (i : ℕ) (x new : SourceState) → i < length xs → x ≡ slice_index_or xs i x → length x.past < length new.past → source_entry_count xs < source_entry_count (slice_set xs i new)
 more_set [] i x new l is more = absurd (omega arith)
 more_set (y ∷ ys) zero x new l is more = omega (arith, more, ap (λ (s : SourceState). length s.past) is)
 more_set (y ∷ ys) (suc i) x new l is more = omega (arith, more_set ys i x new (omega (arith, l)) is more)

@@ -12,34 +12,34 @@ use Rattle.sleep_model.specs.Notifiers.{call_order, notified_after, cpus_off_aft
 use Rattle.sleep_model.specs.Walk.{is_so, first_where}
 
 -- the order in which notifiers are called, which of them are owed their post, how many processors there are, and which are off
-pub record Steps : Type 0 where
+pub record PlatformState : Type 0 where
   pub order : List ℕ
   pub notified_flags : List Bool
   pub cpus : ℕ
   pub off : List Bool
 
 -- nobody has heard, and no processor is off
-abbrev pub first_steps : Machine → Steps
+abbrev pub first_steps : Machine → PlatformState
 first_steps m = record { order = call_order m; notified_flags = replicate (length m.notifiers) false; cpus = m.cpus; off = replicate m.cpus false }
 
 -- what an entry leaves (pm_notifier_call_chain, freeze_secondary_cpus, thaw_secondary_cpus)
-abbrev pub steps_after : Kind → Steps → Steps
+abbrev pub steps_after : Kind → PlatformState → PlatformState
 steps_after kind s = record s { notified_flags = notified_after kind s.notified_flags; off = cpus_off_after kind s.off }
 
 -- the notifier that hears next of the attempt (PM_SUSPEND_PREPARE)
-abbrev pub called_next : Steps → Option ℕ
+abbrev pub called_next : PlatformState → Option ℕ
 called_next s = first_where (λ x. not (is_so s.notified_flags x)) s.order
 
 -- the notifier that hears next of its end (PM_POST_SUSPEND)
-abbrev pub posted_next : Steps → Option ℕ
+abbrev pub posted_next : PlatformState → Option ℕ
 posted_next s = first_where (is_so s.notified_flags) s.order
 
 -- the processor that is stopped next (freeze_secondary_cpus)
-abbrev pub stopped_next : Steps → Option ℕ
+abbrev pub stopped_next : PlatformState → Option ℕ
 stopped_next s = first_where (λ k. not (is_so s.off k)) (range_with_len 1 (s.cpus - 1))
 
 -- the processor that is started next (thaw_secondary_cpus)
-abbrev pub started_next : Steps → Option ℕ
+abbrev pub started_next : PlatformState → Option ℕ
 started_next s = first_where (is_so s.off) (range_with_len 1 (s.cpus - 1))
 
 -- the entry of a step that answers so; a processor is stopped only if no wakeup is pending (freeze_secondary_cpus)

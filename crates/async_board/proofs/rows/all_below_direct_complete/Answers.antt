@@ -4,7 +4,7 @@ use Rattle.std.specs.List.{list_all}
 use Rattle.sleep_model.specs.Order.{active_of, dependents}
 use Rattle.sleep_model.specs.PhaseStates.{is_direct_complete, state_at}
 use Rattle.async_board.proofs.Searched.{all_once}
-use Rattle.async_board.proofs.rows.all_direct_complete.Goals as goal
+use Rattle.async_board.proofs.rows.all_below_direct_complete.Goals as goal
 
 pub returns : goal.returns
 returns c =

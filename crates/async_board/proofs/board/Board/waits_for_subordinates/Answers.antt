@@ -5,7 +5,7 @@ use Rattle.sleep_model.specs.Order.{active_of, dependents}
 use Rattle.sleep_model.specs.PhaseStates.{is_not_down, state_at}
 use Rattle.sleep_model.specs.Walk.{first_where}
 use Rattle.async_board.proofs.Searched.{below_none}
-use Rattle.async_board.proofs.board.Board.waits_below.Goals as goal
+use Rattle.async_board.proofs.board.Board.waits_for_subordinates.Goals as goal
 
 pub returns-then-is_none : goal.returns-then-is_none
 returns-then-is_none c =

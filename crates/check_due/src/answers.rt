@@ -15,12 +15,12 @@ fn has_more(past: &Passed<'_>, stage: Stage) -> bool
     ensures { result ≡ has_more past.now.machine (journal_of past.now) stage }
 {
     match stage {
-        Stage::Notifies => past.next_called().is_some(),
+        Stage::Notifies => past.next_notified().is_some(),
         Stage::StopsCpus => past.next_cpu_off().is_some(),
-        Stage::StopsSyscore => past.next_stopped().is_some(),
-        Stage::StartsSyscore => past.next_started().is_some(),
+        Stage::StopsSyscore => past.next_syscore_suspended().is_some(),
+        Stage::StartsSyscore => past.next_syscore_resumed().is_some(),
         Stage::StartsCpus => past.next_cpu_on().is_some(),
-        Stage::Posts => past.next_posted().is_some(),
+        Stage::NotifiesPost => past.next_post_notified().is_some(),
         _ => true,
     }
 }
