@@ -1,18 +1,19 @@
 -- Searches in rows that have each device once, and rows in which none is found.
-use Rattle.std.proofs.Common.{◌≡◌, ◌<◌, ◌∙◌, ℕ, zero, suc, Bool, true, false, not, ◌==◌, ◌&&◌, List, [], ◌∷◌, length, filter, get_or, cond, Option, Some, None, refl, sym, ap, arith}
+use Rattle.std.proofs.Common.{◌≡◌, ◌<◌, ◌∙◌, ℕ, zero, suc, Bool, true, false, not, ◌==◌, ◌&&◌, List, [], ◌∷◌, length, filter, get_or, cond, Some, None, refl, sym, ap, arith}
 use Rattle.std.specs.Prelude.{is_none}
 use Rattle.std.specs.List.{find, list_all}
 use Rattle.std.proofs.lemmas.Bool.{eqb-true}
 use Rattle.std.proofs.Math.Dec.{eqb-suc-zero}
-use Rattle.sleep_model.specs.declared.machine.Link.{Link}
-use Rattle.sleep_model.specs.declared.progress.PhaseState.{PhaseState}
 use Rattle.sleep_model.specs.Links.{first_occurrences}
-use Rattle.sleep_model.specs.Order.{active_of, dependents, superiors}
-use Rattle.sleep_model.specs.PhaseStates.{state_at, is_not_down, is_not_up}
 use Rattle.sleep_model.specs.Walk.{first_where}
 use Rattle.sleep_model.proofs.Searches.{find_is_first}
 use Rattle.async_board.specs.Counts.{IsCount}
-use Rattle.async_board.specs.Walks.{IsBelow, IsAbove}
+use Rattle.async_board.specs.Sides.{IsOpenCount, is_open, beside, open_counts}
+use Rattle.async_board.specs.Walks.{IsWalk}
+use Rattle.async_board.specs.declared.rows.Side.{Side}
+use Rattle.async_board.specs.declared.rows.Side.TheVariants as side
+use Rattle.async_board.specs.declared.walk.Layout.{Layout}
+use Rattle.async_board.specs.declared.walk.Walk.{Walk}
 
 -- a device that does not pass may be left out
 first_others : (p : ℕ → Bool) (x : ℕ) (ys : List ℕ) → p x ≡ false → first_where p (filter (λ y. not (y == x)) ys) ≡ first_where p ys
@@ -61,7 +62,7 @@ none_found p (x ∷ xs) e = by_test (none_found p xs) (p x) refl e
     by_test rest true f g = absurd (omega arith)
     by_test rest false f g = rest g
 
-none_counted : (n : ℕ) (p : ℕ → Bool) (row : ℕ → List ℕ) (counts : List ℕ) (d : ℕ) → IsCount n p (λ x. first_occurrences (row x)) counts → (get_or counts d 1 == 0) ≡ true → first_where p (row d) ≡ None
+pub none_counted : (n : ℕ) (p : ℕ → Bool) (row : ℕ → List ℕ) (counts : List ℕ) (d : ℕ) → IsCount n p (λ x. first_occurrences (row x)) counts → (get_or counts d 1 == 0) ≡ true → first_where p (row d) ≡ None
 none_counted n p row counts d h z = sym (first_once p (row d)) ∙ none_found p (first_occurrences (row d)) (sym (h.each d (omega (arith, within, h.size))) ∙ zero_at)
   where
     read : (xs : List ℕ) (i : ℕ) → get_or xs i 1 ≡ 0 → (i < length xs) × (get_or xs i 0 ≡ 0)
@@ -75,13 +76,11 @@ none_counted n p row counts d h z = sym (first_once p (row d)) ∙ none_found p 
     zero_at : get_or counts d 0 ≡ 0
     zero_at = (read counts d (eqb-true (get_or counts d 1) 0 z)).1
 
-pub below_none : (ps : List (Option ℕ)) (ls : List Link) (states : List PhaseState) (counts : List ℕ) (d : ℕ) → IsBelow ps ls states counts → (get_or counts d 1 == 0) ≡ true
-    → first_where (λ e. is_not_down (state_at states e)) (dependents ps (active_of ls) d) ≡ None
-below_none ps ls states counts d h z = none_counted (length ps) (λ e. is_not_down (state_at states e)) (dependents ps (active_of ls)) counts d h z
-
-pub above_none : (ps : List (Option ℕ)) (ls : List Link) (states : List PhaseState) (counts : List ℕ) (d : ℕ) → IsAbove ps ls states counts → (get_or counts d 1 == 0) ≡ true
-    → first_where (λ e. is_not_up (state_at states e)) (superiors ps (active_of ls) d) ≡ None
-above_none ps ls states counts d h z = none_counted (length ps) (λ e. is_not_up (state_at states e)) (superiors ps (active_of ls)) counts d h z
+-- a walk has the counts of either side
+pub open_kept : (l : Layout) (w : Walk) → IsWalk l w → (at : Side) → IsOpenCount at l.links.parents l.links.links w.states.items (open_counts at w)
+unfolding is_open beside open_counts
+open_kept l w k side.Below = k.below
+open_kept l w k side.Above = k.above
 
 -- none passes exactly if none is found
 none_or_found : (p : ℕ → Bool) (xs : List ℕ) → (length (filter p xs) == 0) ≡ is_none (first_where p xs)

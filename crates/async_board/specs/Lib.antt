@@ -4,5 +4,7 @@ pub mod BoardFields
 pub mod Boards
 pub mod Counts
 pub mod Cursors
+pub mod Pairs
 pub mod Picks
+pub mod Sides
 pub mod Walks

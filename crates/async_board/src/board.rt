@@ -1,17 +1,17 @@
 //! The board: the state of each device in the three pairs of phases, and what is asked of it.
 
-ghost use Rattle.std.specs.Prelude.{◌≡◌, Some, length, replicate};
+ghost use Rattle.std.specs.Prelude.{◌≡◌, Some};
 ghost use Rattle.sleep_model.specs.PhaseStates.{state_at, phase_states_after, device_of};
 ghost use Rattle.sleep_model.specs.Walk.{is_so};
 ghost use Rattle.async_board.specs.Cursors.{AreCursors};
-ghost use Rattle.sleep_model.specs.declared.progress.PhaseState.TheVariants as state;
-ghost use Rattle.async_board.specs.Walks.{IsWalk, IsBelow, IsAbove, MayRestart};
+ghost use Rattle.async_board.specs.Sides.{IsOpenCount, open_counts, waits_on};
+ghost use Rattle.async_board.specs.declared.rows.Side.{Side};
 
 use crate::moves::put;
 use crate::phase_state::{ended_by, is_at_work, skipped_for, work_in};
 use crate::pick::{Pick, WalkLook, first_picked, is_so, last_picked, state_at};
-use crate::rows::{all_below_direct_complete, count_at, first_not_down, first_not_up, is_none};
-use crate::walk::{Layout, Walk, indices_of, refill_indices};
+use crate::rows::{Side, all_below_direct_complete, count_at, first_open, is_none};
+use crate::walk::{Layout, Pairs, Walk, indices_of, refill_indices};
 use device_links::Links;
 use sleep_base::{Mem, drop_for_mem};
 use sleep_model::{AsyncWork, Kind, Phase, PhaseState};
@@ -27,9 +27,7 @@ use std::marker::Model;
 #[derive(Drop)]
 pub struct Board {
     layout: Layout,
-    suspend: Walk,
-    late: Walk,
-    noirq: Walk,
+    pairs: Pairs,
 }
 
 impl Model for Board {
@@ -42,23 +40,6 @@ impl Model for Board {
     ghost view = { board_view };
 
     ghost invariant = { BoardInvariant };
-}
-
-/// Begins anew, no device prepared, over links that have changed only right below this supplier.
-fn begin_anew(layout: &Layout, supplier: u32, suspend: &mut Walk, late: &mut Walk, noirq: &mut Walk)
-    requires suspend { MayRestart layout.now supplier suspend.old }
-    requires late { MayRestart layout.now supplier late.old }
-    requires noirq { MayRestart layout.now supplier noirq.old }
-    ensures suspend_anew { suspend.new.states.items ≡ replicate (length layout.now.links.parents) state.Unprepared }
-    ensures late_anew { late.new.states.items ≡ replicate (length layout.now.links.parents) state.Unprepared }
-    ensures noirq_anew { noirq.new.states.items ≡ replicate (length layout.now.links.parents) state.Unprepared }
-    ensures suspend { IsWalk layout.now suspend.new }
-    ensures late { IsWalk layout.now late.new }
-    ensures noirq { IsWalk layout.now noirq.new }
-{
-    suspend.restart(layout, supplier);
-    late.restart(layout, supplier);
-    noirq.restart(layout, supplier);
 }
 
 impl Board {
@@ -79,30 +60,19 @@ impl Board {
             indices,
             asynchronous,
         };
-        let Ok(suspend) = Walk::new(alloc, &layout) else {
+        let Ok(pairs) = Pairs::new(alloc, &layout) else {
             return Err(drop_for_mem(layout));
         };
-        let Ok(late) = Walk::new(alloc, &layout) else {
-            return Err(drop_for_mem((layout, suspend)));
-        };
-        let Ok(noirq) = Walk::new(alloc, &layout) else {
-            return Err(drop_for_mem((layout, suspend, late)));
-        };
-        Ok(Board {
-            layout,
-            suspend,
-            late,
-            noirq,
-        })
+        Ok(Board { layout, pairs })
     }
 
     /// Puts a device there in each pair of phases.
     fn put_in_all(&mut self, device: u32, after: PhaseState)
         ensures { self.new ≡ put_in_all device after self.old }
     {
-        put(&mut self.suspend, &self.layout, device, after);
-        put(&mut self.late, &self.layout, device, after);
-        put(&mut self.noirq, &self.layout, device, after);
+        put(&mut self.pairs.suspend, &self.layout, device, after);
+        put(&mut self.pairs.late, &self.layout, device, after);
+        put(&mut self.pairs.noirq, &self.layout, device, after);
     }
 
     /// Puts a device there, in the pair of phases that this one is of: on the way down or on the way up.
@@ -112,12 +82,12 @@ impl Board {
         ensures { self.new ≡ put_in q device down up self.old }
     {
         match q {
-            Phase::Suspend => put(&mut self.suspend, &self.layout, device, down),
-            Phase::Late => put(&mut self.late, &self.layout, device, down),
-            Phase::Noirq => put(&mut self.noirq, &self.layout, device, down),
-            Phase::ResumeNoirq => put(&mut self.noirq, &self.layout, device, up),
-            Phase::Early => put(&mut self.late, &self.layout, device, up),
-            Phase::Resume => put(&mut self.suspend, &self.layout, device, up),
+            Phase::Suspend => put(&mut self.pairs.suspend, &self.layout, device, down),
+            Phase::Late => put(&mut self.pairs.late, &self.layout, device, down),
+            Phase::Noirq => put(&mut self.pairs.noirq, &self.layout, device, down),
+            Phase::ResumeNoirq => put(&mut self.pairs.noirq, &self.layout, device, up),
+            Phase::Early => put(&mut self.pairs.late, &self.layout, device, up),
+            Phase::Resume => put(&mut self.pairs.suspend, &self.layout, device, up),
             _ => (),
         }
     }
@@ -128,9 +98,9 @@ impl Board {
         ensures { self.new ≡ skip_in q device down self.old }
     {
         match q {
-            Phase::Suspend => put(&mut self.suspend, &self.layout, device, down),
-            Phase::Late => put(&mut self.late, &self.layout, device, down),
-            Phase::Noirq => put(&mut self.noirq, &self.layout, device, down),
+            Phase::Suspend => put(&mut self.pairs.suspend, &self.layout, device, down),
+            Phase::Late => put(&mut self.pairs.late, &self.layout, device, down),
+            Phase::Noirq => put(&mut self.pairs.noirq, &self.layout, device, down),
             _ => (),
         }
     }
@@ -182,13 +152,7 @@ impl Board {
             Ok(stays) => {
                 let layout = &mut self.layout;
                 refill_indices(&mut layout.indices, layout.links.order(), stays);
-                begin_anew(
-                    layout,
-                    supplier,
-                    &mut self.suspend,
-                    &mut self.late,
-                    &mut self.noirq,
-                );
+                self.pairs.restart(layout, supplier);
                 Ok(())
             }
             Err(_) => Err(Mem),
@@ -205,13 +169,7 @@ impl Board {
         let _devices = self.layout.links.order().len();
         match self.layout.links.set_active(supplier, consumer, active) {
             Ok(()) => {
-                begin_anew(
-                    &self.layout,
-                    supplier,
-                    &mut self.suspend,
-                    &mut self.late,
-                    &mut self.noirq,
-                );
+                self.pairs.restart(&self.layout, supplier);
                 Ok(())
             }
             Err(_) => Err(Mem),
@@ -224,15 +182,13 @@ impl Board {
         ensures size { length result.now.states.items ≡ length self.now.parents }
         ensures cursors { AreCursors self.now.asynchronous result.now.states.items
             (order_on self.now) result.now.cursors }
-        ensures below { IsBelow self.now.parents self.now.links
-            result.now.states.items result.now.open_below.items }
-        ensures above { IsAbove self.now.parents self.now.links
-            result.now.states.items result.now.open_above.items }
+        ensures open { (side : Side) → IsOpenCount side self.now.parents self.now.links
+            result.now.states.items (open_counts side result.now) }
     {
         match p {
-            Phase::Late => &self.late,
-            Phase::Noirq => &self.noirq,
-            _ => &self.suspend,
+            Phase::Late => &self.pairs.late,
+            Phase::Noirq => &self.pairs.noirq,
+            _ => &self.pairs.suspend,
         }
     }
 
@@ -322,65 +278,76 @@ impl Board {
         first_picked(&self.look(walk), Pick::NotUp, walk.cursors.not_up)
     }
 
+    /// The first device on that side of one that it waits for. None is looked for if there is none by the
+    /// count.
+    #[inline(always)]
+    fn waits(&self, side: Side, p: Phase, device: u32) -> Option<u32>
+        ensures { result ≡ waits_on side self.now p device }
+    {
+        let walk = self.walk(p);
+        if is_none(walk.open(side), device) {
+            None
+        } else {
+            first_open(side, &walk.states, &self.layout.links, device)
+        }
+    }
+
+    /// Whether one waits for no device on that side. It is counted already.
+    #[inline(always)]
+    #[tactic(auto, using(crate::proofs::Searched::free))]
+    fn is_free(&self, side: Side, p: Phase, device: u32) -> bool
+        ensures { result ≡ is_none (waits_on side self.now p device) }
+    {
+        let walk = self.walk(p);
+        let counts = walk.open(side);
+        if (device as usize) < counts.len() {
+            count_at(counts, device) == 0
+        } else {
+            first_open(side, &walk.states, &self.layout.links, device).is_none()
+        }
+    }
+
     /// The first device right below one that is not done with a phase on the way down
     /// (`dpm_wait_for_subordinate`).
+    #[tactic(auto, unfolding(crate::specs::Sides::is_open, crate::specs::Sides::beside))]
     pub fn waits_for_subordinates(&self, p: Phase, device: u32) -> Option<u32>
         ensures { result ≡ waits_for_subordinates_on self.now p device }
     {
-        let walk = self.walk(p);
-        if is_none(&walk.open_below, device) {
-            None
-        } else {
-            first_not_down(&walk.states, &self.layout.links, device)
-        }
+        self.waits(Side::Below, p, device)
     }
 
     /// The first device right above one that went down in a phase and is not yet up
     /// (`dpm_wait_for_superior`).
+    #[tactic(auto, unfolding(crate::specs::Sides::is_open, crate::specs::Sides::beside))]
     pub fn waits_above(&self, p: Phase, device: u32) -> Option<u32>
         ensures { result ≡ waits_above_on self.now p device }
     {
-        let walk = self.walk(p);
-        if is_none(&walk.open_above, device) {
-            None
-        } else {
-            first_not_up(&walk.states, &self.layout.links, device)
-        }
+        self.waits(Side::Above, p, device)
     }
 
     /// Whether no device right below one is left that is not done with a phase on the way down. It is counted
     /// already.
-    #[tactic(auto, using(crate::proofs::Searched::free))]
+    #[tactic(auto, unfolding(crate::specs::Sides::is_open, crate::specs::Sides::beside))]
     pub fn is_free_below(&self, p: Phase, device: u32) -> bool
         ensures { result ≡ is_none (waits_for_subordinates_on self.now p device) }
     {
-        let walk = self.walk(p);
-        if (device as usize) < walk.open_below.len() {
-            count_at(&walk.open_below, device) == 0
-        } else {
-            first_not_down(&walk.states, &self.layout.links, device).is_none()
-        }
+        self.is_free(Side::Below, p, device)
     }
 
     /// Whether no device right above one is left that went down in a phase and is not yet up. It is
     /// counted already.
-    #[tactic(auto, using(crate::proofs::Searched::free))]
+    #[tactic(auto, unfolding(crate::specs::Sides::is_open, crate::specs::Sides::beside))]
     pub fn is_free_above(&self, p: Phase, device: u32) -> bool
         ensures { result ≡ is_none (waits_above_on self.now p device) }
     {
-        let walk = self.walk(p);
-        if (device as usize) < walk.open_above.len() {
-            count_at(&walk.open_above, device) == 0
-        } else {
-            first_not_up(&walk.states, &self.layout.links, device).is_none()
-        }
+        self.is_free(Side::Above, p, device)
     }
 
     /// Whether all devices right below one are direct-complete (`power.direct_complete`).
     pub fn all_below_direct_complete(&self, device: u32) -> bool
         ensures { result ≡ all_below_direct_complete_on self.now device }
     {
-        all_below_direct_complete(&self.suspend.states, &self.layout.links, device)
+        all_below_direct_complete(&self.pairs.suspend.states, &self.layout.links, device)
     }
 
     /// Whether a device is asynchronous (`power.async_suspend`); false if there is no such device.

@@ -12,6 +12,10 @@ use crate::pick::{WalkLook, is_so};
 use crate::walk::{Layout, Walk};
 use device_links::Links;
 use sleep_model::PhaseState;
+use sleep_model::PhaseState::{
+    Direct, Failed, Prepared, Rescheduled, Resumed, Resuming, Scheduled, Suspended, Suspending,
+    Unprepared,
+};
 
 /// Notes whether the walk on the way down schedules no more, once a device has moved to there: one has
 /// failed since it was prepared.
@@ -20,8 +24,8 @@ fn note_failure(failed: &mut bool, after: PhaseState)
     ensures { failed.new ≡ failed_after after failed.old }
 {
     match after {
-        PhaseState::Failed => *failed = true,
-        PhaseState::Prepared => *failed = false,
+        Failed => *failed = true,
+        Prepared => *failed = false,
         _ => (),
     }
 }
@@ -144,6 +148,46 @@ fn move_otherwise(
     move_device(walk, layout, device, before, after);
 }
 
+/// Moves a device, with code of its own for a move from the usual state.
+#[inline(always)]
+fn move_from(walk: &mut Walk, layout: &Layout, device: u32, usual: PhaseState, after: PhaseState)
+    requires closed_over { IsLayout layout.now }
+    requires kept { IsWalk layout.now walk.old }
+    requires within { device < length walk.old.states.items }
+    ensures states { walk.new.states.items ≡ slice_set walk.old.states.items device after }
+    ensures kept { IsWalk layout.now walk.new }
+{
+    let before = walk.states[device as usize];
+    if before == usual {
+        move_device(walk, layout, device, usual, after);
+    } else {
+        move_otherwise(walk, layout, device, before, after);
+    }
+}
+
+/// Moves a device, with code of its own for a move from either of the usual states.
+#[inline(always)]
+fn move_from_either(
+    walk: &mut Walk,
+    layout: &Layout,
+    device: u32,
+    usual: PhaseState,
+    other: PhaseState,
+    after: PhaseState,
+)
+    requires closed_over { IsLayout layout.now }
+    requires kept { IsWalk layout.now walk.old }
+    requires within { device < length walk.old.states.items }
+    ensures states { walk.new.states.items ≡ slice_set walk.old.states.items device after }
+    ensures kept { IsWalk layout.now walk.new }
+{
+    if walk.states[device as usize] == other {
+        move_device(walk, layout, device, other, after);
+    } else {
+        move_from(walk, layout, device, usual, after);
+    }
+}
+
 /// A device is completed, which is up.
 #[inline(never)]
 fn to_unprepared(walk: &mut Walk, layout: &Layout, device: u32)
@@ -153,16 +197,7 @@ fn to_unprepared(walk: &mut Walk, layout: &Layout, device: u32)
     ensures states { walk.new.states.items ≡ slice_set walk.old.states.items device state.Unprepared }
     ensures kept { IsWalk layout.now walk.new }
 {
-    match walk.states[device as usize] {
-        PhaseState::Resumed => move_device(
-            walk,
-            layout,
-            device,
-            PhaseState::Resumed,
-            PhaseState::Unprepared,
-        ),
-        before => move_otherwise(walk, layout, device, before, PhaseState::Unprepared),
-    }
+    move_from(walk, layout, device, Resumed, Unprepared);
 }
 
 /// A device is prepared.
@@ -174,16 +209,7 @@ fn to_prepared(walk: &mut Walk, layout: &Layout, device: u32)
     ensures states { walk.new.states.items ≡ slice_set walk.old.states.items device state.Prepared }
     ensures kept { IsWalk layout.now walk.new }
 {
-    match walk.states[device as usize] {
-        PhaseState::Unprepared => move_device(
-            walk,
-            layout,
-            device,
-            PhaseState::Unprepared,
-            PhaseState::Prepared,
-        ),
-        before => move_otherwise(walk, layout, device, before, PhaseState::Prepared),
-    }
+    move_from(walk, layout, device, Unprepared, Prepared);
 }
 
 /// A device that was not taken is scheduled on the way down.
@@ -195,16 +221,7 @@ fn to_scheduled(walk: &mut Walk, layout: &Layout, device: u32)
     ensures states { walk.new.states.items ≡ slice_set walk.old.states.items device state.Scheduled }
     ensures kept { IsWalk layout.now walk.new }
 {
-    match walk.states[device as usize] {
-        PhaseState::Prepared => move_device(
-            walk,
-            layout,
-            device,
-            PhaseState::Prepared,
-            PhaseState::Scheduled,
-        ),
-        before => move_otherwise(walk, layout, device, before, PhaseState::Scheduled),
-    }
+    move_from(walk, layout, device, Prepared, Scheduled);
 }
 
 /// A device begins on the way down: an asynchronous one was scheduled, a synchronous one not.
@@ -216,23 +233,7 @@ fn to_suspending(walk: &mut Walk, layout: &Layout, device: u32)
     ensures states { walk.new.states.items ≡ slice_set walk.old.states.items device state.Suspending }
     ensures kept { IsWalk layout.now walk.new }
 {
-    match walk.states[device as usize] {
-        PhaseState::Scheduled => move_device(
-            walk,
-            layout,
-            device,
-            PhaseState::Scheduled,
-            PhaseState::Suspending,
-        ),
-        PhaseState::Prepared => move_device(
-            walk,
-            layout,
-            device,
-            PhaseState::Prepared,
-            PhaseState::Suspending,
-        ),
-        before => move_otherwise(walk, layout, device, before, PhaseState::Suspending),
-    }
+    move_from_either(walk, layout, device, Scheduled, Prepared, Suspending);
 }
 
 /// A device is done on the way down.
@@ -244,16 +245,7 @@ fn to_suspended(walk: &mut Walk, layout: &Layout, device: u32)
     ensures states { walk.new.states.items ≡ slice_set walk.old.states.items device state.Suspended }
     ensures kept { IsWalk layout.now walk.new }
 {
-    match walk.states[device as usize] {
-        PhaseState::Suspending => move_device(
-            walk,
-            layout,
-            device,
-            PhaseState::Suspending,
-            PhaseState::Suspended,
-        ),
-        before => move_otherwise(walk, layout, device, before, PhaseState::Suspended),
-    }
+    move_from(walk, layout, device, Suspending, Suspended);
 }
 
 /// A device that is down is scheduled on the way up.
@@ -265,16 +257,7 @@ fn to_rescheduled(walk: &mut Walk, layout: &Layout, device: u32)
     ensures states { walk.new.states.items ≡ slice_set walk.old.states.items device state.Rescheduled }
     ensures kept { IsWalk layout.now walk.new }
 {
-    match walk.states[device as usize] {
-        PhaseState::Suspended => move_device(
-            walk,
-            layout,
-            device,
-            PhaseState::Suspended,
-            PhaseState::Rescheduled,
-        ),
-        before => move_otherwise(walk, layout, device, before, PhaseState::Rescheduled),
-    }
+    move_from(walk, layout, device, Suspended, Rescheduled);
 }
 
 /// A device begins on the way up: an asynchronous one was scheduled, a synchronous one not.
@@ -286,23 +269,7 @@ fn to_resuming(walk: &mut Walk, layout: &Layout, device: u32)
     ensures states { walk.new.states.items ≡ slice_set walk.old.states.items device state.Resuming }
     ensures kept { IsWalk layout.now walk.new }
 {
-    match walk.states[device as usize] {
-        PhaseState::Rescheduled => move_device(
-            walk,
-            layout,
-            device,
-            PhaseState::Rescheduled,
-            PhaseState::Resuming,
-        ),
-        PhaseState::Suspended => move_device(
-            walk,
-            layout,
-            device,
-            PhaseState::Suspended,
-            PhaseState::Resuming,
-        ),
-        before => move_otherwise(walk, layout, device, before, PhaseState::Resuming),
-    }
+    move_from_either(walk, layout, device, Rescheduled, Suspended, Resuming);
 }
 
 /// A device is up.
@@ -314,16 +281,7 @@ fn to_resumed(walk: &mut Walk, layout: &Layout, device: u32)
     ensures states { walk.new.states.items ≡ slice_set walk.old.states.items device state.Resumed }
     ensures kept { IsWalk layout.now walk.new }
 {
-    match walk.states[device as usize] {
-        PhaseState::Resuming => move_device(
-            walk,
-            layout,
-            device,
-            PhaseState::Resuming,
-            PhaseState::Resumed,
-        ),
-        before => move_otherwise(walk, layout, device, before, PhaseState::Resumed),
-    }
+    move_from(walk, layout, device, Resuming, Resumed);
 }
 
 /// Moves a device from its state to its next one; nothing if there is no such device. Each state that devices
@@ -338,15 +296,15 @@ pub(crate) fn put(walk: &mut Walk, layout: &Layout, device: u32, after: PhaseSta
 {
     if (device as usize) < walk.states.len() {
         match after {
-            PhaseState::Unprepared => to_unprepared(walk, layout, device),
-            PhaseState::Prepared => to_prepared(walk, layout, device),
-            PhaseState::Scheduled => to_scheduled(walk, layout, device),
-            PhaseState::Suspending => to_suspending(walk, layout, device),
-            PhaseState::Suspended => to_suspended(walk, layout, device),
-            PhaseState::Rescheduled => to_rescheduled(walk, layout, device),
-            PhaseState::Resuming => to_resuming(walk, layout, device),
-            PhaseState::Resumed => to_resumed(walk, layout, device),
-            PhaseState::Failed | PhaseState::Direct => {
+            Unprepared => to_unprepared(walk, layout, device),
+            Prepared => to_prepared(walk, layout, device),
+            Scheduled => to_scheduled(walk, layout, device),
+            Suspending => to_suspending(walk, layout, device),
+            Suspended => to_suspended(walk, layout, device),
+            Rescheduled => to_rescheduled(walk, layout, device),
+            Resuming => to_resuming(walk, layout, device),
+            Resumed => to_resumed(walk, layout, device),
+            Failed | Direct => {
                 let before = walk.states[device as usize];
                 move_otherwise(walk, layout, device, before, after);
             }

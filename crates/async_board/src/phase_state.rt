@@ -87,13 +87,7 @@ pub fn is_ready(state: PhaseState) -> bool
 pub fn is_not_down(state: PhaseState) -> bool
     ensures { result ≡ states.is_not_down state }
 {
-    matches!(
-        state,
-        PhaseState::Unprepared
-            | PhaseState::Prepared
-            | PhaseState::Scheduled
-            | PhaseState::Suspending
-    )
+    matches!(state, PhaseState::Unprepared | PhaseState::Prepared) || is_going_down(state)
 }
 
 /// Whether the device is scheduled on the way down and not done (`async_schedule_dev`).

@@ -2,14 +2,25 @@
 
 ghost use Rattle.std.specs.Prelude.{◌≡◌, ◌<◌, ◌==◌, length, slice_index, slice_index_or};
 ghost use Rattle.std.specs.List.{find, list_all};
-ghost use Rattle.sleep_model.specs.Order.{active_of, dependents, superiors};
-ghost use Rattle.sleep_model.specs.PhaseStates.{state_at, is_not_down, is_not_up, is_direct_complete};
+ghost use Rattle.sleep_model.specs.Links.{first_occurrences};
+ghost use Rattle.sleep_model.specs.Order.{active_of, dependents};
+ghost use Rattle.sleep_model.specs.PhaseStates.{state_at, is_direct_complete};
 ghost use Rattle.sleep_model.specs.Walk.{first_where};
+ghost use Rattle.async_board.specs.Sides.{beside, is_open};
 
 use crate::phase_state::{is_direct_complete, is_not_down, is_not_up};
 use crate::pick::state_at;
 use device_links::Links;
 use sleep_model::PhaseState;
+
+/// A side of a device: what it waits for on the way down, or on the way up.
+#[derive(Clone, Copy)]
+pub(crate) enum Side {
+    /// What depends on it directly.
+    Below,
+    /// What it depends on directly.
+    Above,
+}
 
 /// Whether the count of a device is 0; false if it has none.
 pub(crate) fn is_none(counts: &[usize], device: u32) -> bool
@@ -29,22 +40,38 @@ pub(crate) fn count_at(counts: &[usize], device: u32) -> usize
     counts[device as usize]
 }
 
-/// The first device of a row that is not down.
-fn find_not_down(states: &[PhaseState], row: &[u32]) -> Option<u32>
-    ensures { result ≡ find (λ e. is_not_down (state_at states.now e)) row.now }
+/// Whether a device in that state is waited for: one below until it is down, one above until it is up.
+#[inline(always)]
+#[tactic(auto, unfolding(crate::specs::Sides::is_open))]
+fn is_open(side: Side, state: PhaseState) -> bool
+    ensures { result ≡ is_open side state }
 {
-    row.iter()
-        .copied()
-        .find(|device| is_not_down(state_at(states, *device)))
+    match side {
+        Side::Below => is_not_down(state),
+        Side::Above => is_not_up(state),
+    }
 }
 
-/// The first device of a row that is not up.
-fn find_not_up(states: &[PhaseState], row: &[u32]) -> Option<u32>
-    ensures { result ≡ find (λ e. is_not_up (state_at states.now e)) row.now }
+/// The devices right on that side of one, each once.
+#[inline(always)]
+#[tactic(auto, unfolding(crate::specs::Sides::beside))]
+fn row_beside(links: &Links, side: Side, device: u32) -> &[u32]
+    ensures { result.now ≡ first_occurrences (beside side links.now.parents links.now.links device) }
+{
+    match side {
+        Side::Below => links.below(device),
+        Side::Above => links.above(device),
+    }
+}
+
+/// The first device of a row that is waited for.
+#[inline(always)]
+fn find_open(side: Side, states: &[PhaseState], row: &[u32]) -> Option<u32>
+    ensures { result ≡ find (λ e. is_open side (state_at states.now e)) row.now }
 {
     row.iter()
         .copied()
-        .find(|device| is_not_up(state_at(states, *device)))
+        .find(|device| is_open(side, state_at(states, *device)))
 }
 
 /// Whether all devices of a row were skipped as direct-complete.
@@ -55,22 +82,19 @@ fn are_direct_complete(states: &[PhaseState], row: &[u32]) -> bool
         .all(|device| is_direct_complete(state_at(states, *device)))
 }
 
-/// The first device right below one that is not done on the way down.
-pub(crate) fn first_not_down(states: &[PhaseState], links: &Links, device: u32) -> Option<u32>
-    ensures { result ≡ first_where (λ e. is_not_down (state_at states.now e))
-        (dependents links.now.parents (active_of links.now.links) device) }
+/// The first device right on that side of one that it waits for.
+#[inline(always)]
+pub(crate) fn first_open(
+    side: Side,
+    states: &[PhaseState],
+    links: &Links,
+    device: u32,
+) -> Option<u32>
+    ensures { result ≡ first_where (λ e. is_open side (state_at states.now e))
+        (beside side links.now.parents links.now.links device) }
 {
-    let row = links.below(device);
-    find_not_down(states, row)
-}
-
-/// The first device right above one that is not yet up.
-pub(crate) fn first_not_up(states: &[PhaseState], links: &Links, device: u32) -> Option<u32>
-    ensures { result ≡ first_where (λ e. is_not_up (state_at states.now e))
-        (superiors links.now.parents (active_of links.now.links) device) }
-{
-    let row = links.above(device);
-    find_not_up(states, row)
+    let row = row_beside(links, side, device);
+    find_open(side, states, row)
 }
 
 /// Whether all devices right below one are direct-complete.

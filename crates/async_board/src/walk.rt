@@ -7,11 +7,14 @@ ghost use Rattle.sleep_model.proofs.Walks.{AllDifferent};
 ghost use Rattle.sleep_model.specs.Links.{first_occurrences};
 ghost use Rattle.sleep_model.specs.declared.progress.PhaseState.TheVariants as state;
 ghost use Rattle.async_board.specs.Walks.{AreIndices, IsLayout, IsWalk, MayRestart};
+ghost use Rattle.async_board.specs.Pairs.{AreUnprepared, AreWalks, MayAllRestart};
 ghost use Rattle.async_board.specs.Counts.{IsLengths};
+ghost use Rattle.async_board.specs.Sides.{open_counts};
 
 use crate::cursors::Cursors;
+use crate::rows::Side;
 use device_links::Links;
-use sleep_base::Mem;
+use sleep_base::{Mem, drop_for_mem};
 use sleep_model::PhaseState;
 use std::alloc::Global;
 
@@ -176,6 +179,18 @@ impl Walk {
         }
     }
 
+    /// How many devices each waits for on that side.
+    #[inline(always)]
+    #[tactic(auto, unfolding(crate::specs::Sides::open_counts))]
+    pub(crate) fn open(&self, side: Side) -> &[usize]
+        ensures { result.now ≡ open_counts side self.now }
+    {
+        match side {
+            Side::Below => &self.open_below,
+            Side::Above => &self.open_above,
+        }
+    }
+
     /// Begins anew, no device prepared, over links that have changed only right below this supplier.
     pub(crate) fn restart(&mut self, layout: &Layout, supplier: u32)
         requires { MayRestart layout.now supplier self.old }
@@ -186,5 +201,46 @@ impl Walk {
         self.settle(layout, supplier);
         self.cursors = first_cursors(layout.links.order().len());
         self.failed = false;
+    }
+}
+
+/// The states of the devices in each of the three pairs of phases.
+#[derive(Drop)]
+pub(crate) struct Pairs {
+    pub(crate) suspend: Walk,
+    pub(crate) late: Walk,
+    pub(crate) noirq: Walk,
+}
+
+impl Pairs {
+    /// No device is prepared. `Mem` if there is no memory for it.
+    pub(crate) fn new(alloc: Global, layout: &Layout) -> Result<Pairs, Mem>
+        requires { IsLayout layout.now }
+        ensures states { IfOk result (AreUnprepared layout.now) }
+        ensures kept { IfOk result (AreWalks layout.now) }
+    {
+        let suspend = Walk::new(alloc, layout)?;
+        let Ok(late) = Walk::new(alloc, layout) else {
+            return Err(drop_for_mem(suspend));
+        };
+        let Ok(noirq) = Walk::new(alloc, layout) else {
+            return Err(drop_for_mem((suspend, late)));
+        };
+        Ok(Pairs {
+            suspend,
+            late,
+            noirq,
+        })
+    }
+
+    /// Begins anew, no device prepared, over links that have changed only right below this supplier.
+    pub(crate) fn restart(&mut self, layout: &Layout, supplier: u32)
+        requires { MayAllRestart layout.now supplier self.old }
+        ensures states { AreUnprepared layout.now self.new }
+        ensures kept { AreWalks layout.now self.new }
+    {
+        self.suspend.restart(layout, supplier);
+        self.late.restart(layout, supplier);
+        self.noirq.restart(layout, supplier);
     }
 }

@@ -1,13 +1,13 @@
 -- What is seen below and above a device by the links that are active.
-use Rattle.std.proofs.Common.{◌≡◌, ◌<◌, ◌≤◌, ◌∙◌, ℕ, Bool, true, false, not, ◌==◌, ◌&&◌, ◌||◌, List, [], ◌∷◌, ◌++◌, length, take, drop, reverse, filter, get_or, slice_get, Option, None, refl, sym, ap, subst, cond, arith, length-append}
+use Rattle.std.proofs.Common.{◌≡◌, ◌<◌, ◌≤◌, ◌∙◌, ℕ, Bool, true, false, not, ◌==◌, ◌||◌, List, [], ◌∷◌, ◌++◌, length, take, drop, reverse, filter, get_or, slice_get, Option, None, refl, sym, ap, subst, cond, arith, length-append}
 use Rattle.std.proofs.lemmas.List.{append-nil, take-append-drop, reverse-append}
-use Rattle.std.proofs.lemmas.Bool.{true≢false, eqb-true}
+use Rattle.std.proofs.lemmas.Bool.{true≢false}
 use Rattle.sleep_model.specs.declared.machine.Link.{Link}
 use Rattle.sleep_model.specs.Links.{first_occurrences, is_linked}
 use Rattle.sleep_model.specs.Order.{active_of, children_from, consumers_of, suppliers_of, is_parent, parent_of, dependents, superiors}
 use Rattle.sleep_model.proofs.Changing.{active_linked}
 use Rattle.sleep_model.proofs.FirstOccurrences.{first_occurrences_push, first_children, first_parent, dependents_new, holding_new, holding_other, depends_already, holds_already}
-use Rattle.device_links.specs.Invariant.{active_below, active_above, is_shown_below, is_shown_above}
+use Rattle.device_links.specs.Invariant.{active_below, active_above}
 
 -- ---- one more link
 
@@ -58,45 +58,6 @@ module _ (ps : List (Option ℕ)) (l : Link) (ls : List Link) where
       by_state : (b : Bool) → first_occurrences (superiors ps (cond b (l ∷ active_of ls) (active_of ls)) d) ≡ active_above ps ls d
       by_state false = refl
       by_state true = ap first_occurrences (holding_other ps l (active_of ls) d e)
-
-  -- what a link shows, by the test
-  pub below_next : (d : ℕ) → l.consumer < length ps → is_linked ls l.supplier l.consumer ≡ false
-      → active_below ps (l ∷ ls) d ≡ cond (is_shown_below ps l d) (active_below ps ls d ++ l.consumer ∷ []) (active_below ps ls d)
-  below_next d within new = by_end (l.supplier == d) refl
-    where
-      at_end : (a q : Bool) (adjacent more : List ℕ) → cond (not a || q) adjacent more ≡ cond (a && true && not q) more adjacent
-      at_end true true adjacent more = refl
-      at_end true false adjacent more = refl
-      at_end false q adjacent more = refl
-
-      apart : (a q : Bool) (adjacent more : List ℕ) → adjacent ≡ cond (a && false && not q) more adjacent
-      apart true q adjacent more = refl
-      apart false q adjacent more = refl
-
-      by_end : (b : Bool) → (l.supplier == d) ≡ b → active_below ps (l ∷ ls) d ≡ cond (l.active && b && not (is_parent d (get_or ps l.consumer None))) (active_below ps ls d ++ l.consumer ∷ []) (active_below ps ls d)
-      by_end true e =
-          subst (λ (x : ℕ). active_below ps (l ∷ ls) x ≡ cond (l.active && true && not (is_parent x (get_or ps l.consumer None))) (active_below ps ls x ++ l.consumer ∷ []) (active_below ps ls x)) (eqb-true l.supplier d e)
-          (below_here within new ∙ at_end l.active (is_parent l.supplier (get_or ps l.consumer None)) (active_below ps ls l.supplier) (active_below ps ls l.supplier ++ l.consumer ∷ []))
-      by_end false e = below_other d e ∙ apart l.active (is_parent d (get_or ps l.consumer None)) (active_below ps ls d) (active_below ps ls d ++ l.consumer ∷ [])
-
-  pub above_next : (d : ℕ) → is_linked ls l.supplier l.consumer ≡ false
-      → active_above ps (l ∷ ls) d ≡ cond (is_shown_above ps l d) (active_above ps ls d ++ l.supplier ∷ []) (active_above ps ls d)
-  above_next d new = by_end (l.consumer == d) refl
-    where
-      at_end : (a q : Bool) (adjacent more : List ℕ) → cond (not a || q) adjacent more ≡ cond (a && true && not q) more adjacent
-      at_end true true adjacent more = refl
-      at_end true false adjacent more = refl
-      at_end false q adjacent more = refl
-
-      apart : (a q : Bool) (adjacent more : List ℕ) → adjacent ≡ cond (a && false && not q) more adjacent
-      apart true q adjacent more = refl
-      apart false q adjacent more = refl
-
-      by_end : (b : Bool) → (l.consumer == d) ≡ b → active_above ps (l ∷ ls) d ≡ cond (l.active && b && not (is_parent l.supplier (get_or ps d None))) (active_above ps ls d ++ l.supplier ∷ []) (active_above ps ls d)
-      by_end true e =
-          subst (λ (x : ℕ). active_above ps (l ∷ ls) x ≡ cond (l.active && true && not (is_parent l.supplier (get_or ps x None))) (active_above ps ls x ++ l.supplier ∷ []) (active_above ps ls x)) (eqb-true l.consumer d e)
-          (above_here new ∙ at_end l.active (is_parent l.supplier (get_or ps l.consumer None)) (active_above ps ls l.consumer) (active_above ps ls l.consumer ++ l.supplier ∷ []))
-      by_end false e = above_other d e ∙ apart l.active (is_parent l.supplier (get_or ps d None)) (active_above ps ls d) (active_above ps ls d ++ l.supplier ∷ [])
 
 -- without links
 pub below_none : (ps : List (Option ℕ)) (d : ℕ) → active_below ps [] d ≡ children_from d 0 ps
@@ -162,7 +123,7 @@ holding_more ps (l ∷ later) ls d =
     omega (arith, holding_more ps later ls d, length-append (parent_of (slice_get ps d)) (suppliers_of d (later ++ ls)), length-append (parent_of (slice_get ps d)) (suppliers_of d (l ∷ later ++ ls)), length-append (suppliers_of d (later ++ ls)) (cond (l.consumer == d) (l.supplier ∷ []) []))
 
 -- the links up to number i are among all
-parts : (links : List Link) (i : ℕ) → reverse (drop i links) ++ reverse (take i links) ≡ reverse links
+pub parts : (links : List Link) (i : ℕ) → reverse (drop i links) ++ reverse (take i links) ≡ reverse links
 parts links i = sym (reverse-append (take i links) (drop i links)) ∙ ap reverse (take-append-drop i links)
 
 pub dependents_part : (ps : List (Option ℕ)) (links : List Link) (i d : ℕ) → length (dependents ps (reverse (take i links)) d) ≤ length (dependents ps (reverse links) d)

@@ -1,5 +1,6 @@
 -- The lemmas of this crate, by file.
 mod Acyclicly
+mod Ends
 mod InPlace
 mod Invariant
 mod Moving

@@ -1,7 +1,7 @@
 -- The invariant of links.
-use Rattle.std.specs.Prelude.{◌≡◌, ◌≤◌, ◌<◌, ◌^◌, ℕ, Bool, not, ◌==◌, ◌&&◌, List, [], ◌∷◌, ◌++◌, length, slice_index_or, if◌then◌else◌, Option, None}
+use Rattle.std.specs.Prelude.{◌≡◌, ◌≤◌, ◌<◌, ◌^◌, ℕ, Bool, ◌==◌, List, [], ◌∷◌, ◌++◌, length, slice_index_or, if◌then◌else◌, Option}
 use Rattle.sleep_model.specs.declared.machine.Link.{Link}
-use Rattle.sleep_model.specs.Order.{EachAfterParent, is_parent, active_of, dependents, superiors, suppliers_of, order_by}
+use Rattle.sleep_model.specs.Order.{EachAfterParent, active_of, dependents, superiors, suppliers_of, order_by}
 use Rattle.sleep_model.specs.Links.{AreLinks, first_occurrences}
 use Rattle.device_rows.specs.Table.{Table, room_at}
 use Rattle.link_rows.specs.Rows.{IsTableOf}
@@ -18,14 +18,6 @@ active_below parents links d = first_occurrences (dependents parents (active_of 
 -- what must be awake before d is, by the links that are active, each once (dpm_wait_for_superior)
 abbrev pub active_above : List (Option ℕ) → List Link → ℕ → List ℕ
 active_above parents links d = first_occurrences (superiors parents (active_of links) d)
-
--- a link shows its consumer below that device: it is active, and the consumer is no child, which is there already
-abbrev pub is_shown_below : List (Option ℕ) → Link → ℕ → Bool
-is_shown_below parents l d = l.active && l.supplier == d && not (is_parent d (slice_index_or parents l.consumer None))
-
--- a link shows its supplier above that device: it is active, and the supplier is not the parent, which is there already
-abbrev pub is_shown_above : List (Option ℕ) → Link → ℕ → Bool
-is_shown_above parents l d = l.active && l.consumer == d && not (is_parent l.supplier (slice_index_or parents d None))
 
 -- the rows have room for all that may come into them, were every link active
 pub record HaveRoomForAll (parents : List (Option ℕ)) (links : List Link) (seen_below seen_above : Table) : Type 0 where

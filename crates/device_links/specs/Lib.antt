@@ -1,5 +1,6 @@
 -- The definitions of this crate, by file.
 pub mod Adds
+pub mod Ends
 pub mod Invariant
 pub mod Linked
 pub mod Moves

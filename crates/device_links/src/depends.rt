@@ -5,20 +5,11 @@ ghost use Rattle.std.specs.Prelude.{◌≡◌, false, true, replicate, slice_ind
 ghost use Rattle.device_rows.specs.Table.{row_at};
 ghost use Rattle.device_links.specs.Spread.{marked, spread, spread_by};
 
+use crate::tables::is_marked;
 use device_rows::Rows;
 
 /// The most devices that a search without memory goes over.
 pub const MOST_SEARCHED: usize = 1024;
-
-/// Whether a device has a mark.
-fn is_set(marks: &[bool], device: u32) -> bool
-    ensures { result ≡ slice_index_or marks.now device false }
-{
-    match marks.get(device as usize) {
-        Some(mark) => *mark,
-        None => false,
-    }
-}
 
 /// Marks a device.
 fn set_mark(marks: &mut [bool], device: u32)
@@ -43,7 +34,7 @@ fn set_row(marks: &mut [bool], row: &[u32])
 fn set_below(marks: &mut [bool], table: &Rows, device: u32)
     ensures { marks.new ≡ spread_by (row_at table.now) device marks.old }
 {
-    if is_set(marks, device) {
+    if is_marked(marks, device) {
         set_row(marks, table.row(device));
     }
 }
@@ -65,5 +56,5 @@ pub(crate) fn comes_to(table: &Rows, order: &[u32], from: u32, to: u32) -> bool
     let mut marks = [false; MOST_SEARCHED];
     set_mark(&mut marks, from);
     set_all(&mut marks, table, order);
-    is_set(&marks, to)
+    is_marked(&marks, to)
 }

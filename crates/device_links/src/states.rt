@@ -4,11 +4,12 @@ ghost use Rattle.std.specs.Prelude.{◌≡◌, ◌<◌, ◌≤◌, ◌==◌, ◌
 ghost use Rattle.std.specs.Bool.{OnFalse};
 ghost use Rattle.sleep_model.specs.Order.{children_from, dependents, superiors, parent_of, with_state};
 ghost use Rattle.device_rows.specs.Table.{row_at, room_at};
-ghost use Rattle.device_links.specs.Invariant.{active_below, active_above, is_shown_below, is_shown_above, numbers_of};
+ghost use Rattle.device_links.specs.Ends.{active_beside, beside, device_across, device_at, in_tree};
+ghost use Rattle.device_links.specs.Invariant.{active_below, active_above, numbers_of};
 ghost use Rattle.device_links.specs.Passes.{AreApart};
 
 use device_rows::Rows;
-use link_rows::is_parent;
+use link_rows::is_left_out;
 use sleep_model::Link;
 
 /// Sets the state of the link between these two, by the numbers of all that the consumer has, and says
@@ -46,20 +47,22 @@ fn set_one(link: &mut Link, supplier: u32, consumer: u32, to: bool) -> bool
     true
 }
 
-/// Whether a link shows its consumer below that device.
-fn is_shown_below(parents: &[Option<u32>], link: Link, device: u32) -> bool
-    requires { link.consumer < length parents.now }
-    ensures { result ≡ is_shown_below parents.now link device }
-{
-    link.supplier == device && link.active && !is_parent(parents[link.consumer as usize], device)
+/// An end of a link (`struct device_link`).
+#[derive(Clone, Copy)]
+pub(crate) enum LinkEnd {
+    Supplier,
+    Consumer,
 }
 
-/// Whether a link shows its supplier above that device.
-fn is_shown_above(parents: &[Option<u32>], link: Link, device: u32) -> bool
-    requires { device < length parents.now }
-    ensures { result ≡ is_shown_above parents.now link device }
+/// The device at that end of a link.
+#[inline(always)]
+fn device_at(end: LinkEnd, link: Link) -> u32
+    ensures { result ≡ device_at end link }
 {
-    link.consumer == device && link.active && !is_parent(parents[device as usize], link.supplier)
+    match end {
+        LinkEnd::Supplier => link.supplier,
+        LinkEnd::Consumer => link.consumer,
+    }
 }
 
 /// The children among what depends directly on a device, which come before its consumers: it supplies as many
@@ -92,7 +95,7 @@ pub(crate) fn refill_below(
 {
     table.clear(device);
     push_children(table, children, device);
-    push_consumers(table, parents, links, supplied, device);
+    push_linked(table, parents, links, supplied, device, LinkEnd::Consumer);
 }
 
 /// Puts the children of a device into its row, which is empty.
@@ -108,27 +111,30 @@ fn push_children(table: &mut Rows, children: &[u32], device: u32)
     }
 }
 
-/// Puts the consumers of a device by active links into its row, after its children.
-fn push_consumers(
+/// Puts the devices at one end of the active links that a device has at their other end into its row, after
+/// its children or its parent.
+#[inline(always)]
+fn push_linked(
     table: &mut Rows,
     parents: &[Option<u32>],
     links: &[Link],
-    supplied: &[u32],
+    numbers: &[u32],
     device: u32,
+    end: LinkEnd,
 )
     requires within { device < length table.old.rows }
-    requires children { row_at table.old device ≡ children_from device 0 parents.now }
-    requires supplied { supplied.now ≡ numbers_of (λ l. l.supplier == device) (reverse links.now) }
-    requires places { length (dependents parents.now (reverse links.now) device) ≤ room_at table.old device }
+    requires tree { row_at table.old device ≡ in_tree end parents.now device }
+    requires numbers { numbers.now ≡ numbers_of (λ l. device_across end l == device) (reverse links.now) }
+    requires places { length (beside end parents.now (reverse links.now) device) ≤ room_at table.old device }
     requires apart { AreApart parents.now (reverse links.now) }
     ensures rows { table.new.rows ≡
-        slice_set table.old.rows device (active_below parents.now (reverse links.now) device) }
+        slice_set table.old.rows device (active_beside end parents.now (reverse links.now) device) }
     ensures places { (d : ℕ) → room_at table.old d ≤ room_at table.new d }
 {
-    for number in supplied {
+    for number in numbers {
         let link = links[*number as usize];
-        if is_shown_below(parents, link, device) {
-            table.push(device, link.consumer);
+        if !is_left_out(parents, link) {
+            table.push(device, device_at(end, link));
         }
     }
 }
@@ -153,7 +159,7 @@ pub(crate) fn refill_above(
 {
     table.clear(device);
     push_parent(table, parents[device as usize], device);
-    push_suppliers(table, parents, links, consumed, device);
+    push_linked(table, parents, links, consumed, device, LinkEnd::Supplier);
 }
 
 /// Puts the parent of a device into its row, which is empty.
@@ -166,31 +172,5 @@ fn push_parent(table: &mut Rows, parent: Option<u32>, device: u32)
 {
     if let Some(parent) = parent {
         table.push(device, parent);
-    }
-}
-
-/// Puts the suppliers of a device by active links into its row, after its parent.
-fn push_suppliers(
-    table: &mut Rows,
-    parents: &[Option<u32>],
-    links: &[Link],
-    consumed: &[u32],
-    device: u32,
-)
-    requires device { device < length parents.now }
-    requires within { device < length table.old.rows }
-    requires parent { row_at table.old device ≡ parent_of (slice_get parents.now device) }
-    requires consumed { consumed.now ≡ numbers_of (λ l. l.consumer == device) (reverse links.now) }
-    requires places { length (superiors parents.now (reverse links.now) device) ≤ room_at table.old device }
-    requires apart { AreApart parents.now (reverse links.now) }
-    ensures rows { table.new.rows ≡
-        slice_set table.old.rows device (active_above parents.now (reverse links.now) device) }
-    ensures places { (d : ℕ) → room_at table.old d ≤ room_at table.new d }
-{
-    for number in consumed {
-        let link = links[*number as usize];
-        if is_shown_above(parents, link, device) {
-            table.push(device, link.supplier);
-        }
     }
 }

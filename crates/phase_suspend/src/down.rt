@@ -33,8 +33,8 @@ pub struct DownEnv<'a> {
     pub wakeup_pending: bool,
 }
 
-/// Whether the phase skips the device as direct-complete: suspend decides by its state now, late and noirq by
-/// what suspend decided.
+/// Whether the phase skips the device as direct-complete. Suspend does if the device asked for it, is runtime
+/// suspended, may not wake the machine, and all right below it are direct-complete. Late and noirq follow it.
 fn is_direct(env: &DownEnv<'_>, p: Phase, device: u32) -> bool
     ensures { (down : Down) → result ≡ is_direct_on (down_state down env.now) p device }
 {

@@ -46,7 +46,7 @@ abbrev pub links_at : Machine → List Entry → List Link
 links_at m [] = reverse m.links
 links_at m (e ∷ past) = links_after e.kind (links_at m past)
 
--- the links that are not dormant (DL_STATE_ACTIVE)
+-- the links that are not dormant (DL_STATE_DORMANT)
 abbrev pub active_of : List Link → List Link
 active_of links = filter (λ l. l.active) links
 

@@ -20,22 +20,23 @@ use Rattle.sleep_model.specs.declared.progress.Stage.{Stage}
 use Rattle.sleep_model.specs.declared.progress.Stage.TheVariants as stage
 use Rattle.phase_table.specs.Phases.{is_down}
 
--- ---- the table of an attempt
+-- ---- rows
 
--- what a stage leads to: what follows it, and what a failure of it leads to
+-- a row has two columns: what follows the stage, and what its failure leads to
 pub record Row : Type 0 where
   pub next : Stage
   pub failed : Stage
 
--- a stage that may fail leads to these two
+-- a stage that may fail
 abbrev pub may_fail : Stage → Stage → Row
 may_fail next failed = record { next = next; failed = failed }
 
--- a stage that does not fail, or whose failure changes nothing, leads there
+-- a stage that does not fail, or whose failure changes nothing: `next` is in both columns
 abbrev pub always : Stage → Row
 always next = record { next = next; failed = next }
 
--- the table: a stage, what follows, what a failure leads to (enter_state, suspend_devices_and_enter, suspend_enter)
+-- the table. A phase late or noirq that fails resumes what it suspended. PrepareLate comes after noirq
+-- (enter_state, suspend_devices_and_enter, suspend_enter, dpm_suspend_late, dpm_suspend_noirq, platform_suspend_prepare_noirq)
 abbrev pub row : Stage → Row
 row stage.Notifies = may_fail (stage.Freezes group.User) stage.NotifiesPost
 row (stage.Freezes group.User) = may_fail (stage.Freezes group.Kernel) (stage.Thaws thaw.All)
@@ -68,9 +69,10 @@ row (stage.Thaws thaw.Kernel) = always (stage.Thaws thaw.All)
 row (stage.Thaws thaw.All) = always stage.NotifiesPost
 row stage.NotifiesPost = always stage.Ends
 row stage.Ends = always stage.Ends
+-- no stage is of another phase on the way down
 row (stage.Downs _) = may_fail (stage.PlatformDo down.PrepareLate) (stage.PlatformUndo undo.Recover)
 
--- ---- its columns, by what a stage is of
+-- ---- the columns of the table, for each sort of stage
 
 -- the stage after a stage, if nothing fails (enter_state, suspend_devices_and_enter, suspend_enter)
 abbrev pub next_stage : Stage → Stage
@@ -104,7 +106,7 @@ stage_after_platform_up step = (row (stage.PlatformUndo step)).next
 abbrev pub stage_after_thaw : Thaw → Stage
 stage_after_thaw those = (row (stage.Thaws those)).next
 
--- after a step of the platform that failed (platform_resume_end, platform_resume_finish, platform_resume_noirq)
+-- after a step of the platform that failed (suspend_devices_and_enter, suspend_enter)
 abbrev pub failed_platform_down : PlatDo → Stage
 failed_platform_down step = (row (stage.PlatformDo step)).failed
 
@@ -128,20 +130,22 @@ abbrev pub by_froze : FrozeEnd → Stage → Stage → Stage
 by_froze AllFrozen good failed = good
 by_froze _ good failed = failed
 
--- the first if it is so, else the second
+-- the first if the condition holds, else the second
 abbrev pub by_case : Bool → Stage → Stage → Stage
 by_case true here there = here
 by_case false here there = there
 
--- the stage after a phase that is done (suspend_devices_and_enter, suspend_enter)
+-- the stage after a phase that is done. That of syscore operations does not fail: one that fails ends the phase at once
+-- (suspend_devices_and_enter, suspend_enter)
 abbrev pub after_done : Phase → Option Errno → Stage
-after_done phase.Prepare r = by_error r (stage.Downs phase.Suspend) (failed_phase phase.Prepare)
-after_done phase.Syscore r = stage.Enters
-after_done phase.SyscoreResume r = stage.StartsIrqs
-after_done phase.Complete r = stage.PlatformUndo undo.End
+after_done phase.Prepare r = by_error r (next_stage stage.Prepares) (failed_at stage.Prepares)
+after_done phase.Syscore r = next_stage stage.StopsSyscore
+after_done phase.SyscoreResume r = next_stage stage.StartsSyscore
+after_done phase.Complete r = next_stage stage.Completes
 after_done p r = if is_down p then by_error r (stage_after_down p) (failed_phase p) else stage_after_up p
 
--- the stage of the open attempt after an entry (enter_state, suspend_devices_and_enter, suspend_enter)
+-- the stage of the open attempt after an entry; one that is none of the attempt's own leaves the stage as it is
+-- (enter_state, suspend_devices_and_enter, suspend_enter)
 abbrev pub stage_after : Kind → Option Stage → Option Stage
 stage_after (kind.Attempt n guarded) before = Some stage.Notifies
 stage_after (kind.NotifyPrepare x r) before = Some (by_error r stage.Notifies stage.NotifiesPost)

@@ -1,4 +1,4 @@
-//! The ladder of an attempt as one table (`enter_state`, `suspend_devices_and_enter`, `suspend_enter`).
+//! The table of an attempt (`enter_state`, `suspend_devices_and_enter`, `suspend_enter`).
 
 ghost use Rattle.std.specs.Prelude.{◌≡◌};
 ghost use Rattle.sleep_model.specs.Table.{next_stage, by_case, failed_at};
@@ -47,7 +47,7 @@ macro_rules! ladder {
             Stage::Thaws(Thaw::All) => Stage::NotifiesPost, Stage::NotifiesPost;
             Stage::NotifiesPost => Stage::Ends, Stage::Ends;
             Stage::Ends => Stage::Ends, Stage::Ends;
-            // No walk has another phase.
+            // No stage is of another phase.
             Stage::Downs(_) => Stage::PlatformDo(PlatDo::PrepareLate), Stage::PlatformUndo(PlatUndo::Recover);
             Stage::Ups(_) => Stage::Completes, Stage::Completes;
         }
@@ -68,7 +68,7 @@ pub(crate) fn failed_at(stage: Stage) -> Stage
     ladder!(failed of stage)
 }
 
-/// The stage after one that is over, failed or not.
+/// The stage after one that is over; `fails` says whether it failed.
 pub(crate) fn leave(stage: Stage, fails: bool) -> Stage
     ensures { result ≡ by_case fails (failed_at stage) (next_stage stage) }
 {
@@ -79,7 +79,7 @@ pub(crate) fn leave(stage: Stage, fails: bool) -> Stage
     }
 }
 
-/// The stage after an entry that leaves its stage only if it fails.
+/// The stage after an entry of a stage that goes on; `fails` says whether the entry ends it by a failure.
 pub(crate) fn stay(stage: Stage, fails: bool) -> Stage
     ensures { result ≡ by_case fails (failed_at stage) stage }
 {

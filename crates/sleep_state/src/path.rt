@@ -45,7 +45,7 @@ fn after_done(phase: Phase, r: Option<Errno>) -> Stage
     match phase {
         Phase::Prepare => leave(Stage::Prepares, r.is_some()),
         Phase::Suspend | Phase::Late | Phase::Noirq => leave(Stage::Downs(phase), r.is_some()),
-        Phase::Syscore => Stage::Enters,
+        Phase::Syscore => next_stage(Stage::StopsSyscore),
         Phase::SyscoreResume => next_stage(Stage::StartsSyscore),
         Phase::ResumeNoirq | Phase::Early | Phase::Resume => next_stage(Stage::Ups(phase)),
         Phase::Complete => next_stage(Stage::Completes),

@@ -18,17 +18,12 @@ refill_indices-requires-clause-kept c =
     subst (λ (indices : List ℕ). OnTrue stays (AreIndices c.order.result.now indices)) (sym c.deref_mut.ensures.value)
     (placed_still stays c.order.result.now (order_of old) old.indices.items (subst (λ (o : List ℕ). OnTrue stays (o ≡ order_of old)) (sym c.order.ensures.order) c.in-Ok.ensures.order) c.self.invariant.closed_over)
 
-pub begin_anew-requires-clause-suspend : goal.begin_anew-requires-clause-suspend
-begin_anew-requires-clause-suspend c =
-    rested_added c.self.inside.layout c.self.inside.suspend c.self.invariant.suspend (λ d k. ap (λ xs. is_among xs d) (sym c.order-devices.ensures.order) ∙ c.order-devices.ensures.covers d k)
-    c.args.supplier c.args.consumer _ c.in-Ok.ensures.ok
-
-pub begin_anew-requires-clause-late : goal.begin_anew-requires-clause-late
-begin_anew-requires-clause-late c =
-    rested_added c.self.inside.layout c.self.inside.late c.self.invariant.late (λ d k. ap (λ xs. is_among xs d) (sym c.order-devices.ensures.order) ∙ c.order-devices.ensures.covers d k)
-    c.args.supplier c.args.consumer _ c.in-Ok.ensures.ok
-
-pub begin_anew-requires-clause-noirq : goal.begin_anew-requires-clause-noirq
-begin_anew-requires-clause-noirq c =
-    rested_added c.self.inside.layout c.self.inside.noirq c.self.invariant.noirq (λ d k. ap (λ xs. is_among xs d) (sym c.order-devices.ensures.order) ∙ c.order-devices.ensures.covers d k)
-    c.args.supplier c.args.consumer _ c.in-Ok.ensures.ok
+pub restart-requires : goal.restart-requires
+restart-requires c = record {
+  suspend = rested_added c.self.inside.layout c.self.inside.pairs.suspend c.self.invariant.walks.suspend (λ d k. ap (λ xs. is_among xs d) (sym c.order-devices.ensures.order) ∙ c.order-devices.ensures.covers d k)
+      c.args.supplier c.args.consumer _ c.in-Ok.ensures.ok;
+  late = rested_added c.self.inside.layout c.self.inside.pairs.late c.self.invariant.walks.late (λ d k. ap (λ xs. is_among xs d) (sym c.order-devices.ensures.order) ∙ c.order-devices.ensures.covers d k)
+      c.args.supplier c.args.consumer _ c.in-Ok.ensures.ok;
+  noirq = rested_added c.self.inside.layout c.self.inside.pairs.noirq c.self.invariant.walks.noirq (λ d k. ap (λ xs. is_among xs d) (sym c.order-devices.ensures.order) ∙ c.order-devices.ensures.covers d k)
+      c.args.supplier c.args.consumer _ c.in-Ok.ensures.ok;
+}

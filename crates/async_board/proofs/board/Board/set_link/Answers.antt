@@ -7,20 +7,15 @@ use Rattle.async_board.specs.Walks.{IsLayout, AreIndices}
 use Rattle.async_board.proofs.Rested.{rested_set}
 use Rattle.async_board.proofs.board.Board.set_link.Goals as goal
 
-pub begin_anew-requires-clause-suspend : goal.begin_anew-requires-clause-suspend
-begin_anew-requires-clause-suspend c =
-    rested_set c.self.inside.layout c.self.inside.suspend c.self.invariant.suspend (λ d k. ap (λ xs. is_among xs d) (sym c.order-devices.ensures.order) ∙ c.order-devices.ensures.covers d k)
-    c.args.supplier c.args.consumer c.args.active _ c.in-Ok.ensures.ok
-
-pub begin_anew-requires-clause-late : goal.begin_anew-requires-clause-late
-begin_anew-requires-clause-late c =
-    rested_set c.self.inside.layout c.self.inside.late c.self.invariant.late (λ d k. ap (λ xs. is_among xs d) (sym c.order-devices.ensures.order) ∙ c.order-devices.ensures.covers d k)
-    c.args.supplier c.args.consumer c.args.active _ c.in-Ok.ensures.ok
-
-pub begin_anew-requires-clause-noirq : goal.begin_anew-requires-clause-noirq
-begin_anew-requires-clause-noirq c =
-    rested_set c.self.inside.layout c.self.inside.noirq c.self.invariant.noirq (λ d k. ap (λ xs. is_among xs d) (sym c.order-devices.ensures.order) ∙ c.order-devices.ensures.covers d k)
-    c.args.supplier c.args.consumer c.args.active _ c.in-Ok.ensures.ok
+pub restart-requires : goal.restart-requires
+restart-requires c = record {
+  suspend = rested_set c.self.inside.layout c.self.inside.pairs.suspend c.self.invariant.walks.suspend (λ d k. ap (λ xs. is_among xs d) (sym c.order-devices.ensures.order) ∙ c.order-devices.ensures.covers d k)
+      c.args.supplier c.args.consumer c.args.active _ c.in-Ok.ensures.ok;
+  late = rested_set c.self.inside.layout c.self.inside.pairs.late c.self.invariant.walks.late (λ d k. ap (λ xs. is_among xs d) (sym c.order-devices.ensures.order) ∙ c.order-devices.ensures.covers d k)
+      c.args.supplier c.args.consumer c.args.active _ c.in-Ok.ensures.ok;
+  noirq = rested_set c.self.inside.layout c.self.inside.pairs.noirq c.self.invariant.walks.noirq (λ d k. ap (λ xs. is_among xs d) (sym c.order-devices.ensures.order) ∙ c.order-devices.ensures.covers d k)
+      c.args.supplier c.args.consumer c.args.active _ c.in-Ok.ensures.ok;
+}
 
 pub invariant_of-self : goal.invariant_of-self
 invariant_of-self c =
@@ -31,7 +26,5 @@ invariant_of-self c =
       closed_over = subst (λ (k : Linked). IsLayout (record { links = k; indices = layout.indices; asynchronous = layout.asynchronous })) (sym c.in-Ok.ensures.ok)
           (subst (λ (xs : List ℕ). AreIndices xs layout.indices.items)
           (sym (order_preserved (with_state s d c.args.active) (same_supplier s d c.args.active) (same_consumer s d c.args.active) layout.links.parents layout.links.links)) c.self.invariant.closed_over);
-      suspend = c.begin_anew.ensures.suspend;
-      late = c.begin_anew.ensures.late;
-      noirq = c.begin_anew.ensures.noirq;
+      walks = c.restart.ensures.kept;
     }
