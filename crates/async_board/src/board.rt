@@ -182,7 +182,7 @@ impl Board {
         ensures size { length result.now.states.items ≡ length self.now.parents }
         ensures cursors { AreCursors self.now.asynchronous result.now.states.items
             (order_on self.now) result.now.cursors }
-        ensures open { (side : Side) → IsOpenCount side self.now.parents self.now.links
+        ensures counts { (side : Side) → IsOpenCount side self.now.parents self.now.links
             result.now.states.items (open_counts side result.now) }
     {
         match p {

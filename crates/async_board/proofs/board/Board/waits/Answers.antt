@@ -14,5 +14,5 @@ returns-then-is_none c =
     let at = c.args.side in
     let row = beside at b.parents b.links in
     sym (subst (λ (ss : List PhaseState). first_where (λ e. is_open at (state_at ss e)) (row c.args.device) ≡ None) c.walk-walk.ensures.states
-    (none_counted (length b.parents) (λ e. is_open at (state_at w.states.items e)) row (open_counts at w) c.args.device (c.walk-walk.ensures.open at)
+    (none_counted (length b.parents) (λ e. is_open at (state_at w.states.items e)) row (open_counts at w) c.args.device (c.walk-walk.ensures.counts at)
     (ap (λ (xs : List ℕ). get_or xs c.args.device 1 == 0) (sym c.open.ensures) ∙ (sym c.is_none.ensures ∙ c.if-is_none.true))))
