@@ -10,7 +10,7 @@ ghost use Rattle.machine_file.specs.Knows.{Knows, names};
 ghost use Rattle.machine_file.specs.Seen.{ends_seen, ends_written, differ, same_ends, end_numbers, are_devices, AreEnds, AreNumbersOf};
 ghost use Rattle.machine_file.specs.Broken.{place_of};
 
-use crate::names::devices::Devices;
+use crate::names::devices::NamedDevices;
 use crate::names::known::{Known, item};
 use crate::value::look::{text_at, word_at};
 use crate::value::place::{Member, Place, items};
@@ -55,7 +55,7 @@ pub(crate) struct EndNumbers {
     pub(crate) consumer: Option<u32>,
 }
 
-fn place_of(ends: &LinkEnds<'_>, devices: &Devices) -> EndNumbers
+fn place_of(ends: &LinkEnds<'_>, devices: &NamedDevices) -> EndNumbers
     ensures { result ≡ end_numbers (names devices.now) (ends_seen ends.now) }
 {
     EndNumbers {
@@ -67,7 +67,7 @@ fn place_of(ends: &LinkEnds<'_>, devices: &Devices) -> EndNumbers
 fn numbers_of_all(
     alloc: Global,
     ends: &[LinkEnds<'_>],
-    devices: &Devices,
+    devices: &NamedDevices,
 ) -> Result<Vec<EndNumbers>, Mem>
     ensures { IfOk result (λ v. v.items ≡ map (end_numbers (names devices.now)) (map ends_seen ends.now)) }
 {
