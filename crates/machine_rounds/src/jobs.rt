@@ -246,6 +246,7 @@ impl<'m> Jobs<'m> {
     }
 
     /// An actor made an entry of the journal, with that stamp, when `attempt` attempts were begun.
+    #[inline(always)]
     pub(crate) fn told_core(&mut self, who: Actor, stamp: Stamp, kind: Kind, attempt: u32)
         requires job { HasJob self.old who }
         requires made { (job_at self.old who).pending ≡ [] }

@@ -125,6 +125,7 @@ impl<'m> SeatedCore<'m> {
 
     /// One turn of an actor, by the word that was looked at last: as that of the core by itself. `NotYet`,
     /// `Done` and `Mem` come if they come of the core, and nothing of it has changed then.
+    #[inline(never)]
     pub fn turn_by<R: Wait>(
         &mut self,
         rt: &R,

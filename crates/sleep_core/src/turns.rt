@@ -223,6 +223,7 @@ impl<'m> Core<'m> {
     }
 
     /// The turn of an actor that saw this word.
+    #[inline(always)]
     fn step<R: Wait>(
         &mut self,
         rt: &R,
@@ -264,6 +265,7 @@ impl<'m> Core<'m> {
     /// exactly if the actor waits, `Done` exactly if nothing is due of it. `Mem` if there is no memory, or no
     /// number for one more attempt, run or mark; nothing has changed then. It never comes for the maker of
     /// the open attempt, nor for a device.
+    #[inline(always)]
     pub fn turn<R: Wait, E: Events>(
         &mut self,
         rt: &R,
