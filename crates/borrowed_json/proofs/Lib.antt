@@ -1,2 +1,4 @@
+pub mod Looks
+pub mod MembersNamed
 pub mod Ranges
 pub mod Seen

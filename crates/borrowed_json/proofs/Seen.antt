@@ -1,5 +1,5 @@
 -- What a value's own tree says is what its data says.
-use Rattle.std.proofs.Common.{◌≡◌, ◌∙◌, ℕ, List, [], ◌∷◌, Bool, true, false, bytes_eq, cond, Option, Some, None, option_map, option_and_then, unwrap_or, Global, Vec, Bor, refl, sym, ap}
+use Rattle.std.proofs.Common.{◌≡◌, ◌∙◌, ℕ, List, [], ◌∷◌, Bool, true, false, bytes_eq, cond, Option, Some, None, option_map, option_and_then, unwrap_or, Global, Vec, refl, sym, ap}
 use Rattle.std.proofs.lemmas.Bool.{false≢true}
 use Rattle.std.specs.Option.{option_or}
 use Rattle.std.specs.Cmp.Lexicographic.{bytes_decides}

@@ -16,9 +16,9 @@ use Rattle.sleep_model.specs.declared.machine.What.TheVariants as what
 use Rattle.sleep_model.specs.Text.{device, syscore, notifier, down_word}
 use Rattle.phase_table.specs.declared.phase.Phase.TheVariants as phase
 use Rattle.phase_table.specs.Phases.{phase_name}
-use Rattle.machine_file.specs.Look.{is_some_and, is_none_or, is_number, is_text, has_only}
-use Rattle.machine_file.specs.Members.{must_have, may_have, has_text, list_in, items_of, number_at, word_at, answer_members}
-use Rattle.machine_file.specs.Form.{is_string, is_within, is_one_of, answerers, phases, is_ret_form, is_report_form, are_reports, is_answer_form}
+use Rattle.borrowed_json.specs.Look.{is_some_and, is_none_or, is_number, is_text, has_only, must_have, may_have, has_text, list_in, items_of, number_at, word_at, is_string, is_within, is_one_of}
+use Rattle.machine_file.specs.Members.{answer_members}
+use Rattle.machine_file.specs.Form.{answerers, phases, is_ret_form, is_report_form, are_reports, is_answer_form}
 use Rattle.machine_file.specs.Names.{is_among_names, own_name, spells_name, devices_named, sources_named, texts_in, names_in}
 use Rattle.machine_file.specs.Rules.{name_of}
 use Rattle.sleep_model.specs.NameBytes.{is_name}

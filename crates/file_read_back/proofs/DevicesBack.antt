@@ -6,9 +6,9 @@ use Rattle.serde_json.specs.Find.{get, as_bool, as_str}
 use Rattle.sleep_model.specs.declared.flags.DeviceFlags.{DeviceFlags}
 use Rattle.sleep_model.specs.Runtime.{has_bit}
 use Rattle.sleep_model.specs.Text.{device}
-use Rattle.machine_file.specs.Look.{is_some_and, is_none_or, is_text}
-use Rattle.machine_file.specs.Members.{must_have, may_have, word_at, device_members}
-use Rattle.machine_file.specs.Form.{Named, is_string, is_truth, is_one_of, statuses, is_device_form}
+use Rattle.borrowed_json.specs.Look.{is_some_and, is_none_or, is_text, must_have, may_have, word_at, is_string, is_truth, is_one_of}
+use Rattle.machine_file.specs.Members.{device_members}
+use Rattle.machine_file.specs.Form.{Named, statuses, is_device_form}
 use Rattle.machine_file.specs.Names.{is_among_names, spells_name, names_of_device, devices_named}
 use Rattle.machine_file.specs.Rules.{name_of}
 use Rattle.sleep_model.specs.NameBytes.{is_name}

@@ -10,7 +10,7 @@ use Rattle.sleep_model.specs.declared.machine.Link.{Link}
 use Rattle.sleep_model.specs.Accepted.{IsAccepted}
 use Rattle.sleep_model.specs.Links.{AreLinks, is_linked}
 use Rattle.sleep_model.specs.Order.{is_among, dependents, moved, parents_of}
-use Rattle.machine_file.specs.Members.{items_of, list_in}
+use Rattle.borrowed_json.specs.Look.{items_of, list_in}
 use Rattle.machine_file.specs.Places.{first_not_after, first_item, item_place}
 use Rattle.machine_file.specs.Form.{is_device_form, is_link_form, unformed_item}
 use Rattle.machine_file.specs.Names.{is_among_names, names_of_device, names_of_link, devices_named, sources_named, misspelled_item, repeated, repeated_device}

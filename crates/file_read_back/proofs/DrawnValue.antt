@@ -7,7 +7,7 @@ use Rattle.sleep_model.specs.declared.machine.Link.{Link}
 use Rattle.sleep_model.specs.declared.machine.Op.TheVariants.{Sleep, Event}
 use Rattle.sleep_model.specs.declared.machine.TaskKind.TheVariants.{Irq}
 use Rattle.machine_file.specs.Devices.{flags_of, whole_device, whole_devices, whole_links}
-use Rattle.machine_file.specs.Members.{items_of, list_in}
+use Rattle.borrowed_json.specs.Look.{items_of, list_in}
 use Rattle.machine_file.specs.Names.{devices_named}
 use Rattle.machine_file.specs.Operations.{known_of, whole_scripts, whole_step}
 use Rattle.machine_file.specs.Rules.{name_of}

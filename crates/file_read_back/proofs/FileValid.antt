@@ -5,8 +5,7 @@ use Rattle.std.specs.Option.{option_or, option_map}
 use Rattle.std.specs.Cmp.Lexicographic.{bytes_decides}
 use Rattle.std.proofs.lemmas.Bool.{and_parts, false≢true}
 use Rattle.serde_json.specs.Data.{Data}
-use Rattle.machine_file.specs.Look.{is_none_or}
-use Rattle.machine_file.specs.Members.{list_in, word_at, may_have}
+use Rattle.borrowed_json.specs.Look.{is_none_or, list_in, word_at, may_have}
 use Rattle.machine_file.specs.Places.{first_not_after, item_place}
 use Rattle.machine_file.specs.Form.{item_forms, is_actor_form, is_answer_form, is_notifier_form}
 use Rattle.machine_file.specs.Names.{item_names, is_among_names, own_name, names_of_device, names_of_link, spells_name, devices_named, sources_named}

@@ -4,9 +4,9 @@ use Rattle.std.proofs.lemmas.Bool.{and_parts, and_from, false≢true, eqb-true}
 use Rattle.serde_json.specs.Data.{Data, string}
 use Rattle.serde_json.specs.Find.{get, as_str, as_number, as_integer}
 use Rattle.sleep_model.specs.Text.{device}
-use Rattle.machine_file.specs.Look.{is_some_and, is_none_or, is_text, has_only, text_at}
-use Rattle.machine_file.specs.Members.{must_have, may_have, has_text, link_members, notifier_members}
-use Rattle.machine_file.specs.Form.{is_string, is_bounded, is_one_of, link_states, is_link_form, is_notifier_form}
+use Rattle.borrowed_json.specs.Look.{is_some_and, is_none_or, is_text, has_only, text_at, must_have, may_have, has_text, is_string, is_bounded, is_one_of}
+use Rattle.machine_file.specs.Members.{link_members, notifier_members}
+use Rattle.machine_file.specs.Form.{link_states, is_link_form, is_notifier_form}
 use Rattle.machine_file.specs.Names.{is_among_names, spells_name, names_of_link, own_name, devices_named}
 use Rattle.machine_file.specs.Rules.{name_of}
 use Rattle.sleep_model.specs.NameBytes.{is_name}

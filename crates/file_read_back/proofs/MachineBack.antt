@@ -5,8 +5,7 @@ use Rattle.serde_json.specs.Find.{get}
 use Rattle.sleep_model.specs.Text.{down_word}
 use Rattle.sleep_model.specs.declared.machine.What.{What}
 use Rattle.sleep_model.specs.declared.machine.What.TheVariants as what
-use Rattle.machine_file.specs.Look.{text_of}
-use Rattle.machine_file.specs.Members.{has_text, list_in, number_at}
+use Rattle.borrowed_json.specs.Look.{text_of, has_text, list_in, number_at}
 use Rattle.machine_file.specs.Names.{names_of_link, own_name, devices_named, sources_named, names_in, texts_in}
 use Rattle.machine_file.specs.Form.{is_notifier_form}
 use Rattle.machine_file.specs.Rules.{name_of}

@@ -5,7 +5,7 @@ use Rattle.std.specs.Cmp.Lexicographic.{bytes_decides}
 use Rattle.std.proofs.lemmas.Bool.{false≢true}
 use Rattle.serde_json.specs.Data.{Data}
 use Rattle.sleep_model.specs.Text.{name_in, device_name, notifier_name, device, notifier, syscore, source, mark}
-use Rattle.machine_file.specs.Members.{list_in}
+use Rattle.borrowed_json.specs.Look.{list_in}
 use Rattle.machine_file.specs.Names.{is_among_names, devices_named, sources_named, names_in, texts_in}
 use Rattle.machine_file.specs.Rules.{name_of}
 use Rattle.machine_file.specs.Spelled.{index_among}

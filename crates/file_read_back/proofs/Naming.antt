@@ -7,10 +7,8 @@ use Rattle.std.proofs.lemmas.Bool.{and_parts, and_from, false≢true}
 use Rattle.serde_json.specs.Data.{Data}
 use Rattle.serde_json.specs.Find.{get, as_str}
 use Rattle.sleep_model.specs.declared.machine.Machine.{Machine}
-use Rattle.machine_file.specs.Look.{has_only, is_some_and, is_none_or, text_of}
-use Rattle.machine_file.specs.Members.{list_in, word_at, must_have, may_have, has_text}
+use Rattle.borrowed_json.specs.Look.{has_only, is_some_and, is_none_or, text_of, list_in, word_at, must_have, may_have, has_text, is_within}
 use Rattle.machine_file.specs.Places.{first_not_after, item_place}
-use Rattle.machine_file.specs.Form.{is_within}
 use Rattle.machine_file.specs.Names.{is_among_names, own_name, names_of_device, spells_name, names_in, texts_in, devices_named, sources_named, repeated}
 use Rattle.machine_file.specs.Rules.{name_of}
 use Rattle.sleep_model.specs.NameBytes.{is_name as is_spelled}

@@ -3,8 +3,7 @@ use Rattle.std.proofs.Common.{◌≡◌, ◌&&◌, ◌==◌, ℕ, Bool, true, fa
 use Rattle.std.proofs.lemmas.Bool.{false≢true, eqb-true}
 use Rattle.serde_json.specs.Data.{Data, boolean}
 use Rattle.serde_json.specs.Find.{as_number, as_u64, as_bool}
-use Rattle.machine_file.specs.Look.{is_some_and, is_none_or}
-use Rattle.machine_file.specs.Form.{is_within, is_truth}
+use Rattle.borrowed_json.specs.Look.{is_some_and, is_none_or, is_within, is_truth}
 use Rattle.machine_file.specs.Spelling.{count}
 
 -- the number at a member, by what is there

@@ -7,9 +7,8 @@ use Rattle.serde_json.specs.Find.{get, as_str, as_bool, as_number, as_u64}
 use Rattle.sleep_model.specs.declared.machine.Op.{Op}
 use Rattle.sleep_model.specs.declared.machine.Op.TheVariants.{Read, Save, State, Autosleep, Sleep, SleepD, FreezePoint, Post, Wait, Runtime, Link, LinkState, Awake, Relax, Event}
 use Rattle.sleep_model.specs.Text.{device, source, mark, runtime_word, link_word}
-use Rattle.machine_file.specs.Look.{is_some_and, is_none_or, is_text, has_only, text_at}
-use Rattle.machine_file.specs.Members.{must_have, may_have, has_text, number_at, word_at}
-use Rattle.machine_file.specs.Form.{Named, is_string, is_truth, is_within, is_time, is_one_of, statuses, link_states}
+use Rattle.borrowed_json.specs.Look.{is_some_and, is_none_or, is_text, has_only, text_at, must_have, may_have, has_text, number_at, word_at, is_string, is_truth, is_within, is_one_of}
+use Rattle.machine_file.specs.Form.{Named, is_time, statuses, link_states}
 use Rattle.machine_file.specs.Names.{spells_name, is_among_names, devices_named, sources_named}
 use Rattle.sleep_model.specs.NameBytes.{is_name}
 use Rattle.machine_file.specs.Spelled.{index_among}

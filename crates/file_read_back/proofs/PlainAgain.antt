@@ -23,9 +23,8 @@ use Rattle.sleep_model.specs.declared.machine.What.{What}
 use Rattle.sleep_model.specs.declared.machine.What.TheVariants as what
 use Rattle.sleep_model.specs.Runtime.{has_bit, is_async, may_wake}
 use Rattle.sleep_model.specs.Text.{device, source, kind_word, runtime_word, link_word}
-use Rattle.machine_file.specs.Look.{is_some_and, is_none_or, text_of}
-use Rattle.machine_file.specs.Members.{list_in, has_text, number_at}
-use Rattle.machine_file.specs.Form.{Named, is_within, is_ret_form, is_notifier_form, is_bounded}
+use Rattle.borrowed_json.specs.Look.{is_some_and, is_none_or, text_of, list_in, has_text, number_at, is_within, is_bounded}
+use Rattle.machine_file.specs.Form.{Named, is_ret_form, is_notifier_form}
 use Rattle.machine_file.specs.Names.{own_name, devices_named, sources_named}
 use Rattle.machine_file.specs.Spelled.{link_of}
 use Rattle.machine_file.specs.Devices.{whole_device}

@@ -7,9 +7,9 @@ use Rattle.serde_json.specs.Find.{get, as_str, as_bool}
 use Rattle.sleep_model.specs.declared.machine.SourceCall.{SourceCall}
 use Rattle.sleep_model.specs.declared.machine.SourceCall.TheVariants as call
 use Rattle.sleep_model.specs.Text.{source}
-use Rattle.machine_file.specs.Look.{is_some_and, is_none_or, is_text, has_only, text_at}
-use Rattle.machine_file.specs.Members.{must_have, may_have, has_text, word_at, report_members}
-use Rattle.machine_file.specs.Form.{Named, is_string, is_truth, is_time, is_one_of, is_plain_report, is_event_report, is_report_form}
+use Rattle.borrowed_json.specs.Look.{is_some_and, is_none_or, is_text, has_only, text_at, must_have, may_have, has_text, word_at, is_string, is_truth, is_one_of}
+use Rattle.machine_file.specs.Members.{report_members}
+use Rattle.machine_file.specs.Form.{Named, is_time, is_plain_report, is_event_report, is_report_form}
 use Rattle.machine_file.specs.Names.{sources_named}
 use Rattle.machine_file.specs.Spelled.{index_among}
 use Rattle.machine_file.specs.Operations.{names_source, ms_of, says}

@@ -8,8 +8,7 @@ use Rattle.std.proofs.lemmas.Cmp.{nat_list_cmp_total, tied_itself}
 use Rattle.serde_json.specs.Data.{Data, no_items, put}
 use Rattle.serde_json.specs.Find.{get, get_member, as_array}
 use Rattle.serde_json.proofs.Views.{get_member-put, get_member-put_other}
-use Rattle.machine_file.specs.Look.{are_named, has_only}
-use Rattle.machine_file.specs.Members.{items_of, list_in}
+use Rattle.borrowed_json.specs.Look.{are_named, has_only, items_of, list_in}
 use Rattle.machine_file.specs.Form.{Named}
 use Rattle.machine_file.specs.Spelling.{as_items, put_if, as_members, object_of, list_unless_empty}
 use Rattle.machine_file.proofs.Sheets.{is_before, are_rising, put_first}

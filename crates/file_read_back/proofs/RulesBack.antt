@@ -7,10 +7,10 @@ use Rattle.serde_json.specs.Data.{Data}
 use Rattle.serde_json.specs.Find.{get}
 use Rattle.sleep_model.specs.Answers.{is_for}
 use Rattle.sleep_model.specs.Order.{is_among, dependents, moved, parents_of}
-use Rattle.machine_file.specs.Look.{is_some_and, is_none_or, is_number, is_list, has_only}
-use Rattle.machine_file.specs.Members.{may_have, has_text, list_in, number_at, file_members}
+use Rattle.borrowed_json.specs.Look.{is_some_and, is_none_or, is_number, is_list, has_only, may_have, has_text, list_in, number_at, is_within, is_string}
+use Rattle.machine_file.specs.Members.{file_members}
 use Rattle.machine_file.specs.Places.{unless, first_not, first_not_after, first_item, first_operation_of, item_place}
-use Rattle.machine_file.specs.Form.{Named, first_row, member_forms, is_within, is_string, is_device_form, is_link_form, is_notifier_form, is_actor_form, is_answer_form, unformed_member, unformed_item}
+use Rattle.machine_file.specs.Form.{Named, first_row, member_forms, is_device_form, is_link_form, is_notifier_form, is_actor_form, is_answer_form, unformed_member, unformed_item}
 use Rattle.machine_file.specs.Names.{is_among_names, names_of_device, names_of_link, spells_name, own_name, devices_named, sources_named, repeated, misspelled_item}
 use Rattle.machine_file.specs.Rules.{name_of, has_version, is_second}
 use Rattle.sleep_model.specs.NameBytes.{is_name}

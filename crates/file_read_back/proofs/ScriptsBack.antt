@@ -8,10 +8,10 @@ use Rattle.serde_json.specs.Data.{Data, string}
 use Rattle.serde_json.specs.Find.{get, as_str}
 use Rattle.sleep_model.specs.declared.machine.TaskKind.{TaskKind}
 use Rattle.sleep_model.specs.declared.machine.TaskKind.TheVariants.{User, Kthread, NoFreeze, Irq}
-use Rattle.machine_file.specs.Look.{is_some_and, is_none_or, is_text, is_list, has_only, text_at}
-use Rattle.machine_file.specs.Members.{must_have, may_have, list_in, word_at, actor_members}
+use Rattle.borrowed_json.specs.Look.{is_some_and, is_none_or, is_text, is_list, has_only, text_at, must_have, may_have, list_in, word_at, is_string, is_within, is_one_of}
+use Rattle.machine_file.specs.Members.{actor_members}
 use Rattle.machine_file.specs.Places.{first_operation_of, operation_place}
-use Rattle.machine_file.specs.Form.{is_string, is_within, is_one_of, kinds, is_actor_form}
+use Rattle.machine_file.specs.Form.{kinds, is_actor_form}
 use Rattle.machine_file.specs.Names.{is_among_names, own_name, spells_name}
 use Rattle.machine_file.specs.Rules.{name_of}
 use Rattle.machine_file.specs.Limits.{repeat_of, times_if, script_steps}

@@ -9,8 +9,7 @@ use Rattle.json.proofs.Printed.Utf8.{IsUtf8-are_ascii}
 use Rattle.serde_json.specs.Data.{Data, null, boolean, number, string, array, object, Items, no_items, item, Members, no_members, member}
 use Rattle.serde_json.specs.Find.{get, get_member, as_str, as_array}
 use Rattle.sleep_model.specs.Text.{name_in, device, source, mark}
-use Rattle.machine_file.specs.Look.{text_at, text_of}
-use Rattle.machine_file.specs.Members.{items_of, list_in, word_at}
+use Rattle.borrowed_json.specs.Look.{text_at, text_of, items_of, list_in, word_at}
 use Rattle.machine_file.specs.Names.{is_among_names, devices_named, sources_named}
 use Rattle.machine_file.specs.Rules.{name_of}
 use Rattle.machine_file.specs.Operations.{marks_of, first_occurrences, whole_marks}

@@ -9,10 +9,10 @@ use Rattle.sleep_model.specs.declared.machine.What.{What}
 use Rattle.sleep_model.specs.declared.machine.What.TheVariants as what
 use Rattle.sleep_model.specs.Order.{is_among, dependents, moved, parents_of}
 use Rattle.sleep_model.specs.Text.{down_word}
-use Rattle.machine_file.specs.Look.{is_some_and, is_none_or, is_number, are_named, has_only, text_at, text_of}
-use Rattle.machine_file.specs.Members.{must_have, may_have, has_text, items_of, list_in, number_at, file_members, link_members}
+use Rattle.borrowed_json.specs.Look.{is_some_and, is_none_or, is_number, are_named, has_only, text_at, text_of, must_have, may_have, has_text, items_of, list_in, number_at, is_string, is_one_of}
+use Rattle.machine_file.specs.Members.{file_members, link_members}
 use Rattle.machine_file.specs.Places.{unless, first_not, first_not_after, first_item, first_operation_of, item_place}
-use Rattle.machine_file.specs.Form.{Named, member_forms, item_forms, is_string, is_one_of, link_states, is_device_form, is_link_form, is_notifier_form, is_actor_form, is_answer_form, unformed_member, unformed_item}
+use Rattle.machine_file.specs.Form.{Named, member_forms, item_forms, link_states, is_device_form, is_link_form, is_notifier_form, is_actor_form, is_answer_form, unformed_member, unformed_item}
 use Rattle.machine_file.specs.Names.{is_among_names, names_of_device, names_of_link, spells_name, own_name, devices_named, repeated, misspelled_item}
 use Rattle.machine_file.specs.Rules.{is_second, has_version, name_of}
 use Rattle.machine_file.specs.Spelled.{index_among, link_of}

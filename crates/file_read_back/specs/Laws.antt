@@ -6,7 +6,7 @@ use Rattle.sleep_model.specs.declared.log.Log.{Log}
 use Rattle.sleep_model.specs.declared.machine.Machine.{Machine}
 use Rattle.sleep_model.specs.Fits.{IsWritable}
 use Rattle.sleep_model.specs.Text.{text}
-use Rattle.machine_file.specs.Look.{has_only}
+use Rattle.borrowed_json.specs.Look.{has_only}
 use Rattle.machine_file.specs.Members.{file_members}
 use Rattle.machine_file.specs.Whole.{first_broken, whole_machine, IsSpelled}
 use Rattle.log_text.specs.Named.{AreNamed}

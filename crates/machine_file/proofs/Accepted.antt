@@ -6,9 +6,8 @@ use Rattle.serde_json.specs.Data.{Data}
 use Rattle.serde_json.specs.Find.{get, as_number, as_u64}
 use Rattle.sleep_model.specs.Accepted.{IsAccepted}
 use Rattle.sleep_model.specs.Places.{link_steps}
-use Rattle.machine_file.specs.Look.{is_some_and, is_none_or, text_of}
-use Rattle.machine_file.specs.Members.{may_have, list_in}
-use Rattle.machine_file.specs.Form.{Named, first_row, is_within, member_forms}
+use Rattle.borrowed_json.specs.Look.{is_some_and, is_none_or, text_of, may_have, list_in, is_within}
+use Rattle.machine_file.specs.Form.{Named, first_row, member_forms}
 use Rattle.machine_file.specs.Limits.{most_items}
 use Rattle.machine_file.specs.Answering.{sourceless_report, whole_answer}
 use Rattle.machine_file.specs.Devices.{whole_device}

@@ -21,10 +21,10 @@ use Rattle.sleep_model.specs.declared.machine.SourceCall.TheVariants as call
 use Rattle.sleep_model.specs.Accepted.{AreAnswers, AreReports, IsReport, IsThing, is_one_allowed, is_ret_of}
 use Rattle.sleep_model.specs.Answers.{errors}
 use Rattle.sleep_model.specs.Text.{down_word}
-use Rattle.machine_file.specs.Look.{is_some_and, is_none_or, is_number, is_text, has_only}
-use Rattle.machine_file.specs.Members.{must_have, may_have, has_text, items_of, list_in, number_at, answer_members, report_members}
+use Rattle.borrowed_json.specs.Look.{is_some_and, is_none_or, is_number, is_text, has_only, must_have, may_have, has_text, items_of, list_in, number_at, is_string, is_one_of, is_within, is_truth}
+use Rattle.machine_file.specs.Members.{answer_members, report_members}
 use Rattle.machine_file.specs.Places.{item_place, first_item}
-use Rattle.machine_file.specs.Form.{Named, row, first_in_lists, item_forms, unformed_item, is_string, is_one_of, is_within, is_time, is_truth, is_ret_form, is_plain_report, is_event_report, is_report_form, are_reports, is_answer_form, answerers, phases}
+use Rattle.machine_file.specs.Form.{Named, row, first_in_lists, item_forms, unformed_item, is_time, is_ret_form, is_plain_report, is_event_report, is_report_form, are_reports, is_answer_form, answerers, phases}
 use Rattle.machine_file.specs.Names.{is_among_names, names_in, texts_in, devices_named, sources_named}
 use Rattle.machine_file.specs.Rules.{is_second, name_of}
 use Rattle.machine_file.specs.Spelled.{index_among}

@@ -3,7 +3,7 @@ use Rattle.std.proofs.Common.{◌≡◌, ◌*◌, ℕ, Bool, codes, refl, arith,
 use Rattle.std.proofs.lemmas.Grind.{common_steps}
 use Rattle.serde_json.specs.Data.{Data}
 use Rattle.machine_file.specs.declared.rules.limits.Steps.{Steps}
-use Rattle.machine_file.specs.Members.{list_in}
+use Rattle.borrowed_json.specs.Look.{list_in}
 use Rattle.machine_file.specs.Limits.{times_if, repeat_of, is_state_step, is_link_step, has_autosleep}
 use Rattle.machine_file.specs.Counted.{capped, any_step, steps_of_script, repeated_steps, steps_of_actor}
 

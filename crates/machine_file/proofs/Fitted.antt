@@ -7,15 +7,13 @@ use Rattle.std.proofs.lemmas.Bool.{false≢true, and_parts, leb-true}
 use Rattle.std.proofs.lemmas.Map.Text.{is_eq-slice_cmp}
 use Rattle.serde_json.specs.Data.{Data, null, boolean, number, string, array, object, Members, no_members, member}
 use Rattle.serde_json.specs.Find.{get, get_member, as_number, as_u64, as_str}
-use Rattle.machine_file.specs.Look.{has_only, are_named, is_some_and, is_none_or, text_of}
-use Rattle.machine_file.specs.Members.{must_have, may_have, has_text, word_at}
-use Rattle.machine_file.specs.Form.{is_within, is_truth, is_time}
+use Rattle.borrowed_json.specs.Look.{has_only, are_named, is_some_and, is_none_or, text_of, must_have, may_have, has_text, word_at, is_within}
 use Rattle.machine_file.specs.Names.{spells_name}
 use Rattle.machine_file.specs.Rules.{name_of}
 use Rattle.sleep_model.specs.NameBytes.{is_name_byte, is_name}
 use Rattle.machine_file.specs.Limits.{times_of}
 use Rattle.machine_file.specs.Operations.{Operation, operations, fits_row, is_formed, plain, has_count, has_short_text, is_state_form, has_length, has_mark, is_runtime_form, has_ends_named, is_link_state_form, changes_links, row_of, has_source, is_event_form}
-use Rattle.machine_file.specs.Fitting.{IsShort, FitsAt, FitsStep}
+use Rattle.machine_file.specs.Fitting.{IsShort, FitsAt}
 
 -- ---- members that are not there
 
@@ -117,7 +115,6 @@ short_spelled s e = short_some (Some s) e
 -- what the rules on operations say of one
 pub record IsPlain (o : Data) : Type 0 where
   pub made : 1 ≤ times_of o
-  pub fits : FitsStep o
   pub mark : is_none_or is_name (word_at (codes "mark") o) ≡ true
 
 -- each row of a table gives it
@@ -146,34 +143,17 @@ module _ (o : Data) (members : List (List ℕ)) (form : Bool) (e : (has_only (co
   made : 1 ≤ times_of o
   made = least_or 20000 (get (codes "times") o) (and_parts (has_only names o) (may_have (codes "times") (is_within 1 20000) o) front).1
 
-  times : FitsAt (codes "times") o
-  times = within_fits 1 20000 (codes "times") o (omega arith) (and_parts (has_only names o) (may_have (codes "times") (is_within 1 20000) o) front).1
-
   -- the form of the row
   formed : form ≡ true
   formed = (and_parts (has_only names o && may_have (codes "times") (is_within 1 20000) o) form e).1
 
-  none_at : (k : List ℕ) → list_any (bytes_eq k) names ≡ false → FitsAt k o
-  none_at k n = absent_fits names k o only n
-
-  markless : list_any (bytes_eq (codes "mark")) names ≡ false → is_none_or is_name (word_at (codes "mark") o) ≡ true
-  markless n = absent_word is_name names (codes "mark") o only n
-
-  -- a row without numbers and marks
-  plain_row : list_any (bytes_eq (codes "count")) names ≡ false → list_any (bytes_eq (codes "ms")) names ≡ false → list_any (bytes_eq (codes "mark")) names ≡ false → IsPlain o
-  plain_row c m k = record { made = made; fits = record { times = times; count = none_at (codes "count") c; ms = none_at (codes "ms") m }; mark = markless k }
-
-  -- a row with a length
-  long_row : list_any (bytes_eq (codes "count")) names ≡ false → list_any (bytes_eq (codes "mark")) names ≡ false → (form ≡ true → FitsAt (codes "ms") o) → IsPlain o
-  long_row c k ms = record { made = made; fits = record { times = times; count = none_at (codes "count") c; ms = ms formed }; mark = markless k }
-
-  -- the row of a number that is saved
-  saved_row : list_any (bytes_eq (codes "ms")) names ≡ false → list_any (bytes_eq (codes "mark")) names ≡ false → (form ≡ true → FitsAt (codes "count") o) → IsPlain o
-  saved_row m k count = record { made = made; fits = record { times = times; count = count formed; ms = none_at (codes "ms") m }; mark = markless k }
+  -- a row without a mark
+  plain_row : list_any (bytes_eq (codes "mark")) names ≡ false → IsPlain o
+  plain_row n = record { made = made; mark = absent_word is_name names (codes "mark") o only n }
 
   -- a row with a mark
-  marked_row : list_any (bytes_eq (codes "count")) names ≡ false → list_any (bytes_eq (codes "ms")) names ≡ false → (form ≡ true → is_none_or is_name (word_at (codes "mark") o) ≡ true) → IsPlain o
-  marked_row c m mark = record { made = made; fits = record { times = times; count = none_at (codes "count") c; ms = none_at (codes "ms") m }; mark = mark formed }
+  marked_row : (form ≡ true → is_none_or is_name (word_at (codes "mark") o) ≡ true) → IsPlain o
+  marked_row mark = record { made = made; mark = mark formed }
 
 named_mark : (o : Data) → has_mark o ≡ true → is_none_or is_name (word_at (codes "mark") o) ≡ true
 named_mark o e = by (get (codes "mark") o) e
@@ -186,44 +166,36 @@ named_mark o e = by (get (codes "mark") o) e
     by None h = refl
     by (Some d) h = found (as_str d) h
 
-long_form : (o : Data) → has_length o ≡ true → FitsAt (codes "ms") o
-long_form o e = within_fits 1 86400000 (codes "ms") o (omega arith) (must_may (is_time 1) (get (codes "ms") o) e)
-
-event_form : (o : Data) → is_event_form o ≡ true → FitsAt (codes "ms") o
-event_form o e =
-    let both = and_parts (has_source o && may_have (codes "ms") (is_time 0) o) (may_have (codes "hard") is_truth o) e in
-    within_fits 0 86400000 (codes "ms") o (omega arith) (and_parts (has_source o) (may_have (codes "ms") (is_time 0) o) both.0).1
-
 each_row : (o : Data) → EachRow o operations
 each_row o = (
-  λ e. plain_row o [] (plain o) e refl refl refl,
+  λ e. plain_row o [] (plain o) e refl,
   (
-    λ e. saved_row o (codes "count" ∷ []) (has_count o) e refl refl (λ h. within_fits 0 4294967295 (codes "count") o (omega arith) h),
+    λ e. plain_row o (codes "count" ∷ []) (has_count o) e refl,
     (
-      λ e. plain_row o (codes "text" ∷ codes "if_saved" ∷ []) (is_state_form o) e refl refl refl,
+      λ e. plain_row o (codes "text" ∷ codes "if_saved" ∷ []) (is_state_form o) e refl,
       (
-        λ e. plain_row o (codes "text" ∷ []) (has_short_text o) e refl refl refl,
+        λ e. plain_row o (codes "text" ∷ []) (has_short_text o) e refl,
         (
-          λ e. long_row o (codes "ms" ∷ []) (has_length o) e refl refl (long_form o),
+          λ e. plain_row o (codes "ms" ∷ []) (has_length o) e refl,
           (
-            λ e. long_row o (codes "ms" ∷ []) (has_length o) e refl refl (long_form o),
+            λ e. plain_row o (codes "ms" ∷ []) (has_length o) e refl,
             (
-              λ e. plain_row o [] (plain o) e refl refl refl,
+              λ e. plain_row o [] (plain o) e refl,
               (
-                λ e. marked_row o (codes "mark" ∷ []) (has_mark o) e refl refl (named_mark o),
+                λ e. marked_row o (codes "mark" ∷ []) (has_mark o) e (named_mark o),
                 (
-                  λ e. marked_row o (codes "mark" ∷ []) (has_mark o) e refl refl (named_mark o),
+                  λ e. marked_row o (codes "mark" ∷ []) (has_mark o) e (named_mark o),
                   (
-                    λ e. plain_row o (codes "device" ∷ codes "to" ∷ []) (is_runtime_form o) e refl refl refl,
+                    λ e. plain_row o (codes "device" ∷ codes "to" ∷ []) (is_runtime_form o) e refl,
                     (
-                      λ e. plain_row o (codes "supplier" ∷ codes "consumer" ∷ []) (has_ends_named o) e refl refl refl,
+                      λ e. plain_row o (codes "supplier" ∷ codes "consumer" ∷ []) (has_ends_named o) e refl,
                       (
-                        λ e. plain_row o (codes "supplier" ∷ codes "consumer" ∷ codes "to" ∷ []) (is_link_state_form o) e refl refl refl,
+                        λ e. plain_row o (codes "supplier" ∷ codes "consumer" ∷ codes "to" ∷ []) (is_link_state_form o) e refl,
                         (
-                          λ e. plain_row o (codes "source" ∷ []) (has_source o) e refl refl refl,
+                          λ e. plain_row o (codes "source" ∷ []) (has_source o) e refl,
                           (
-                            λ e. plain_row o (codes "source" ∷ []) (has_source o) e refl refl refl,
-                            (λ e. long_row o (codes "source" ∷ codes "ms" ∷ codes "hard" ∷ []) (is_event_form o) e refl refl (event_form o), tt),
+                            λ e. plain_row o (codes "source" ∷ []) (has_source o) e refl,
+                            (λ e. plain_row o (codes "source" ∷ codes "ms" ∷ codes "hard" ∷ []) (is_event_form o) e refl, tt),
                           ),
                         ),
                       ),

@@ -10,16 +10,16 @@ use Rattle.serde_json.specs.Data.{Data}
 use Rattle.serde_json.specs.Find.{get, as_number, as_u64}
 use Rattle.sleep_base.specs.Errno.{name_of as error_name}
 use Rattle.sleep_model.specs.Answers.{errors}
-use Rattle.machine_file.specs.Look.{has_only, is_some_and, is_none_or, is_list, is_number, text_of}
-use Rattle.machine_file.specs.Members.{actor_members, answer_members, report_members, notifier_members, must_have, may_have, has_text, list_in, word_at}
-use Rattle.machine_file.specs.Form.{Named, is_string, is_truth, is_within, is_bounded, is_one_of, is_time, is_notifier_form, is_actor_form, kinds, answerers, phases, is_ret_form, is_plain_report, is_event_report, is_report_form, are_reports, is_answer_form, item_forms, member_forms}
+use Rattle.borrowed_json.specs.Look.{has_only, is_some_and, is_none_or, is_list, is_number, text_of, must_have, may_have, has_text, list_in, word_at, is_string, is_truth, is_within, is_bounded, is_one_of}
+use Rattle.machine_file.specs.Members.{actor_members, answer_members, report_members, notifier_members}
+use Rattle.machine_file.specs.Form.{Named, is_time, is_notifier_form, is_actor_form, kinds, answerers, phases, is_ret_form, is_plain_report, is_event_report, is_report_form, are_reports, is_answer_form, item_forms, member_forms}
 use Rattle.machine_file.specs.Names.{spells_name, names_of_device, own_name, item_names, is_among_names}
 use Rattle.machine_file.specs.Rules.{is_second}
 use Rattle.sleep_model.specs.NameBytes.{is_name}
 use Rattle.machine_file.specs.Operations.{is_formed, marks_of, first_occurrences, whole_marks}
 use Rattle.machine_file.specs.Limits.{times_of, repeat_of, times_if, script_steps}
 use Rattle.machine_file.specs.Whole.{rules, first_broken}
-use Rattle.machine_file.specs.Fitting.{IsShort, HasShortName, FitsAt, FitsNotifier, FitsStep, FitsScript, HasPlainRet, FitsAnswer, FitsFile}
+use Rattle.machine_file.specs.Fitting.{IsShort, HasShortName, FitsAt, FitsNotifier, FitsScript, HasPlainRet, FitsAnswer, FitsFile}
 use Rattle.machine_file.specs.Groups.{form_rules}
 use Rattle.machine_file.specs.ValidFiles.{broken_form}
 use Rattle.machine_file.proofs.Accepted.{keeps_all, all_pass}
@@ -60,21 +60,8 @@ repeats a e =
     let repeat = may_have (codes "repeat") (is_within 1 1000) a in
     (and_parts named repeat (and_parts (named && repeat) (may_have (codes "script") is_list a) e).0).1
 
-fits_script : (second : Bool) (a : Data) → is_actor_form a ≡ true → own_name a ≡ true → is_formed_script second a ≡ true → FitsScript a
-fits_script second a form name script =
-    record {
-      name = short_name a name;
-      repeat = within_fits 1 1000 (codes "repeat") a (omega arith) (repeats a form);
-      steps = all_of FitsStep (is_formed second a) (λ o h. (plain_operation second a o h).fits) (list_in (codes "script") a) script;
-    }
-
-fits_scripts : (second : Bool) (actors : List Data) → list_all is_actor_form actors ≡ true → list_all own_name actors ≡ true → list_all (is_formed_script second) actors ≡ true → All FitsScript actors
-fits_scripts second [] f n s = All-nil FitsScript
-fits_scripts second (a ∷ actors) f n s =
-    let fs = and_parts (is_actor_form a) (list_all is_actor_form actors) f in
-    let ns = and_parts (own_name a) (list_all own_name actors) n in
-    let ss = and_parts (is_formed_script second a) (list_all (is_formed_script second) actors) s in
-    All-cons FitsScript a actors (fits_script second a fs.0 ns.0 ss.0) (fits_scripts second actors fs.1 ns.1 ss.1)
+fits_script : (a : Data) → is_actor_form a ≡ true → own_name a ≡ true → FitsScript a
+fits_script a form name = record { name = short_name a name; repeat = within_fits 1 1000 (codes "repeat") a (omega arith) (repeats a form) }
 
 -- ---- marks
 
@@ -230,6 +217,16 @@ fits_devices d h =
     let spelled : EachList d item_names = each_list d item_names (keeps_all form_rules d h).1.1.1.1.1.0 in
     all_of HasShortName names_of_device device_name (list_in (codes "devices") d) (each_item (codes "devices") names_of_device d spelled.0)
 
+-- so have its actors
+pub fits_actors : (d : Data) → broken_form d ≡ None → All FitsScript (list_in (codes "actors") d)
+unfolding broken_form
+fits_actors d h =
+    let r = keeps_all form_rules d h in
+    let forms : EachList d (item_forms (is_second d)) = each_list d (item_forms (is_second d)) r.1.1.1.0 in
+    let spelled : EachList d item_names = each_list d item_names r.1.1.1.1.1.0 in
+    all_both FitsScript is_actor_form own_name fits_script (list_in (codes "actors") d)
+    (each_item (codes "actors") is_actor_form d forms.1.1.1.1.1.0) (each_item (codes "actors") own_name d spelled.1.1.1.1.1.0)
+
 -- a file that breaks no rule has room
 pub fits_file : (d : Data) → first_broken d ≡ None → FitsFile d
 fits_file d h =
@@ -256,6 +253,5 @@ fits_file d h =
       sources = all_passed IsShort text_of spells_name short_text (list_in (codes "sources") d) (each_item (codes "sources") spells_name d spelled.1.1.1.1.0);
       marks = all_of IsShort is_name short_spelled (whole_marks d) (first_pass is_name [] marks refl (all_marks (is_second d) actors scripts));
       few_marks = omega (arith, all, first, steps);
-      scripts = fits_scripts (is_second d) actors actor_forms (each_item (codes "actors") own_name d spelled.1.1.1.1.1.0) scripts;
       answers = all_of FitsAnswer is_answer_form fits_answer (list_in (codes "answers") d) (each_item (codes "answers") is_answer_form d forms.1.1.1.1.1.1.0);
     }

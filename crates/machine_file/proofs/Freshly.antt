@@ -10,8 +10,7 @@ use Rattle.serde_json.specs.Data.{Data, null}
 use Rattle.sleep_model.specs.declared.machine.Link.{Link}
 use Rattle.sleep_model.specs.Order.{EachAfterParent, parents_of}
 use Rattle.sleep_model.specs.Links.{is_linked}
-use Rattle.machine_file.specs.Look.{is_none_or, is_some_and, text_at}
-use Rattle.machine_file.specs.Members.{word_at, list_in}
+use Rattle.borrowed_json.specs.Look.{is_none_or, is_some_and, text_at, word_at, list_in}
 use Rattle.machine_file.specs.Joined.{AreJoined}
 use Rattle.machine_file.specs.Places.{first_not, first_not_after, item_place}
 use Rattle.machine_file.specs.Names.{is_among_names, devices_named}

@@ -4,7 +4,8 @@ use Rattle.std.specs.Option.{option_or, option_map}
 use Rattle.serde_json.specs.Data.{Data}
 use Rattle.machine_file.specs.Whole.{Rule, rule, first_of, first_broken, broken_at}
 use Rattle.machine_file.specs.Groups.{form_rules, device_rules, end_rules, thing_rules, operation_rules, answer_rules}
-use Rattle.machine_file.specs.Members.{list_in, file_members}
+use Rattle.borrowed_json.specs.Look.{list_in, text_of, has_only}
+use Rattle.machine_file.specs.Members.{file_members}
 use Rattle.machine_file.specs.Devices.{cyclic_link, closes_no_cycle, orphan, loose_link, repeated_link}
 use Rattle.machine_file.specs.Joined.{AreJoined}
 use Rattle.machine_file.specs.ValidFiles.{broken_form, broken_devices, broken_ends, broken_cycle, broken_rest, first_in_order}
@@ -15,7 +16,6 @@ use Rattle.machine_file.specs.Limits.{too_many, most_items}
 use Rattle.machine_file.specs.Rules.{name_of, has_version}
 use Rattle.machine_file.specs.Names.{repeated_device}
 use Rattle.machine_file.specs.Places.{unless, item_place, first_not_after}
-use Rattle.machine_file.specs.Look.{text_of, has_only}
 use Rattle.std.proofs.lemmas.Bool.{leb-true}
 use Rattle.std.proofs.lemmas.List.{length-map}
 

@@ -1,6 +1,5 @@
 -- The lemmas of this crate.
 pub mod Looks
-pub mod MembersNamed
 pub mod Trees
 pub mod Placing
 pub mod Pairing

@@ -8,7 +8,7 @@ use Rattle.serde_json.specs.Data.{Data}
 use Rattle.sleep_model.specs.declared.machine.Link.{Link}
 use Rattle.sleep_model.specs.Order.{EachAfterParent, is_among, dependents, moved, parents_of}
 use Rattle.sleep_model.specs.Links.{AreLinks}
-use Rattle.machine_file.specs.Members.{list_in}
+use Rattle.borrowed_json.specs.Look.{list_in}
 use Rattle.machine_file.specs.Places.{item_place, first_not_after}
 use Rattle.machine_file.specs.Form.{Named, row}
 use Rattle.machine_file.specs.Devices.{orphan, loose_link, repeated_link, cyclic_link, whole_devices, whole_links}

@@ -7,7 +7,7 @@ use Rattle.std.proofs.lemmas.Grind.{flat_map-append}
 use Rattle.std.proofs.lemmas.List.{map_more, map-append}
 use Rattle.std.proofs.lemmas.List.Elements.{filter_map-append}
 use Rattle.borrowed_json.specs.View.{Value, view}
-use Rattle.machine_file.specs.Members.{word_at}
+use Rattle.borrowed_json.specs.Look.{word_at}
 use Rattle.machine_file.specs.Names.{is_among_names}
 use Rattle.machine_file.specs.Operations.{marks_of, first_occurrences}
 use Rattle.machine_file.specs.Knows.{texts}

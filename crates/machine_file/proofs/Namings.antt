@@ -12,9 +12,8 @@ use Rattle.sleep_model.specs.declared.machine.PlatDo.TheVariants as step
 use Rattle.sleep_model.specs.declared.machine.TaskKind.{TaskKind}
 use Rattle.sleep_model.specs.declared.machine.TaskKind.TheVariants as kind
 use Rattle.sleep_model.specs.Text.{down_word, kind_word}
-use Rattle.machine_file.specs.Look.{is_some_and, is_text}
-use Rattle.machine_file.specs.Members.{has_text}
-use Rattle.machine_file.specs.Form.{is_one_of, kinds, phases}
+use Rattle.borrowed_json.specs.Look.{is_some_and, is_text, has_text, is_one_of}
+use Rattle.machine_file.specs.Form.{kinds, phases}
 use Rattle.machine_file.specs.Answering.{answering_phases, common_errors, platform_steps}
 use Rattle.machine_file.specs.Operations.{kind_of}
 use Rattle.machine_file.specs.WordLists.{task_kinds}

@@ -11,7 +11,7 @@ use Rattle.sleep_model.specs.declared.machine.Link.{Link}
 use Rattle.machine_file.specs.Spelled.{link_of}
 use Rattle.machine_file.specs.declared.rules.pairs.LinkEnds.{LinkEnds}
 use Rattle.machine_file.specs.declared.rules.pairs.EndNumbers.{EndNumbers}
-use Rattle.machine_file.specs.Look.{text_at}
+use Rattle.borrowed_json.specs.Look.{text_at}
 use Rattle.machine_file.specs.Names.{is_among_names}
 use Rattle.machine_file.specs.Devices.{has_ends, is_new_link}
 use Rattle.machine_file.specs.Seen.{ends_seen, ends_written, differ, same_ends, end_numbers, are_devices, link_at, links_between}

@@ -7,7 +7,7 @@ use Rattle.std.proofs.lemmas.List.{reverse-append}
 use Rattle.std.proofs.Math.Seq.{take-suc}
 use Rattle.std.proofs.Math.ListN.{drop_of_length-le}
 pub use Rattle.key_index.proofs.Placing.{position_cons}
-use Rattle.machine_file.specs.Look.{is_some_and}
+use Rattle.borrowed_json.specs.Look.{is_some_and}
 use Rattle.machine_file.specs.Places.{first_not_after}
 
 before_case : (b r : Bool) (i : ℕ) (o : Option ℕ) → r ≡ is_some_and (λ j. nat_lt j i) o → (b || r) ≡ is_some_and (λ j. nat_lt j (suc i)) (cond b (Some 0) (option_map suc o))

@@ -12,8 +12,7 @@ use Rattle.sleep_model.specs.declared.machine.Device.{Device}
 use Rattle.device_tree.specs.Refusal.{refusal, is_lost, RefusesDevice}
 use Rattle.device_tree.specs.declared.fault.TreeFault.{TreeFault}
 use Rattle.device_tree.specs.declared.fault.TreeFault.TheVariants as fault
-use Rattle.machine_file.specs.Look.{is_none_or}
-use Rattle.machine_file.specs.Members.{list_in, word_at}
+use Rattle.borrowed_json.specs.Look.{is_none_or, list_in, word_at}
 use Rattle.machine_file.specs.Rules.{name_of}
 use Rattle.machine_file.specs.Devices.{has_parent_before, whole_device}
 use Rattle.machine_file.specs.Knows.{names}

@@ -6,7 +6,7 @@ use Rattle.sleep_model.specs.declared.machine.What.TheVariants as what
 use Rattle.sleep_model.specs.Text.{down_word}
 use Rattle.machine_file.specs.declared.names.known.Known.{Known}
 use Rattle.machine_file.specs.Knows.{Knows, texts}
-use Rattle.machine_file.specs.Members.{has_text, list_in, number_at}
+use Rattle.borrowed_json.specs.Look.{has_text, list_in, number_at}
 use Rattle.machine_file.specs.Names.{devices_named, texts_in, names_in}
 use Rattle.machine_file.specs.Rules.{name_of}
 use Rattle.machine_file.specs.Spelled.{index_among}

@@ -16,10 +16,10 @@ use Rattle.sleep_model.specs.declared.machine.Step.{Step}
 use Rattle.sleep_model.specs.Places.{all_operations, is_state, is_autosleep, is_link_step, link_steps, most_attempts}
 use Rattle.sleep_model.specs.Scripts.{times_over, operations as made}
 use Rattle.sleep_model.specs.Accepted.{IsOp, AreSteps, AreScripts}
-use Rattle.machine_file.specs.Look.{has_only, is_list, is_text, is_some_and, is_none_or, text_at}
-use Rattle.machine_file.specs.Members.{actor_members, must_have, may_have, has_text, list_in, number_at, word_at}
+use Rattle.borrowed_json.specs.Look.{has_only, is_list, is_text, is_some_and, is_none_or, text_at, must_have, may_have, has_text, list_in, number_at, word_at, is_string, is_truth, is_within, is_one_of}
+use Rattle.machine_file.specs.Members.{actor_members}
 use Rattle.machine_file.specs.Places.{unless, first_not, first_item, first_operation_of, operation_place, item_place}
-use Rattle.machine_file.specs.Form.{Named, is_string, is_truth, is_within, is_one_of, is_time, is_actor_form, kinds, statuses, link_states, item_forms, first_in_lists, unformed_item}
+use Rattle.machine_file.specs.Form.{Named, is_time, is_actor_form, kinds, statuses, link_states, item_forms, first_in_lists, unformed_item}
 use Rattle.machine_file.specs.Names.{spells_name, is_among_names, devices_named, sources_named}
 use Rattle.machine_file.specs.Rules.{is_second, name_of}
 use Rattle.sleep_model.specs.NameBytes.{is_name}

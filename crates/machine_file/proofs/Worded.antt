@@ -6,8 +6,7 @@ use Rattle.sleep_model.specs.declared.machine.Op.{Op}
 use Rattle.sleep_model.specs.declared.machine.Op.TheVariants.{Read}
 use Rattle.machine_file.specs.declared.rules.operations.Word.{Word}
 use Rattle.machine_file.specs.declared.rules.operations.Word.TheVariants as word
-use Rattle.machine_file.specs.Look.{is_some_and, is_text}
-use Rattle.machine_file.specs.Members.{has_text, word_at}
+use Rattle.borrowed_json.specs.Look.{is_some_and, is_text, has_text, word_at}
 use Rattle.machine_file.specs.Operations.{Known, Operation, operations, row_of, changes_links, spelled_op, whole_op}
 use Rattle.machine_file.specs.OperationRows.{operation_of_word, words, word_changes_links, row_named, op_spelled}
 use Rattle.machine_file.proofs.ScriptsValid.{member_apart}

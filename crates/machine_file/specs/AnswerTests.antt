@@ -10,7 +10,7 @@ use Rattle.machine_file.specs.declared.rules.answers.AnswerTest.{AnswerTest}
 use Rattle.machine_file.specs.declared.rules.answers.AnswerTest.TheVariants as test
 use Rattle.machine_file.specs.declared.names.known.Known.{Known}
 use Rattle.machine_file.specs.Knows.{names, texts}
-use Rattle.machine_file.specs.Members.{may_have, has_text, list_in, number_at}
+use Rattle.borrowed_json.specs.Look.{may_have, has_text, list_in, number_at}
 use Rattle.machine_file.specs.Names.{is_among_names}
 use Rattle.machine_file.specs.Operations.{names_source}
 use Rattle.machine_file.specs.Spelled.{index_among}

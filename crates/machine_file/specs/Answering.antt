@@ -18,10 +18,8 @@ use Rattle.phase_table.specs.declared.phase.Phase.TheVariants as phase
 use Rattle.sleep_model.specs.Answers.{errors, is_for}
 use Rattle.phase_table.specs.Phases.{phase_name}
 use Rattle.sleep_model.specs.Text.{down_word}
-use Rattle.machine_file.specs.Look.{is_number, is_text, text_at}
-use Rattle.machine_file.specs.Members.{may_have, has_text, list_in, number_at}
+use Rattle.borrowed_json.specs.Look.{is_number, is_text, text_at, may_have, has_text, list_in, number_at, is_one_of}
 use Rattle.machine_file.specs.Places.{first_item, first_later_item}
-use Rattle.machine_file.specs.Form.{is_one_of}
 use Rattle.machine_file.specs.Names.{is_among_names, texts_in, names_in, devices_named, sources_named}
 use Rattle.machine_file.specs.Spelled.{index_among}
 use Rattle.machine_file.specs.Operations.{names_source, ms_of, says}

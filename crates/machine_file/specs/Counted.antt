@@ -3,7 +3,7 @@ use Rattle.std.specs.Prelude.{ℕ, ◌+◌, ◌*◌, ◌||◌, List, min, codes,
 use Rattle.std.specs.List.{list_any}
 use Rattle.serde_json.specs.Data.{Data}
 use Rattle.machine_file.specs.declared.rules.limits.Steps.{Steps}
-use Rattle.machine_file.specs.Members.{has_text}
+use Rattle.borrowed_json.specs.Look.{has_text}
 use Rattle.machine_file.specs.Limits.{times_if, script_steps, is_state_step, is_link_step, has_autosleep}
 
 -- what is larger counts as this much

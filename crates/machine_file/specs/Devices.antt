@@ -6,8 +6,7 @@ use Rattle.sleep_model.specs.declared.flags.DeviceFlags.{DeviceFlags}
 use Rattle.sleep_model.specs.declared.machine.Device.{Device}
 use Rattle.sleep_model.specs.declared.machine.Link.{Link}
 use Rattle.sleep_model.specs.Order.{is_among, dependents, moved, parents_of}
-use Rattle.machine_file.specs.Look.{is_none_or, text_at}
-use Rattle.machine_file.specs.Members.{has_text, list_in, truth_at, word_at}
+use Rattle.borrowed_json.specs.Look.{is_none_or, text_at, has_text, list_in, truth_at, word_at}
 use Rattle.machine_file.specs.Places.{first_item, first_later_item}
 use Rattle.machine_file.specs.Names.{is_among_names, devices_named}
 use Rattle.machine_file.specs.Rules.{name_of}

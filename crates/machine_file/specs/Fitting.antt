@@ -1,8 +1,7 @@
 -- What of a file has room in a machine: names of 1 to 32 bytes, and numbers of 32 bits.
 use Rattle.std.specs.Prelude.{◌≡◌, ◌<◌, ◌≤◌, ℕ, List, length, codes, true, All, IfSome}
 use Rattle.serde_json.specs.Data.{Data}
-use Rattle.machine_file.specs.Members.{may_have, list_in, number_at}
-use Rattle.machine_file.specs.Form.{is_bounded}
+use Rattle.borrowed_json.specs.Look.{may_have, list_in, number_at, is_bounded}
 use Rattle.machine_file.specs.Names.{texts_in, sources_named}
 use Rattle.machine_file.specs.Operations.{whole_marks}
 use Rattle.machine_file.specs.Rules.{name_of}
@@ -25,17 +24,10 @@ pub record FitsNotifier (d : Data) : Type 0 where
   pub name : IsShort (name_of d)
   pub priority : may_have (codes "priority") (is_bounded 1000) d ≡ true
 
--- an operation whose numbers have 32 bits
-pub record FitsStep (o : Data) : Type 0 where
-  pub times : FitsAt (codes "times") o
-  pub count : FitsAt (codes "count") o
-  pub ms : FitsAt (codes "ms") o
-
--- an actor with a short name, whose numbers have 32 bits
+-- an actor with a short name, whose number of repetitions has 32 bits
 pub record FitsScript (a : Data) : Type 0 where
   pub name : IsShort (name_of a)
   pub repeat : FitsAt (codes "repeat") a
-  pub steps : All FitsStep (list_in (codes "script") a)
 
 -- an answer of a number that is at most 1, if one is given
 pub record HasPlainRet (a : Data) : Type 0 where
@@ -56,5 +48,4 @@ pub record FitsFile (d : Data) : Type 0 where
   pub sources : All IsShort (sources_named d)
   pub marks : All IsShort (whole_marks d)
   pub few_marks : length (whole_marks d) ≤ 200000
-  pub scripts : All FitsScript (list_in (codes "actors") d)
   pub answers : All FitsAnswer (list_in (codes "answers") d)

@@ -1,37 +1,17 @@
 -- The form of values: their types, ranges and words. The operations of scripts have a module of their own.
-use Rattle.std.specs.Prelude.{ℕ, List, [], ◌∷◌, codes, Bool, not, nat_abs, ◌&&◌, ◌||◌, is_some, bytes_eq, nat_le, map, Option, None, option_map, option_and_then}
-use Rattle.std.specs.List.{list_any, list_all, find}
+use Rattle.std.specs.Prelude.{ℕ, List, [], ◌∷◌, codes, Bool, not, ◌&&◌, ◌||◌, map, Option, None, option_map}
+use Rattle.std.specs.List.{list_all, find}
 use Rattle.std.specs.Option.{option_or}
 use Rattle.serde_json.specs.Data.{Data}
-use Rattle.serde_json.specs.Find.{as_number, as_u64, as_integer, as_str, as_bool, as_array}
+use Rattle.serde_json.specs.Find.{as_array}
 use Rattle.sleep_base.specs.Errno.{name_of}
 use Rattle.sleep_model.specs.Answers.{errors}
-use Rattle.machine_file.specs.Look.{is_some_and, is_number, is_list, has_only}
-use Rattle.machine_file.specs.Members.{must_have, may_have, has_text, items_of, device_members, link_members, notifier_members, actor_members, answer_members, report_members}
+use Rattle.borrowed_json.specs.Look.{is_some_and, is_number, is_list, is_string, is_truth, is_within, is_bounded, is_one_of, has_only, must_have, may_have, has_text, items_of}
+use Rattle.machine_file.specs.Members.{device_members, link_members, notifier_members, actor_members, answer_members, report_members}
 use Rattle.machine_file.specs.Places.{first_item}
 use Rattle.machine_file.specs.Rules.{is_second}
 
 -- ---- single values
-
--- a text
-abbrev pub is_string : Data → Bool
-is_string d = is_some (as_str d)
-
--- a truth value
-abbrev pub is_truth : Data → Bool
-is_truth d = is_some (as_bool d)
-
--- a whole number of this range
-abbrev pub is_within : ℕ → ℕ → Data → Bool
-is_within least most d = is_some_and (λ n. nat_le least n && nat_le n most) (option_and_then as_u64 (as_number d))
-
--- a whole number at most so far from 0
-abbrev pub is_bounded : ℕ → Data → Bool
-is_bounded most d = is_some_and (λ z. nat_le (nat_abs z) most) (option_and_then as_integer (as_number d))
-
--- one of these words
-abbrev pub is_one_of : List (List ℕ) → Data → Bool
-is_one_of words d = is_some_and (λ s. list_any (bytes_eq s) words) (as_str d)
 
 -- the words of a runtime status (enum rpm_status)
 abbrev pub statuses : List (List ℕ)

@@ -10,7 +10,7 @@ use Rattle.machine_file.specs.Operations.{unformed_operation, forbidden_operatio
 use Rattle.machine_file.specs.Answering.{thingless_answer, forbidden_ret, forbidden_reports, sourceless_report, repeated_answer}
 use Rattle.machine_file.specs.Limits.{too_many, too_much}
 use Rattle.machine_file.specs.Rules.{has_version}
-use Rattle.machine_file.specs.Look.{has_only}
+use Rattle.borrowed_json.specs.Look.{has_only}
 use Rattle.machine_file.specs.Whole.{Rule, rule}
 
 -- the rules on form, number and the spelling of names

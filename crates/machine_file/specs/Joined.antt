@@ -1,7 +1,7 @@
 -- That the devices and the links of a file keep the rules but for cycles.
 use Rattle.std.specs.Prelude.{◌≡◌, ◌≤◌, length, codes, None}
 use Rattle.serde_json.specs.Data.{Data}
-use Rattle.machine_file.specs.Members.{list_in}
+use Rattle.borrowed_json.specs.Look.{list_in}
 use Rattle.machine_file.specs.Devices.{orphan, loose_link, repeated_link}
 
 -- few devices, each after its parent, and few links, each between two devices and new

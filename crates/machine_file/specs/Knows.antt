@@ -1,10 +1,12 @@
 -- That the names of a file's things are known.
-use Rattle.std.specs.Prelude.{◌≡◌, ◌≤◌, ℕ, List, map, length, codes}
+use Rattle.std.specs.Prelude.{◌≡◌, ◌≤◌, ℕ, List, Vec, map, length, codes}
 use Rattle.std.specs.Borrow.{Bor}
+use Rattle.std.specs.declared.alloc.Global.{Global}
 use Rattle.sleep_model.specs.declared.machine.Device.{Device}
+use Rattle.sleep_model.specs.declared.machine.Script.{Script}
 use Rattle.serde_json.specs.Data.{Data}
 use Rattle.machine_file.specs.declared.names.known.Known.{Known}
-use Rattle.machine_file.specs.Operations.{Known as Names, whole_marks}
+use Rattle.machine_file.specs.Operations.{Known as Names, whole_marks, whole_scripts}
 use Rattle.machine_file.specs.Devices.{whole_devices}
 use Rattle.machine_file.specs.Names.{names_in, texts_in, devices_named, sources_named}
 
@@ -35,3 +37,7 @@ pub record AreFew (k : Known) : Type 0 where
 -- what operations name by numbers
 abbrev pub known_seen : Known → Names
 known_seen k = record { devices = names k.devices; sources = texts k.sources; marks = texts k.marks }
+
+-- these are the scripts of the file, if it has no more marks than a machine has steps
+abbrev pub SpellsScripts : Data → Known → Vec Script Global → Type 0
+SpellsScripts file k scripts = length k.marks ≤ 200000 → scripts.items ≡ whole_scripts file

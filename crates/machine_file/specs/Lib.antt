@@ -1,5 +1,4 @@
 -- The definitions of this crate.
-pub mod Look
 pub mod Rules
 pub mod Spelled
 pub mod Tree
@@ -30,4 +29,5 @@ pub mod Fitting
 pub mod Reading
 pub mod Refusing
 pub mod Registered
+pub mod Stopping
 pub mod Writing

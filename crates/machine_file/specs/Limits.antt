@@ -3,7 +3,7 @@ use Rattle.std.specs.Prelude.{ℕ, ◌+◌, ◌*◌, List, [], ◌∷◌, length
 use Rattle.std.specs.List.{list_any}
 use Rattle.std.specs.Option.{option_or}
 use Rattle.serde_json.specs.Data.{Data}
-use Rattle.machine_file.specs.Members.{has_text, list_in, number_at}
+use Rattle.borrowed_json.specs.Look.{has_text, list_in, number_at}
 use Rattle.machine_file.specs.Places.{unless}
 use Rattle.machine_file.specs.Form.{Named, row, first_row}
 

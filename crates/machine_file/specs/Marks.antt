@@ -1,7 +1,7 @@
 -- The marks of scripts.
 use Rattle.std.specs.Prelude.{ℕ, List, codes}
 use Rattle.serde_json.specs.Data.{Data}
-use Rattle.machine_file.specs.Members.{list_in}
+use Rattle.borrowed_json.specs.Look.{list_in}
 use Rattle.machine_file.specs.Operations.{marks_of}
 
 -- the marks of an actor's script, one for each time that one is named

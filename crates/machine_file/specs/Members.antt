@@ -1,10 +1,5 @@
--- Which members the objects of a machine file have, and their values.
-use Rattle.std.specs.Prelude.{ℕ, List, [], ◌∷◌, codes, Bool, true, false, Option, option_and_then}
-use Rattle.serde_json.specs.Data.{Data, Items, no_items, item}
-use Rattle.serde_json.specs.Find.{get, as_number, as_u64, as_str, as_bool}
-use Rattle.machine_file.specs.Look.{is_some_and, is_none_or, is_text, list_at}
-
--- ---- the tables
+-- Which members the objects of a machine file have.
+use Rattle.std.specs.Prelude.{ℕ, List, [], ◌∷◌, codes, Bool, true, false}
 
 -- the members of the file (own)
 abbrev pub file_members : List (List ℕ)
@@ -37,36 +32,3 @@ abbrev pub report_members : List (List ℕ)
 report_members = codes "call" ∷ codes "source" ∷ codes "ms" ∷ codes "hard" ∷ []
 
 -- ---- the value of a member
-
--- the member is there, and passes
-abbrev pub must_have : List ℕ → (Data → Bool) → Data → Bool
-must_have name test d = is_some_and test (get name d)
-
--- the member is left out, or passes
-abbrev pub may_have : List ℕ → (Data → Bool) → Data → Bool
-may_have name test d = is_none_or test (get name d)
-
--- the member is there, and is this text
-abbrev pub has_text : List ℕ → List ℕ → Data → Bool
-has_text name text d = must_have name (is_text text) d
-
--- the items of a list
-abbrev pub items_of : Items → List Data
-items_of no_items = []
-items_of (item d ds) = d ∷ items_of ds
-
--- the list at this member; the empty one if there is none
-abbrev pub list_in : List ℕ → Data → List Data
-list_in name d = items_of (list_at name d)
-
--- the whole number at this member, if there is one
-abbrev pub number_at : List ℕ → Data → Option ℕ
-number_at name d = option_and_then as_u64 (option_and_then as_number (get name d))
-
--- the text at this member, if there is one
-abbrev pub word_at : List ℕ → Data → Option (List ℕ)
-word_at name d = option_and_then as_str (get name d)
-
--- the truth value at this member, if there is one
-abbrev pub truth_at : List ℕ → Data → Option Bool
-truth_at name d = option_and_then as_bool (get name d)

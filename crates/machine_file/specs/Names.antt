@@ -4,8 +4,7 @@ use Rattle.std.specs.List.{list_any}
 use Rattle.std.specs.Option.{option_or}
 use Rattle.serde_json.specs.Data.{Data}
 use Rattle.serde_json.specs.Find.{as_str}
-use Rattle.machine_file.specs.Look.{is_some_and, text_of}
-use Rattle.machine_file.specs.Members.{must_have, may_have, list_in}
+use Rattle.borrowed_json.specs.Look.{is_some_and, text_of, must_have, may_have, list_in}
 use Rattle.machine_file.specs.Places.{item_place, first_not_after}
 use Rattle.machine_file.specs.Form.{Named, row, first_in_lists}
 use Rattle.machine_file.specs.Rules.{name_of}

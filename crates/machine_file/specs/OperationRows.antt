@@ -1,6 +1,6 @@
 -- The rows of the table of operations, and the tests of operations, by name.
-use Rattle.std.specs.Prelude.{ℕ, ◌==◌, ◌&&◌, List, Bool, true, false, not, codes, [], ◌∷◌, bytes_eq, Option}
-use Rattle.std.specs.List.{find}
+use Rattle.std.specs.Prelude.{ℕ, ◌==◌, ◌&&◌, ◌||◌, List, Bool, true, not, codes, [], ◌∷◌, bytes_eq, Option}
+use Rattle.std.specs.List.{find, list_all}
 use Rattle.serde_json.specs.Data.{Data}
 use Rattle.sleep_model.specs.declared.machine.Op.{Op}
 use Rattle.sleep_model.specs.declared.machine.Op.TheVariants.{Read, Save, State, Autosleep, Sleep, SleepD, FreezePoint, Post, Wait, Runtime, Link, LinkState, Awake, Relax, Event}
@@ -10,9 +10,10 @@ use Rattle.machine_file.specs.declared.rules.operations.OperationTest.{Operation
 use Rattle.machine_file.specs.declared.rules.operations.OperationTest.TheVariants as test
 use Rattle.machine_file.specs.declared.names.known.Known.{Known}
 use Rattle.machine_file.specs.Knows.{names, texts}
-use Rattle.machine_file.specs.Look.{text_at}
-use Rattle.machine_file.specs.Members.{has_text, number_at}
-use Rattle.machine_file.specs.Operations.{Known as Names, ms_of, says, thing_at, Operation, operation, operations, users, tasks, everyone, plain, has_count, is_state_form, has_short_text, has_length, has_mark, is_runtime_form, has_ends_named, is_link_state_form, has_source, is_event_form, is_formed, is_allowed, names_source, names_device}
+use Rattle.borrowed_json.specs.Look.{has_only, is_none_or, is_some_and, text_at, has_text, list_in, may_have, must_have, number_at, word_at, is_one_of, is_string, is_truth, is_within}
+use Rattle.machine_file.specs.Form.{is_time, link_states, statuses}
+use Rattle.machine_file.specs.Names.{is_among_names}
+use Rattle.machine_file.specs.Operations.{Known as Names, ms_of, says, thing_at, Operation, operation, operations, users, tasks, everyone, plain, has_count, is_state_form, has_short_text, has_length, has_mark, is_runtime_form, has_ends_named, is_link_state_form, has_source, is_event_form, is_formed, is_allowed, names_source, names_device, changes_links, fits_row, row_of}
 
 -- the row of a word
 abbrev pub operation_of_word : Word → Operation
@@ -69,27 +70,50 @@ op_spelled word.Awake names o = Awake (thing_at (codes "source") names.sources o
 op_spelled word.Relax names o = Relax (thing_at (codes "source") names.sources o)
 op_spelled word.Event names o = Event (thing_at (codes "source") names.sources o) (ms_of o) (says (codes "hard") o)
 
--- an operation of that word names a source
-abbrev pub word_names_source : Word → Bool
-word_names_source word.Awake = true
-word_names_source word.Relax = true
-word_names_source word.Event = true
-word_names_source _ = false
+-- a thing that is named at a member, which has to be given, is of these
+abbrev pub names_thing : List ℕ → List (List ℕ) → Data → Bool
+names_thing member names o = must_have member is_string o && is_none_or (is_among_names names) (word_at member o)
 
--- an operation of that word names a device, or two
-abbrev pub word_names_device : Word → Bool
-word_names_device word.Runtime = true
-word_names_device word.Link = true
-word_names_device word.LinkState = true
-word_names_device _ = false
+-- both ends of a link are devices
+abbrev pub names_ends : List (List ℕ) → Data → Bool
+names_ends devices o = names_thing (codes "supplier") devices o && names_thing (codes "consumer") devices o
 
--- it obeys each rule on one operation, for its actor and the names of sources and devices
-abbrev pub is_in_journal : Bool → List (List ℕ) → List (List ℕ) → Data → Data → Bool
-is_in_journal second sources devices actor o = is_formed second actor o && is_allowed actor o && names_source sources o && names_device devices o
+-- an operation with that word has its form, and the things that it names are known
+abbrev pub row_test : Word → Names → Data → Bool
+row_test word.Read names o = true
+row_test word.Save names o = has_count o
+row_test word.State names o = is_state_form o
+row_test word.Autosleep names o = has_short_text o
+row_test word.Sleep names o = has_length o
+row_test word.SleepD names o = has_length o
+row_test word.FreezePoint names o = true
+row_test word.Post names o = has_mark o
+row_test word.Wait names o = has_mark o
+row_test word.Runtime names o = names_thing (codes "device") names.devices o && must_have (codes "to") (is_one_of statuses) o
+row_test word.Link names o = names_ends names.devices o
+row_test word.LinkState names o = names_ends names.devices o && must_have (codes "to") (is_one_of link_states) o
+row_test word.Awake names o = names_thing (codes "source") names.sources o
+row_test word.Relax names o = names_thing (codes "source") names.sources o
+row_test word.Event names o = names_thing (codes "source") names.sources o && may_have (codes "ms") (is_time 0) o && may_have (codes "hard") is_truth o
+
+-- a kind of task may make an operation with that word, which keeps each rule on one operation
+abbrev pub word_test : Bool → List ℕ → Word → Names → Data → Bool
+word_test second kind w names o =
+    (second || not (word_changes_links w)) && is_among_names (operation_of_word w).makers kind && has_only (codes "op" ∷ codes "times" ∷ (operation_of_word w).members) o
+    && may_have (codes "times") (is_within 1 20000) o && row_test w names o
+
+-- an operation keeps each rule on one operation, beside the kind of its actor and what is known
+abbrev pub is_valid_for : Bool → List ℕ → Names → Data → Bool
+is_valid_for second kind names o =
+    (second || not (changes_links o)) && is_some_and (fits_row o) (row_of o) && is_some_and (λ r. is_among_names r.makers kind) (row_of o) && names_source names.sources o
+    && names_device names.devices o
+
+-- so each operation of an actor does
+abbrev pub is_valid_script : Bool → Names → Data → Bool
+is_valid_script second names a = list_all (is_valid_for second (text_at (codes "kind") a) names) (list_in (codes "script") a)
 
 -- a test of an operation of that actor
 abbrev pub operation_test : OperationTest → Known → Data → Data → Bool
-operation_test (test.Kept second) k actor = is_in_journal second (texts k.sources) (names k.devices) actor
 operation_test (test.Formed second) k actor = is_formed second actor
 operation_test test.Allowed k actor = is_allowed actor
 operation_test test.Source k actor = names_source (texts k.sources)

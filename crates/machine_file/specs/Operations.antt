@@ -9,10 +9,9 @@ use Rattle.sleep_model.specs.declared.machine.Step.{Step}
 use Rattle.sleep_model.specs.declared.machine.Script.{Script}
 use Rattle.sleep_model.specs.declared.machine.TaskKind.{TaskKind}
 use Rattle.sleep_model.specs.declared.machine.TaskKind.TheVariants.{User, Kthread, NoFreeze, Irq}
-use Rattle.machine_file.specs.Look.{is_some_and, is_none_or, has_only, text_at}
-use Rattle.machine_file.specs.Members.{must_have, may_have, has_text, list_in, number_at, truth_at, word_at}
+use Rattle.borrowed_json.specs.Look.{is_some_and, is_none_or, has_only, text_at, must_have, may_have, has_text, list_in, number_at, truth_at, word_at, is_string, is_truth, is_within, is_one_of}
 use Rattle.machine_file.specs.Places.{first_operation}
-use Rattle.machine_file.specs.Form.{is_string, is_truth, is_within, is_one_of, is_time, statuses, link_states}
+use Rattle.machine_file.specs.Form.{is_time, statuses, link_states}
 use Rattle.machine_file.specs.Names.{spells_name, is_among_names, sources_named, devices_named}
 use Rattle.machine_file.specs.Spelled.{index_among}
 use Rattle.machine_file.specs.Rules.{name_of, is_second}

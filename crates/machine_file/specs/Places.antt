@@ -2,7 +2,7 @@
 use Rattle.std.specs.Prelude.{ℕ, suc, List, [], ◌∷◌, ◌++◌, codes, decimal, Bool, not, Option, Some, None, option_map, position, if◌then◌else◌}
 use Rattle.std.specs.Option.{option_or}
 use Rattle.serde_json.specs.Data.{Data}
-use Rattle.machine_file.specs.Members.{list_in}
+use Rattle.borrowed_json.specs.Look.{list_in}
 
 -- the place of an item: its list's name, and its number from 0 in brackets
 abbrev pub item_place : List ℕ → ℕ → List ℕ

@@ -6,7 +6,7 @@ use Rattle.device_tree.specs.declared.fault.TreeFault.{TreeFault}
 use Rattle.device_tree.specs.declared.fault.TreeFault.TheVariants as fault
 use Rattle.machine_file.specs.Devices.{flags_of, has_parent_before, whole_device}
 use Rattle.machine_file.specs.Fitting.{IsShort}
-use Rattle.machine_file.specs.Members.{word_at}
+use Rattle.borrowed_json.specs.Look.{word_at}
 use Rattle.machine_file.specs.Names.{is_among_names}
 use Rattle.machine_file.specs.Places.{first_not_after}
 use Rattle.machine_file.specs.Rules.{name_of}

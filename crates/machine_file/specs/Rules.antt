@@ -2,7 +2,7 @@
 use Rattle.std.specs.Prelude.{ℕ, ◌||◌, List, codes, Bool}
 use Rattle.serde_json.specs.Data.{Data}
 use Rattle.serde_json.specs.Find.{get}
-use Rattle.machine_file.specs.Look.{is_some_and, is_number, text_at}
+use Rattle.borrowed_json.specs.Look.{is_some_and, is_number, text_at}
 
 -- the name of a device or an actor
 abbrev pub name_of : Data → List ℕ

@@ -6,8 +6,7 @@ use Rattle.sleep_model.specs.declared.machine.Link.{Link}
 use Rattle.machine_file.specs.declared.rules.pairs.LinkEnds.{LinkEnds}
 use Rattle.machine_file.specs.declared.rules.pairs.EndNumbers.{EndNumbers}
 use Rattle.machine_file.specs.declared.rules.answers.Given.{Given}
-use Rattle.machine_file.specs.Look.{text_at}
-use Rattle.machine_file.specs.Members.{has_text, number_at, list_in}
+use Rattle.borrowed_json.specs.Look.{text_at, has_text, number_at, list_in}
 use Rattle.machine_file.specs.Names.{devices_named}
 
 -- the ends of a link

@@ -3,8 +3,7 @@ use Rattle.std.specs.Prelude.{ℕ, List, codes, not, Option, option_and_then, un
 use Rattle.sleep_model.specs.declared.machine.Link.{Link}
 use Rattle.serde_json.specs.Data.{Data}
 use Rattle.serde_json.specs.Find.{get, as_str}
-use Rattle.machine_file.specs.Look.{text_at}
-use Rattle.machine_file.specs.Members.{has_text}
+use Rattle.borrowed_json.specs.Look.{text_at, has_text}
 
 -- the place of the device's parent among these names
 abbrev pub parent_of : List (List ℕ) → Data → Option ℕ

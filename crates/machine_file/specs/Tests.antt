@@ -3,7 +3,8 @@ use Rattle.std.specs.Prelude.{Bool}
 use Rattle.serde_json.specs.Data.{Data}
 use Rattle.machine_file.specs.declared.rules.items.ItemTest.{ItemTest}
 use Rattle.machine_file.specs.declared.rules.items.ItemTest.TheVariants as test
-use Rattle.machine_file.specs.Form.{is_string, is_device_form, is_link_form, is_notifier_form, is_actor_form, is_answer_form}
+use Rattle.borrowed_json.specs.Look.{is_string}
+use Rattle.machine_file.specs.Form.{is_device_form, is_link_form, is_notifier_form, is_actor_form, is_answer_form}
 use Rattle.machine_file.specs.Names.{spells_name, names_of_device, names_of_link, own_name}
 
 -- a test of an item of a list

@@ -4,11 +4,11 @@ use Rattle.std.specs.Option.{option_or, option_map}
 use Rattle.serde_json.specs.Data.{Data}
 use Rattle.sleep_model.specs.Order.{parents_of}
 use Rattle.machine_file.specs.declared.names.known.Known.{Known}
-use Rattle.machine_file.specs.declared.rules.cycles.Linking.{Linking}
+use Rattle.machine_file.specs.declared.reading.machine.Parts.{Parts}
 use Rattle.machine_file.specs.Devices.{whole_devices, whole_links, cyclic_link}
 use Rattle.machine_file.specs.Whole.{Broken, first_of, broken_at}
 use Rattle.machine_file.specs.Groups.{form_rules, device_rules, end_rules, thing_rules, operation_rules, answer_rules}
-use Rattle.machine_file.specs.Knows.{Knows, AreFew}
+use Rattle.machine_file.specs.Knows.{Knows, AreFew, SpellsScripts}
 
 -- the first rule on form that is broken
 unfoldable pub broken_form : Data → Option Broken
@@ -34,10 +34,11 @@ broken_rest d = option_or (option_or (first_of thing_rules d) (first_of operatio
 abbrev pub first_in_order : Data → Option Broken
 first_in_order d = option_or (broken_form d) (option_or (broken_devices d) (option_or (broken_ends d) (option_or (broken_cycle d) (broken_rest d))))
 
--- no rule is broken, the names are known and few, and the links are added
-pub record IsSound (file : Data) (k : Known) (l : Linking) : Type 0 where
+-- no rule is broken, the names are known and few, the links are added, and the scripts are read
+pub record IsSound (file : Data) (k : Known) (p : Parts) : Type 0 where
   pub unbroken : first_in_order file ≡ None
   pub knows : Knows k file
   pub few : AreFew k
-  pub links : l.links.items ≡ whole_links file
-  pub added : l.added.links ≡ record { parents = parents_of (whole_devices file); links = reverse (whole_links file) }
+  pub links : p.linking.links.items ≡ whole_links file
+  pub added : p.linking.added.links ≡ record { parents = parents_of (whole_devices file); links = reverse (whole_links file) }
+  pub scripts : SpellsScripts file k p.scripts

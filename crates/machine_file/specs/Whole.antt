@@ -7,7 +7,8 @@ use Rattle.sleep_model.specs.declared.machine.Machine.{Machine}
 use Rattle.sleep_model.specs.declared.machine.Notifier.{Notifier}
 use Rattle.sleep_model.specs.Text.{newline}
 use Rattle.machine_file.specs.Tree.{tree}
-use Rattle.machine_file.specs.Members.{file_members, list_in, number_at}
+use Rattle.borrowed_json.specs.Look.{list_in, number_at, has_only}
+use Rattle.machine_file.specs.Members.{file_members}
 use Rattle.machine_file.specs.Places.{unless}
 use Rattle.machine_file.specs.Form.{unformed_member, unformed_item}
 use Rattle.machine_file.specs.Names.{misspelled_item, repeated_device, repeated_callback, repeated_source, repeated_actor, texts_in, sources_named}
@@ -16,7 +17,6 @@ use Rattle.machine_file.specs.Operations.{unformed_operation, forbidden_operatio
 use Rattle.machine_file.specs.Answering.{thingless_answer, forbidden_ret, forbidden_reports, sourceless_report, repeated_answer, whole_answers}
 use Rattle.machine_file.specs.Limits.{too_many, too_much}
 use Rattle.machine_file.specs.Rules.{has_version, name_of}
-use Rattle.machine_file.specs.Look.{has_only}
 
 -- ---- the rules
 

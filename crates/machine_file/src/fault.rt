@@ -1,6 +1,7 @@
 //! Why a machine file gives no machine.
 ghost use Rattle.std.specs.Prelude.{◌≡◌};
 ghost use Rattle.machine_file.specs.declared.fault.MachineFault.TheVariants as fault;
+ghost use Rattle.machine_file.specs.declared.fault.Stop.TheVariants as stop;
 
 use sleep_base::Mem;
 use std::alloc::{AllocError, AllocFailed};
@@ -38,5 +39,36 @@ impl From<Mem> for MachineFault {
 
     fn from(_failed: Mem) -> MachineFault {
         MachineFault::Mem
+    }
+}
+
+/// Why reading stops: a rule is broken, or memory ran out.
+#[derive(Clone, Copy)]
+pub(crate) enum Stop {
+    Broken,
+    Mem,
+}
+
+impl<T: Drop> From<AllocFailed<T>> for Stop {
+    ghost from_gives = { λ _ e. e ≡ stop.Mem };
+
+    fn from(_failed: AllocFailed<T>) -> Stop {
+        Stop::Mem
+    }
+}
+
+impl From<AllocError> for Stop {
+    ghost from_gives = { λ _ e. e ≡ stop.Mem };
+
+    fn from(_failed: AllocError) -> Stop {
+        Stop::Mem
+    }
+}
+
+impl From<Mem> for Stop {
+    ghost from_gives = { λ _ e. e ≡ stop.Mem };
+
+    fn from(_failed: Mem) -> Stop {
+        Stop::Mem
     }
 }

@@ -6,15 +6,14 @@ pub(crate) mod ranks;
 
 ghost use Rattle.std.specs.Prelude.{◌≡◌, ◌∷◌, [], not, map, bytes_eq, codes, IfOk};
 ghost use Rattle.borrowed_json.specs.View.{view};
-ghost use Rattle.machine_file.specs.Look.{text_of};
+ghost use Rattle.borrowed_json.specs.Look.{text_of};
 ghost use Rattle.machine_file.specs.Rules.{name_of};
 ghost use Rattle.machine_file.specs.Places.{first_not_after};
 ghost use Rattle.machine_file.specs.Names.{names_in, texts_in, is_among_names};
 ghost use Rattle.machine_file.specs.Broken.{member_name};
 
-use crate::value::look::{text_at, text_of};
 use crate::value::place::{Member, items};
-use borrowed_json::Value;
+use borrowed_json::{Value, text_at, text_of};
 use key_index::KeyIndex;
 use sleep_base::Mem;
 use std::alloc::Global;

@@ -21,7 +21,7 @@ ghost use Rattle.machine_file.specs.Broken.{broken_view, place_text};
 use crate::fault::MachineFault;
 use crate::names::devices::{NamedDevices, devices_in};
 use crate::names::known::{Known, known_in};
-use crate::reading::machine::{first_of_form, linked};
+use crate::reading::machine::{first_of_form, parts_in};
 use crate::reading::whole::read_of;
 use crate::rules::Broken;
 use crate::value::place::Place;
@@ -117,8 +117,8 @@ fn read_known(
     ensures ok { IfOk result (Reads (view tree.now)) }
     ensures err { IfErr result (RefusesValue (view tree.now)) }
 {
-    match linked(alloc, tree, known)? {
-        Ok(linking) => Ok(read_of(alloc, tree, known, linking)?),
+    match parts_in(alloc, tree, known)? {
+        Ok(parts) => Ok(read_of(alloc, tree, known, parts)?),
         Err(broken) => Err(fault_of(alloc, broken)),
     }
 }

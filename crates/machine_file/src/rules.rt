@@ -10,7 +10,7 @@ pub(crate) mod pairs;
 ghost use Rattle.std.specs.Prelude.{◌≡◌, option_map, codes, IfOk};
 ghost use Rattle.borrowed_json.specs.View.{view};
 ghost use Rattle.machine_file.specs.Whole.{broken_at, first_of};
-ghost use Rattle.machine_file.specs.Look.{has_only};
+ghost use Rattle.borrowed_json.specs.Look.{has_only};
 ghost use Rattle.std.specs.Option.{option_or};
 ghost use Rattle.machine_file.specs.Members.{file_members};
 ghost use Rattle.machine_file.specs.Rules.{has_version};
@@ -29,9 +29,8 @@ use crate::rules::items::{is_second, misspelled_item, unformed_item};
 use crate::rules::limits::{too_many, too_much};
 use crate::rules::operations::{OperationTest, first_operation};
 use crate::rules::pairs::{EndNumbers, LinkEnds, loose_link, repeated_link};
-use crate::value::look::{has_number, has_only};
 use crate::value::place::{Member, Place};
-use borrowed_json::Value;
+use borrowed_json::{Value, has_number, has_only};
 use sleep_base::Mem;
 use std::alloc::Global;
 
@@ -150,7 +149,7 @@ fn deviceless_operation(tree: &Value<'_>, known: &Known<'_>) -> Option<Place>
     first_operation(OperationTest::Device, known, tree)
 }
 
-fn sourceless_report(tree: &Value<'_>, known: &Known<'_>) -> Option<Place>
+pub(crate) fn sourceless_report(tree: &Value<'_>, known: &Known<'_>) -> Option<Place>
     requires { Knows known.now (view tree.now) }
     ensures { place_of result ≡ sourceless_report (view tree.now) }
 {
@@ -174,19 +173,8 @@ fn sourceless(tree: &Value<'_>, known: &Known<'_>) -> Option<Place>
     }
 }
 
-/// The first rule of operations that is broken: it is searched for rule by rule only if one pass finds an
-/// operation that breaks any of them.
+/// The first rule of operations that is broken.
 pub(crate) fn operation_broken(tree: &Value<'_>, known: &Known<'_>) -> Option<Broken>
-    requires { Knows known.now (view tree.now) }
-    ensures { option_map broken_view result ≡ first_of operation_rules (view tree.now) }
-{
-    match first_operation(OperationTest::Kept(is_second(tree)), known, tree) {
-        Some(_) => first_operation_rule(tree, known),
-        None => breaks(18, sourceless_report(tree, known)),
-    }
-}
-
-fn first_operation_rule(tree: &Value<'_>, known: &Known<'_>) -> Option<Broken>
     requires { Knows known.now (view tree.now) }
     ensures { option_map broken_view result ≡ first_of operation_rules (view tree.now) }
 {

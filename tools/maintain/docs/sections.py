@@ -165,10 +165,11 @@ SECTIONS = [
         "Accepted bytes: the first broken rule, and the machine that is spelled",
         "`include/linux/pm.h`, `drivers/base/core.c`; most is own",
         [
-            "Whole", "Members", "Places", "Form", "Names", "Devices", "Operations", "Answering", "Limits", "Tree", "Look",
-            "Rules", "Spelled",
+            "Whole", "Members", "Places", "Form", "Names", "Devices", "Operations", "Answering", "Limits", "Tree", "Rules",
+            "Spelled",
         ],
     ),
+    ("borrowed_json", "One value, and what stands at a name of it", "own", ["Look"]),
     ("machine_file", "How a machine is written", "own", ["Spelling"]),
     ("sleep_script", "Generated machines", "own", ["Generated"]),
     ("command_line", "The words of the command line", "own", ["Words"]),

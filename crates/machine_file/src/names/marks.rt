@@ -3,15 +3,14 @@
 ghost use Rattle.std.specs.Prelude.{◌≡◌, ◌++◌, [], map, IfOk, OnOk};
 ghost use Rattle.std.specs.List.{flat_map};
 ghost use Rattle.borrowed_json.specs.View.{view};
-ghost use Rattle.machine_file.specs.Members.{list_in};
+ghost use Rattle.borrowed_json.specs.Look.{list_in};
 ghost use Rattle.machine_file.specs.Operations.{marks_of, first_occurrences, whole_marks};
 ghost use Rattle.machine_file.specs.Knows.{texts};
 ghost use Rattle.machine_file.specs.Marks.{marks_of_script};
 
 use crate::names::ranks::is_before;
-use crate::value::look::{list_in, word_at};
 use crate::value::place::{Member, items};
-use borrowed_json::Value;
+use borrowed_json::{Value, list_in, word_at};
 use key_index::KeyIndex;
 use sleep_base::Mem;
 use std::alloc::Global;

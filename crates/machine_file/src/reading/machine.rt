@@ -1,25 +1,33 @@
-//! The rules of a machine file in their order, and its links if it breaks none.
+//! The rules of a machine file in their order, and its links and scripts if it breaks none.
 
 ghost use Rattle.std.specs.Prelude.{◌≡◌, [], option_map, codes, Some, None, IfOk, IfErr};
 ghost use Rattle.std.specs.Option.{option_or};
 ghost use Rattle.borrowed_json.specs.View.{view};
-ghost use Rattle.machine_file.specs.Members.{list_in};
+ghost use Rattle.borrowed_json.specs.Look.{list_in};
 ghost use Rattle.machine_file.specs.Places.{first_not_after};
 ghost use Rattle.machine_file.specs.Devices.{closes_no_cycle};
 ghost use Rattle.machine_file.specs.Knows.{Knows};
 ghost use Rattle.machine_file.specs.ValidFiles.{IsSound, first_in_order, broken_form, broken_devices, broken_ends, broken_cycle, broken_rest};
 ghost use Rattle.machine_file.specs.Seen.{AreEnds, AreNumbersOf};
 ghost use Rattle.machine_file.specs.Broken.{broken_view};
+ghost use Rattle.machine_file.specs.Whole.{first_of};
+ghost use Rattle.machine_file.specs.Groups.{operation_rules};
+ghost use Rattle.machine_file.specs.Knows.{SpellsScripts};
 
+use crate::fault::Stop;
 use crate::names::known::Known;
+use crate::reading::scripts::scripts_in;
 use crate::rules::cycles::{Linking, linking_of};
+use crate::rules::items::is_second;
 use crate::rules::pairs::{EndNumbers, LinkEnds, ends_in, numbers_in};
 use crate::rules::{
-    Broken, answer_broken, end_broken, form_broken, operation_broken, thing_broken,
+    Broken, answer_broken, end_broken, form_broken, operation_broken, sourceless_report,
+    thing_broken,
 };
-use crate::value::place::{Member, Place};
+use crate::value::place::{Member, Place, items};
 use borrowed_json::Value;
 use sleep_base::{Mem, drop_for_mem};
+use sleep_model::Script;
 use std::alloc::Global;
 
 /// The first rule on form that is broken.
@@ -59,39 +67,96 @@ fn first_cycle(cycle: Option<usize>, _tree: &Value<'_>) -> Option<Broken>
     }
 }
 
-#[tactic(auto, unfolding(crate::specs::ValidFiles::broken_rest))]
-fn first_of_rest(alloc: Global, tree: &Value<'_>, known: &Known<'_>) -> Result<Option<Broken>, Mem>
-    requires { Knows known.now (view tree.now) }
-    ensures { IfOk result (λ b. option_map broken_view b ≡ broken_rest (view tree.now)) }
+/// The scripts of a file, or the first rule on operations that is broken. It is searched for only if one is.
+fn operations_in(
+    alloc: Global,
+    tree: &Value<'_>,
+    known: &Known<'_>,
+) -> Result<Result<Vec<Script>, Broken>, Mem>
+    requires form { broken_form (view tree.now) ≡ None }
+    requires knows { Knows known.now (view tree.now) }
+    ensures spelled { IfOk result (λ r. IfOk r (SpellsScripts (view tree.now) known.now)) }
+    ensures unbroken { IfOk result (λ r. IfOk r (λ _. first_of operation_rules (view tree.now) ≡ None)) }
+    ensures broken { IfOk result (λ r. IfErr r (λ b. first_of operation_rules (view tree.now) ≡ Some (broken_view b))) }
 {
-    let thing = thing_broken(alloc, tree, known)?;
-    let answer = answer_broken(alloc, tree, known)?;
-    Ok(thing.or(operation_broken(tree, known)).or(answer))
+    match scripts_in(alloc, is_second(tree), items(tree, Member::Actors), known) {
+        Ok(scripts) => match sourceless_report(tree, known) {
+            Some(place) => {
+                drop(scripts);
+                Ok(Err(Broken { rule: 18, place }))
+            }
+            None => Ok(Ok(scripts)),
+        },
+        Err(Stop::Broken) => match operation_broken(tree, known) {
+            Some(broken) => Ok(Err(broken)),
+            None => unreachable!(),
+        },
+        Err(Stop::Mem) => Err(Mem),
+    }
 }
 
-/// The first rule after those on devices that is broken.
-fn first_after(
+/// The scripts of a file, or the first rule after those on links that is broken.
+#[tactic(auto, unfolding(crate::specs::ValidFiles::broken_rest))]
+fn rest_in(
+    alloc: Global,
+    tree: &Value<'_>,
+    known: &Known<'_>,
+) -> Result<Result<Vec<Script>, Broken>, Mem>
+    requires form { broken_form (view tree.now) ≡ None }
+    requires knows { Knows known.now (view tree.now) }
+    ensures spelled { IfOk result (λ r. IfOk r (SpellsScripts (view tree.now) known.now)) }
+    ensures unbroken { IfOk result (λ r. IfOk r (λ _. broken_rest (view tree.now) ≡ None)) }
+    ensures broken { IfOk result (λ r. IfErr r (λ b. broken_rest (view tree.now) ≡ Some (broken_view b))) }
+{
+    if let Some(broken) = thing_broken(alloc, tree, known)? {
+        return Ok(Err(broken));
+    }
+    let answer = answer_broken(alloc, tree, known)?;
+    match operations_in(alloc, tree, known)? {
+        Ok(scripts) => match answer {
+            Some(broken) => {
+                drop(scripts);
+                Ok(Err(broken))
+            }
+            None => Ok(Ok(scripts)),
+        },
+        Err(broken) => Ok(Err(broken)),
+    }
+}
+
+/// The scripts of a file, or the first rule after those on the ends of links that is broken.
+fn scripts_after(
     alloc: Global,
     tree: &Value<'_>,
     known: &Known<'_>,
     cycle: Option<usize>,
-) -> Result<Option<Broken>, Mem>
+) -> Result<Result<Vec<Script>, Broken>, Mem>
+    requires form { broken_form (view tree.now) ≡ None }
     requires knows { Knows known.now (view tree.now) }
     requires cycle { cycle ≡ first_not_after (closes_no_cycle (view tree.now)) [] 0 (list_in (codes "links") (view tree.now)) }
-    ensures { IfOk result (λ b. option_map broken_view b ≡ option_or (broken_cycle (view tree.now)) (broken_rest (view tree.now))) }
+    ensures spelled { IfOk result (λ r. IfOk r (SpellsScripts (view tree.now) known.now)) }
+    ensures unbroken { IfOk result (λ r. IfOk r (λ _. option_or (broken_cycle (view tree.now)) (broken_rest (view tree.now)) ≡ None)) }
+    ensures broken { IfOk result (λ r. IfErr r (λ b. option_or (broken_cycle (view tree.now)) (broken_rest (view tree.now)) ≡ Some (broken_view b))) }
 {
     match first_cycle(cycle, tree) {
-        Some(broken) => Ok(Some(broken)),
-        None => first_of_rest(alloc, tree, known),
+        Some(broken) => Ok(Err(broken)),
+        None => rest_in(alloc, tree, known),
     }
 }
 
-/// The links of a file, or the first rule after those on form that is broken.
-pub(crate) fn linked(
+/// The links of a file that breaks no rule, and its scripts.
+#[derive(Drop)]
+pub(crate) struct Parts {
+    pub(crate) linking: Linking,
+    pub(crate) scripts: Vec<Script>,
+}
+
+/// The links and the scripts of a file, or the first rule after those on devices that is broken.
+pub(crate) fn parts_in(
     alloc: Global,
     tree: &Value<'_>,
     known: &Known<'_>,
-) -> Result<Result<Linking, Broken>, Mem>
+) -> Result<Result<Parts, Broken>, Mem>
     requires form { broken_form (view tree.now) ≡ None }
     requires devices { broken_devices (view tree.now) ≡ None }
     requires knows { Knows known.now (view tree.now) }
@@ -99,7 +164,7 @@ pub(crate) fn linked(
     ensures broken { IfOk result (λ r. IfErr r (λ b. first_in_order (view tree.now) ≡ Some (broken_view b))) }
 {
     match ends_of_links(alloc, tree, known)? {
-        Ok(places) => linked_by(alloc, tree, known, &places),
+        Ok(places) => parts_by(alloc, tree, known, &places),
         Err(broken) => Ok(Err(broken)),
     }
 }
@@ -125,13 +190,14 @@ fn ends_of_links(
     }
 }
 
-/// The links between these places, or the first rule after those on devices that is broken.
-fn linked_by(
+/// The links between these places and the scripts, or the first rule after those on the ends of links that is
+/// broken.
+fn parts_by(
     alloc: Global,
     tree: &Value<'_>,
     known: &Known<'_>,
     places: &[EndNumbers],
-) -> Result<Result<Linking, Broken>, Mem>
+) -> Result<Result<Parts, Broken>, Mem>
     requires form { broken_form (view tree.now) ≡ None }
     requires devices { broken_devices (view tree.now) ≡ None }
     requires ends { broken_ends (view tree.now) ≡ None }
@@ -141,14 +207,14 @@ fn linked_by(
     ensures broken { IfOk result (λ r. IfErr r (λ b. first_in_order (view tree.now) ≡ Some (broken_view b))) }
 {
     let linking = linking_of(alloc, tree, known, places)?;
-    let Ok(broken) = first_after(alloc, tree, known, linking.added.cycle) else {
+    let Ok(scripts) = scripts_after(alloc, tree, known, linking.added.cycle) else {
         return Err(drop_for_mem(linking));
     };
-    match broken {
-        Some(broken) => {
+    match scripts {
+        Ok(scripts) => Ok(Ok(Parts { linking, scripts })),
+        Err(broken) => {
             drop(linking);
             Ok(Err(broken))
         }
-        None => Ok(Ok(linking)),
     }
 }

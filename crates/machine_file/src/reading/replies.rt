@@ -2,7 +2,7 @@
 
 ghost use Rattle.std.specs.Prelude.{◌≡◌, ◌≤◌, All, map, length, codes, unwrap_or, find, pos, neg_ℤ, IfOk};
 ghost use Rattle.borrowed_json.specs.View.{view};
-ghost use Rattle.machine_file.specs.Members.{has_text, number_at};
+ghost use Rattle.borrowed_json.specs.Look.{has_text, number_at};
 ghost use Rattle.machine_file.specs.Answering.{answering_phases, platform_steps, phase_of, step_of, ret_of, call_of, whole_report};
 ghost use Rattle.machine_file.specs.AnswerTests.{thing_seen, answer_made};
 ghost use Rattle.phase_table.specs.Phases.{phase_name};
@@ -16,9 +16,8 @@ use crate::names::devices::device_named;
 use crate::names::known::Known;
 use crate::reading::scripts::{ms_of, says, small_at, thing_at};
 use crate::rules::answers::is_of_device;
-use crate::value::look::{has_text, list_in, number_at};
 use crate::value::words::{AWAKE, NOTIFIER, RELAX, SYSCORE, error_in, phase_in, step_in};
-use borrowed_json::{Value, get};
+use borrowed_json::{Value, get, has_text, list_in, number_at};
 use key_index::KeyIndex;
 use sleep_base::{Errno, Mem};
 use sleep_model::{Answer, ListOf, Phase, PlatDo, Report, SourceCall, What};

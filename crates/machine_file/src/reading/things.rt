@@ -3,16 +3,14 @@
 ghost use Rattle.std.specs.Prelude.{◌≡◌, ◌≤◌, All, Some, map, length, codes, IfOk, option_and_then, true};
 ghost use Rattle.borrowed_json.specs.View.{view};
 ghost use Rattle.serde_json.specs.Find.{as_number, as_integer};
-ghost use Rattle.machine_file.specs.Members.{may_have};
-ghost use Rattle.machine_file.specs.Form.{is_bounded};
+ghost use Rattle.borrowed_json.specs.Look.{may_have, is_bounded};
 ghost use Rattle.machine_file.specs.Devices.{bit, flags_of};
 ghost use Rattle.machine_file.specs.Whole.{priority_of, whole_notifier};
 ghost use Rattle.machine_file.specs.Fitting.{FitsNotifier};
 
 use crate::reading::texts::name_of_text;
-use crate::value::look::{has_text, text_at, truth_at};
 use bitflags::Flags;
-use borrowed_json::{Value, as_i64, get};
+use borrowed_json::{Value, as_i64, get, has_text, text_at, truth_at};
 use sleep_base::Mem;
 use sleep_model::{DeviceFlags, Notifier, runtime_word};
 use std::alloc::Global;

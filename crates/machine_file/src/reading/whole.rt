@@ -2,7 +2,7 @@
 
 ghost use Rattle.std.specs.Prelude.{◌≡◌, map, codes, IfOk};
 ghost use Rattle.borrowed_json.specs.View.{view};
-ghost use Rattle.machine_file.specs.Members.{list_in};
+ghost use Rattle.borrowed_json.specs.Look.{list_in};
 ghost use Rattle.machine_file.specs.Names.{texts_in, sources_named};
 ghost use Rattle.machine_file.specs.Devices.{whole_devices, whole_links};
 ghost use Rattle.machine_file.specs.Operations.{whole_marks, whole_scripts};
@@ -15,14 +15,14 @@ ghost use Rattle.machine_file.specs.Reading.{Reads};
 
 use crate::ReadMachine;
 use crate::names::known::Known;
+use crate::reading::machine::Parts;
 use crate::reading::replies::answers_of;
-use crate::reading::scripts::{scripts_of, small_or};
+use crate::reading::scripts::small_or;
 use crate::reading::texts::names_of_texts;
 use crate::reading::things::notifiers_of;
 use crate::rules::cycles::{Added, Linking};
-use crate::value::look::number_at;
 use crate::value::place::{Member, items};
-use borrowed_json::Value;
+use borrowed_json::{Value, number_at};
 use sleep_base::{Mem, drop_for_mem};
 use sleep_model::{Answer, Device, Link, ListOf, Machine, Name, Notifier, Script};
 use std::alloc::Global;
@@ -60,16 +60,6 @@ fn marks_of(alloc: Global, _tree: &Value<'_>, known: &Known<'_>) -> Result<Vec<N
 {
     let names = names_of_texts(alloc, known.marks.keys())?;
     Ok(names)
-}
-
-fn scripts_in(alloc: Global, tree: &Value<'_>, known: &Known<'_>) -> Result<Vec<Script>, Mem>
-    requires knows { Knows known.now (view tree.now) }
-    requires few { AreFew known.now }
-    requires fits { FitsFile (view tree.now) }
-    ensures { IfOk result (λ v. v.items ≡ whole_scripts (view tree.now)) }
-{
-    let scripts = scripts_of(alloc, items(tree, Member::Actors), known)?;
-    Ok(scripts)
 }
 
 fn answers_in(alloc: Global, tree: &Value<'_>, known: &Known<'_>) -> Result<Vec<Answer>, Mem>
@@ -122,50 +112,32 @@ fn named_in(
     Ok((sources, marks))
 }
 
-/// The scripts and the answers of a file.
-fn acts_in(
-    alloc: Global,
-    tree: &Value<'_>,
-    known: &Known<'_>,
-) -> Result<(Vec<Script>, Vec<Answer>), Mem>
-    requires knows { Knows known.now (view tree.now) }
-    requires few { AreFew known.now }
-    requires fits { FitsFile (view tree.now) }
-    ensures actors { IfOk result (λ t. t.0.items ≡ whole_scripts (view tree.now)) }
-    ensures answers { IfOk result (λ t. t.1.items ≡ whole_answers (view tree.now)) }
-{
-    let actors = scripts_in(alloc, tree, known)?;
-    let Ok(answers) = answers_in(alloc, tree, known) else {
-        return Err(drop_for_mem(actors));
-    };
-    Ok((actors, answers))
-}
-
-/// A file's machine, with its links.
+/// A file's machine, with these links and scripts.
 fn machine_of(
     alloc: Global,
     tree: &Value<'_>,
     known: &Known<'_>,
     links: Vec<Link>,
+    actors: Vec<Script>,
 ) -> Result<Machine, Mem>
     requires knows { Knows known.now (view tree.now) }
     requires few { AreFew known.now }
     requires links { links.items ≡ whole_links (view tree.now) }
+    requires scripts { actors.items ≡ whole_scripts (view tree.now) }
     requires fits { FitsFile (view tree.now) }
     ensures { IfOk result (λ m. m ≡ whole_machine (view tree.now)) }
 {
     let Ok(things) = things_in(alloc, tree, known) else {
-        return Err(drop_for_mem(links));
+        return Err(drop_for_mem((links, actors)));
     };
     let Ok(named) = named_in(alloc, tree, known) else {
-        return Err(drop_for_mem((links, things)));
+        return Err(drop_for_mem((links, actors, things)));
     };
-    let Ok(acts) = acts_in(alloc, tree, known) else {
-        return Err(drop_for_mem((links, things, named)));
+    let Ok(answers) = answers_in(alloc, tree, known) else {
+        return Err(drop_for_mem((links, actors, things, named)));
     };
     let (devices, syscore, notifiers) = things;
     let (sources, marks) = named;
-    let (actors, answers) = acts;
     Ok(Machine {
         alarm_ms: number_at(tree, "alarm_ms").unwrap_or(1000),
         cpus: small_or(tree, "cpus", 1),
@@ -186,17 +158,18 @@ pub(crate) fn read_of(
     alloc: Global,
     tree: &Value<'_>,
     known: &Known<'_>,
-    linking: Linking,
+    parts: Parts,
 ) -> Result<ReadMachine, Mem>
-    requires { IsSound (view tree.now) known.now linking }
+    requires { IsSound (view tree.now) known.now parts }
     ensures { IfOk result (λ r. Reads (view tree.now) r) }
 {
+    let Parts { linking, scripts } = parts;
     let Linking { links, added } = linking;
     let Added {
         links: tied,
         cycle: _,
     } = added;
-    let Ok(machine) = machine_of(alloc, tree, known, links) else {
+    let Ok(machine) = machine_of(alloc, tree, known, links, scripts) else {
         return Err(drop_for_mem(tied));
     };
     Ok(ReadMachine {

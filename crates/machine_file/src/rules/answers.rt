@@ -4,15 +4,13 @@ ghost use Rattle.std.specs.Prelude.{◌≡◌, ◌&&◌, [], not, map, position,
 ghost use Rattle.std.specs.List.{list_all, list_any};
 ghost use Rattle.borrowed_json.specs.View.{view};
 ghost use Rattle.sleep_model.specs.Text.{down_word};
-ghost use Rattle.machine_file.specs.Look.{is_number, is_text};
-ghost use Rattle.machine_file.specs.Members.{may_have, list_in, word_at};
+ghost use Rattle.borrowed_json.specs.Look.{is_number, is_text, may_have, list_in, word_at, is_one_of};
 ghost use Rattle.machine_file.specs.Places.{first_not, first_not_after, first_item};
 ghost use Rattle.machine_file.specs.Names.{is_among_names};
 ghost use Rattle.machine_file.specs.Operations.{names_source};
 ghost use Rattle.machine_file.specs.Answering.{platform_steps, common_errors, is_of_device, has_its_phase, is_of_prepare, is_ret_allowed, may_report, names_of_kind, names_thing, thingless_answer, forbidden_ret, forbidden_reports, sourceless_report, repeated_answer};
 ghost use Rattle.machine_file.specs.Knows.{texts};
 ghost use Rattle.machine_file.specs.Rules.{name_of as own_name};
-ghost use Rattle.machine_file.specs.Form.{is_one_of};
 ghost use Rattle.sleep_base.specs.Errno.{name_of};
 ghost use Rattle.machine_file.specs.AnswerTests.{answer_test, kind_names};
 ghost use Rattle.machine_file.specs.Seen.{answer_seen, answer_written, same_answer};
@@ -22,10 +20,9 @@ use crate::names::devices::is_device;
 use crate::names::known::{Known, contains, item};
 use crate::names::ranks::first_repeated;
 use crate::rules::operations::names_one_of;
-use crate::value::look::{has_text, is_number, is_text, list_in, number_at, text_at};
 use crate::value::place::{Member, Place, items};
 use crate::value::words::{DEVICE, NOTIFIER, SYSCORE, step_named};
-use borrowed_json::{Value, get};
+use borrowed_json::{Value, get, has_text, is_number, is_text, list_in, number_at, text_at};
 use key_index::KeyIndex;
 use sleep_base::{Errno, Mem};
 use sleep_model::Phase;
@@ -71,7 +68,6 @@ fn is_step(name: &str) -> bool
 }
 
 /// Whether the thing that an answer names is there.
-/// Whether the thing's name is one of its kind's.
 fn is_there(answer: &Value<'_>, known: &Known<'_>) -> bool
     ensures { result ≡ is_among_names (kind_names known.now (view answer.now)) (own_name (view answer.now)) }
 {

@@ -4,7 +4,7 @@ ghost use Rattle.std.specs.Prelude.{◌≡◌, ◌≤◌, [], map, reverse, leng
 ghost use Rattle.borrowed_json.specs.View.{view};
 ghost use Rattle.machine_file.specs.Spelled.{index_among};
 ghost use Rattle.sleep_model.specs.Order.{EachAfterParent, parents_of};
-ghost use Rattle.machine_file.specs.Members.{list_in};
+ghost use Rattle.borrowed_json.specs.Look.{list_in};
 ghost use Rattle.machine_file.specs.Devices.{whole_devices, whole_links, closes_no_cycle};
 ghost use Rattle.machine_file.specs.Joined.{AreJoined};
 ghost use Rattle.machine_file.specs.Places.{first_not_after};
@@ -14,9 +14,8 @@ ghost use Rattle.machine_file.specs.Knows.{Knows, texts};
 
 use crate::names::known::{Known, index_of_name};
 use crate::rules::pairs::EndNumbers;
-use crate::value::look::has_text;
 use crate::value::place::{Member, items};
-use borrowed_json::Value;
+use borrowed_json::{Value, has_text};
 use device_links::{LinkFault, Links};
 use key_index::KeyIndex;
 use sleep_base::{Mem, drop_for_mem};

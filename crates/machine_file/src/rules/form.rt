@@ -3,21 +3,21 @@
 ghost use Rattle.std.specs.Prelude.{◌≡◌, codes, Option, nat_le, length, map, position, not};
 ghost use Rattle.std.specs.List.{list_all};
 ghost use Rattle.borrowed_json.specs.View.{view};
-ghost use Rattle.machine_file.specs.Members.{may_have, must_have, list_in, link_members};
-ghost use Rattle.machine_file.specs.Look.{has_only};
-ghost use Rattle.machine_file.specs.Form.{is_string, is_one_of, kinds, phases, statuses, link_states, is_device_form, is_link_form, is_notifier_form, is_actor_form, is_ret_form, is_plain_report, is_event_report, is_report_form, are_reports, is_answer_form, unformed_member, unformed_item};
+ghost use Rattle.borrowed_json.specs.Look.{may_have, must_have, list_in, has_only, is_string, is_one_of};
+ghost use Rattle.machine_file.specs.Members.{link_members};
+ghost use Rattle.machine_file.specs.Form.{kinds, phases, statuses, link_states, is_device_form, is_link_form, is_notifier_form, is_actor_form, is_ret_form, is_plain_report, is_event_report, is_report_form, are_reports, is_answer_form, unformed_member, unformed_item};
 ghost use Rattle.machine_file.specs.Operations.{has_ends_named};
 ghost use Rattle.machine_file.specs.Broken.{place_of};
 
-use crate::value::look::{
-    has_only, has_text, is_number, is_string, list_in, may_be_bounded, may_be_list, may_be_one_of,
-    may_be_text, may_be_truth, may_be_within, must_be_one_of, must_be_text,
-};
 use crate::value::place::{Member, Place};
 use crate::value::words::{
     AWAKE, DEVICE, EVENT, NOTIFIER, PLATFORM, RELAX, SYSCORE, error_in, kind_in, phase_in,
 };
-use borrowed_json::{Value, as_array, get};
+use borrowed_json::{
+    Value, as_array, get, has_only, has_text, is_number, is_string, list_in, may_be_bounded,
+    may_be_list, may_be_one_of, may_be_text, may_be_truth, may_be_within, must_be_one_of,
+    must_be_text,
+};
 use sleep_model::{link_word, runtime_word};
 
 /// A day, in ms: the longest time.

@@ -5,7 +5,7 @@ ghost use Rattle.borrowed_json.specs.View.{view};
 ghost use Rattle.machine_file.specs.Places.{first_not, first_item};
 ghost use Rattle.machine_file.specs.Form.{is_link_form, unformed_item};
 ghost use Rattle.machine_file.specs.Names.{spells_name, names_of_device, names_of_link, own_name, misspelled_item};
-ghost use Rattle.machine_file.specs.Members.{must_have, may_have, list_in};
+ghost use Rattle.borrowed_json.specs.Look.{must_have, may_have, list_in};
 ghost use Rattle.machine_file.specs.Rules.{is_second};
 ghost use Rattle.machine_file.specs.Broken.{member_name, place_of};
 ghost use Rattle.machine_file.specs.Tests.{item_test};
@@ -13,9 +13,8 @@ ghost use Rattle.machine_file.specs.Tests.{item_test};
 use crate::rules::form::{
     is_actor_form, is_answer_form, is_device_form, is_link_form, is_notifier_form,
 };
-use crate::value::look::{has_number, is_string};
 use crate::value::place::{Member, Place, items};
-use borrowed_json::{Value, as_str, get};
+use borrowed_json::{Value, as_str, get, has_number, is_string};
 use sleep_model::is_name;
 
 /// A test of an item of a list.

@@ -3,14 +3,13 @@
 ghost use Rattle.std.specs.Prelude.{◌≡◌, ◌+◌, ◌*◌, ◌||◌, length, min, map, codes, true, sum_by, unwrap_or, nat_le, if◌then◌else◌};
 ghost use Rattle.std.specs.List.{list_any};
 ghost use Rattle.borrowed_json.specs.View.{view};
-ghost use Rattle.machine_file.specs.Members.{list_in, number_at, has_text};
+ghost use Rattle.borrowed_json.specs.Look.{list_in, number_at, has_text};
 ghost use Rattle.machine_file.specs.Limits.{too_many, too_much, times_of, repeat_of, has_autosleep, autosleep_attempts, most_attempts, are_links_few, are_steps_few, are_reports_few};
 ghost use Rattle.machine_file.specs.Counted.{with_operation, steps_of_script, repeated_steps, steps_of_actor, joined_steps, steps_of_actors};
 ghost use Rattle.machine_file.specs.Broken.{member_name, place_of};
 
-use crate::value::look::{is_same, list_in, number_at, text_at};
 use crate::value::place::{Member, Place, items};
-use borrowed_json::Value;
+use borrowed_json::{Value, is_same, list_in, number_at, text_at};
 
 /// How many steps there are, each number of at most the cap.
 #[derive(Clone, Copy)]
@@ -31,8 +30,8 @@ const NO_STEPS: Steps = Steps {
     autosleep: false,
 };
 
-// The most steps that all scripts make.
-const MOST_STEPS: u64 = 200_000;
+/// The most steps that all scripts make.
+pub(crate) const MOST_STEPS: u64 = 200_000;
 
 // The most turns of devices in all attempts.
 const MOST_TURNS: u64 = 100_000;
@@ -132,7 +131,6 @@ fn times_if(counted: bool, times: u64) -> u64
     if counted { times } else { 0 }
 }
 
-/// The steps with those of one operation more.
 /// The steps and an operation of that word more, which is made so often.
 fn with_operation(steps: Steps, word: &str, times: u64) -> Steps
     ensures { result ≡ with_operation steps word.now times }
@@ -158,7 +156,6 @@ fn script_steps(script: &[Value<'_>]) -> Steps
     steps
 }
 
-/// The steps that many times.
 /// The steps that are made so often.
 fn repeated(repeat: u64, steps: Steps) -> Steps
     ensures { result ≡ repeated_steps repeat steps }

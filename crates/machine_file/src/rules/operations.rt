@@ -5,12 +5,11 @@ ghost use Rattle.std.specs.List.{list_any};
 ghost use Rattle.borrowed_json.specs.View.{view};
 ghost use Rattle.serde_json.specs.Find.{as_str};
 ghost use Rattle.sleep_model.specs.Text.{kind_word};
-ghost use Rattle.machine_file.specs.Look.{is_some_and, is_none_or, has_only};
-ghost use Rattle.machine_file.specs.Members.{must_have, may_have, list_in, word_at};
+ghost use Rattle.borrowed_json.specs.Look.{is_some_and, is_none_or, has_only, must_have, may_have, list_in, word_at};
 ghost use Rattle.machine_file.specs.Places.{first_not, first_operation, first_operation_of};
 ghost use Rattle.machine_file.specs.Names.{is_among_names};
 ghost use Rattle.machine_file.specs.Operations.{is_formed, is_allowed, has_count, has_short_text, is_state_form, has_length, has_mark, is_runtime_form, has_ends_named, is_link_state_form, changes_links, has_source, is_event_form, row_of, fits_row, names_source, names_device, unformed_operation, forbidden_operation, sourceless_operation, deviceless_operation};
-ghost use Rattle.machine_file.specs.OperationRows.{operation_of_word, first_version, is_in_journal, word_changes_links, word_names_device, word_names_source, row_named, operation_test};
+ghost use Rattle.machine_file.specs.OperationRows.{operation_of_word, first_version, word_changes_links, row_named, operation_test};
 ghost use Rattle.machine_file.specs.Knows.{Knows, names, texts};
 ghost use Rattle.machine_file.specs.Broken.{place_of};
 
@@ -18,12 +17,11 @@ use crate::names::devices::{NamedDevices, is_device};
 use crate::names::known::{Known, contains};
 use crate::rules::form::{DAY, has_ends, link_states, statuses};
 use crate::rules::items::must_be_name;
-use crate::value::look::{
-    has_only, is_same, list_in, may_be_truth, may_be_within, must_be_one_of, must_be_text,
-    must_be_within, text_at, word_at,
-};
 use crate::value::place::{Member, Place, items};
-use borrowed_json::{Value, as_str, get};
+use borrowed_json::{
+    Value, as_str, get, has_only, is_same, list_in, may_be_truth, may_be_within, must_be_one_of,
+    must_be_text, must_be_within, text_at, word_at,
+};
 use key_index::KeyIndex;
 use sleep_model::TaskKind;
 
@@ -48,13 +46,11 @@ pub(crate) enum Word {
 }
 
 /// The most times that an operation is made.
-const MOST_TIMES: u64 = 20_000;
+pub(crate) const MOST_TIMES: u64 = 20_000;
 
 /// A test of an operation of an actor.
 #[derive(Clone, Copy)]
 pub(crate) enum OperationTest {
-    /// Each of the others, in a file of version 2, or of version 1.
-    Kept(bool),
     /// In a file of version 2, or of version 1.
     Formed(bool),
     Allowed,
@@ -63,31 +59,31 @@ pub(crate) enum OperationTest {
 }
 
 /// Picks one column of the table of operations. A row has, in turn: its word, its name, the first version
-/// of the file that has it, who may make it, its members, the form of these, what an operation of it
-/// spells, and how that is written. The last three speak of the names that the column brings along.
+/// of the file that has it, who may make it, its members, the form of these, how an operation of it is
+/// tested and read, and how it is written. The last three speak of the names that the column brings along.
 macro_rules! by_operation {
-    (@name $from:expr; $($word:ident $name:literal $version:literal $makers:ident $members:tt $form:block $spelled:block [$op:pat] $written:block)*) => {
+    (@name $from:expr; $($word:ident $name:literal $version:literal $makers:ident $members:tt $form:block $read:block [$op:pat] $written:block)*) => {
         match $from { $(Word::$word => $name,)* }
     };
-    (@named $text:expr; $($word:ident $name:literal $version:literal $makers:ident $members:tt $form:block $spelled:block [$op:pat] $written:block)*) => {
+    (@named $text:expr; $($word:ident $name:literal $version:literal $makers:ident $members:tt $form:block $read:block [$op:pat] $written:block)*) => {
         [$(Word::$word),*].iter().copied().find(|word| word.is($text))
     };
-    (@version $from:expr; $($word:ident $name:literal $version:literal $makers:ident $members:tt $form:block $spelled:block [$op:pat] $written:block)*) => {
+    (@version $from:expr; $($word:ident $name:literal $version:literal $makers:ident $members:tt $form:block $read:block [$op:pat] $written:block)*) => {
         match $from { $(Word::$word => $version,)* }
     };
-    (@makers ($from:expr, $kind:expr); $($word:ident $name:literal $version:literal $makers:ident $members:tt $form:block $spelled:block [$op:pat] $written:block)*) => {
+    (@makers ($from:expr, $kind:expr); $($word:ident $name:literal $version:literal $makers:ident $members:tt $form:block $read:block [$op:pat] $written:block)*) => {
         match $from { $(Word::$word => names_kind($kind, &$makers),)* }
     };
-    (@members $from:expr; $($word:ident $name:literal $version:literal $makers:ident [$($member:literal)*] $form:block $spelled:block [$op:pat] $written:block)*) => {
+    (@members $from:expr; $($word:ident $name:literal $version:literal $makers:ident [$($member:literal)*] $form:block $read:block [$op:pat] $written:block)*) => {
         match $from { $(Word::$word => &["op", "times" $(, $member)*],)* }
     };
-    (@form $from:expr; $($word:ident $name:literal $version:literal $makers:ident $members:tt $form:block $spelled:block [$op:pat] $written:block)*) => {
+    (@form $from:expr; $($word:ident $name:literal $version:literal $makers:ident $members:tt $form:block $read:block [$op:pat] $written:block)*) => {
         match $from { $(Word::$word => $form,)* }
     };
-    (@spelled $from:expr; $($word:ident $name:literal $version:literal $makers:ident $members:tt $form:block $spelled:block [$op:pat] $written:block)*) => {
-        match $from { $(Word::$word => $spelled,)* }
+    (@read $from:expr; $($word:ident $name:literal $version:literal $makers:ident $members:tt $form:block $read:block [$op:pat] $written:block)*) => {
+        match $from { $(Word::$word => $read,)* }
     };
-    (@written $from:expr; $($word:ident $name:literal $version:literal $makers:ident $members:tt $form:block $spelled:block [$op:pat] $written:block)*) => {
+    (@written $from:expr; $($word:ident $name:literal $version:literal $makers:ident $members:tt $form:block $read:block [$op:pat] $written:block)*) => {
         match $from { $($op => $written,)* }
     };
     ($column:ident of $from:tt) => {
@@ -96,8 +92,8 @@ macro_rules! by_operation {
     (form of $from:tt, $operation:ident) => {
         by_operation! { form of $from; () $operation () () () () }
     };
-    (spelled of $from:tt, $alloc:ident, $operation:ident, $known:ident) => {
-        by_operation! { spelled of $from; $alloc $operation $known () () () }
+    (read of $from:tt, $alloc:ident, $operation:ident, $known:ident) => {
+        by_operation! { read of $from; $alloc $operation $known () () () }
     };
     (written of $from:tt, $out:ident, $machine:ident, $times:ident) => {
         by_operation! { written of $from; () () () $out $machine $times }
@@ -106,49 +102,49 @@ macro_rules! by_operation {
         by_operation! { @$column $from;
             Read "read" 1 USERS []
                 { true }
-                { Op::Read }
+                { Ok(Op::Read) }
                 [Op::Read] { put_word($out, "read", $times) }
             Save "save" 1 USERS ["count"]
                 { may_be_within($operation, "count", 0, 4_294_967_295) }
-                { Op::Save { count: small_at($operation, "count") } }
+                { Ok(Op::Save { count: optional_within($operation, "count", 0, 4_294_967_295)? }) }
                 [Op::Save { count }] {
                     $out.number_if("count", *count)?;
                     put_word($out, "save", $times)
                 }
             State "state" 1 USERS ["text" "if_saved"]
                 { has_short_text($operation) && may_be_truth($operation, "if_saved") }
-                { Op::State { text: text_in($alloc, $operation)?, if_saved: says($operation, "if_saved") } }
+                { state_in($alloc, $operation) }
                 [Op::State { text, if_saved }] {
                     $out.true_if("if_saved", *if_saved)?;
                     put_text($out, "state", text.as_slice(), $times)
                 }
             Autosleep "autosleep" 1 USERS ["text"]
                 { has_short_text($operation) }
-                { Op::Autosleep { text: text_in($alloc, $operation)? } }
+                { Ok(Op::Autosleep { text: text_in($alloc, $operation)? }) }
                 [Op::Autosleep { text }] { put_text($out, "autosleep", text.as_slice(), $times) }
             Sleep "sleep" 1 EVERYONE ["ms"]
                 { must_be_within($operation, "ms", 1, DAY) }
-                { Op::Sleep { ms: ms_of($operation) } }
+                { Ok(Op::Sleep { ms: length_in($operation)? }) }
                 [Op::Sleep { ms }] { put_sleep($out, "sleep", *ms, $times) }
             SleepD "sleep_d" 1 TASKS ["ms"]
                 { must_be_within($operation, "ms", 1, DAY) }
-                { Op::SleepD { ms: ms_of($operation) } }
+                { Ok(Op::SleepD { ms: length_in($operation)? }) }
                 [Op::SleepD { ms }] { put_sleep($out, "sleep_d", *ms, $times) }
             FreezePoint "freeze_point" 1 TASKS []
                 { true }
-                { Op::FreezePoint }
+                { Ok(Op::FreezePoint) }
                 [Op::FreezePoint] { put_word($out, "freeze_point", $times) }
             Post "post" 1 EVERYONE ["mark"]
                 { must_be_name($operation, "mark") }
-                { Op::Post { mark: thing_at($operation, "mark", &$known.marks) } }
+                { Ok(Op::Post { mark: mark_in($operation, &$known.marks)? }) }
                 [Op::Post { mark }] { put_mark($out, "post", $machine.mark_name(*mark), $times) }
             Wait "wait" 1 EVERYONE ["mark"]
                 { must_be_name($operation, "mark") }
-                { Op::Wait { mark: thing_at($operation, "mark", &$known.marks) } }
+                { Ok(Op::Wait { mark: mark_in($operation, &$known.marks)? }) }
                 [Op::Wait { mark }] { put_mark($out, "wait", $machine.mark_name(*mark), $times) }
             Runtime "runtime" 1 TASKS ["device" "to"]
                 { must_be_text($operation, "device") && must_be_one_of($operation, "to", &statuses()) }
-                { runtime_of($operation, $known) }
+                { runtime_in($operation, $known) }
                 [Op::Runtime { device, to_suspended }] {
                     $out.text("device", $machine.device_name(*device))?;
                     put_word($out, "runtime", $times)?;
@@ -156,24 +152,27 @@ macro_rules! by_operation {
                 }
             Link "link" 2 TASKS ["supplier" "consumer"]
                 { has_ends($operation) }
-                { link_of($operation, $known) }
+                {
+                    let (supplier, consumer) = ends_in($operation, &$known.devices)?;
+                    Ok(Op::Link { supplier, consumer })
+                }
                 [Op::Link { supplier, consumer }] {
                     put_link($out, $machine, "link", *supplier, *consumer, $times)
                 }
             LinkState "link_state" 2 TASKS ["supplier" "consumer" "to"]
                 { has_ends($operation) && must_be_one_of($operation, "to", &link_states()) }
-                { link_state_of($operation, $known) }
+                { link_state_in($operation, $known) }
                 [Op::LinkState { supplier, consumer, active }] {
                     put_link($out, $machine, "link_state", *supplier, *consumer, $times)?;
                     $out.text("to", link_word(*active).as_bytes())
                 }
             Awake "awake" 1 EVERYONE ["source"]
                 { must_be_text($operation, "source") }
-                { Op::Awake { source: thing_at($operation, "source", &$known.sources) } }
+                { Ok(Op::Awake { source: thing_in($operation, "source", &$known.sources)? }) }
                 [Op::Awake { source }] { put_source($out, "awake", $machine.source_name(*source), $times) }
             Relax "relax" 1 EVERYONE ["source"]
                 { must_be_text($operation, "source") }
-                { Op::Relax { source: thing_at($operation, "source", &$known.sources) } }
+                { Ok(Op::Relax { source: thing_in($operation, "source", &$known.sources)? }) }
                 [Op::Relax { source }] { put_source($out, "relax", $machine.source_name(*source), $times) }
             Event "event" 1 EVERYONE ["source" "ms" "hard"]
                 {
@@ -181,7 +180,7 @@ macro_rules! by_operation {
                         && may_be_within($operation, "ms", 0, DAY)
                         && may_be_truth($operation, "hard")
                 }
-                { event_of($operation, $known) }
+                { event_in($operation, $known) }
                 [Op::Event { source, ms, hard }] {
                     $out.true_if("hard", *hard)?;
                     $out.number_unless("ms", 0, u64::from(*ms))?;
@@ -244,14 +243,14 @@ pub(crate) fn word_of(operation: &Value<'_>) -> Option<Word>
 }
 
 /// Whether the operation has no members but those of its word.
-fn has_members(operation: &Value<'_>, word: Word) -> bool
+pub(crate) fn has_members(operation: &Value<'_>, word: Word) -> bool
     ensures { result ≡ has_only (codes "op" ∷ codes "times" ∷ (operation_of_word word).members) (view operation.now) }
 {
     has_only(operation, by_operation!(members of word))
 }
 
 /// Whether a text of at most 32 bytes is given.
-fn has_short_text(operation: &Value<'_>) -> bool
+pub(crate) fn has_short_text(operation: &Value<'_>) -> bool
     ensures { result ≡ has_short_text (view operation.now) }
 {
     match get(operation, "text") {
@@ -277,7 +276,7 @@ fn first_version(word: Word) -> u64
 }
 
 /// Whether a file of version 2, or of version 1, may have an operation of that word.
-fn is_of_version(second: bool, word: Word) -> bool
+pub(crate) fn is_of_version(second: bool, word: Word) -> bool
     ensures { result ≡ (second || not (word_changes_links word)) }
 {
     second || first_version(word) == 1
@@ -344,7 +343,7 @@ fn names_kind(text: &str, kinds: &[TaskKind]) -> bool
 }
 
 /// Whether an actor of that kind may make the operation.
-fn is_allowed(kind: &str, word: Word) -> bool
+pub(crate) fn is_allowed(kind: &str, word: Word) -> bool
     ensures { result ≡ is_among_names (operation_of_word word).makers kind.now }
 {
     by_operation!(makers of (word, kind))
@@ -360,64 +359,10 @@ pub(crate) fn names_one_of(operation: &Value<'_>, member: &str, names: &KeyIndex
     }
 }
 
-/// Whether operations of that word name a source.
-fn word_names_source(word: Word) -> bool
-    ensures { result ≡ word_names_source word }
-{
-    matches!(word, Word::Awake | Word::Relax | Word::Event)
-}
-
-/// Whether operations of that word name devices.
-fn word_names_device(word: Word) -> bool
-    ensures { result ≡ word_names_device word }
-{
-    matches!(word, Word::Runtime | Word::Link | Word::LinkState)
-}
-
-/// Whether the source that an operation of that word names, if it names one, is known.
-fn names_its_source(word: Word, operation: &Value<'_>, sources: &KeyIndex<&str>) -> bool
-    requires { fits_row (view operation.now) (operation_of_word word) ≡ true }
-    ensures { result ≡ names_source (texts sources.now) (view operation.now) }
-{
-    if !word_names_source(word) {
-        return true;
-    }
-    names_one_of(operation, "source", sources)
-}
-
-/// Whether the devices that an operation of that word names, if it names any, are known.
-fn names_its_devices(word: Word, operation: &Value<'_>, devices: &NamedDevices) -> bool
-    requires { fits_row (view operation.now) (operation_of_word word) ≡ true }
-    ensures { result ≡ names_device (names devices.now) (view operation.now) }
-{
-    if !word_names_device(word) {
-        return true;
-    }
-    names_devices(operation, devices)
-}
-
-/// Whether an operation obeys each rule on one operation.
-/// Whether an operation keeps each rule on one operation.
-fn is_in_journal(second: bool, known: &Known<'_>, actor: &Value<'_>, operation: &Value<'_>) -> bool
-    ensures { result ≡ is_in_journal second (texts known.now.sources) (names known.now.devices) (view actor.now) (view operation.now) }
-{
-    let Some(word) = word_of(operation) else {
-        return false;
-    };
-    if !is_formed_as(second, word, operation) {
-        return false;
-    }
-    is_allowed(text_at(actor, "kind"), word)
-        && names_its_source(word, operation, &known.sources)
-        && names_its_devices(word, operation, &known.devices)
-}
-
-/// Whether an operation passes a test.
 fn passes(test: OperationTest, known: &Known<'_>, actor: &Value<'_>, operation: &Value<'_>) -> bool
     ensures { result ≡ operation_test test known.now (view actor.now) (view operation.now) }
 {
     match test {
-        OperationTest::Kept(second) => is_in_journal(second, known, actor, operation),
         OperationTest::Formed(second) => is_of_table(second, operation),
         OperationTest::Allowed => match word_of(operation) {
             Some(word) => is_allowed(text_at(actor, "kind"), word),

@@ -3,7 +3,7 @@
 ghost use Rattle.std.specs.Prelude.{◌≡◌, ◌≤◌, ◌&&◌, [], not, map, take, bytes_eq, codes, is_some, length, IfOk, position};
 ghost use Rattle.std.specs.List.{list_any};
 ghost use Rattle.borrowed_json.specs.View.{view};
-ghost use Rattle.machine_file.specs.Look.{is_none_or, text_at};
+ghost use Rattle.borrowed_json.specs.Look.{is_none_or, text_at};
 ghost use Rattle.machine_file.specs.Places.{first_not, first_not_after};
 ghost use Rattle.machine_file.specs.Devices.{loose_link, repeated_link};
 ghost use Rattle.machine_file.specs.Knows.{Knows, names};
@@ -12,9 +12,8 @@ ghost use Rattle.machine_file.specs.Broken.{place_of};
 
 use crate::names::devices::NamedDevices;
 use crate::names::known::{Known, item};
-use crate::value::look::{text_at, word_at};
 use crate::value::place::{Member, Place, items};
-use borrowed_json::Value;
+use borrowed_json::{Value, text_at, word_at};
 use indexmap::IndexMap;
 use sleep_base::{Mem, drop_for_mem};
 use std::alloc::Global;

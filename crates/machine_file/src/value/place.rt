@@ -1,11 +1,10 @@
 //! The members of a machine file, and the places that a rule names.
 ghost use Rattle.std.specs.Prelude.{◌≡◌, map};
 ghost use Rattle.borrowed_json.specs.View.{view};
-ghost use Rattle.machine_file.specs.Members.{list_in};
+ghost use Rattle.borrowed_json.specs.Look.{list_in};
 ghost use Rattle.machine_file.specs.Broken.{member_name};
 
-use crate::value::look::list_in;
-use borrowed_json::Value;
+use borrowed_json::{Value, list_in};
 
 /// A member of a machine file.
 #[derive(Clone, Copy)]

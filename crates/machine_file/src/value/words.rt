@@ -5,7 +5,7 @@ ghost use Rattle.borrowed_json.specs.View.{view};
 ghost use Rattle.sleep_base.specs.Errno.{name_of, errors};
 ghost use Rattle.phase_table.specs.Phases.{phase_name};
 ghost use Rattle.sleep_model.specs.Text.{down_word, kind_word};
-ghost use Rattle.machine_file.specs.Look.{is_text};
+ghost use Rattle.borrowed_json.specs.Look.{is_text};
 ghost use Rattle.machine_file.specs.Answering.{answering_phases, platform_steps};
 ghost use Rattle.machine_file.specs.WordLists.{task_kinds};
 

@@ -43,7 +43,6 @@ fn push_byte(out: &mut Vec<u8>, byte: u8) -> Result<(), Mem>
     Ok(())
 }
 
-/// The letter of a byte that is escaped by one, else 0.
 /// The letter of a byte's escape, or 0 if it has none.
 fn letter_of(byte: u8) -> u8
     ensures { result ≡ escape_letter byte }

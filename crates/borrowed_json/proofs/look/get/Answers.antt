@@ -1,5 +1,5 @@
 -- Proof by hand of `get`: what it returns, by the lemmas of `Seen`.
-use Rattle.std.proofs.Common.{◌≡◌, ◌∙◌, Option, Some, None, option_map, Global, Bor, refl, ap}
+use Rattle.std.proofs.Common.{◌≡◌, ◌∙◌, Option, Some, None, option_map, Bor, refl, ap}
 use Rattle.json.specs.Value.{value_view}
 use Rattle.borrowed_json.specs.View.{data_of, Value, view}
 use Rattle.borrowed_json.proofs.Seen.{seen-get}

@@ -1,7 +1,7 @@
 -- The invariant of the loop of `texts_of`.
 use Rattle.std.proofs.Common.{◌≡◌, map, take}
 use Rattle.borrowed_json.specs.View.{view}
-use Rattle.machine_file.specs.Look.{text_of}
+use Rattle.borrowed_json.specs.Look.{text_of}
 use Rattle.machine_file.proofs.names.texts_of.Given as goal
 
 abbrev pub invariant-loop-value : goal.invariant-loop-value

@@ -3,7 +3,7 @@ use Rattle.std.proofs.Common.{◌∙◌, List, ℕ, ap, codes}
 use Rattle.std.specs.List.{list_all}
 use Rattle.borrowed_json.specs.View.{view}
 use Rattle.serde_json.specs.Data.{Data}
-use Rattle.machine_file.specs.Members.{list_in}
+use Rattle.borrowed_json.specs.Look.{list_in}
 use Rattle.machine_file.specs.Places.{first_item}
 use Rattle.machine_file.specs.Operations.{names_source}
 use Rattle.machine_file.proofs.rules.sourceless_report.Goals as goal

@@ -4,7 +4,7 @@ use Rattle.borrowed_json.specs.View.{view}
 use Rattle.serde_json.specs.Data.{Data}
 use Rattle.sleep_model.specs.Text.{down_word}
 use Rattle.machine_file.specs.Knows.{texts}
-use Rattle.machine_file.specs.Members.{has_text}
+use Rattle.borrowed_json.specs.Look.{has_text}
 use Rattle.machine_file.specs.Names.{is_among_names, devices_named, texts_in}
 use Rattle.machine_file.specs.Places.{first_item}
 use Rattle.machine_file.specs.Rules.{name_of}

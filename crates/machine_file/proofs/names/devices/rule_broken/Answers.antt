@@ -2,7 +2,7 @@
 use Rattle.std.proofs.Common.{◌∙◌, ap, sym, subst, codes, Some}
 use Rattle.borrowed_json.specs.View.{view}
 use Rattle.device_tree.specs.declared.fault.TreeFault.{TreeFault}
-use Rattle.machine_file.specs.Members.{list_in}
+use Rattle.borrowed_json.specs.Look.{list_in}
 use Rattle.machine_file.specs.Broken.{place_of}
 use Rattle.machine_file.specs.Registered.{Stops}
 use Rattle.machine_file.specs.Whole.{Broken}

@@ -2,7 +2,7 @@
 use Rattle.std.proofs.Common.{◌∙◌, ap, codes}
 use Rattle.borrowed_json.specs.View.{view}
 use Rattle.machine_file.specs.Knows.{names}
-use Rattle.machine_file.specs.Members.{list_in}
+use Rattle.borrowed_json.specs.Look.{list_in}
 use Rattle.machine_file.specs.Names.{devices_named}
 use Rattle.machine_file.proofs.Registering.{names_whole}
 use Rattle.machine_file.proofs.names.known.known_in.Goals as goal

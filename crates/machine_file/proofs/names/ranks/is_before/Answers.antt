@@ -1,6 +1,6 @@
 -- Proof that `is_before` meets its contract.
 use Rattle.std.proofs.Common.{◌∙◌, sym, ap, nat_lt}
-use Rattle.machine_file.specs.Look.{is_some_and}
+use Rattle.borrowed_json.specs.Look.{is_some_and}
 use Rattle.machine_file.proofs.Placing.{any_before}
 use Rattle.machine_file.proofs.names.ranks.is_before.Goals as goal
 

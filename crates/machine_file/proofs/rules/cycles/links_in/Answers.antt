@@ -4,7 +4,7 @@ use Rattle.std.proofs.lemmas.List.{length-map}
 use Rattle.machine_file.specs.declared.rules.pairs.EndNumbers.{EndNumbers}
 use Rattle.borrowed_json.specs.View.{view}
 use Rattle.serde_json.specs.Data.{Data}
-use Rattle.machine_file.specs.Members.{list_in}
+use Rattle.borrowed_json.specs.Look.{list_in}
 use Rattle.machine_file.specs.Names.{devices_named}
 use Rattle.machine_file.specs.Seen.{links_between}
 use Rattle.machine_file.proofs.Pairing.{as_many, all_between}

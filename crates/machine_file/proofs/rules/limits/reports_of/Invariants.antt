@@ -1,7 +1,7 @@
 -- The invariant of the loop of `reports_of`.
 use Rattle.std.proofs.Common.{◌≡◌, min, map, take, sum_by, length, codes}
 use Rattle.borrowed_json.specs.View.{view}
-use Rattle.machine_file.specs.Members.{list_in}
+use Rattle.borrowed_json.specs.Look.{list_in}
 use Rattle.machine_file.proofs.rules.limits.reports_of.Given as goal
 
 abbrev pub invariant-loop-answer : goal.invariant-loop-answer

@@ -2,7 +2,7 @@
 use Rattle.std.proofs.Common.{◌∙◌, ap, not, position, codes}
 use Rattle.std.specs.Option.{option_map}
 use Rattle.borrowed_json.specs.View.{view}
-use Rattle.machine_file.specs.Members.{list_in}
+use Rattle.borrowed_json.specs.Look.{list_in}
 use Rattle.machine_file.specs.Names.{devices_named}
 use Rattle.machine_file.specs.Places.{item_place}
 use Rattle.machine_file.specs.Seen.{are_devices}

@@ -1,7 +1,7 @@
 -- Proof that `numbers_in` meets its contract.
 use Rattle.std.proofs.Common.{◌∙◌, List, ℕ, ap, map, codes}
 use Rattle.borrowed_json.specs.View.{view}
-use Rattle.machine_file.specs.Members.{list_in}
+use Rattle.borrowed_json.specs.Look.{list_in}
 use Rattle.machine_file.specs.Knows.{names}
 use Rattle.machine_file.specs.Seen.{ends_written, end_numbers}
 use Rattle.machine_file.proofs.rules.pairs.numbers_in.Goals as goal

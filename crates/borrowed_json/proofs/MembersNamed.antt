@@ -7,8 +7,8 @@ use Rattle.std.proofs.lemmas.Map.Text.{is_eq-slice_cmp}
 use Rattle.json.specs.Value as value
 use Rattle.serde_json.specs.Data.{Data, Members, no_members, member, put}
 use Rattle.borrowed_json.specs.View.{Member, view, data_members, members_view}
-use Rattle.machine_file.specs.Look.{are_named}
-use Rattle.machine_file.proofs.Looks.{list_any_texts}
+use Rattle.borrowed_json.specs.Look.{are_named}
+use Rattle.borrowed_json.proofs.Looks.{list_any_texts}
 
 -- a member that is put into its position has its name, and the others keep theirs
 put_named : (names : List (List ℕ)) (k : List ℕ) (d : Data) (found : Members) → are_named names (put k d found) ≡ (list_any (bytes_eq k) names && are_named names found)

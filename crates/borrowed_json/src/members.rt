@@ -4,15 +4,15 @@ ghost use Rattle.std.specs.Prelude.{◌≡◌, ◌≤◌, ◌==◌, map, bytes_e
 ghost use Rattle.std.specs.List.{list_all, list_any};
 ghost use Rattle.serde_json.specs.Find.{as_array, get};
 ghost use Rattle.borrowed_json.specs.View.{view, items_view};
-ghost use Rattle.machine_file.specs.Look.{is_some_and, is_none_or, is_number, is_text, is_list, has_only, text_of, text_at, list_at};
-ghost use Rattle.machine_file.specs.Members.{must_have, may_have, has_text, list_in, number_at, word_at, truth_at};
-ghost use Rattle.machine_file.specs.Form.{is_string, is_truth, is_within, is_bounded, is_one_of};
+ghost use Rattle.borrowed_json.specs.Look.{is_some_and, is_none_or, is_number, is_text, is_list, has_only, text_of, text_at, list_at, must_have, may_have, has_text, list_in, number_at, word_at, truth_at, is_string, is_truth, is_within, is_bounded, is_one_of};
 
-use borrowed_json::{Value, as_array, as_bool, as_i64, as_object, as_str, as_u64, get};
+use crate::look::{as_array, as_bool, as_i64, as_object, as_str, as_u64, get};
+use json::Value;
 
 // ---- single values
 
-pub(crate) fn is_string(value: &Value<'_>) -> bool
+/// Whether it is a text.
+pub fn is_string(value: &Value<'_>) -> bool
     ensures { result ≡ is_string (view value.now) }
 {
     as_str(value).is_some()
@@ -30,13 +30,15 @@ fn is_list(value: &Value<'_>) -> bool
     as_array(value).is_some()
 }
 
-pub(crate) fn is_number(value: &Value<'_>, number: u64) -> bool
+/// Whether it is this whole number.
+pub fn is_number(value: &Value<'_>, number: u64) -> bool
     ensures { result ≡ is_number number (view value.now) }
 {
     as_u64(value) == Some(number)
 }
 
-pub(crate) fn is_within(value: &Value<'_>, least: u64, most: u64) -> bool
+/// Whether it is a whole number of this range.
+pub fn is_within(value: &Value<'_>, least: u64, most: u64) -> bool
     ensures { result ≡ is_within least most (view value.now) }
 {
     match as_u64(value) {
@@ -58,15 +60,16 @@ fn is_bounded(value: &Value<'_>, most: u64) -> bool
     }
 }
 
-// Whether a text is this one. Lengths are compared first, since most texts differ in theirs.
+/// Whether a text is this one. Lengths are compared first, since most texts differ in theirs.
 #[inline]
-pub(crate) fn is_same(text: &str, other: &str) -> bool
+pub fn is_same(text: &str, other: &str) -> bool
     ensures { result ≡ bytes_eq text.now other.now }
 {
     text.len() == other.len() && text == other
 }
 
-pub(crate) fn is_text(value: &Value<'_>, text: &str) -> bool
+/// Whether it is this text.
+pub fn is_text(value: &Value<'_>, text: &str) -> bool
     ensures { result ≡ is_text text.now (view value.now) }
 {
     match as_str(value) {
@@ -75,7 +78,8 @@ pub(crate) fn is_text(value: &Value<'_>, text: &str) -> bool
     }
 }
 
-pub(crate) fn is_one_of(value: &Value<'_>, words: &[&str]) -> bool
+/// Whether it is one of these words.
+pub fn is_one_of(value: &Value<'_>, words: &[&str]) -> bool
     ensures { result ≡ is_one_of (map (λ s. s.now) words.now) (view value.now) }
 {
     match as_str(value) {
@@ -98,8 +102,8 @@ fn is_any(text: &str, words: &[&str]) -> bool
 
 // ---- what it has at a name
 
-// Whether a text is at the name.
-pub(crate) fn must_be_text(value: &Value<'_>, name: &str) -> bool
+/// Whether a text is at the name.
+pub fn must_be_text(value: &Value<'_>, name: &str) -> bool
     ensures { result ≡ must_have name.now is_string (view value.now) }
 {
     match get(value, name) {
@@ -108,8 +112,8 @@ pub(crate) fn must_be_text(value: &Value<'_>, name: &str) -> bool
     }
 }
 
-// Whether nothing is at the name, or a text.
-pub(crate) fn may_be_text(value: &Value<'_>, name: &str) -> bool
+/// Whether nothing is at the name, or a text.
+pub fn may_be_text(value: &Value<'_>, name: &str) -> bool
     ensures { result ≡ may_have name.now is_string (view value.now) }
 {
     match get(value, name) {
@@ -118,8 +122,8 @@ pub(crate) fn may_be_text(value: &Value<'_>, name: &str) -> bool
     }
 }
 
-// Whether nothing is at the name, or a truth value.
-pub(crate) fn may_be_truth(value: &Value<'_>, name: &str) -> bool
+/// Whether nothing is at the name, or a truth value.
+pub fn may_be_truth(value: &Value<'_>, name: &str) -> bool
     ensures { result ≡ may_have name.now is_truth (view value.now) }
 {
     match get(value, name) {
@@ -128,8 +132,8 @@ pub(crate) fn may_be_truth(value: &Value<'_>, name: &str) -> bool
     }
 }
 
-// Whether nothing is at the name, or a list.
-pub(crate) fn may_be_list(value: &Value<'_>, name: &str) -> bool
+/// Whether nothing is at the name, or a list.
+pub fn may_be_list(value: &Value<'_>, name: &str) -> bool
     ensures { result ≡ may_have name.now is_list (view value.now) }
 {
     match get(value, name) {
@@ -138,8 +142,8 @@ pub(crate) fn may_be_list(value: &Value<'_>, name: &str) -> bool
     }
 }
 
-// Whether one of these words is at the name.
-pub(crate) fn must_be_one_of(value: &Value<'_>, name: &str, words: &[&str]) -> bool
+/// Whether one of these words is at the name.
+pub fn must_be_one_of(value: &Value<'_>, name: &str, words: &[&str]) -> bool
     ensures { result ≡ must_have name.now (is_one_of (map (λ s. s.now) words.now)) (view value.now) }
 {
     match get(value, name) {
@@ -148,8 +152,8 @@ pub(crate) fn must_be_one_of(value: &Value<'_>, name: &str, words: &[&str]) -> b
     }
 }
 
-// Whether nothing is at the name, or one of these words.
-pub(crate) fn may_be_one_of(value: &Value<'_>, name: &str, words: &[&str]) -> bool
+/// Whether nothing is at the name, or one of these words.
+pub fn may_be_one_of(value: &Value<'_>, name: &str, words: &[&str]) -> bool
     ensures { result ≡ may_have name.now (is_one_of (map (λ s. s.now) words.now)) (view value.now) }
 {
     match get(value, name) {
@@ -158,8 +162,8 @@ pub(crate) fn may_be_one_of(value: &Value<'_>, name: &str, words: &[&str]) -> bo
     }
 }
 
-// Whether a whole number of this range is at the name.
-pub(crate) fn must_be_within(value: &Value<'_>, name: &str, least: u64, most: u64) -> bool
+/// Whether a whole number of this range is at the name.
+pub fn must_be_within(value: &Value<'_>, name: &str, least: u64, most: u64) -> bool
     ensures { result ≡ must_have name.now (is_within least most) (view value.now) }
 {
     match get(value, name) {
@@ -168,8 +172,8 @@ pub(crate) fn must_be_within(value: &Value<'_>, name: &str, least: u64, most: u6
     }
 }
 
-// Whether nothing is at the name, or a whole number of this range.
-pub(crate) fn may_be_within(value: &Value<'_>, name: &str, least: u64, most: u64) -> bool
+/// Whether nothing is at the name, or a whole number of this range.
+pub fn may_be_within(value: &Value<'_>, name: &str, least: u64, most: u64) -> bool
     ensures { result ≡ may_have name.now (is_within least most) (view value.now) }
 {
     match get(value, name) {
@@ -178,8 +182,8 @@ pub(crate) fn may_be_within(value: &Value<'_>, name: &str, least: u64, most: u64
     }
 }
 
-// Whether nothing is at the name, or a whole number at most so far from 0.
-pub(crate) fn may_be_bounded(value: &Value<'_>, name: &str, most: u64) -> bool
+/// Whether nothing is at the name, or a whole number at most so far from 0.
+pub fn may_be_bounded(value: &Value<'_>, name: &str, most: u64) -> bool
     ensures { result ≡ may_have name.now (is_bounded most) (view value.now) }
 {
     match get(value, name) {
@@ -188,8 +192,8 @@ pub(crate) fn may_be_bounded(value: &Value<'_>, name: &str, most: u64) -> bool
     }
 }
 
-// Whether this whole number is at the name.
-pub(crate) fn has_number(value: &Value<'_>, name: &str, number: u64) -> bool
+/// Whether this whole number is at the name.
+pub fn has_number(value: &Value<'_>, name: &str, number: u64) -> bool
     ensures { result ≡ must_have name.now (is_number number) (view value.now) }
 {
     match get(value, name) {
@@ -198,8 +202,8 @@ pub(crate) fn has_number(value: &Value<'_>, name: &str, number: u64) -> bool
     }
 }
 
-// Whether this text is at the name.
-pub(crate) fn has_text(value: &Value<'_>, name: &str, text: &str) -> bool
+/// Whether this text is at the name.
+pub fn has_text(value: &Value<'_>, name: &str, text: &str) -> bool
     ensures { result ≡ has_text name.now text.now (view value.now) }
 {
     match get(value, name) {
@@ -210,43 +214,43 @@ pub(crate) fn has_text(value: &Value<'_>, name: &str, text: &str) -> bool
 
 // ---- what it says
 
-// The text that it is, or the empty one.
-pub(crate) fn text_of<'v>(value: &Value<'v>) -> &'v str
+/// The text that it is, or the empty one.
+pub fn text_of<'v>(value: &Value<'v>) -> &'v str
     ensures { result.now ≡ text_of (view value.now) }
 {
     as_str(value).unwrap_or("")
 }
 
-// The text at the name, or the empty one.
-pub(crate) fn text_at<'v>(value: &Value<'v>, name: &str) -> &'v str
+/// The text at the name, or the empty one.
+pub fn text_at<'v>(value: &Value<'v>, name: &str) -> &'v str
     ensures { result.now ≡ text_at name.now (view value.now) }
 {
     word_at(value, name).unwrap_or("")
 }
 
-// The text at the name, if there is one.
-pub(crate) fn word_at<'v>(value: &Value<'v>, name: &str) -> Option<&'v str>
+/// The text at the name, if there is one.
+pub fn word_at<'v>(value: &Value<'v>, name: &str) -> Option<&'v str>
     ensures { option_copied result ≡ word_at name.now (view value.now) }
 {
     as_str(get(value, name)?)
 }
 
-// The whole number at the name.
-pub(crate) fn number_at(value: &Value<'_>, name: &str) -> Option<u64>
+/// The whole number at the name.
+pub fn number_at(value: &Value<'_>, name: &str) -> Option<u64>
     ensures { result ≡ number_at name.now (view value.now) }
 {
     as_u64(get(value, name)?)
 }
 
-// The truth value at the name.
-pub(crate) fn truth_at(value: &Value<'_>, name: &str) -> Option<bool>
+/// The truth value at the name.
+pub fn truth_at(value: &Value<'_>, name: &str) -> Option<bool>
     ensures { result ≡ truth_at name.now (view value.now) }
 {
     as_bool(get(value, name)?)
 }
 
-// The list at the name, or the empty one.
-pub(crate) fn list_in<'v, 't>(value: &'v Value<'t>, name: &str) -> &'v [Value<'t>]
+/// The list at the name, or the empty one.
+pub fn list_in<'v, 't>(value: &'v Value<'t>, name: &str) -> &'v [Value<'t>]
     ensures { map view result.now ≡ list_in name.now (view value.now) }
 {
     list_at(value, name)
@@ -266,8 +270,8 @@ fn array_at<'v, 't>(value: &'v Value<'t>, name: &str) -> Option<&'v [Value<'t>]>
 
 // ---- members
 
-// Whether this is an object that has no members but those of these names.
-pub(crate) fn has_only(value: &Value<'_>, names: &[&str]) -> bool
+/// Whether this is an object that has no members but those of these names.
+pub fn has_only(value: &Value<'_>, names: &[&str]) -> bool
     ensures { result ≡ has_only (map (λ s. s.now) names.now) (view value.now) }
 {
     match as_object(value) {

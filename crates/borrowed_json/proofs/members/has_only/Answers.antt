@@ -2,9 +2,9 @@
 use Rattle.std.proofs.Common.{◌≡◌, ◌∙◌, Some, map, ap, arith}
 use Rattle.serde_json.specs.Find.{as_object}
 use Rattle.borrowed_json.specs.View.{view, members_view}
-use Rattle.machine_file.specs.Look.{are_named, is_some_and}
-use Rattle.machine_file.proofs.MembersNamed.{are_named_all}
-use Rattle.machine_file.proofs.value.look.has_only.Goals as goal
+use Rattle.borrowed_json.specs.Look.{are_named, is_some_and}
+use Rattle.borrowed_json.proofs.MembersNamed.{are_named_all}
+use Rattle.borrowed_json.proofs.members.has_only.Goals as goal
 
 pub returns-in-Some : goal.returns-in-Some
 returns-in-Some c =
