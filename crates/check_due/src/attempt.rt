@@ -14,7 +14,7 @@ use check_past::Passed;
 use sleep_base::Mem;
 use sleep_model::{Due, EventNow, Group, Kind, Stage, What};
 
-/// A freeze of a group: it asks its tasks, then waits for them. `Mem` if its end is beyond all time.
+/// A freeze of a group: it asks the group's tasks, then waits for them. `Mem` if its end is beyond all time.
 fn freeze_due(past: &Passed<'_>, now: EventNow, group: Group) -> Result<Due, Mem>
     ensures { IfOk result (λ d. d ≡ freeze_due past.now.machine (journal_of past.now) now group
         (freeze_since (journal_of past.now))) }
@@ -25,7 +25,7 @@ fn freeze_due(past: &Passed<'_>, now: EventNow, group: Group) -> Result<Due, Mem
     }
 }
 
-/// The entering, or the waking. `Mem` if the alarm is beyond all time.
+/// The machine enters sleep, or it sleeps until it wakes. `Mem` if the alarm is beyond all time.
 fn enter_due(past: &Passed<'_>, now: EventNow) -> Result<Due, Mem>
     ensures { IfOk result (λ d. d ≡ enter_due past.now.machine (journal_of past.now) now (sleep_of (journal_of past.now))) }
 {
@@ -37,7 +37,7 @@ fn enter_due(past: &Passed<'_>, now: EventNow) -> Result<Due, Mem>
     }
 }
 
-/// A notifier that hears of the attempt.
+/// The next notifier hears of the attempt.
 fn notify_prepare_due(past: &Passed<'_>) -> Due
     ensures { (now : EventNow) → result ≡ stage_due past.now.machine (journal_of past.now) now Notifies }
 {
@@ -47,23 +47,18 @@ fn notify_prepare_due(past: &Passed<'_>) -> Due
     }
 }
 
-/// A processor that is stopped.
+/// The next processor is stopped, unless a wakeup is pending.
 fn cpu_off_due(past: &Passed<'_>, now: EventNow) -> Due
     ensures { result ≡ stage_due past.now.machine (journal_of past.now) now StopsCpus }
 {
     match past.next_cpu_off() {
         None => Due::Nothing,
-        Some(k) => {
-            if past.is_pending(now) {
-                Due::Makes(Kind::CpuBusy(k))
-            } else {
-                Due::Makes(Kind::CpuOff(k))
-            }
-        }
+        Some(k) if past.is_pending(now) => Due::Makes(Kind::CpuBusy(k)),
+        Some(k) => Due::Makes(Kind::CpuOff(k)),
     }
 }
 
-/// A syscore operation that is suspended.
+/// The `suspend` of the next `syscore_ops` is called.
 fn syscore_suspend_due(past: &Passed<'_>) -> Due
     ensures { (now : EventNow) → result ≡ stage_due past.now.machine (journal_of past.now) now StopsSyscore }
 {
@@ -73,7 +68,7 @@ fn syscore_suspend_due(past: &Passed<'_>) -> Due
     }
 }
 
-/// A syscore operation that is resumed.
+/// The `resume` of the next `syscore_ops` is called.
 fn syscore_resume_due(past: &Passed<'_>) -> Due
     ensures { (now : EventNow) → result ≡ stage_due past.now.machine (journal_of past.now) now StartsSyscore }
 {
@@ -83,7 +78,7 @@ fn syscore_resume_due(past: &Passed<'_>) -> Due
     }
 }
 
-/// A processor that is started.
+/// The next processor is started.
 fn cpu_on_due(past: &Passed<'_>) -> Due
     ensures { (now : EventNow) → result ≡ stage_due past.now.machine (journal_of past.now) now StartsCpus }
 {
@@ -93,7 +88,7 @@ fn cpu_on_due(past: &Passed<'_>) -> Due
     }
 }
 
-/// A notifier that hears of the attempt's end.
+/// The next notifier hears that the attempt is over.
 fn notify_post_due(past: &Passed<'_>) -> Due
     ensures { (now : EventNow) → result ≡ stage_due past.now.machine (journal_of past.now) now NotifiesPost }
 {
@@ -140,7 +135,8 @@ fn stage_due(past: &Passed<'_>, now: EventNow, stage: Stage) -> Result<Due, Mem>
     }
 }
 
-/// What is made at a stage, or else at the one after it.
+/// What is made at a stage, or else at the one after it. One look ahead is enough: no two stages in a row
+/// have nothing to do.
 fn stage_or_next(past: &Passed<'_>, now: EventNow, stage: Stage) -> Result<Due, Mem>
     ensures { IfOk result (λ d. d ≡ stage_or_next past.now.machine (journal_of past.now) now stage) }
 {

@@ -115,7 +115,8 @@ fn op_due(
             consumer,
             active,
         } => Ok(link_set_due(past, *supplier, *consumer, *active)),
-        _ => Ok(Due::Nothing),
+        // A call on a source makes no entry of the journal.
+        Op::Awake { .. } | Op::Relax { .. } | Op::Event { .. } => Ok(Due::Nothing),
     }
 }
 
@@ -194,6 +195,6 @@ pub fn due(past: &Passed<'_>, who: Actor, now: EventNow) -> Result<Due, Mem>
         Actor::Script(i) => script_due(past, now, i),
         Actor::Auto => auto_due(past, now),
         Actor::Dev(d) => Ok(device_due(past, now, d)),
-        _ => Ok(Due::Nothing),
+        Actor::Timer(_) | Actor::Time => Ok(Due::Nothing),
     }
 }

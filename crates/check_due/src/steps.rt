@@ -7,7 +7,8 @@ ghost use Rattle.sleep_model.specs.Steps.{autosleep_due, count_due, lock_due, ma
 use sleep_base::{Errno, Mem};
 use sleep_model::{Due, EventNow, Kind, ScriptPosition, State, Why, visible};
 
-/// The sum of a moment and a length, in ms. `Mem` if that is beyond all time.
+/// The sum of a moment and a length, in ms. `Mem` if that is beyond all time, which no log that fits into
+/// memory comes to.
 pub fn later_by(time: u64, ms: u32) -> Result<u64, Mem>
     ensures { IfOk result (λ t. t ≡ time + ms) }
 {

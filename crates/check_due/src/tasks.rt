@@ -49,15 +49,27 @@ fn is_taken(state: PhaseState) -> bool
 pub fn freezes_at(user: bool, begun: bool, op: Option<&Op>) -> bool
     ensures { result ≡ freezes_at user begun (option_copied op.entry) }
 {
+    let Some(op) = op else {
+        return false;
+    };
     match op {
-        None => false,
-        Some(Op::Wait { .. }) | Some(Op::FreezePoint) => true,
-        Some(Op::Sleep { .. }) => begun || user,
-        Some(Op::Autosleep { text }) => {
+        Op::Wait { .. } | Op::FreezePoint => true,
+        Op::Sleep { .. } => begun || user,
+        Op::Autosleep { text } => {
             let text = text.as_slice();
             user && !begun && !(is_mem(text) || is_off(text))
         }
-        Some(_) => user && !begun,
+        Op::Read
+        | Op::Save { .. }
+        | Op::State { .. }
+        | Op::SleepD { .. }
+        | Op::Post { .. }
+        | Op::Runtime { .. }
+        | Op::Link { .. }
+        | Op::LinkState { .. }
+        | Op::Awake { .. }
+        | Op::Relax { .. }
+        | Op::Event { .. } => user && !begun,
     }
 }
 

@@ -30,8 +30,8 @@ fn is_direct(past: &Passed<'_>, phase: Phase, device: u32) -> bool
     }
 }
 
-/// A device at its turn: a wakeup that is pending passes it over, direct-complete does, or its callback
-/// begins (`__device_suspend`).
+/// A device at its turn: it is skipped for a pending wakeup, in a phase that checks for one, or as
+/// direct-complete; else its callback begins (`__device_suspend`).
 pub fn taken(past: &Passed<'_>, now: EventNow, phase: Phase, device: u32) -> Kind
     ensures { result ≡ taken past.now.machine (journal_of past.now) now phase device }
 {
@@ -44,7 +44,7 @@ pub fn taken(past: &Passed<'_>, now: EventNow, phase: Phase, device: u32) -> Kin
     }
 }
 
-/// What a device does at its turn: an error lets it do nothing.
+/// What a device does at its turn: after an error it is skipped.
 pub fn turn_of(past: &Passed<'_>, now: EventNow, phase: Phase, device: u32) -> Kind
     ensures { result ≡ turn_of past.now.machine (journal_of past.now) now phase device }
 {

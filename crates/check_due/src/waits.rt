@@ -14,7 +14,7 @@ use sleep_model::{
     Due, EventNow, FREEZE_TIMEOUT_MSECS, FrozeEnd, Group, Kind, Sleep, Why, pos, visible,
 };
 
-/// When a freeze gives up that goes on since that moment, in ms. `Mem` if that is beyond all time.
+/// When a freeze gives up that has gone on since that moment, in ms. `Mem` if that is beyond all time.
 pub fn gives_up_at(since: u64) -> Result<u64, Mem>
     ensures { IfOk result (λ t. t ≡ gives_up_at since) }
 {
@@ -47,8 +47,8 @@ fn froze_by(
     })
 }
 
-/// A freeze of a group that goes on since that moment (`try_to_freeze_tasks`). `Mem` if its end is beyond all
-/// time.
+/// A freeze of a group that has gone on since that moment (`try_to_freeze_tasks`). `Mem` if its end is beyond
+/// all time.
 pub fn froze_due(past: &Passed<'_>, now: EventNow, group: Group, since: u64) -> Result<Due, Mem>
     ensures { IfOk result (λ d. d ≡ froze_due (journal_of past.now) now group since
         (left past.now.machine group (journal_of past.now))) }

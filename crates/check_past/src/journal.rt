@@ -2,6 +2,7 @@
 
 ghost use Rattle.std.specs.Prelude.{◌≡◌, ◌∷◌, [], IfOk, OnOk, map};
 ghost use Rattle.check_order.specs.Graphs.{with_links};
+ghost use Rattle.check_sources.specs.Classes.{meant};
 ghost use Rattle.sleep_model.specs.Accepted.{IsAccepted};
 ghost use Rattle.sleep_model.specs.Links.{AreLinks};
 ghost use Rattle.sleep_model.specs.Order.{links_at, parents_of, with_state};
@@ -10,6 +11,7 @@ ghost use Rattle.check_past.specs.JournalStates.{MayAdd, graph_after};
 
 use check_account::{AttemptAccount, DeviceAccount, TaskAccount};
 use check_order::DeviceGraph;
+use check_sources::{EntryClass, class_of};
 use sleep_base::{Mem, drop_for_mem};
 use sleep_model::{Entry, Kind, Link, Machine};
 use std::alloc::Global;
@@ -95,20 +97,21 @@ fn graph_of(alloc: Global, machine: &Machine) -> Result<DeviceGraph, Mem>
     DeviceGraph::new(alloc, &parents, machine.links.as_slice())
 }
 
+/// Whether an entry of that class is the journal's, or a jump of time.
+fn is_class_in_journal(class: EntryClass) -> bool
+    ensures { result ≡ is_in_journal (meant class) }
+{
+    match class {
+        EntryClass::Journal | EntryClass::Jump => true,
+        EntryClass::Note(..) | EntryClass::Step(..) => false,
+    }
+}
+
 /// Whether an entry of that kind is the journal's, or a jump of time.
 pub(crate) fn is_in_journal(kind: Kind) -> bool
     ensures { result ≡ is_in_journal (class_of kind) }
 {
-    !matches!(
-        kind,
-        Kind::Awake(_)
-            | Kind::Relax(_)
-            | Kind::Event { .. }
-            | Kind::Expire(_)
-            | Kind::Start(_)
-            | Kind::Finish(_)
-            | Kind::Hard(_)
-    )
+    is_class_in_journal(class_of(kind))
 }
 
 impl JournalState {

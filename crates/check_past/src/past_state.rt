@@ -3,12 +3,13 @@
 ghost use Rattle.std.specs.Prelude.{◌≡◌, OnOk};
 ghost use Rattle.sleep_model.specs.EntryClasses.{class_of};
 ghost use Rattle.check_sources.specs.Calling.{callers_after};
+ghost use Rattle.check_sources.specs.Classes.{meant};
 
 use crate::journal::JournalState;
 use check_account::{time_after, word_after};
-use check_sources::{Callers, SourceAccounts};
+use check_sources::{Callers, EntryClass, SourceAccounts, class_of};
 use sleep_base::Mem;
-use sleep_model::{Entry, EventNow, Kind, Machine};
+use sleep_model::{Entry, EventNow, Machine};
 use std::alloc::Global;
 
 /// The account of the word, of time, of the journal, of the sources and of the calls on them.
@@ -21,19 +22,31 @@ pub(crate) struct PastState<'m> {
     pub(crate) calls: Callers<'m>,
 }
 
+/// Passes one more entry, of that class, to the calls, after that number of attempts.
+fn pass_calls_in(
+    calls: &mut Callers<'_>,
+    e: Entry,
+    attempts: u32,
+    class: EntryClass,
+) -> Result<(), Mem>
+    ensures { OnOk result (calls.new ≡ record calls.old {
+      state = callers_after calls.old.machine e attempts (meant class) calls.old.state;
+    }) }
+{
+    match class {
+        EntryClass::Note(..) => calls.note(e.actor),
+        EntryClass::Step(..) => Ok(()),
+        EntryClass::Journal | EntryClass::Jump => calls.pass(e, attempts),
+    }
+}
+
 /// Passes one more entry to the calls, after that number of attempts.
 fn pass_calls(calls: &mut Callers<'_>, e: Entry, attempts: u32) -> Result<(), Mem>
     ensures { OnOk result (calls.new ≡ record calls.old {
       state = callers_after calls.old.machine e attempts (class_of e.kind) calls.old.state;
     }) }
 {
-    match e.kind {
-        Kind::Awake(_) | Kind::Relax(_) | Kind::Event { .. } | Kind::Expire(_) => {
-            calls.note(e.actor)
-        }
-        Kind::Start(_) | Kind::Finish(_) | Kind::Hard(_) => Ok(()),
-        _ => calls.pass(e, attempts),
-    }
+    pass_calls_in(calls, e, attempts, class_of(e.kind))
 }
 
 impl<'m> PastState<'m> {

@@ -10,6 +10,7 @@ ghost use Rattle.rule_definitions.specs.Path.{PathEntry};
 ghost use Rattle.rule_definitions.specs.Steps.{StepsEntry};
 ghost use Rattle.rule_definitions.specs.Walk.{EndsOwn, ReportsMade, WalkEntry, is_in_callback};
 ghost use Rattle.check_past.specs.Passing.{journal_of, past_of};
+ghost use Rattle.check_sources.specs.Classes.{meant};
 
 use crate::calls::{is_calling, is_in_callback, is_inside, is_of_call, is_own_call, is_own_turn};
 use crate::enabled::keeps_enabled;
@@ -20,8 +21,9 @@ use crate::same::both;
 use crate::steps::keeps_steps;
 use crate::walk::{ends_own, keeps_walk};
 use check_past::Passed;
+use check_sources::{EntryClass, class_of};
 use sleep_base::Mem;
-use sleep_model::{Actor, Entry, Kind, WordKind};
+use sleep_model::{Actor, Entry, Kind};
 
 /// Whether a callback ends once its reports are made. `Mem` if their number has no room.
 fn are_reports_made(past: &Passed<'_>, e: Entry) -> Result<bool, Mem>
@@ -41,6 +43,27 @@ fn ends_callback(past: &Passed<'_>, e: Entry) -> bool
     !is_in_callback(past, e.actor) || ends_own(past, e.actor, e.kind)
 }
 
+/// Whether an entry of that class keeps the rule of the walk. `Mem` if the number of reports has no room.
+#[inline(always)]
+fn keeps_walk_in(past: &Passed<'_>, e: Entry, class: EntryClass) -> Result<bool, Mem>
+    requires { fits_entry past.now.machine e ≡ true }
+    ensures { IfOk result (λ b. IsTrue b ↔ WalkEntry past.now.machine (past_of past.now) e (meant class)) }
+{
+    match class {
+        EntryClass::Journal => {
+            let made = are_reports_made(past, e)?;
+            let walk = keeps_walk(past, past.word(), e.kind);
+            let ends = ends_callback(past, e);
+            Ok(both(walk, both(made, ends)))
+        }
+        EntryClass::Note(..) => {
+            Ok(!is_in_callback(past, e.actor) || is_own_call(past, e.actor, e.kind))
+        }
+        EntryClass::Step(s, _) => Ok(!is_in_callback(past, e.actor) || is_inside(past, s, e.actor)),
+        EntryClass::Jump => Ok(!is_in_callback(past, e.actor)),
+    }
+}
+
 /// Whether devices are taken in order and answer what the machine answers, and a callback makes its reports
 /// in order, then its end, and nothing else (`drivers/base/power/main.c`). `Mem` if the number of reports has
 /// no room.
@@ -49,19 +72,25 @@ pub fn walk_entry(past: &Passed<'_>, e: Entry) -> Result<bool, Mem>
     requires { fits_entry past.now.machine e ≡ true }
     ensures { IfOk result (λ b. IsTrue b ↔ WalkEntry past.now.machine (past_of past.now) e (class_of e.kind)) }
 {
-    match e.kind {
-        Kind::Awake(_) | Kind::Relax(_) | Kind::Event { .. } | Kind::Expire(_) => {
-            Ok(!is_in_callback(past, e.actor) || is_own_call(past, e.actor, e.kind))
+    keeps_walk_in(past, e, class_of(e.kind))
+}
+
+/// Whether an entry of that class keeps the rule of the freezer. `Mem` if a freeze ends beyond all time, or a
+/// number has no room.
+#[inline(always)]
+fn keeps_freezer_in(past: &Passed<'_>, e: Entry, class: EntryClass) -> Result<bool, Mem>
+    requires { fits_entry past.now.machine e ≡ true }
+    ensures { IfOk result (λ b. IsTrue b ↔ FreezerEntry past.now.machine (past_of past.now) e (meant class)) }
+{
+    match class {
+        EntryClass::Journal => {
+            let ends = freeze_ends(past, past.word(), e.kind)?;
+            let freezes = freezes_entry(past, e.actor, e.kind)?;
+            Ok(freezes && ends)
         }
-        Kind::Start(s) => Ok(!is_in_callback(past, e.actor) || is_inside(past, s, e.actor)),
-        Kind::Finish(s) => Ok(!is_in_callback(past, e.actor) || is_inside(past, s, e.actor)),
-        Kind::Hard(s) => Ok(!is_in_callback(past, e.actor) || is_inside(past, s, e.actor)),
-        Kind::Jump => Ok(!is_in_callback(past, e.actor)),
-        _ => {
-            let made = are_reports_made(past, e)?;
-            let walk = keeps_walk(past, past.word(), e.kind);
-            let ends = ends_callback(past, e);
-            Ok(both(walk, both(made, ends)))
+        EntryClass::Note(..) | EntryClass::Step(..) | EntryClass::Jump => {
+            let goes = goes_on_entry(past, e.actor)?;
+            Ok(goes)
         }
     }
 }
@@ -74,23 +103,18 @@ pub fn freezer_entry(past: &Passed<'_>, e: Entry) -> Result<bool, Mem>
     requires { fits_entry past.now.machine e ≡ true }
     ensures { IfOk result (λ b. IsTrue b ↔ FreezerEntry past.now.machine (past_of past.now) e (class_of e.kind)) }
 {
-    match e.kind {
-        Kind::Awake(_)
-        | Kind::Relax(_)
-        | Kind::Event { .. }
-        | Kind::Expire(_)
-        | Kind::Start(_)
-        | Kind::Finish(_)
-        | Kind::Hard(_)
-        | Kind::Jump => {
-            let goes = goes_on_entry(past, e.actor)?;
-            Ok(goes)
-        }
-        _ => {
-            let ends = freeze_ends(past, past.word(), e.kind)?;
-            let freezes = freezes_entry(past, e.actor, e.kind)?;
-            Ok(freezes && ends)
-        }
+    keeps_freezer_in(past, e, class_of(e.kind))
+}
+
+/// Whether an entry of that class keeps the rule of the attempt's table.
+#[inline(always)]
+fn keeps_path_in(past: &Passed<'_>, e: Entry, class: EntryClass) -> bool
+    ensures { IsTrue result ↔ PathEntry past.now.machine (past_of past.now) e (meant class) }
+{
+    match class {
+        EntryClass::Journal | EntryClass::Jump => keeps_path(past, past.word(), e.actor, e.kind),
+        EntryClass::Note(..) => keeps_reports(past, e.actor),
+        EntryClass::Step(..) => true,
     }
 }
 
@@ -100,12 +124,27 @@ pub fn freezer_entry(past: &Passed<'_>, e: Entry) -> Result<bool, Mem>
 pub fn path_entry(past: &Passed<'_>, e: Entry) -> bool
     ensures { IsTrue result ↔ PathEntry past.now.machine (past_of past.now) e (class_of e.kind) }
 {
-    match e.kind {
-        Kind::Awake(_) | Kind::Relax(_) | Kind::Event { .. } | Kind::Expire(_) => {
-            keeps_reports(past, e.actor)
+    keeps_path_in(past, e, class_of(e.kind))
+}
+
+/// Whether an entry of that class keeps the rule of steps. `Mem` if a moment is beyond all time, or a number
+/// has no room.
+#[inline(always)]
+fn keeps_steps_in(past: &Passed<'_>, e: Entry, class: EntryClass) -> Result<bool, Mem>
+    requires { fits_entry past.now.machine e ≡ true }
+    ensures { IfOk result (λ b. IsTrue b ↔ StepsEntry past.now.machine (past_of past.now) e (meant class)) }
+{
+    match class {
+        EntryClass::Journal => {
+            let keeps = keeps_steps(past, past.word(), e.actor, e.kind)?;
+            let turn = is_own_turn(past, e.actor)?;
+            Ok(keeps && turn && !is_calling(past, e.actor))
         }
-        Kind::Start(_) | Kind::Finish(_) | Kind::Hard(_) => true,
-        _ => keeps_path(past, past.word(), e.actor, e.kind),
+        EntryClass::Note(..) => {
+            Ok(is_own_call(past, e.actor, e.kind) && !is_calling(past, e.actor))
+        }
+        EntryClass::Step(s, step) => Ok(is_of_call(past, e.actor, s, step)),
+        EntryClass::Jump => Ok(matches!(e.actor, Actor::Time)),
     }
 }
 
@@ -117,19 +156,21 @@ pub fn steps_entry(past: &Passed<'_>, e: Entry) -> Result<bool, Mem>
     requires { fits_entry past.now.machine e ≡ true }
     ensures { IfOk result (λ b. IsTrue b ↔ StepsEntry past.now.machine (past_of past.now) e (class_of e.kind)) }
 {
-    match e.kind {
-        Kind::Awake(_) | Kind::Relax(_) | Kind::Event { .. } | Kind::Expire(_) => {
-            Ok(is_own_call(past, e.actor, e.kind) && !is_calling(past, e.actor))
+    keeps_steps_in(past, e, class_of(e.kind))
+}
+
+/// Whether an entry of that class keeps the rule of who may go on. `Mem` as below.
+#[inline(always)]
+fn keeps_enabled_in(past: &Passed<'_>, e: Entry, class: EntryClass) -> Result<bool, Mem>
+    ensures { IfOk result (λ b. IsTrue b ↔ EnabledEntry past.now.machine (past_of past.now) e (meant class)) }
+{
+    match class {
+        EntryClass::Journal => {
+            let keeps = keeps_enabled(past, past.word(), e.actor, e.kind)?;
+            Ok(keeps)
         }
-        Kind::Start(s) => Ok(is_of_call(past, e.actor, s, WordKind::Start)),
-        Kind::Finish(s) => Ok(is_of_call(past, e.actor, s, WordKind::Finish)),
-        Kind::Hard(s) => Ok(is_of_call(past, e.actor, s, WordKind::Hard)),
-        Kind::Jump => Ok(matches!(e.actor, Actor::Time)),
-        _ => {
-            let keeps = keeps_steps(past, past.word(), e.actor, e.kind)?;
-            let turn = is_own_turn(past, e.actor)?;
-            Ok(keeps && turn && !is_calling(past, e.actor))
-        }
+        EntryClass::Note(..) | EntryClass::Step(..) => Ok(true),
+        EntryClass::Jump => keeps_jump(past, e.time),
     }
 }
 
@@ -139,18 +180,5 @@ pub fn steps_entry(past: &Passed<'_>, e: Entry) -> Result<bool, Mem>
 pub fn enabled_entry(past: &Passed<'_>, e: Entry) -> Result<bool, Mem>
     ensures { IfOk result (λ b. IsTrue b ↔ EnabledEntry past.now.machine (past_of past.now) e (class_of e.kind)) }
 {
-    match e.kind {
-        Kind::Awake(_)
-        | Kind::Relax(_)
-        | Kind::Event { .. }
-        | Kind::Expire(_)
-        | Kind::Start(_)
-        | Kind::Finish(_)
-        | Kind::Hard(_) => Ok(true),
-        Kind::Jump => keeps_jump(past, e.time),
-        _ => {
-            let keeps = keeps_enabled(past, past.word(), e.actor, e.kind)?;
-            Ok(keeps)
-        }
-    }
+    keeps_enabled_in(past, e, class_of(e.kind))
 }

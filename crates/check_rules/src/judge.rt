@@ -6,6 +6,7 @@ ghost use Rattle.sleep_model.specs.EntryClasses.{class_of};
 ghost use Rattle.rule_definitions.specs.Entry.{KeepsEntry, KeepsRule};
 ghost use Rattle.rule_definitions.specs.Verdict.{rule_number};
 ghost use Rattle.check_past.specs.Passing.{past_of};
+ghost use Rattle.check_sources.specs.Classes.{meant};
 ghost use Rattle.check_rules.specs.Judging.{IsBroken, KeepsTogether, is_of_journal, meant, rule_at};
 
 use crate::answers::{keeps_answers, keeps_links, keeps_runtime};
@@ -17,6 +18,7 @@ use crate::restored::keeps_restored;
 use crate::skip::keeps_skip;
 use crate::source::source_entry;
 use check_past::Passed;
+use check_sources::{EntryClass, class_of};
 use sleep_base::Mem;
 use sleep_model::{Entry, Kind};
 
@@ -89,21 +91,21 @@ fn rule_number(rule: Rule) -> u8
     }
 }
 
+/// Whether an entry of that class is the journal's.
+fn is_class_of_journal(class: EntryClass) -> bool
+    ensures { result ≡ is_of_journal (meant class) }
+{
+    match class {
+        EntryClass::Journal => true,
+        EntryClass::Note(..) | EntryClass::Step(..) | EntryClass::Jump => false,
+    }
+}
+
 /// Whether an entry of that kind is the journal's.
 pub(crate) fn is_of_journal(kind: Kind) -> bool
     ensures { result ≡ is_of_journal (class_of kind) }
 {
-    !matches!(
-        kind,
-        Kind::Awake(_)
-            | Kind::Relax(_)
-            | Kind::Event { .. }
-            | Kind::Expire(_)
-            | Kind::Start(_)
-            | Kind::Finish(_)
-            | Kind::Hard(_)
-            | Kind::Jump
-    )
+    is_class_of_journal(class_of(kind))
 }
 
 /// What a rule of the journal says of an entry: entries of other lists keep it.

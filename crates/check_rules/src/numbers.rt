@@ -5,9 +5,11 @@ ghost use Rattle.sleep_model.specs.EntryClasses.{class_of};
 ghost use Rattle.rule_definitions.specs.Attempts.{KeepsAttempts};
 ghost use Rattle.rule_definitions.specs.Numbers.{KeepsNumbers};
 ghost use Rattle.check_past.specs.Passing.{journal_of, past_of};
+ghost use Rattle.check_sources.specs.Classes.{meant};
 
 use crate::same::is_same_number;
 use check_past::Passed;
+use check_sources::{EntryClass, class_of};
 use sleep_model::{Entry, EventNow, Kind};
 
 /// Whether both words are the same.
@@ -17,14 +19,24 @@ fn is_word(now: EventNow, word: EventNow) -> bool
     now.inpr == word.inpr && now.count == word.count && now.hard == word.hard
 }
 
+/// Whether an entry of that class has the numbers and the time of its index: a jump has a time of its own.
+#[inline(always)]
+fn keeps_numbers_in(past: &Passed<'_>, e: Entry, class: EntryClass) -> bool
+    ensures { IsTrue result ↔ KeepsNumbers (past_of past.now) e (meant class) }
+{
+    match class {
+        EntryClass::Jump => is_word(e.now, past.word()),
+        EntryClass::Journal | EntryClass::Note(..) | EntryClass::Step(..) => {
+            is_word(e.now, past.word()) && e.time == past.time()
+        }
+    }
+}
+
 /// Whether an entry has the numbers and the time of its index (`combined_event_count`).
 pub fn keeps_numbers(past: &Passed<'_>, e: Entry) -> bool
     ensures { IsTrue result ↔ KeepsNumbers (past_of past.now) e (class_of e.kind) }
 {
-    match e.kind {
-        Kind::Jump => is_word(e.now, past.word()),
-        _ => is_word(e.now, past.word()) && e.time == past.time(),
-    }
+    keeps_numbers_in(past, e, class_of(e.kind))
 }
 
 /// Whether that is the next number.

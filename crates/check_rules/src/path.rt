@@ -1,8 +1,9 @@
 //! The table of an attempt: its maker's entries are those of the row that is under way
 //! (`kernel/power/suspend.c`).
 
-ghost use Rattle.std.specs.Prelude.{◌≡◌, ◌↔◌, not, IsTrue};
-ghost use Rattle.sleep_model.specs.declared.progress.Stage.TheVariants.{Enters, Freezes, Notifies, PlatformDo, StopsCpus, StopsSyscore};
+ghost use Rattle.std.specs.Prelude.{◌≡◌, ◌↔◌, not, IsTrue, Some};
+ghost use Rattle.sleep_model.specs.declared.progress.Stage.TheVariants.{Enters, Freezes, PlatformDo, StopsCpus};
+ghost use Rattle.sleep_model.specs.Attempt.{answered};
 ghost use Rattle.rule_definitions.specs.Questions.{is_maker};
 ghost use Rattle.rule_definitions.specs.Path.{IsOfDown, IsOfRow, IsOfRowIf, IsOfUp, KeepsPath, ReportsOf};
 ghost use Rattle.check_past.specs.Passing.{journal_of};
@@ -12,6 +13,7 @@ use crate::same::{is_answer, is_number, is_phase};
 use check_due::{answered, busy_error, row_now};
 use check_past::Passed;
 use phase_table::Phase;
+use sleep_base::Errno;
 use sleep_model::{Actor, EventNow, Group, Kind, PlatDo, PlatUndo, Stage, Thaw, What};
 
 /// An entry of a phase on the devices' way down.
@@ -68,6 +70,19 @@ fn is_thaw(those: Thaw, wanted: Thaw) -> bool
     those == wanted
 }
 
+/// Whether that thing is the next, and answers what the machine answers.
+fn is_next_answer(
+    past: &Passed<'_>,
+    next: Option<u32>,
+    x: u32,
+    what: What,
+    r: Option<Errno>,
+) -> bool
+    ensures { IsTrue result ↔ ((next ≡ Some x) × (r ≡ answered past.now.machine (journal_of past.now) what)) }
+{
+    is_number(next, x) && is_answer(r, answered(past, what))
+}
+
 /// An entry of the freeze of a group.
 fn is_of_freeze(past: &Passed<'_>, now: EventNow, group: Group, kind: Kind) -> bool
     ensures { IsTrue result ↔ IsOfRow past.now.machine (journal_of past.now) now (Freezes group) kind }
@@ -102,19 +117,6 @@ fn is_of_stop(past: &Passed<'_>, now: EventNow, kind: Kind) -> bool
     }
 }
 
-/// An entry of syscore operations on the way down.
-fn is_of_core(past: &Passed<'_>, now: EventNow, kind: Kind) -> bool
-    ensures { IsTrue result ↔ IsOfRow past.now.machine (journal_of past.now) now StopsSyscore kind }
-{
-    match kind {
-        Kind::SyscoreSuspend(x, r) => {
-            is_number(past.next_syscore_suspended(), x)
-                && is_answer(r, answered(past, What::Syscore(x)))
-        }
-        _ => false,
-    }
-}
-
 /// An entry of sleep itself.
 fn is_of_sleep(past: &Passed<'_>, now: EventNow, kind: Kind) -> bool
     ensures { IsTrue result ↔ IsOfRow past.now.machine (journal_of past.now) now Enters kind }
@@ -126,25 +128,18 @@ fn is_of_sleep(past: &Passed<'_>, now: EventNow, kind: Kind) -> bool
     }
 }
 
-/// An entry by which notifiers hear of the attempt.
-fn is_of_notifying(past: &Passed<'_>, now: EventNow, kind: Kind) -> bool
-    ensures { IsTrue result ↔ IsOfRow past.now.machine (journal_of past.now) now Notifies kind }
-{
-    match kind {
-        Kind::NotifyPrepare(x, r) => {
-            is_number(past.next_notified(), x) && is_answer(r, answered(past, What::Notifier(x)))
-        }
-        _ => false,
-    }
-}
-
 /// An entry of a row on the way down: the thing that is next, what the machine answers, what a test finds.
 fn is_of_descent(past: &Passed<'_>, now: EventNow, row: Stage, kind: Kind) -> bool
     requires { IsTrue (is_descent row) }
     ensures { IsTrue result ↔ IsOfRow past.now.machine (journal_of past.now) now row kind }
 {
     match row {
-        Stage::Notifies => is_of_notifying(past, now, kind),
+        Stage::Notifies => match kind {
+            Kind::NotifyPrepare(x, r) => {
+                is_next_answer(past, past.next_notified(), x, What::Notifier(x), r)
+            }
+            _ => false,
+        },
         Stage::Freezes(group) => is_of_freeze(past, now, group, kind),
         Stage::PlatformDo(step) => is_of_platform(past, now, step, kind),
         Stage::Prepares => match kind {
@@ -159,7 +154,12 @@ fn is_of_descent(past: &Passed<'_>, now: EventNow, row: Stage, kind: Kind) -> bo
             Kind::SyscoreCheck(r) => is_answer(r, busy_error(past.is_pending(now))),
             _ => false,
         },
-        Stage::StopsSyscore => is_of_core(past, now, kind),
+        Stage::StopsSyscore => match kind {
+            Kind::SyscoreSuspend(x, r) => {
+                is_next_answer(past, past.next_syscore_suspended(), x, What::Syscore(x), r)
+            }
+            _ => false,
+        },
         _ => is_of_sleep(past, now, kind),
     }
 }
@@ -173,15 +173,12 @@ fn is_of_ascent(past: &Passed<'_>, now: EventNow, row: Stage, kind: Kind) -> boo
         (Stage::StartsSyscore, Kind::SyscoreResume(x)) => is_number(past.next_syscore_resumed(), x),
         (Stage::StartsIrqs, Kind::Irqs { on }) => on,
         (Stage::StartsCpus, Kind::CpuOn(x)) => is_number(past.next_cpu_on(), x),
-        (Stage::PlatformUndo(step), Kind::PlatformUndo(notified_flags)) => is_undo(
-            notified_flags,
-            step,
-        ),
+        (Stage::PlatformUndo(step), Kind::PlatformUndo(undone)) => is_undo(undone, step),
         (Stage::Ups(phase), _) => is_of_up(phase, kind),
         (Stage::Completes, Kind::Complete(_)) => true,
         (Stage::Completes, Kind::Done(p, _)) => is_phase(p, Phase::Complete),
         (Stage::ClearsSavedCount, Kind::Clear) => true,
-        (Stage::Thaws(those), Kind::Thaw(notified_flags)) => is_thaw(notified_flags, those),
+        (Stage::Thaws(those), Kind::Thaw(thawed)) => is_thaw(thawed, those),
         (Stage::NotifiesPost, Kind::NotifyPost(x)) => is_number(past.next_post_notified(), x),
         (Stage::Ends, Kind::Over { .. }) => true,
         _ => false,

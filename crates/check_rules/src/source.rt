@@ -3,16 +3,17 @@
 ghost use Rattle.std.specs.Prelude.{◌≡◌, ◌↔◌, ◌+◌, ◌∷◌, [], true, nat_le, length, IsTrue};
 ghost use Rattle.sleep_model.specs.Fits.{fits_entry};
 ghost use Rattle.sleep_model.specs.Numbers.{time_of};
-ghost use Rattle.sleep_model.specs.EntryClasses.{class_of};
+ghost use Rattle.sleep_model.specs.EntryClasses.{Notes, class_of};
 ghost use Rattle.rule_definitions.specs.Source.{CallEntry, SourceEntry};
 ghost use Rattle.sleep_model.specs.Sources.{IsNext, expiry, has_expired, history, most_entries, owed};
 ghost use Rattle.check_past.specs.Passing.{past_of};
+ghost use Rattle.check_sources.specs.Classes.{meant};
 ghost use Rattle.check_rules.specs.Places.{are_short, with_own};
 
 use crate::same::both;
 use check_past::Passed;
-use check_sources::source_in;
-use sleep_model::{Entry, Kind, MOST_ENTRIES, WordKind};
+use check_sources::{EntryClass, class_of, source_in};
+use sleep_model::{Entry, MOST_ENTRIES, SourceCall, WordKind};
 
 /// Whether a source's last call owes nothing.
 fn is_free(past: &Passed<'_>, s: u32) -> bool
@@ -35,20 +36,35 @@ fn has_expired(past: &Passed<'_>, s: u32) -> bool
     past.source(s).has_expired(past.time())
 }
 
+/// Whether a note of that call begins it if the source's last one owes nothing, an expiry only if it is due.
+fn begins_call(past: &Passed<'_>, e: Entry, s: u32, call: SourceCall) -> bool
+    ensures { IsTrue result ↔ CallEntry (past_of past.now) e (Notes s call) }
+{
+    match call {
+        SourceCall::Awake | SourceCall::Relax | SourceCall::Event { .. } => is_free(past, s),
+        SourceCall::Expire => is_free(past, s) && has_expired(past, s),
+    }
+}
+
+/// Whether an entry of that class is in order among those of its source.
+#[inline(always)]
+fn keeps_call_in(past: &Passed<'_>, e: Entry, class: EntryClass) -> bool
+    ensures { IsTrue result ↔ CallEntry (past_of past.now) e (meant class) }
+{
+    match class {
+        EntryClass::Note(s, call) => begins_call(past, e, s, call),
+        EntryClass::Step(s, step) => is_next(past, s, step),
+        EntryClass::Journal | EntryClass::Jump => true,
+    }
+}
+
 /// Whether a note is in order: it begins a call if the source's last one owes nothing, an expiry only if it
 /// is due. A step is the one that is owed next (`wakeup_source_report_event`, `pm_wakeup_timer_fn`).
 #[inline(always)]
 pub fn keeps_call(past: &Passed<'_>, e: Entry) -> bool
     ensures { IsTrue result ↔ CallEntry (past_of past.now) e (class_of e.kind) }
 {
-    match e.kind {
-        Kind::Awake(s) | Kind::Relax(s) | Kind::Event { source: s, .. } => is_free(past, s),
-        Kind::Expire(s) => is_free(past, s) && has_expired(past, s),
-        Kind::Start(s) => is_next(past, s, WordKind::Start),
-        Kind::Finish(s) => is_next(past, s, WordKind::Finish),
-        Kind::Hard(s) => is_next(past, s, WordKind::Hard),
-        _ => true,
-    }
+    keeps_call_in(past, e, class_of(e.kind))
 }
 
 /// Whether a source's history of `entries` entries has room for one more of that source.

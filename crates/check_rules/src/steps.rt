@@ -1,4 +1,4 @@
-//! Each actor's own steps, once and in order.
+//! The rule that each actor makes its own steps, each once and in order.
 
 ghost use Rattle.std.specs.Prelude.{◌≡◌, ◌↔◌, true, IsTrue, IfOk, option_copied, slice_get};
 ghost use Rattle.rule_definitions.specs.Steps.{IsDeviceStep, IsLinkOf, IsLinkStateOf, IsMakerStep, IsOfAutosleep, IsOfOp, IsPostOf, IsRequestOf, IsScriptStep, IsStep, IsWorkStep, KeepsSteps, is_of_state_write};
@@ -15,21 +15,21 @@ use check_past::Passed;
 use sleep_base::Mem;
 use sleep_model::{Actor, AsyncWork, EventNow, Kind, NAP_MSECS, Op, ScriptPosition, State, Work};
 
-/// An entry of a read.
+/// Whether the entry is of a read of `/sys/power/wakeup_count`.
 fn is_of_count_read(kind: Kind) -> bool
     ensures { result ≡ is_of_count_read kind }
 {
     matches!(kind, Kind::ReadWait | Kind::Read(_) | Kind::ReadIntr)
 }
 
-/// An entry of a save.
+/// Whether the entry is of a write to `/sys/power/wakeup_count`.
 fn is_of_count_save(kind: Kind) -> bool
     ensures { result ≡ is_of_count_save kind }
 {
     matches!(kind, Kind::SaveWait(_) | Kind::Saved(_) | Kind::SaveErr(..))
 }
 
-/// An entry of a write to the state, up to the beginning of its attempt.
+/// Whether the entry is of a write to `/sys/power/state`, up to the beginning of its attempt.
 fn is_of_state_write(kind: Kind) -> bool
     ensures { result ≡ is_of_state_write kind }
 {
@@ -39,7 +39,8 @@ fn is_of_state_write(kind: Kind) -> bool
     )
 }
 
-/// An entry of a write of that text to autosleep.
+/// Whether the entry is of a write to `/sys/power/autosleep`. `mem`, `off`: what the text says; `begun`: the
+/// setting was begun.
 fn is_of_autosleep(begun: bool, mem: bool, off: bool, kind: Kind) -> bool
     ensures { IsTrue result ↔ IsOfAutosleep begun mem off kind }
 {
@@ -52,31 +53,28 @@ fn is_of_autosleep(begun: bool, mem: bool, off: bool, kind: Kind) -> bool
     }
 }
 
-/// A post to that mark.
+/// Whether the entry is a post to that mark.
 fn is_post_of(mark: u32, kind: Kind) -> bool
     ensures { IsTrue result ↔ IsPostOf mark kind }
 {
-    match kind {
-        Kind::Post(other) => other == mark,
-        _ => false,
-    }
+    matches!(kind, Kind::Post(other) if other == mark)
 }
 
-/// A request for that status of that device.
+/// Whether the entry is a request for that status of that device.
 fn is_request_of(device: u32, to_suspended: bool, kind: Kind) -> bool
     ensures { IsTrue result ↔ IsRequestOf device to_suspended kind }
 {
     matches!(kind, Kind::RuntimeAsk { device: d, to_suspended: to, .. } if d == device && to == to_suspended)
 }
 
-/// A new link between those two.
+/// Whether the entry is a new link between those two.
 fn is_link_of(supplier: u32, consumer: u32, kind: Kind) -> bool
     ensures { IsTrue result ↔ IsLinkOf supplier consumer kind }
 {
     matches!(kind, Kind::LinkAdd { supplier: s, consumer: c, .. } if s == supplier && c == consumer)
 }
 
-/// That state of the link between those two.
+/// Whether the entry sets the link between those two to that state.
 fn is_link_state_of(supplier: u32, consumer: u32, active: bool, kind: Kind) -> bool
     ensures { IsTrue result ↔ IsLinkStateOf supplier consumer active kind }
 {
@@ -91,7 +89,8 @@ fn is_link_state_of(supplier: u32, consumer: u32, active: bool, kind: Kind) -> b
     }
 }
 
-/// An entry of that operation, or the exit after the last. `Mem` if a sleep ends beyond all time.
+/// Whether the entry is of that operation, or the exit if there is no operation left (`None`). `Mem` if a
+/// sleep ends beyond all time.
 fn is_of_op(
     past: &Passed<'_>,
     position: ScriptPosition,
@@ -127,11 +126,12 @@ fn is_of_op(
             consumer,
             active,
         } => Ok(is_link_state_of(*supplier, *consumer, *active, kind)),
-        _ => Ok(false),
+        // A call on a source makes no entry of the journal.
+        Op::Awake { .. } | Op::Relax { .. } | Op::Event { .. } => Ok(false),
     }
 }
 
-/// An entry of the operation; or that the task freezes, at one that has a freeze point.
+/// Whether the entry is of the operation, or says that the task freezes at one that has a freeze point.
 fn is_step(
     past: &Passed<'_>,
     user: bool,
@@ -144,47 +144,40 @@ fn is_step(
 {
     match kind {
         Kind::Frozen => Ok(freezes_at(user, position.waits, op)),
-        _ => {
-            let keeps = is_of_op(past, position, op, kind)?;
-            Ok(keeps)
-        }
+        _ => is_of_op(past, position, op, kind),
     }
 }
 
-/// A step of script i, if it is there and has not exited.
+/// Whether the entry is a step of script i, which is there and has not exited.
 fn is_script_step(past: &Passed<'_>, i: u32, kind: Kind) -> Result<bool, Mem>
     ensures { IfOk result (λ b. IsTrue b ↔ IsScriptStep past.now.machine (journal_of past.now)
         (position_of past.now.machine (journal_of past.now) i) (op_of past.now.machine (journal_of past.now) i)
         (slice_get past.now.machine.actors i) kind) }
 {
     let position = past.position(i);
-    match past.machine().actors.as_slice().get(i as usize) {
-        None => Ok(false),
-        Some(script) => {
-            if position.exited {
-                return Ok(false);
-            }
-            let keeps = is_step(
-                past,
-                is_user(script.kind),
-                position,
-                past.operation(i),
-                kind,
-            )?;
-            Ok(keeps)
-        }
+    let Some(script) = past.machine().actors.as_slice().get(i as usize) else {
+        return Ok(false);
+    };
+    if position.exited {
+        return Ok(false);
     }
+    is_step(
+        past,
+        is_user(script.kind),
+        position,
+        past.operation(i),
+        kind,
+    )
 }
 
-/// An entry of autosleep's work in that state. `Mem` if a nap ends beyond all time.
+/// Whether the entry is of autosleep's work in that state. `Mem` if a nap ends beyond all time.
 fn is_work_step(past: &Passed<'_>, now: EventNow, work: Work, kind: Kind) -> Result<bool, Mem>
     ensures { IfOk result (λ b. IsTrue b ↔ IsWorkStep past.now.machine (journal_of past.now) now work kind) }
 {
     match (work, kind) {
         (Work::Resting, Kind::AutoRun) => Ok(past.may_run()),
         (Work::Reading, Kind::Read(_)) => Ok(true),
-        (Work::Saving(_), Kind::AutoSaved(_)) => Ok(true),
-        (Work::Saving(_), Kind::AutoUnsaved(_)) => Ok(true),
+        (Work::Saving(_), Kind::AutoSaved(_)) | (Work::Saving(_), Kind::AutoUnsaved(_)) => Ok(true),
         (Work::Attempting(_), Kind::Attempt { .. }) => Ok(true),
         (Work::Attempting(_), Kind::AutoOff) => Ok(!past.is_on()),
         (Work::Looking(_), Kind::AutoAfter(seen)) => Ok(is_same_number(seen, seen_count(now))),
@@ -198,19 +191,20 @@ fn is_work_step(past: &Passed<'_>, now: EventNow, work: Work, kind: Kind) -> Res
     }
 }
 
-/// An entry of an asynchronous device whose work is in that state.
+/// Whether the entry is of an asynchronous device whose work is in that state.
 fn is_device_step(device: u32, work: AsyncWork, kind: Kind) -> bool
     ensures { IsTrue result ↔ IsDeviceStep device work kind }
 {
     match (work, kind) {
-        (AsyncWork::Scheduled(p), Kind::Begin(q, d)) => d == device && is_phase(q, p),
-        (AsyncWork::Scheduled(p), Kind::Skip(q, d, _)) => d == device && is_phase(q, p),
+        (AsyncWork::Scheduled(p), Kind::Begin(q, d))
+        | (AsyncWork::Scheduled(p), Kind::Skip(q, d, _)) => d == device && is_phase(q, p),
         (AsyncWork::Inside(p), Kind::End(q, d, _)) => d == device && is_phase(q, p),
         _ => false,
     }
 }
 
-/// An entry of an attempt, whose walk itself begins, ends and skips only synchronous devices.
+/// Whether the entry is of the attempt's maker. Its walk itself begins, ends and skips only synchronous
+/// devices.
 fn is_maker_step(past: &Passed<'_>, kind: Kind) -> bool
     ensures { IsTrue result ↔ IsMakerStep past.now.machine kind }
 {
@@ -242,7 +236,7 @@ fn is_maker_step(past: &Passed<'_>, kind: Kind) -> bool
     }
 }
 
-/// Whether an entry of the journal is of its actor's own steps, once and in order (`kernel/power/main.c`,
+/// Whether an entry of the journal is the next step of its actor (`kernel/power/main.c`,
 /// `kernel/power/autosleep.c`, `drivers/base/power/main.c`). `Mem` if a sleep ends beyond all time.
 pub fn keeps_steps(past: &Passed<'_>, now: EventNow, who: Actor, kind: Kind) -> Result<bool, Mem>
     ensures { IfOk result (λ b. IsTrue b ↔ KeepsSteps past.now.machine (journal_of past.now) now who kind) }
@@ -254,6 +248,6 @@ pub fn keeps_steps(past: &Passed<'_>, now: EventNow, who: Actor, kind: Kind) -> 
         Actor::Script(i) => is_script_step(past, i, kind),
         Actor::Auto => is_work_step(past, now, past.work(), kind),
         Actor::Dev(d) => Ok(is_device_step(d, async_work(past, d), kind)),
-        _ => Ok(false),
+        Actor::Timer(_) | Actor::Time => Ok(false),
     }
 }

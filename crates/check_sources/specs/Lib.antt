@@ -2,6 +2,7 @@
 pub mod AnswerKeys
 pub mod CallerFields
 pub mod Calling
+pub mod Classes
 pub mod SourceStates
 pub mod Owing
 pub mod ActorRows

@@ -4,12 +4,14 @@
 ghost use Rattle.std.specs.Prelude.{◌≡◌, ◌+◌, [], Bool, IfOk, is_some};
 ghost use Rattle.sleep_model.specs.EntryClasses.{class_of};
 ghost use Rattle.sleep_model.specs.Sources.{expiry_after, has_expired, is_event, is_expiry, is_start, last_after, later, longest_after, run_time, since_after, total_after, caller_after};
+ghost use Rattle.check_sources.specs.Classes.{meant};
 ghost use Rattle.check_sources.specs.Owing.{owes_after};
 ghost use Rattle.check_sources.specs.SourceStates.{counted, source_after, source_in, source_of};
 
+use crate::class::{EntryClass, class_of};
 use crate::owed::{Owed, owed_by};
 use sleep_base::Mem;
-use sleep_model::{Actor, Entry, Kind, SourceCall, Stats};
+use sleep_model::{Actor, Entry, Kind, SourceCall, Stats, WordKind};
 
 /// What the entries of one source leave. Times are in ms.
 #[derive(Clone, Copy)]
@@ -61,20 +63,21 @@ pub(crate) fn fresh() -> Source
     }
 }
 
+/// The source whose entry one of that class is, if it is a source's.
+fn source_of_class(class: EntryClass) -> Option<u32>
+    ensures { result ≡ source_in (meant class) }
+{
+    match class {
+        EntryClass::Note(source, _) | EntryClass::Step(source, _) => Some(source),
+        EntryClass::Journal | EntryClass::Jump => None,
+    }
+}
+
 /// The source whose entry it is, if it is a source's.
 pub fn source_in(kind: Kind) -> Option<u32>
     ensures { result ≡ source_in (class_of kind) }
 {
-    match kind {
-        Kind::Awake(source)
-        | Kind::Relax(source)
-        | Kind::Event { source, .. }
-        | Kind::Expire(source)
-        | Kind::Start(source)
-        | Kind::Finish(source)
-        | Kind::Hard(source) => Some(source),
-        _ => None,
-    }
+    source_of_class(class_of(kind))
 }
 
 /// A sum of times. `Mem` if it has no room.
@@ -99,12 +102,12 @@ fn later(time: u64, stands: Option<u64>) -> Option<u64>
 
 /// When the event in progress ends by itself, after an entry (`pm_wakeup_ws_event`). `Mem` if that is beyond
 /// all time.
-fn expiry_after(kind: Kind, time: u64, before: Option<u64>) -> Result<Option<u64>, Mem>
-    ensures { IfOk result (λ x. x ≡ expiry_after (class_of kind) time before) }
+fn expiry_after(class: EntryClass, time: u64, before: Option<u64>) -> Result<Option<u64>, Mem>
+    ensures { IfOk result (λ x. x ≡ expiry_after (meant class) time before) }
 {
-    match kind {
-        Kind::Awake(_) | Kind::Finish(_) => Ok(None),
-        Kind::Event { ms, .. } => {
+    match class {
+        EntryClass::Note(_, SourceCall::Awake) | EntryClass::Step(_, WordKind::Finish) => Ok(None),
+        EntryClass::Note(_, SourceCall::Event { ms, .. }) => {
             if ms == 0 {
                 Ok(before)
             } else {
@@ -116,37 +119,34 @@ fn expiry_after(kind: Kind, time: u64, before: Option<u64>) -> Result<Option<u64
 }
 
 /// When the event in progress began, after an entry.
-fn since_after(kind: Kind, time: u64, before: Option<u64>) -> Option<u64>
-    ensures { result ≡ since_after (class_of kind) time before }
+fn since_after(class: EntryClass, time: u64, before: Option<u64>) -> Option<u64>
+    ensures { result ≡ since_after (meant class) time before }
 {
-    match kind {
-        Kind::Start(_) => Some(time),
-        Kind::Finish(_) => None,
+    match class {
+        EntryClass::Step(_, WordKind::Start) => Some(time),
+        EntryClass::Step(_, WordKind::Finish) => None,
         _ => before,
     }
 }
 
 /// The steps that are owed after an entry.
-fn owes_after(kind: Kind, active: bool, before: Owed) -> Owed
-    ensures { result ≡ owes_after (class_of kind) active before }
+fn owes_after(class: EntryClass, active: bool, before: Owed) -> Owed
+    ensures { result ≡ owes_after (meant class) active before }
 {
-    match kind {
-        Kind::Awake(_) => owed_by(SourceCall::Awake, active),
-        Kind::Relax(_) => owed_by(SourceCall::Relax, active),
-        Kind::Event { ms, hard, .. } => owed_by(SourceCall::Event { ms, hard }, active),
-        Kind::Expire(_) => owed_by(SourceCall::Expire, active),
-        Kind::Start(_) | Kind::Finish(_) | Kind::Hard(_) => before.after_first(),
-        _ => before,
+    match class {
+        EntryClass::Note(_, call) => owed_by(call, active),
+        EntryClass::Step(..) => before.after_first(),
+        EntryClass::Journal | EntryClass::Jump => before,
     }
 }
 
 /// Who made the last call, after an entry of that actor.
-fn caller_after(kind: Kind, who: Actor, before: Option<Actor>) -> Option<Actor>
-    ensures { result ≡ caller_after (class_of kind) who before }
+fn caller_after(class: EntryClass, who: Actor, before: Option<Actor>) -> Option<Actor>
+    ensures { result ≡ caller_after (meant class) who before }
 {
-    match kind {
-        Kind::Awake(_) | Kind::Relax(_) | Kind::Event { .. } | Kind::Expire(_) => Some(who),
-        _ => before,
+    match class {
+        EntryClass::Note(..) => Some(who),
+        EntryClass::Step(..) | EntryClass::Journal | EntryClass::Jump => before,
     }
 }
 
@@ -174,54 +174,57 @@ fn run_time(since: Option<u64>, at: u64) -> u64
 }
 
 /// The sum of the times of events that ended, after an entry.
-fn total_after(kind: Kind, time: u64, since: Option<u64>, before: u64) -> Result<u64, Mem>
-    ensures { IfOk result (λ n. n ≡ total_after (class_of kind) time since before) }
+fn total_after(class: EntryClass, time: u64, since: Option<u64>, before: u64) -> Result<u64, Mem>
+    ensures { IfOk result (λ n. n ≡ total_after (meant class) time since before) }
 {
-    match kind {
-        Kind::Finish(_) => added(before, run_time(since, time)),
+    match class {
+        EntryClass::Step(_, WordKind::Finish) => added(before, run_time(since, time)),
         _ => Ok(before),
     }
 }
 
 /// The longest of them, after an entry.
-fn longest_after(kind: Kind, time: u64, since: Option<u64>, before: u64) -> u64
-    ensures { result ≡ longest_after (class_of kind) time since before }
+fn longest_after(class: EntryClass, time: u64, since: Option<u64>, before: u64) -> u64
+    ensures { result ≡ longest_after (meant class) time since before }
 {
-    match kind {
-        Kind::Finish(_) => before.max(run_time(since, time)),
+    match class {
+        EntryClass::Step(_, WordKind::Finish) => before.max(run_time(since, time)),
         _ => before,
     }
 }
 
 /// When the last start or finish was, after an entry.
-fn last_after(kind: Kind, time: u64, before: u64) -> u64
-    ensures { result ≡ last_after (class_of kind) time before }
+fn last_after(class: EntryClass, time: u64, before: u64) -> u64
+    ensures { result ≡ last_after (meant class) time before }
 {
-    match kind {
-        Kind::Start(_) | Kind::Finish(_) => time,
+    match class {
+        EntryClass::Step(_, WordKind::Start) | EntryClass::Step(_, WordKind::Finish) => time,
         _ => before,
     }
 }
 
 /// Whether it is the note of an event.
-fn is_event(kind: Kind) -> bool
-    ensures { result ≡ is_event (class_of kind) }
+fn is_event(class: EntryClass) -> bool
+    ensures { result ≡ is_event (meant class) }
 {
-    matches!(kind, Kind::Awake(_) | Kind::Event { .. })
+    matches!(
+        class,
+        EntryClass::Note(_, SourceCall::Awake) | EntryClass::Note(_, SourceCall::Event { .. })
+    )
 }
 
 /// Whether it is a start.
-fn is_start(kind: Kind) -> bool
-    ensures { result ≡ is_start (class_of kind) }
+fn is_start(class: EntryClass) -> bool
+    ensures { result ≡ is_start (meant class) }
 {
-    matches!(kind, Kind::Start(_))
+    matches!(class, EntryClass::Step(_, WordKind::Start))
 }
 
 /// Whether it is the note of an expiry.
-fn is_expiry(kind: Kind) -> bool
-    ensures { result ≡ is_expiry (class_of kind) }
+fn is_expiry(class: EntryClass) -> bool
+    ensures { result ≡ is_expiry (meant class) }
 {
-    matches!(kind, Kind::Expire(_))
+    matches!(class, EntryClass::Note(_, SourceCall::Expire))
 }
 
 /// One entry more. `Mem` if the counter has no room.
@@ -238,18 +241,19 @@ fn one_further(count: usize) -> Result<usize, Mem>
 pub(crate) fn source_after(e: Entry, before: Source) -> Result<Source, Mem>
     ensures { IfOk result (λ s. s ≡ source_after e before) }
 {
+    let class = class_of(e.kind);
     Ok(Source {
         entries: one_further(before.entries)?,
-        expiry: expiry_after(e.kind, e.time, before.expiry)?,
-        since: since_after(e.kind, e.time, before.since),
-        owes: owes_after(e.kind, before.since.is_some(), before.owes),
-        caller: caller_after(e.kind, e.actor, before.caller),
-        starts: counted(is_start(e.kind), before.starts)?,
-        events: counted(is_event(e.kind), before.events)?,
-        expiries: counted(is_expiry(e.kind), before.expiries)?,
-        total: total_after(e.kind, e.time, before.since, before.total)?,
-        longest: longest_after(e.kind, e.time, before.since, before.longest),
-        last: last_after(e.kind, e.time, before.last),
+        expiry: expiry_after(class, e.time, before.expiry)?,
+        since: since_after(class, e.time, before.since),
+        owes: owes_after(class, before.since.is_some(), before.owes),
+        caller: caller_after(class, e.actor, before.caller),
+        starts: counted(is_start(class), before.starts)?,
+        events: counted(is_event(class), before.events)?,
+        expiries: counted(is_expiry(class), before.expiries)?,
+        total: total_after(class, e.time, before.since, before.total)?,
+        longest: longest_after(class, e.time, before.since, before.longest),
+        last: last_after(class, e.time, before.last),
     })
 }
 

@@ -1,0 +1,9 @@
+-- Proof by hand of `enabled_entry`: what it returns, at the class of the entry.
+use Rattle.std.proofs.Common.{Bool, IfOk, IsTrue, ◌↔◌, subst}
+use Rattle.sleep_model.specs.EntryClasses.{EntryClass}
+use Rattle.rule_definitions.specs.Enabled.{EnabledEntry}
+use Rattle.check_past.specs.Passing.{past_of}
+use Rattle.check_rules.proofs.entries.enabled_entry.Goals as goal
+
+pub returns : goal.returns
+returns c = subst (λ (p : EntryClass). IfOk c.keeps_enabled_in.result (λ (b : Bool). IsTrue b ↔ EnabledEntry c.args.past.now.machine (past_of c.args.past.now) c.args.e p)) c.class_of.ensures c.keeps_enabled_in.ensures
