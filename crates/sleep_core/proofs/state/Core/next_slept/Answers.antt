@@ -14,7 +14,7 @@ returns-clause-none c first none =
     let h = c.self.inside.history in
     let same = c.self.view_is in
     subst (λ (s : CoreState). NoneSlept (positions (length s.machine.actors) (entries s.past)) (time_of (entries s.past))) same
-    (subst (λ (t : ℕ). NoneSlept (positions (length h.machine.actors) (entries h.past)) t) (c.now.ensures.is ∙ ap (λ (s : CoreState). time_of (entries s.past)) (sym same))
-    (subst (λ (t : TaskState). NoneSlept t.positions c.now.result) c.tasks.ensures
+    (subst (λ (t : ℕ). NoneSlept (positions (length h.machine.actors) (entries h.past)) t) (c.time_ms.ensures.is ∙ ap (λ (s : CoreState). time_of (entries s.past)) (sym same))
+    (subst (λ (t : TaskState). NoneSlept t.positions c.time_ms.result) c.tasks.ensures
     (c.next_slept.ensures.none first none
     (omega (arith, ap (λ (t : TaskState). length t.positions) c.tasks.ensures, positions_len (length h.machine.actors) (entries h.past), ap (λ (s : CoreState). length s.machine.actors) same, c.scripts-scripts.ensures, c.scripts-scripts.type_inv)))))
