@@ -72,8 +72,8 @@ module _ (m : Machine) (jobs : JobsState) (all : AreAllJobs m jobs) (named : (wh
     devices = long c.back.devices jobs.devices c.devices ∙ all.devices;
   }
 
-  abbrev after_idle_round : List Task
-  after_idle_round = task.Acts c.back.auto ∷ (map (λ (j : JobState). task.Acts j) c.back.devices ++ c.last)
+  abbrev rest : List Task
+  rest = task.Acts c.back.auto ∷ (map (λ (j : JobState). task.Acts j) c.back.devices ++ c.last)
 
   -- the task of an actor of the machine is its job's
   pub task_there : (who : Actor) → IsActor m who → (k : ℕ) × (slice_get news k ≡ Some (task.Acts (job_at c.back who))) × ((job_at c.back who).who ≡ who)
@@ -81,20 +81,20 @@ module _ (m : Machine) (jobs : JobsState) (all : AreAllJobs m jobs) (named : (wh
       let l : i < length c.back.scripts = omega (arith, a, all_back.scripts) in (
         i,
         ap (λ (ts : List Task). slice_get ts i) c.are
-            ∙ get_front (map (λ (j : JobState). task.Acts j) c.back.scripts) after_idle_round i (task.Acts (slice_index_or c.back.scripts i c.back.auto)) (get_mapped (λ (j : JobState). task.Acts j) c.back.scripts i c.back.auto l),
+            ∙ get_front (map (λ (j : JobState). task.Acts j) c.back.scripts) rest i (task.Acts (slice_index_or c.back.scripts i c.back.auto)) (get_mapped (λ (j : JobState). task.Acts j) c.back.scripts i c.back.auto l),
         who_of c.back.scripts jobs.scripts i c.back.auto jobs.auto c.scripts (omega (arith, a, all.scripts)) ∙ named (actor.Script i) a,
       )
   task_there actor.Auto a = (
     length (map (λ (j : JobState). task.Acts j) c.back.scripts) + 0,
     ap (λ (ts : List Task). slice_get ts (length (map (λ (j : JobState). task.Acts j) c.back.scripts) + 0)) c.are
-        ∙ get_after (map (λ (j : JobState). task.Acts j) c.back.scripts) after_idle_round 0 (task.Acts c.back.auto) refl,
+        ∙ get_after (map (λ (j : JobState). task.Acts j) c.back.scripts) rest 0 (task.Acts c.back.auto) refl,
     c.auto ∙ named actor.Auto a,
   )
   task_there (actor.Dev d) a =
       let l : d < length c.back.devices = omega (arith, a, all_back.devices) in (
         length (map (λ (j : JobState). task.Acts j) c.back.scripts) + suc d,
         ap (λ (ts : List Task). slice_get ts (length (map (λ (j : JobState). task.Acts j) c.back.scripts) + suc d)) c.are
-            ∙ get_after (map (λ (j : JobState). task.Acts j) c.back.scripts) after_idle_round (suc d) (task.Acts (slice_index_or c.back.devices d c.back.auto))
+            ∙ get_after (map (λ (j : JobState). task.Acts j) c.back.scripts) rest (suc d) (task.Acts (slice_index_or c.back.devices d c.back.auto))
             (get_front (map (λ (j : JobState). task.Acts j) c.back.devices) c.last d (task.Acts (slice_index_or c.back.devices d c.back.auto)) (get_mapped (λ (j : JobState). task.Acts j) c.back.devices d c.back.auto l)),
         who_of c.back.devices jobs.devices d c.back.auto jobs.auto c.devices (omega (arith, a, all.devices)) ∙ named (actor.Dev d) a,
       )

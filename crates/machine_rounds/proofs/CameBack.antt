@@ -83,19 +83,19 @@ of_jobs jobs = map (λ (job : JobState). task.Acts job) jobs
 abbrev whos : List JobState → List Actor
 whos jobs = map (λ (job : JobState). job.who) jobs
 
-record IsSplit (floor : Stamp) (js : List JobState) (after_idle_round news : List Task) : Type 0 where
+record IsSplit (floor : Stamp) (js : List JobState) (rest news : List Task) : Type 0 where
   jobs : List JobState
   last : List Task
   are : news ≡ of_jobs jobs ++ last
   same : whos jobs ≡ whos js
-  rests : SameTasks after_idle_round last
+  rests : SameTasks rest last
 
-split_jobs : (floor : Stamp) (js : List JobState) (after_idle_round news : List Task) → SameTasks (map (acts floor) js ++ after_idle_round) news → IsSplit floor js after_idle_round news
-split_jobs floor [] after_idle_round news h = record { jobs = []; last = news; are = refl; same = refl; rests = h }
-split_jobs floor (j ∷ js) after_idle_round [] h = absurd h
-split_jobs floor (j ∷ js) after_idle_round (task.Fires t ∷ news) h = absurd h.0
-split_jobs floor (j ∷ js) after_idle_round (task.Acts job ∷ news) h =
-    let s = split_jobs floor js after_idle_round news h.1 in
+split_jobs : (floor : Stamp) (js : List JobState) (rest news : List Task) → SameTasks (map (acts floor) js ++ rest) news → IsSplit floor js rest news
+split_jobs floor [] rest news h = record { jobs = []; last = news; are = refl; same = refl; rests = h }
+split_jobs floor (j ∷ js) rest [] h = absurd h
+split_jobs floor (j ∷ js) rest (task.Fires t ∷ news) h = absurd h.0
+split_jobs floor (j ∷ js) rest (task.Acts job ∷ news) h =
+    let s = split_jobs floor js rest news h.1 in
     record {
       jobs = job ∷ s.jobs;
       last = s.last;
@@ -129,9 +129,9 @@ no_jobs (task.Acts old ∷ olds) (new ∷ news) t h = absurd t
 no_jobs (task.Fires old ∷ olds) (task.Acts new ∷ news) t h = absurd h.0
 no_jobs (task.Fires old ∷ olds) (task.Fires new ∷ news) t h = no_jobs olds news t h.1
 
-jobs_front : (js : List JobState) (after_idle_round : List Task) → jobs_in (of_jobs js ++ after_idle_round) ≡ js ++ jobs_in after_idle_round
-jobs_front [] after_idle_round = refl
-jobs_front (j ∷ js) after_idle_round = ap (λ (l : List JobState). j ∷ l) (jobs_front js after_idle_round)
+jobs_front : (js : List JobState) (rest : List Task) → jobs_in (of_jobs js ++ rest) ≡ js ++ jobs_in rest
+jobs_front [] rest = refl
+jobs_front (j ∷ js) rest = ap (λ (l : List JobState). j ∷ l) (jobs_front js rest)
 
 -- the tasks that came back are these jobs and timers
 pub record CameBack (jobs : JobsState) (news : List Task) : Type 0 where
@@ -153,11 +153,11 @@ came_back floor n jobs news h = second first.last first.are first.rests
     first : IsSplit floor jobs.scripts (acts floor jobs.auto ∷ (map (acts floor) jobs.devices ++ timers floor n)) news
     first = split_jobs floor jobs.scripts (acts floor jobs.auto ∷ (map (acts floor) jobs.devices ++ timers floor n)) news h
 
-    second : (after_idle_round : List Task) → news ≡ of_jobs first.jobs ++ after_idle_round → SameTasks (acts floor jobs.auto ∷ (map (acts floor) jobs.devices ++ timers floor n)) after_idle_round → CameBack jobs news
+    second : (rest : List Task) → news ≡ of_jobs first.jobs ++ rest → SameTasks (acts floor jobs.auto ∷ (map (acts floor) jobs.devices ++ timers floor n)) rest → CameBack jobs news
     second [] is g = absurd g
-    second (task.Fires t ∷ after_idle_round) is g = absurd g.0
-    second (task.Acts auto ∷ after_idle_round) is g =
-        let d = split_jobs floor jobs.devices (timers floor n) after_idle_round g.1 in
+    second (task.Fires t ∷ rest) is g = absurd g.0
+    second (task.Acts auto ∷ rest) is g =
+        let d = split_jobs floor jobs.devices (timers floor n) rest g.1 in
         let all : news ≡ of_jobs first.jobs ++ (task.Acts auto ∷ (of_jobs d.jobs ++ d.last)) = is ∙ ap (λ (l : List Task). of_jobs first.jobs ++ (task.Acts auto ∷ l)) d.are in
         record {
           back = record { scripts = first.jobs; auto = auto; devices = d.jobs };
@@ -180,8 +180,8 @@ one_way (p ∷ xs) [] x y us vs l e = absurd (omega (arith, l))
 one_way (p ∷ xs) (q ∷ ys) x y us vs l e =
     let heads : p ≡ q = cc in
     let tails : xs ++ (x ∷ us) ≡ ys ++ (y ∷ vs) = cc in
-    let after_idle_round = one_way xs ys x y us vs (omega (arith, l)) tails in
-    ((let h = after_idle_round.0 in cc), after_idle_round.1, after_idle_round.2)
+    let rest = one_way xs ys x y us vs (omega (arith, l)) tails in
+    ((let h = rest.0 in cc), rest.1, rest.2)
 
 pub same_jobs : (all : List JobState) (n : ℕ) (a b : JobsState) → AreJobsOf all n a → AreJobsOf all n b → a ≡ b
 same_jobs all n a b h g =

@@ -117,13 +117,13 @@ module _ (floor : Stamp) (n : ℕ) (jobs : JobsState) where
           at (length jobs.scripts + suc (length jobs.devices + h.0)) (task.Fires (raised_timer floor (first_timer h.0)))
           (omega (arith, place, many, h.1, length-map jobs.devices (acts floor))) g.1 (OfTimer h.0 g.0)
 
-      after_idle_round : (j : ℕ) → k ≡ length scripts + j → slice_get (acts floor jobs.auto ∷ behind) j ≡ Some t → IsTaskAt floor n jobs k t
-      after_idle_round zero place f = at (length jobs.scripts) (acts floor jobs.auto) (omega (arith, place, many)) (let same : Some t ≡ Some (acts floor jobs.auto) = sym f in cc) OfWork
-      after_idle_round (suc j) place f = last j place (get_contents (map (acts floor) jobs.devices) (timers floor n) j t f)
+      rest : (j : ℕ) → k ≡ length scripts + j → slice_get (acts floor jobs.auto ∷ behind) j ≡ Some t → IsTaskAt floor n jobs k t
+      rest zero place f = at (length jobs.scripts) (acts floor jobs.auto) (omega (arith, place, many)) (let same : Some t ≡ Some (acts floor jobs.auto) = sym f in cc) OfWork
+      rest (suc j) place f = last j place (get_contents (map (acts floor) jobs.devices) (timers floor n) j t f)
 
       by : ((k < length scripts) × (slice_get scripts k ≡ Some t)) ⊎ ((j : ℕ) × (k ≡ length scripts + j) × (slice_get (acts floor jobs.auto ∷ behind) j ≡ Some t)) → IsTaskAt floor n jobs k t
       by (inl h) = let g = get_image (acts floor) jobs.scripts k jobs.auto t h.1 in at k (acts floor (slice_index_or jobs.scripts k jobs.auto)) refl g.1 (OfScript k g.0)
-      by (inr h) = after_idle_round h.0 h.1 h.2
+      by (inr h) = rest h.0 h.1 h.2
 
 -- ---- they are a run's
 
@@ -147,8 +147,8 @@ known_else floor (t ∷ tasks) who h = by (is_same (actor_of t) who) refl h (λ 
   where
     by : (b : Bool) → is_same (actor_of t) who ≡ b → (is_same (actor_of t) who || has_task tasks who) ≡ false → (has_task tasks who ≡ false → known_among floor tasks who ≡ floor)
         → known_among floor (t ∷ tasks) who ≡ floor
-    by true is g after_idle_round = absurd (let bad : true ≡ false = ap (λ (b : Bool). b || has_task tasks who) (sym is) ∙ g in cc)
-    by false is g after_idle_round = ap (λ (b : Bool). cond b (known_by t) (known_among floor tasks who)) is ∙ after_idle_round (ap (λ (b : Bool). b || has_task tasks who) (sym is) ∙ g)
+    by true is g rest = absurd (let bad : true ≡ false = ap (λ (b : Bool). b || has_task tasks who) (sym is) ∙ g in cc)
+    by false is g rest = ap (λ (b : Bool). cond b (known_by t) (known_among floor tasks who)) is ∙ rest (ap (λ (b : Bool). b || has_task tasks who) (sym is) ∙ g)
 
 -- if it is some task's, it knows what that task knows
 pub known_some : (floor : Stamp) (tasks : List Task) (who : Actor) → has_task tasks who ≡ true
@@ -161,8 +161,8 @@ known_some floor (t ∷ tasks) who h = by (is_same (actor_of t) who) refl h (λ 
         → (k : ℕ) × (u : Task) × (slice_get (t ∷ tasks) k ≡ Some u) × (is_same (actor_of u) who ≡ true) × (known_among floor (t ∷ tasks) who ≡ known_by u)
     by true is g more = (0, t, refl, is, ap (λ (b : Bool). cond b (known_by t) (known_among floor tasks who)) is)
     by false is g more =
-        let after_idle_round = more (ap (λ (b : Bool). b || has_task tasks who) (sym is) ∙ g) in
-        (suc after_idle_round.0, after_idle_round.1, after_idle_round.2, after_idle_round.3, ap (λ (b : Bool). cond b (known_by t) (known_among floor tasks who)) is ∙ after_idle_round.4)
+        let rest = more (ap (λ (b : Bool). b || has_task tasks who) (sym is) ∙ g) in
+        (suc rest.0, rest.1, rest.2, rest.3, ap (λ (b : Bool). cond b (known_by t) (known_among floor tasks who)) is ∙ rest.4)
 
 same_self : (who : Actor) → is_same who who ≡ true
 same_self who = same_actor who

@@ -64,7 +64,7 @@ same_then first second third h g = record {
 -- what stretches came to, if no fewer entries were made before them
 pub stretched : (first second third : RunState) (n : ℕ) (came : Result (Option AfterIdleRound) RunFault) → entries_made first ≤ entries_made second → AfterStretches n second third came → AfterStretches n first third came
 stretched first second third n (Ok None) more h = omega (arith, more, h)
-stretched first second third n (Ok (Some after_idle_round)) more h = h
+stretched first second third n (Ok (Some rest)) more h = h
 stretched first second third n (Err fault) more h = h
 
 -- a try after another
@@ -141,13 +141,13 @@ fault_is old run word fault.Mem same seen k refused = tt
 
 -- ---- who waits
 
-put_by : (b : Bool) (i : ℕ) (d : Due) (after_idle_round : List Waiting) → (b ≡ true → d ≡ Nothing) → put_waiting b i d after_idle_round ≡ script_waits i d ++ after_idle_round
-put_by false i (Waits why) after_idle_round h = refl
-put_by false i Nothing after_idle_round h = refl
-put_by false i (Makes k) after_idle_round h = refl
-put_by true i (Waits why) after_idle_round h = absurd (let no : Waits why ≡ Nothing = h refl in cc)
-put_by true i Nothing after_idle_round h = refl
-put_by true i (Makes k) after_idle_round h = refl
+put_by : (b : Bool) (i : ℕ) (d : Due) (rest : List Waiting) → (b ≡ true → d ≡ Nothing) → put_waiting b i d rest ≡ script_waits i d ++ rest
+put_by false i (Waits why) rest h = refl
+put_by false i Nothing rest h = refl
+put_by false i (Makes k) rest h = refl
+put_by true i (Waits why) rest h = absurd (let no : Waits why ≡ Nothing = h refl in cc)
+put_by true i Nothing rest h = refl
+put_by true i (Makes k) rest h = refl
 
 -- nothing is due of a script that has exited, while no attempt is open
 exited_done : (m : Machine) (past : List Entry) (now : EventNow) (i : ℕ) → maker past ≡ None → (position_at (positions (length m.actors) past) i).exited ≡ true → due m past (actor.Script i) now ≡ Nothing

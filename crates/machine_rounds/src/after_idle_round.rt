@@ -171,6 +171,19 @@ impl<'m> Run<'m> {
         by_script & !works & by_device & by_timer
     }
 
+    /// Wakes whoever may wait for the moment to which time has jumped: devices wait for none, nor do frozen
+    /// scripts, and the timers only if one is due.
+    fn wake_for_time(&mut self)
+        ensures { self.new ≡ self.old }
+    {
+        let is_due = self.expired_source().is_some();
+        self.waiters.wake_but_sleepers();
+        if is_due {
+            self.waiters.wake_timers();
+        }
+        wake_sleepers(self.seated.core(), &mut self.waiters);
+    }
+
     /// Time jumps to the next pending moment, if nobody can make anything by the word that was looked at
     /// last. A run makes so few entries that the clock and the ticks of stamps stay in their range. `Mem` if
     /// there is no memory.
@@ -184,8 +197,7 @@ impl<'m> Run<'m> {
     {
         moments_are_ranged(to);
         self.floor = self.seated.jump(word, to, self.floor)?;
-        self.waiters.wake_for_time();
-        wake_sleepers(self.seated.core(), &mut self.waiters);
+        self.wake_for_time();
         Ok(())
     }
 

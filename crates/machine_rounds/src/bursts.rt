@@ -25,18 +25,19 @@ use world_workers::{Burst, BurstContents, BurstPlan, Stop, make_burst};
 /// The most entries of a journal at which a burst is begun, far above what memory holds.
 const MOST_JOURNAL: usize = 1 << 62;
 
+/// The most entries that a log has, whatever the accepted machine is (`end_laws`, `all_logs_are_bounded`).
+const MOST_LOG: u64 = 37_585_025;
+
 /// What stays of a run while its core, its sources and its jobs are in a burst.
 #[derive(Drop)]
 struct RunInBurst<'m> {
     machine: &'m Machine,
+    /// The event word.
     table: EventTable,
     /// A stamp that all actors may know.
     floor: Stamp,
     waiters: Waiters,
 }
-
-/// The most entries that a log has, whatever the accepted machine is (`end_laws`, `all_logs_are_bounded`).
-const MOST_LOG: u64 = 37_585_025;
 
 /// A run that was brought on, and what came of it: how it is over, if it is, or why it gives nothing.
 #[derive(Drop)]
@@ -187,7 +188,8 @@ impl<'m> Run<'m> {
     ghost use Rattle.machine_rounds.specs.BurstsOf.{IsRunInBurst, entries_of};
     ghost use Rattle.machine_rounds.specs.Runs.{AfterStretches, Fails, IsRefused, IsRun, entries_made};
 
-    /// Whether the journal is so short that no job comes to the end of its numbers in a burst.
+    /// Whether the journal is so short that no job comes to the end of its numbers in a burst, in which each
+    /// makes at most 1,000 turns.
     fn is_short(&self) -> bool
         ensures { OnTrue result (length self.now.journal + 1000 < 2 ^ 63) }
     {
@@ -211,6 +213,7 @@ impl<'m> Run<'m> {
             floor,
             waiters,
         } = self;
+        // A machine has at most 255 sources, and `autosleep` is the last.
         let Ok(tasks) = jobs.into_tasks(alloc, sources.len() as u32, floor) else {
             return Err(drop_for_mem((table, core, sources, waiters)));
         };

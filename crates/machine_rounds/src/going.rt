@@ -58,7 +58,7 @@ impl<'m> Run<'m> {
     }
 
     /// The first source whose event in progress is to end now.
-    fn expired_source(&self) -> Option<u32>
+    pub(crate) fn expired_source(&self) -> Option<u32>
         ensures there { IfSome result (λ s. s ≤ length self.now.machine.sources) }
         ensures due { IfSome result (λ s. has_expired (expiry (histories self.now.sources s)) (time_of (entries self.now.journal)) ≡ true) }
         ensures none { IfNone result (none_expires (length self.now.machine.sources + 1) (histories self.now.sources) (time_of (entries self.now.journal)) ≡ true) }

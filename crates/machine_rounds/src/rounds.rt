@@ -196,6 +196,9 @@ impl<'m> Run<'m> {
         ensures machine { self.new.machine ≡ self.old.machine }
         ensures after { AfterTry self.old self.new result }
     {
+        if self.waiters.asks_nobody() {
+            return Ok(false);
+        }
         let by_actor = self.ask_actors(rt)?;
         if self.waiters.asks_timers() {
             let by_timer = self.ask_timers(rt)? | by_actor;

@@ -130,6 +130,12 @@ impl Waiters {
         }
     }
 
+    /// Whether nobody is to be asked.
+    #[inline(always)]
+    pub(crate) fn asks_nobody(&self) -> bool {
+        self.scripts.is_empty() && self.devices.is_empty() && !self.auto && !self.timers
+    }
+
     /// Whether the autosleep work is to be asked.
     pub(crate) fn asks_auto(&self) -> bool {
         self.auto
@@ -314,7 +320,7 @@ impl Waiters {
     #[inline(always)]
     pub(crate) fn take_call(&mut self, who: Actor) -> Option<u32> {
         match who {
-            Actor::Script(script) if self.called.has(script) => {
+            Actor::Script(script) if !self.called.is_empty() && self.called.has(script) => {
                 self.called.remove(script);
                 self.mark_of.get(script as usize).copied()
             }
@@ -371,8 +377,8 @@ impl Waiters {
         }
     }
 
-    /// Wakes the scripts that wait, but for those that sleep or are frozen.
-    fn wake_but_sleepers(&mut self) {
+    /// Wakes the scripts that wait, but for those that sleep or are frozen, and the work.
+    pub(crate) fn wake_but_sleepers(&mut self) {
         self.wake_for_word();
         self.wake_readers();
         self.scripts.take(&mut self.for_mark);
@@ -395,10 +401,8 @@ impl Waiters {
         self.scripts.insert(script);
     }
 
-    /// Wakes whoever may wait for a moment, since time has jumped. Devices wait for none, nor do frozen
-    /// scripts; those that sleep are woken one by one.
-    pub(crate) fn wake_for_time(&mut self) {
-        self.wake_but_sleepers();
+    /// Wakes the timers, one of which is due.
+    pub(crate) fn wake_timers(&mut self) {
         self.timers = true;
     }
 

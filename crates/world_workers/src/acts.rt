@@ -48,43 +48,33 @@ fn pass_turn(job: &mut ActorJob<'_>, answer: Result<CoreTurn, CoreFault>) -> Res
     }
 }
 
-/// Reports to a job what its call on that source came to.
-fn pass_call(
-    job: &mut ActorJob<'_>,
-    source: u32,
-    answer: Result<Option<Stamp>, SourceFault>,
-) -> Result<Turn, Stop>
-    requires left { 0 < length job.old.pending }
-    requires few { job.old.calls + 1 < 2 ^ 32 }
-    ensures { job.new ≡ told_source answer job.old }
-{
+/// What the pool hears of a call on that source.
+fn turn_of_call(source: u32, answer: Result<Option<Stamp>, SourceFault>) -> Result<Turn, Stop> {
     match answer {
-        Ok(Some(stamp)) => {
-            job.told_source(stamp);
-            Ok(Turn::Did)
-        }
+        Ok(Some(_)) => Ok(Turn::Did),
         Ok(None) => Ok(Turn::NotYet),
         Err(SourceFault::Full) => Err(Stop::Full(source)),
         Err(SourceFault::Mem) => Err(Stop::Mem),
     }
 }
 
-/// Reports to the timer of that source what its call came to (`pm_wakeup_timer_fn`).
-fn pass_expiry(
-    timer: &mut TimerJob,
-    source: u32,
-    answer: Result<Option<Stamp>, SourceFault>,
-) -> Result<Turn, Stop>
+/// Reports to a job what its call on a source came to.
+fn pass_call(job: &mut ActorJob<'_>, answer: Result<Option<Stamp>, SourceFault>)
+    requires left { 0 < length job.old.pending }
+    requires few { job.old.calls + 1 < 2 ^ 32 }
+    ensures { job.new ≡ told_source answer job.old }
+{
+    if let Ok(Some(stamp)) = answer {
+        job.told_source(stamp);
+    }
+}
+
+/// Reports to the timer of a source what its call came to (`pm_wakeup_timer_fn`).
+fn pass_expiry(timer: &mut TimerJob, answer: Result<Option<Stamp>, SourceFault>)
     ensures { timer.new ≡ timer_after_call answer timer.old }
 {
-    match answer {
-        Ok(Some(stamp)) => {
-            timer.told_source(stamp);
-            Ok(Turn::Did)
-        }
-        Ok(None) => Ok(Turn::NotYet),
-        Err(SourceFault::Full) => Err(Stop::Full(source)),
-        Err(SourceFault::Mem) => Err(Stop::Mem),
+    if let Ok(Some(stamp)) = answer {
+        timer.told_source(stamp);
     }
 }
 
@@ -159,10 +149,10 @@ fn call<'m, R: Wait, G: Gate>(
         now: world.moment,
     };
     let reported = world.report(pass, source, call, by);
-    let answer = pass_call(job, source, reported.answer);
+    pass_call(job, reported.answer);
     Reply {
         pass: reported.pass,
-        answer,
+        answer: turn_of_call(source, reported.answer),
     }
 }
 
@@ -187,10 +177,10 @@ fn expire<'m, R: Wait, G: Gate>(
         now: world.moment,
     };
     let reported = world.report(pass, source, SourceCall::Expire, by);
-    let answer = pass_expiry(timer, source, reported.answer);
+    pass_expiry(timer, reported.answer);
     Reply {
         pass: reported.pass,
-        answer,
+        answer: turn_of_call(source, reported.answer),
     }
 }
 

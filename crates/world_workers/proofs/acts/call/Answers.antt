@@ -25,6 +25,6 @@ returns g c =
     let locks = w.cells.now.shared.table_id in
     let by_who = subst (λ (x : Actor). AfterReport (record { actor = x; floor = c.floor.result; now = w.moment }) c.args.call c.args.source made.2 reply.result.answer made.0) c.requires.who made.4 in
     let after = subst (λ (f : Stamp). AfterReport (record { actor = job.who; floor = f; now = w.moment }) c.args.call c.args.source made.2 reply.result.answer made.0) c.floor.ensures by_who in
-    subst (λ (j : JobState). HasActed m table locks w.moment (task.Acts job) (task.Acts j) c.args.pass.token reply.result.pass.token) (sym c.pass_call-answer.ensures)
+    subst (λ (j : JobState). HasActed m table locks w.moment (task.Acts job) (task.Acts j) c.args.pass.token reply.result.pass.token) (sym c.pass_call.ensures)
     (acted_call m table locks w.moment c.args.pass.token reply.result.pass.token reply.ensures.pass made.0
     (record { made = made.1; number = reply.ensures.same.0; first = reply.ensures.same.1 }) job c.requires.goes.is_in c.args.source c.args.call reply.result.answer (search rules) c.requires.wants c.calls_are_ranged.ensures made.2 after)

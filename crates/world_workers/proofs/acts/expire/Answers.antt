@@ -21,6 +21,6 @@ returns g c =
     let locks = w.cells.now.shared.table_id in
     let by_source = subst (λ (s : ℕ). AfterReport (record { actor = actor.Timer s; floor = c.floor.result; now = w.moment }) calls.Expire s made.2 reply.result.answer made.0) c.requires.source made.4 in
     let after = subst (λ (f : Stamp). AfterReport (record { actor = actor.Timer timer.source; floor = f; now = w.moment }) calls.Expire timer.source made.2 reply.result.answer made.0) c.floor.ensures by_source in
-    subst (λ (t : TimerState). HasActed m table locks w.moment (task.Fires timer) (task.Fires t) c.args.pass.token reply.result.pass.token) (sym c.pass_expiry-answer.ensures)
+    subst (λ (t : TimerState). HasActed m table locks w.moment (task.Fires timer) (task.Fires t) c.args.pass.token reply.result.pass.token) (sym c.pass_expiry.ensures)
     (acted_expiry m table locks w.moment c.args.pass.token reply.result.pass.token reply.ensures.pass made.0
     (record { made = made.1; number = reply.ensures.same.0; first = reply.ensures.same.1 }) timer c.requires.goes.is_in reply.result.answer made.2 after)
