@@ -144,7 +144,10 @@ fn is_step(
 {
     match kind {
         Kind::Frozen => Ok(freezes_at(user, position.waits, op)),
-        _ => is_of_op(past, position, op, kind),
+        _ => {
+            let keeps = is_of_op(past, position, op, kind)?;
+            Ok(keeps)
+        }
     }
 }
 
@@ -155,19 +158,22 @@ fn is_script_step(past: &Passed<'_>, i: u32, kind: Kind) -> Result<bool, Mem>
         (slice_get past.now.machine.actors i) kind) }
 {
     let position = past.position(i);
-    let Some(script) = past.machine().actors.as_slice().get(i as usize) else {
-        return Ok(false);
-    };
-    if position.exited {
-        return Ok(false);
+    match past.machine().actors.as_slice().get(i as usize) {
+        None => Ok(false),
+        Some(script) => {
+            if position.exited {
+                return Ok(false);
+            }
+            let keeps = is_step(
+                past,
+                is_user(script.kind),
+                position,
+                past.operation(i),
+                kind,
+            )?;
+            Ok(keeps)
+        }
     }
-    is_step(
-        past,
-        is_user(script.kind),
-        position,
-        past.operation(i),
-        kind,
-    )
 }
 
 /// Whether the entry is of autosleep's work in that state. `Mem` if a nap ends beyond all time.

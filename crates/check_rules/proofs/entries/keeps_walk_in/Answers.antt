@@ -8,12 +8,13 @@ use Rattle.check_past.specs.Passing.{journal_of, past_of}
 use Rattle.check_rules.proofs.Walking.{walk_journal}
 use Rattle.check_rules.proofs.entries.keeps_walk_in.Goals as goal
 
-pub returns-in_ok-made : goal.returns-in_ok-made
-returns-in_ok-made c =
+pub returns-in_ok-made-in-Journal : goal.returns-in_ok-made-in-Journal
+returns-in_ok-made-in-Journal c =
     let m = c.args.past.now.machine in
     let past = past_of c.args.past.now in
     let e = c.args.e in
-    subst (λ (k : EntryClass). IsTrue c.both-2.result ↔ WalkEntry m past e (meant k)) (sym c.in-Journal.is)
-    (walk_journal m past e c.keeps_walk-walk.result c.in_ok-made.made c.ends_callback-ends.result c.both-2.result c.both.result c.both-2.ensures c.both.ensures
+    let b = c.both-in-Journal.result in
+    subst (λ (k : EntryClass). IsTrue b ↔ WalkEntry m past e (meant k)) (sym c.in-Journal.is)
+    (walk_journal m past e c.keeps_walk-walk.result c.in_ok-made-in-Journal.made c.ends_callback-ends.result c.both.result b c.both-in-Journal.ensures c.both.ensures
     (subst (λ (w : EventNow). IsTrue c.keeps_walk-walk.result ↔ KeepsWalk m (journal_of c.args.past.now) w e.kind) c.word.ensures c.keeps_walk-walk.ensures)
-    c.in_ok-made.ensures c.ends_callback-ends.ensures)
+    c.in_ok-made-in-Journal.ensures c.ends_callback-ends.ensures)
