@@ -11,16 +11,17 @@ use Rattle.borrowed_json.specs.Look.{has_only, is_some_and, is_none_or, text_of,
 use Rattle.machine_file.specs.Places.{first_not_after, item_place}
 use Rattle.machine_file.specs.Names.{is_among_names, own_name, names_of_device, spells_name, names_in, texts_in, devices_named, sources_named, repeated}
 use Rattle.machine_file.specs.Rules.{name_of}
-use Rattle.sleep_model.specs.NameBytes.{is_name as is_spelled}
+use Rattle.sleep_model.specs.NameBytes.{is_name}
 use Rattle.machine_file.specs.Devices.{whole_device}
 use Rattle.machine_file.specs.Operations.{Operation, operations, fits_row, has_mark, marks_of, first_occurrences, whole_marks, known_of, whole_script}
 use Rattle.machine_file.specs.Tree.{tree}
 use Rattle.machine_file.specs.Whole.{Broken, rules, first_broken, whole_machine, whole_notifier, unless_broken}
 use Rattle.machine_file.proofs.Accepted.{keeps_all}
 use Rattle.machine_file.proofs.Fitted.{absent}
-use Rattle.log_text.specs.Named.{is_name, are_distinct, are_names, AreNamed}
+use Rattle.log_text.specs.Named.{are_distinct, are_names, AreNamed}
 use Rattle.file_read_back.proofs.Alike.{EachOf, weaker, made_pass, mapped}
 use Rattle.file_read_back.proofs.DevicesBack.{ValidDevice}
+use Rattle.file_read_back.proofs.LinksBack.{spelled}
 use Rattle.file_read_back.proofs.OperationsBack.{ValidOperation}
 use Rattle.file_read_back.proofs.ScriptsBack.{ValidActor}
 use Rattle.file_read_back.specs.Laws.{AllNamed, TextsAreInjective}
@@ -30,25 +31,17 @@ use Rattle.file_read_back.proofs.ReadBack.{some_is}
 
 -- ---- how names are spelled
 
--- a name of the file's rules is a name of a log
-spelled : (s : List ℕ) → is_spelled s ≡ true → is_name s ≡ true
-spelled s e = e
-
-text_spelled : (o : Option (List ℕ)) → is_some_and is_spelled o ≡ true → is_name (unwrap_or o []) ≡ true
+text_spelled : (o : Option (List ℕ)) → is_some_and is_name o ≡ true → is_name (unwrap_or o []) ≡ true
 text_spelled None e = absurd (false≢true e)
-text_spelled (Some s) e = spelled s e
+text_spelled (Some s) e = e
 
 -- a text that is spelled as names are
 text_name : (d : Data) → spells_name d ≡ true → is_name (text_of d) ≡ true
 text_name d e = text_spelled (as_str d) e
 
-member_spelled : (o : Option Data) → is_some_and spells_name o ≡ true → is_name (unwrap_or (option_and_then as_str o) []) ≡ true
-member_spelled None e = absurd (false≢true e)
-member_spelled (Some d) e = text_name d e
-
 -- a thing whose own name is
 own_spelled : (d : Data) → own_name d ≡ true → is_name (name_of d) ≡ true
-own_spelled d e = member_spelled (get (codes "name") d) e
+own_spelled d e = spelled (get (codes "name") d) e
 
 -- ---- names that are different
 
@@ -185,9 +178,9 @@ no_mark o r none e =
     by None h = refl
     by (Some d) h = absurd (let g : Some d ≡ None = h in cc)
 
-text_named : (o : Option (List ℕ)) → is_some_and is_spelled o ≡ true → is_none_or is_name o ≡ true
+text_named : (o : Option (List ℕ)) → is_some_and is_name o ≡ true → is_none_or is_name o ≡ true
 text_named None e = refl
-text_named (Some s) e = spelled s e
+text_named (Some s) e = e
 
 member_named : (o : Option Data) → is_some_and spells_name o ≡ true → is_none_or is_name (option_and_then as_str o) ≡ true
 member_named None e = refl

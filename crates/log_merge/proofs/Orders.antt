@@ -34,7 +34,7 @@ order_through f = record {
   chain = λ x y z. log_order.chain (f x) (f y) (f z);
 }
 
--- what rises in ticks, and in positions after a step, stands in order
+-- what rises in ticks, and in positions after a step, is in order
 pub rises_stands : (p s t p' s' t' : ℕ) (r : Bool) → t < t' → p + s ≤ p'
     → before_or p' p (before_or s' s (before_or t' t r)) ≡ false
 rises_stands p s t p' s' t' r a b = grind (arith, nat_tests)

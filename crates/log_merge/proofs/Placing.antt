@@ -20,7 +20,7 @@ if_false : {A : Type 0} (b : Bool) (x y : A) → b ≡ false → (if b then x el
 if_false true x y h = absurd (true≢false h)
 if_false false x y h = refl
 
--- an entry of a source that does not stand before the next of the journal
+-- an entry of a source that does not come before the next of the journal
 pub pass_on : (other e : JournalEntry) (n : ℕ) (rest : List JournalEntry) → precedes other e ≡ false → pass other n (e ∷ rest) ≡ pass other (suc n) rest
 pass_on other e n rest h = if_false (precedes other e) _ _ h
 
@@ -28,7 +28,7 @@ pass_on other e n rest h = if_false (precedes other e) _ _ h
 pub pass_here : (other e : JournalEntry) (n : ℕ) (rest : List JournalEntry) → precedes other e ≡ true → pass other n (e ∷ rest) ≡ (n, e ∷ rest)
 pass_here other e n rest h = if_true (precedes other e) _ _ h
 
--- an entry of a source that stands before all that is left passes none of it
+-- an entry of a source that comes before all that is left passes none of it
 pub passed_all : (other : JournalEntry) (n : ℕ) (journal : List JournalEntry) → leads other journal ≡ true → pass other n journal ≡ (n, journal)
 passed_all other n [] h = refl
 passed_all other n (e ∷ rest) h = pass_here other e n rest h
@@ -115,7 +115,7 @@ interleaved_other n e rest x xs h = if_true (nat_le x.before n) _ _ (at_most x.b
 interleaved_own : (n : ℕ) (e : JournalEntry) (rest : List JournalEntry) (x : OtherEntry) (xs : List OtherEntry) → n < x.before → interleaved n (e ∷ rest) (x ∷ xs) ≡ e.entry ∷ interleaved (suc n) rest (x ∷ xs)
 interleaved_own n e rest x xs h = if_false (nat_le x.before n) _ _ (above x.before n h)
 
--- a list of the journal alone
+-- a list of only the journal
 interleaved_alone : (n : ℕ) (journal : List JournalEntry) → interleaved n journal [] ≡ unstamped journal
 interleaved_alone n [] = refl
 interleaved_alone n (e ∷ rest) = ap (λ (l : List Entry). e.entry ∷ l) (interleaved_alone (suc n) rest)

@@ -8,11 +8,11 @@ use Rattle.log_merge.specs.Remainders.{unstamped, is_first, is_in_order, is_jour
 use Rattle.log_merge.proofs.Orders.{log_order, rises_stands}
 use Rattle.log_merge.proofs.Sorts.{Low, Up, low_append, low_below, low_put_in_order, up_in_order}
 
--- no entry of these stands before that one
+-- no entry of these comes before that one
 abbrev pub Below : JournalEntry → List JournalEntry → Type 0
 Below e entries = Low precedes e entries
 
--- each stands before none of the earlier ones
+-- each comes before none of the earlier ones
 abbrev pub InOrder : List JournalEntry → Type 0
 InOrder entries = Up precedes entries
 
@@ -98,7 +98,7 @@ pub entry_first : (e : JournalEntry) (rest others : List JournalEntry) → Below
     → in_order (e ∷ (rest ++ others)) ≡ e ∷ in_order (rest ++ others)
 entry_first e rest others a b = put_front e _ (low_order e _ (low_append precedes e rest others a b))
 
--- an entry of a source stands before all of these
+-- an entry of a source comes before all of these
 abbrev Before : JournalEntry → List JournalEntry → Type 0
 Before other [] = Unit {0}
 Before other (e ∷ rest) = (precedes other e ≡ true) × Before other rest
@@ -129,7 +129,7 @@ passed_first other (e ∷ rest) others b l =
         → put_in_order e (other ∷ entries) ≡ other ∷ put_in_order e entries
     put_after e other entries h = rw h refl
 
--- an entry of a source that stands before all of the journal is the first of the log
+-- an entry of a source that comes before all of the journal is the first of the log
 pub other_first : (other : JournalEntry) (journal others : List JournalEntry) → leads other journal ≡ true
     → is_in_order journal ≡ true → is_in_order (other ∷ others) ≡ true
     → unstamped (in_order (journal ++ other ∷ others)) ≡ other.entry ∷ unstamped (in_order (journal ++ others))
@@ -147,7 +147,7 @@ turn_below : (e : JournalEntry) (rest others : List JournalEntry) → is_journal
 turn_below e rest [] h u = tt
 turn_below e rest (other ∷ others) h u = no_other other others e (not_true (precedes other e) h) u
 
--- an entry of the journal is the next of the log, where it is the journal's turn
+-- an entry of the journal is the next of the log, if it is the journal's turn
 pub journal_first : (e : JournalEntry) (rest others : List JournalEntry) → is_journals_turn (e ∷ rest) others ≡ true
     → is_in_order (e ∷ rest) ≡ true → is_in_order others ≡ true
     → unstamped (in_order (e ∷ (rest ++ others))) ≡ e.entry ∷ unstamped (in_order (rest ++ others))

@@ -22,12 +22,12 @@ pub tail_of : {X : Type 0} (x y : X) (xs ys : List X) → x ∷ xs ≡ y ∷ ys 
 tail_of x y xs ys e = cc
 
 module _ {X : Type 0} (lt : X → X → Bool) where
-  -- nothing of ys stands before x
+  -- nothing of ys comes before x
   abbrev pub Low : X → List X → Type 0
   Low x [] = Unit {0}
   Low x (y ∷ ys) = (lt y x ≡ false) × Low x ys
 
-  -- each stands before none of the earlier ones
+  -- each comes before none of the earlier ones
   abbrev pub Up : List X → Type 0
   Up [] = Unit {0}
   Up (x ∷ xs) = Low x xs × Up xs
@@ -123,7 +123,7 @@ module _ {X : Type 0} (lt : X → X → Bool) where
     stable_order (x ∷ xs) z =
         stable_put x (order xs) z ∙ ap (λ (l : List X). cond (ties lt z x) (x ∷ l) l) (stable_order xs z)
 
-    -- what passes a test stands before nothing that all of the list stand after
+    -- what passes a test comes before nothing that all of the list come after
     found : (p : X → Bool) (a x : X) (zs l : List X) → Low a zs → filter p zs ≡ x ∷ l → lt x a ≡ false
     found p a x [] l w e = cc
     found p a x (z ∷ zs) l w e = by (p z) e (found p a x zs l w.1)
@@ -215,7 +215,7 @@ low_put_in_order a x ys h l =
     let P : List JournalEntry → Type 0 = λ l. Low precedes a l in
     subst P (put_is x ys) (low_put precedes log_order a x ys h l)
 
--- what a stable sort of references gives, where each call compares as the log does
+-- what a stable sort of references gives, if each call compares as the log does
 pub sorted_as_seen : {F : Type 0} {g : Mut F (Bor (Bor SourceEntry) × (Bor (Bor SourceEntry) × Unit {0})) Ordering} {f : F}
     (xs ys : List (Bor SourceEntry)) → IsSortedByClosure g f ys → IsStableByClosure g f xs ys
     → ((a : Bor (Bor SourceEntry) × (Bor (Bor SourceEntry) × Unit {0})) (r : Ordering) (f' : F) → Called g f a r f'

@@ -15,20 +15,20 @@ seen others = map (λ other. of_source other.now) others
 abbrev pub sources_entries : List (List SourceEntry) → List JournalEntry
 sources_entries histories = flat_map (λ history. map of_source history) histories
 
--- no entry of these stands before that one
+-- no entry of these comes before that one
 abbrev pub is_first : JournalEntry → List JournalEntry → Bool
 is_first e entries = list_all (λ other. not (precedes other e)) entries
 
--- entries that stand in order
+-- entries that are in order
 abbrev pub is_in_order : List JournalEntry → Bool
 is_in_order [] = true
 is_in_order (e ∷ rest) = is_first e rest && is_in_order rest
 
--- the entries alone
+-- only the entries
 abbrev pub unstamped : List JournalEntry → List Entry
 unstamped entries = map (λ e. e.entry) entries
 
--- an entry of a source stands before all of a journal in order
+-- an entry of a source comes before all of a journal in order
 abbrev pub leads : JournalEntry → List JournalEntry → Bool
 leads other [] = true
 leads other (e ∷ rest) = precedes other e

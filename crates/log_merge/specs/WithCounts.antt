@@ -1,15 +1,15 @@
--- Where the entries of sources stand in a journal (own: Linux keeps no such log).
+-- The places of sources' entries in a journal (own: Linux keeps no such log).
 use Rattle.std.specs.Prelude.{ℕ, suc, List, [], ◌∷◌, if◌then◌else◌}
 use Rattle.sleep_model.specs.declared.entry.JournalEntry.{JournalEntry}
 use Rattle.sleep_model.specs.declared.entry_list.OtherEntry.{OtherEntry}
 use Rattle.sleep_model.specs.Merge.{precedes}
 
--- where n of a journal are passed: how many are once all that stand before an entry of a source are passed, and what is left of it
+-- if n of a journal are passed: how many are once all that come before an entry of a source are passed, and what is left of it
 abbrev pub pass : JournalEntry → ℕ → List JournalEntry → ℕ × List JournalEntry
 pass other n [] = (n, [])
 pass other n (e ∷ rest) = if precedes other e then (n, e ∷ rest) else pass other (suc n) rest
 
--- where n of a journal are passed: the entries of sources, each with the number of the journal's before it
+-- if n of a journal are passed: the entries of sources, each with the number of the journal's before it
 abbrev pub with_counts : ℕ → List JournalEntry → List JournalEntry → List OtherEntry
 with_counts n journal [] = []
 with_counts n journal (other ∷ others) =

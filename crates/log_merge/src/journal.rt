@@ -7,8 +7,8 @@ ghost use Rattle.log_merge.specs.Journals.{rises_on_entry};
 use crate::order::is_step;
 use sleep_model::JournalEntry;
 
-/// Whether an entry may stand right after another of its journal: its tick is greater, and its position
-/// is no less, and greater after a step on the word.
+/// Whether an entry may come right after another of its journal: its tick is greater, and its position is no
+/// less, and greater after a step on the word.
 fn rises_on_entry(last: &JournalEntry, next: &JournalEntry) -> bool
     ensures { result ≡ rises_on_entry last.now next.now }
 {

@@ -1,8 +1,8 @@
-//! The one log of a machine's journal and of its sources' histories: the journal stays as it is kept, and the
-//! sources' entries are placed in it (own: Linux keeps no such log). Its tests are in `part_cases`.
+//! The one log of a machine's journal and of its sources' histories: the journal stays as it is stored, and
+//! the sources' entries are put into it (own: Linux keeps no such log). Its tests are in `part_cases`.
 //!
 //! Promises: The one log of a journal and the sources' histories is the merge that is defined: the journal,
-//! as it is kept, with the sources' entries placed in it. By the clauses of `merge_journal`, `merge`;
+//! as it is stored, with the sources' entries put into it. By the clauses of `merge_journal`, `merge`;
 //! `rises`.
 //!
 //! Begin reading in `src/with_counts.rt`, `src/merged.rt`.

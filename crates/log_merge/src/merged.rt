@@ -1,4 +1,4 @@
-//! The one log of a journal that stands as a list (own: Linux keeps no such log).
+//! The one log of a journal that is a list (own: Linux keeps no such log).
 
 ghost use Rattle.std.specs.Prelude.{◌≡◌, true, IfOk, reverse};
 ghost use Rattle.sleep_model.specs.Merge.{merge, rises};

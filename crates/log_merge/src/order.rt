@@ -1,4 +1,4 @@
-//! Which of two entries stands first in the one log (own: Linux keeps no such log).
+//! Which of two entries comes first in the one log (own: Linux keeps no such log).
 
 ghost use Rattle.std.specs.Prelude.{◌≡◌};
 ghost use Rattle.sleep_model.specs.Merge.{actor_number, actor_rank, is_actor_before, of_source, precedes};
@@ -6,7 +6,7 @@ ghost use Rattle.log_merge.specs.Orders.{is_step};
 
 use sleep_model::{Actor, Entry, JournalEntry, Kind, SourceEntry, Stamp};
 
-/// An actor's place among the kinds of actors: scripts, the autosleep work, devices, timers, time.
+/// An actor's rank among the kinds of actors: scripts, the autosleep work, devices, timers, time.
 fn actor_rank(actor: Actor) -> u32
     ensures { result ≡ actor_rank actor }
 {
@@ -29,7 +29,7 @@ fn actor_number(actor: Actor) -> u32
     }
 }
 
-/// Whether an actor stands before another.
+/// Whether an actor comes before another.
 fn is_actor_before(a: Actor, b: Actor) -> bool
     ensures { result ≡ is_actor_before a b }
 {
@@ -51,8 +51,8 @@ pub(crate) fn is_step(kind: Kind) -> bool
     }
 }
 
-/// Whether an entry stands before another of the same position: steps on the word stand after the
-/// others, then ticks decide, then actors.
+/// Whether an entry comes before another of the same position: steps on the word come after the others, then
+/// ticks decide, then actors.
 fn breaks_tie(stamp: &Stamp, entry: &Entry, than: &Stamp, other: &Entry) -> bool
     requires { stamp.now.pos ≡ than.now.pos }
     ensures { result
@@ -67,8 +67,8 @@ fn breaks_tie(stamp: &Stamp, entry: &Entry, than: &Stamp, other: &Entry) -> bool
     }
 }
 
-/// Whether an entry with its stamp stands before another in the one log: by position, steps on the
-/// word after the others, then by tick, then by actor.
+/// Whether an entry with its stamp comes before another in the one log: by position, steps on the word after
+/// the others, then by tick, then by actor.
 #[inline]
 pub(crate) fn precedes(stamp: &Stamp, entry: &Entry, than: &Stamp, other: &Entry) -> bool
     ensures { result
@@ -82,7 +82,7 @@ pub(crate) fn precedes(stamp: &Stamp, entry: &Entry, than: &Stamp, other: &Entry
     }
 }
 
-/// Whether an entry of a source stands before one of the journal.
+/// Whether an entry of a source comes before one of the journal.
 #[inline]
 pub(crate) fn is_ahead(other: &SourceEntry, entry: &JournalEntry) -> bool
     ensures { result ≡ precedes (of_source other.now) entry.now }

@@ -11,7 +11,7 @@ use sleep_model::{SourceEntry, SourceList};
 use std::alloc::Global;
 use std::cmp::Ordering;
 
-/// How two entries of sources stand to each other.
+/// The order of two entries of sources.
 #[inline]
 fn compare(a: &SourceEntry, b: &SourceEntry) -> Ordering
     ensures { is_lt result ≡ precedes (of_source a.now) (of_source b.now) }
@@ -49,7 +49,7 @@ fn gathered(alloc: Global, histories: &[SourceList]) -> Result<Vec<&SourceEntry>
     Ok(entries)
 }
 
-/// Entries in the order of the one log, equal ones as they stood. `Mem` if there is no memory.
+/// Entries in the order of the one log, equal ones as they were. `Mem` if there is no memory.
 pub fn in_order(mut entries: Vec<&SourceEntry>) -> Result<Vec<&SourceEntry>, Mem>
     ensures { IfOk result (λ all. seen all.items ≡ in_order (seen entries.entry.items)) }
 {
@@ -57,8 +57,8 @@ pub fn in_order(mut entries: Vec<&SourceEntry>) -> Result<Vec<&SourceEntry>, Mem
     Ok(entries)
 }
 
-/// The entries of all sources in the order of the one log, equal ones history by history. `Mem` where
-/// there is no memory.
+/// The entries of all sources in the order of the one log, equal ones history by history. `Mem` if there is
+/// no memory.
 pub(crate) fn sorted(alloc: Global, histories: &[SourceList]) -> Result<Vec<&SourceEntry>, Mem>
     ensures { IfOk result (λ all. seen all.items ≡ in_order (sources_entries histories.now)) }
 {

@@ -1,7 +1,7 @@
-//! The one log over a journal that is kept as it stands: where the entries of the sources stand in it
-//! (own: Linux keeps no such log).
+//! The one log over a journal that stays as it is stored: the places of the sources' entries in it (own:
+//! Linux keeps no such log).
 
-ghost use Rattle.std.specs.Prelude.{◌≡◌, ◌≤◌, ◌++◌, true, IfOk, drop, length, reverse};
+ghost use Rattle.std.specs.Prelude.{◌≡◌, ◌+◌, ◌≤◌, ◌++◌, true, IfOk, drop, length, reverse, vec_len, vec_capacity};
 ghost use Rattle.sleep_model.specs.Merge.{merge, of_source, rises};
 ghost use Rattle.log_merge.specs.WithCounts.{with_counts};
 ghost use Rattle.log_merge.specs.Remainders.{is_journals_turn, leads_next, seen};
@@ -25,8 +25,8 @@ fn leads(next: &Option<JournalEntry>, other: &SourceEntry) -> bool
     }
 }
 
-/// Places those of these entries of sources, from that one on, that stand before all that is left of a journal, of which
-/// `before` were passed. Answers how many then are placed.
+/// Places those of these entries of sources, from that one on, that come before all that is left of a journal,
+/// of which `before` were passed. Answers how many then are placed. There is room for all of them.
 #[inline(always)]
 fn put_leading(
     all: &mut Vec<OtherEntry>,
@@ -34,28 +34,30 @@ fn put_leading(
     others: &[&SourceEntry],
     from: usize,
     reader: &JournalReader<'_>,
-) -> Result<usize, Mem>
-    requires { from ≤ length others.now }
-    ensures placed { IfOk result (λ n. all.new.items ++ with_counts before reader.now (drop n (seen others.now))
-        ≡ all.old.items ++ with_counts before reader.now (drop from (seen others.now))) }
-    ensures turn { IfOk result (λ n. is_journals_turn reader.now (drop n (seen others.now)) ≡ true) }
-    ensures most { IfOk result (λ n. n ≤ length others.now) }
+) -> usize
+    requires from { from ≤ length others.now }
+    requires room { vec_len all.old + length others.now ≤ vec_capacity all.old + from }
+    ensures placed { all.new.items ++ with_counts before reader.now (drop result (seen others.now))
+        ≡ all.old.items ++ with_counts before reader.now (drop from (seen others.now)) }
+    ensures turn { is_journals_turn reader.now (drop result (seen others.now)) ≡ true }
+    ensures most { result ≤ length others.now }
+    ensures left { vec_len all.new + length others.now ≤ vec_capacity all.new + result }
 {
     let next = reader.peek();
     for place in from..others.len() {
         let other = others[place];
         if !leads(&next, other) {
-            return Ok(place);
+            return place;
         }
-        all.push(OtherEntry {
+        all.push_reserved(OtherEntry {
             before,
             entry: other.entry,
-        })?;
+        });
     }
-    Ok(others.len())
+    others.len()
 }
 
-/// Each of these entries of sources, which stand in order, with the number of the journal's before it. `Mem` where
+/// Each of these entries of sources, which are in order, with the number of the journal's before it. `Mem` if
 /// there is no memory.
 fn with_counts(
     alloc: Global,
@@ -71,15 +73,15 @@ fn with_counts(
         if placed == others.len() {
             return Ok(all);
         }
-        placed = put_leading(&mut all, before, others, placed, &reader)?;
+        placed = put_leading(&mut all, before, others, placed, &reader);
         let _ = reader.next();
     }
-    put_leading(&mut all, journal.len(), others, placed, &reader)?;
+    put_leading(&mut all, journal.len(), others, placed, &reader);
     Ok(all)
 }
 
 /// The one log of a journal, whose ticks and positions rise, and of the sources' histories. The journal's
-/// entries stay where they are. `Mem` if there is no memory for the sources'.
+/// entries stay as they are. `Mem` if there is no memory for the sources'.
 pub fn merge_journal(
     alloc: Global,
     journal: Journal,

@@ -1,4 +1,4 @@
--- What is held after more was put after it.
+-- The buffer after more was put into it.
 use Rattle.std.proofs.Common.{ap, sym, refl, ◌≡◌, ◌<◌, ◌≤◌, ◌+◌, ◌∷◌, [], ◌++◌, ◌∙◌, ℕ, List, length, length-set, set, take, drop, append_assoc, arith}
 use Rattle.std.proofs.Math.Seq.{take-append-add}
 use Rattle.std.proofs.lemmas.List.{length-take-le, take-append-drop, take-append-le, take_at, take_more_set}
@@ -17,7 +17,7 @@ buffered_room buffer room used len k within few =
     ap (λ (n : ℕ). take (n + len) (put_mid used k buffer room)) (sym before) ∙ take-append-add (take used buffer) (room ++ post_of used k buffer) len in
     cut ∙ ap (λ (t : List ℕ). take used buffer ++ t) (take-append-le len room (post_of used k buffer) few)
 
--- digits that were put there, with what stood after them before
+-- digits that were put there, with what followed them before
 pub held_digits : (old new digits rest : List ℕ) (used : ℕ) → used ≤ length old → take used new ≡ take used old → drop used new ≡ digits ++ rest → take (used + length digits) new ≡ take used old ++ digits
 held_digits old new digits rest used within before written =
     let whole : take used old ++ (digits ++ rest) ≡ new = rw (sym before, sym written) (take-append-drop used new) in

@@ -45,7 +45,7 @@ use Rattle.log_text.proofs.EntriesBack.{within}
 abbrev pub is_clean : List ℕ → Bool
 is_clean bytes = is_without 10 bytes
 
--- one part after another
+-- one text after another
 join : (a b : List ℕ) → is_clean a ≡ true → is_clean b ≡ true → is_clean (a ++ b) ≡ true
 join a b h k = without_append 10 a b h k
 

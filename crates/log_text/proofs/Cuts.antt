@@ -6,7 +6,7 @@ use Rattle.std.proofs.lemmas.Bool.Decides.{nat_tests}
 use Rattle.std.proofs.lemmas.Fmt.{decimal_by_steps}
 use Rattle.std.proofs.Math.Seq.{take-append_seam}
 use Rattle.std.proofs.lemmas.List.{length-append}
-use Rattle.log_text.specs.Named.{is_name_byte}
+use Rattle.sleep_model.specs.NameBytes.{is_name_byte}
 use Rattle.sleep_base.specs.Cutting.{before, after_first}
 
 -- no byte is that one
@@ -21,21 +21,21 @@ not_true false h = refl
 same_byte : (mark : ℕ) → (mark == mark) ≡ true
 same_byte mark = eq-eqb mark mark refl
 
--- cut at the first such byte, what stands before it is left
+-- cut at the first such byte, what comes before it is left
 pub before_at : (mark : ℕ) (w r : List ℕ) → is_without mark w ≡ true → before mark (w ++ mark ∷ r) ≡ w
 before_at mark [] r h = rw (same_byte mark) refl
 before_at mark (b ∷ w) r h =
     let p = and_parts (not (b == mark)) (is_without mark w) h in
     rw (not_true (b == mark) p.0) (ap (λ (x : List ℕ). b ∷ x) (before_at mark w r p.1))
 
--- and what stands after it
+-- and what follows it
 pub after_at : (mark : ℕ) (w r : List ℕ) → is_without mark w ≡ true → after_first mark (w ++ mark ∷ r) ≡ r
 after_at mark [] r h = rw (same_byte mark) refl
 after_at mark (b ∷ w) r h =
     let p = and_parts (not (b == mark)) (is_without mark w) h in
     rw (not_true (b == mark) p.0) (after_at mark w r p.1)
 
--- without such a byte all stands before it
+-- without such a byte all comes before it
 pub before_all : (mark : ℕ) (w : List ℕ) → is_without mark w ≡ true → before mark w ≡ w
 before_all mark [] h = refl
 before_all mark (b ∷ w) h =

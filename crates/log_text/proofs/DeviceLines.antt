@@ -24,7 +24,7 @@ device_line m e d front maker verb phase name behind f k n entry_text =
 zero_after : (name : List ℕ) → name ++ space ++ decimal 0 ++ newline ≡ name ++ (codes " 0" ++ newline)
 zero_after name = rw (decimal_digit 0 (lit< tt)) (simp append_assoc)
 
--- what is said of a device that answered 0 to its prepare
+-- the line of a device that answered 0 to its prepare
 pub prepared_line : (m : Machine) (d : ℕ) (r : ℤ) (verb phase behind : List ℕ) → r ≡ pos 0 →
     verb ≡ codes "prepare " → phase ≡ [] → behind ≡ codes " 0" ++ newline →
     body m (kind.Prepare d r) ++ newline ≡ verb ++ phase ++ device m d ++ behind

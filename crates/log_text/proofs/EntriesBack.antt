@@ -64,7 +64,7 @@ within [] i h = absurd (omega arith)
 within (x ∷ xs) zero h = (x, refl)
 within (x ∷ xs) (suc i) h = within xs i (omega arith)
 
--- four parts with spaces between them, and a fifth after
+-- four texts with spaces between them, and a fifth after
 four : (a b c d e : List ℕ) → a ++ space ++ b ++ space ++ c ++ space ++ d ++ e ≡ (a ++ 32 ∷ (b ++ 32 ∷ (c ++ 32 ∷ d))) ++ e
 four a b c d e = ap (λ (x : List ℕ). x ++ e) (three (a ++ space ++ b) c d ∙ append_assoc (a ++ space) b (32 ∷ (c ++ 32 ∷ d)) ∙ append_assoc a space (b ++ 32 ∷ (c ++ 32 ∷ d)))
 

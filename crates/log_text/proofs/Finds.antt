@@ -6,14 +6,15 @@ use Rattle.std.specs.Prelude.{slice_get}
 use Rattle.std.specs.Cmp.Lexicographic.{bytes_decides}
 use Rattle.std.proofs.lemmas.Bool.{and_parts}
 use Rattle.sleep_model.specs.Text.{name_in}
-use Rattle.log_text.specs.Named.{is_name, is_name_byte, is_name_long, are_distinct, are_names}
+use Rattle.sleep_model.specs.NameBytes.{is_name, is_name_byte}
+use Rattle.log_text.specs.Named.{is_name_long, are_distinct, are_names}
 use Rattle.log_text.specs.Cutting.{index_in}
 use Rattle.key_index.proofs.Placing.{position_cons}
 
 same_bytes : (n : List ℕ) → bytes_eq n n ≡ true
 same_bytes n = (bytes_decides n n).1 refl
 
--- the one at that place is among them
+-- the one at that index is among them
 among : (p : List ℕ → Bool) (names : List (List ℕ)) (i : ℕ) (n : List ℕ) → slice_get names i ≡ Some n → p n ≡ true → list_any p names ≡ true
 among p [] i n e h = absurd (cc)
 among p (x ∷ names) zero n e h =
@@ -26,7 +27,7 @@ among p (x ∷ names) (suc i) n e h = late (p x) (list_any p names) (among p nam
     late true b k = refl
     late false b k = k
 
--- names told apart are found at their own place
+-- different names are found at their own index
 find_at : (names : List (List ℕ)) (i : ℕ) (n : List ℕ) → are_distinct names ≡ true → slice_get names i ≡ Some n → position (bytes_eq n) names ≡ Some i
 find_at [] i n d e = absurd (cc)
 find_at (x ∷ names) zero n d e =
@@ -54,13 +55,13 @@ one_of [] i n h e = absurd (cc)
 one_of (x ∷ names) zero n h e = let same : x ≡ n = cc in ap is_name (sym same) ∙ (and_parts (is_name x) (list_all is_name names) h).0
 one_of (x ∷ names) (suc i) n h e = one_of names i n (and_parts (is_name x) (list_all is_name names) h).1 e
 
--- what stands at a place
+-- what is at an index
 at_place : (names : List (List ℕ)) (i : ℕ) → i < length names → slice_get names i ≡ Some (name_in (slice_get names i))
 at_place [] i h = absurd (omega arith)
 at_place (x ∷ names) zero h = refl
 at_place (x ∷ names) (suc i) h = at_place names i (omega arith)
 
--- a name is found at its place
+-- a name is found at its index
 pub place_back : (names : List (List ℕ)) → are_names names ≡ true → (i : ℕ) → i < length names → index_in names (name_in (slice_get names i)) ≡ Some i
 place_back names h i l =
     let n = name_in (slice_get names i) in

@@ -26,7 +26,8 @@ use Rattle.sleep_model.specs.declared.machine.PlatUndo.TheVariants as up
 use Rattle.sleep_model.specs.declared.machine.Script.{Script}
 use Rattle.sleep_model.specs.Fits.{fits_kind, fits_froze, is_answer, is_word32, is_word32_if}
 use Rattle.sleep_model.specs.Text.{body, space, device, device_name, source, source_names, notifier, notifier_name, syscore, mark, task, task_name, name_in, answer_text, cause_text, guard_text, froze_text, down_word, group_word, runtime_word, link_word, hard_word, prepare_text}
-use Rattle.log_text.specs.Named.{AreNamed, device_names, notifier_names, script_names, is_name_byte}
+use Rattle.sleep_model.specs.NameBytes.{is_name_byte}
+use Rattle.log_text.specs.Named.{AreNamed, device_names, notifier_names, script_names}
 use Rattle.log_text.specs.Cutting.{word, rest, word32}
 use Rattle.log_text.specs.Reading.{kind_in, device_in, source_in, mark_in, notifier_in, syscore_in, script_in, read_kind, save_kind, runtime_kind, link_kind, link_state_kind, link_state_to, event_kind, prepare_kind, schedule_kind, begin_kind, end_kind, skip_kind, attempt_kind, over_kind, notify_kind, failed_in, failed_end, froze_in, froze_kind, kind_by, task_by, platform_kind, syscore_down}
 use Rattle.log_text.specs.Words.{answer_in, cause_in, phase_in, group_in}
@@ -40,11 +41,11 @@ use Rattle.log_text.proofs.WordsBack.{answer_back, phase_back, cause_back, group
 pub first : (w x : List ℕ) → is_without 32 w ≡ true → word (w ++ 32 ∷ x) ≡ w
 first w x h = before_at 32 w x h
 
--- what stands after it
+-- what follows it
 pub second : (w x : List ℕ) → is_without 32 w ≡ true → rest (w ++ 32 ∷ x) ≡ x
 second w x h = after_at 32 w x h
 
--- two parts with a space between them
+-- two texts with a space between them
 pub two : (a b : List ℕ) → a ++ space ++ b ≡ a ++ 32 ∷ b
 two a b = append_assoc a space b
 
@@ -127,7 +128,7 @@ module _ (m : Machine) (named : AreNamed m) where
   pub syscore_bytes : (b : ℕ) → is_name_byte b ≡ false → (x : ℕ) → nat_lt x (length m.syscore) ≡ true → is_without b (syscore m x) ≡ true
   syscore_bytes b n x f = name_without b n (syscore m x) (bytes_of m.syscore named.syscore x (less x (length m.syscore) f))
 
-  -- ---- what stands after a verb
+  -- ---- what follows a verb
 
   count_plain : (c : ℕ) → is_word32 c ≡ true → is_without 32 (decimal c) ≡ true
   count_plain c f = decimal_no_space c (below32 c f)

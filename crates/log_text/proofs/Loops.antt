@@ -146,7 +146,7 @@ module _ (m : Machine) (i : ℕ) (end : length m.sources ≤ i) (stats : List St
       at_both (λ k. k ≡ n) (λ k. IsNoSource (codes "autosleep") (lines left)) (IsBadSource m (source_names m) (lines bytes) first) e
       (λ k same no_line. bad k (subst (λ (x : List (List ℕ)). IsBadSource m x (lines left) n k) (sym none_left) (source_bad m (codes "autosleep") [] (lines left) n k same no_line))) at none
 
--- the three parts of a text are the text
+-- the three pieces of a text are the text
 pub whole_text : (a b c left behind bytes : List ℕ) → bytes ≡ a ++ left → left ≡ b ++ behind → behind ≡ c → a ++ b ++ c ≡ bytes
 whole_text a b c left behind bytes e f g =
     append_assoc a b c ∙ sym (e ∙ ap (λ (x : List ℕ). a ++ x) (f ∙ ap (λ (x : List ℕ). b ++ x) g))

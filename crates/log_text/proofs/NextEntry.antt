@@ -1,4 +1,4 @@
--- An entry at the beginning of a text, its line and what stands after.
+-- An entry at the beginning of a text, its line and what follows.
 use Rattle.std.proofs.Common.{◌≡◌, ◌∙◌, ℕ, ◌+◌, ◌<◌, true, List, ◌∷◌, ◌++◌, length, refl, ap, arith, append_assoc}
 use Rattle.std.proofs.lemmas.List.{length-append}
 use Rattle.sleep_model.specs.declared.entry.Entry.{Entry}
@@ -20,7 +20,7 @@ module _ (m : Machine) where
   pub entry_next : (text rest : List ℕ) (e : Entry) → AreNamed m → fits_entry m e ≡ true → text ≡ entry_line m e ++ rest → lines text ≡ entry_line m e ∷ lines rest
   entry_next text rest e named fits is = ap lines is ∙ line_first (entry_line m e) rest (entry_is_line m named e fits)
 
-  -- what stands after is shorter
+  -- what follows is shorter
   pub shorter_after : (text rest : List ℕ) (e : Entry) → text ≡ entry_line m e ++ rest → length rest < length text
   shorter_after text rest e is =
       let whole : length text ≡ length (entry_line m e) + length rest = ap length is ∙ length-append (entry_line m e) rest in

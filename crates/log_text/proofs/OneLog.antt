@@ -45,7 +45,7 @@ not_empty : {A : Type 0} (x : A) (xs : List A) → [] ≡ x ∷ xs → ⊥
 not_empty x xs e = absurd (cc)
 
 module _ {A : Type 0} (f : A → List ℕ) (p : A → Bool) (back : (x y : A) → p x ≡ true → p y ≡ true → f x ≡ f y → x ≡ y) where
-  -- the things whose lines stand first, and what stands after them
+  -- the things whose lines come first, and what follows them
   same_first : (xs ys : List A) (cs ds : List (List ℕ)) → list_all p xs ≡ true → list_all p ys ≡ true → IsOther f p cs → IsOther f p ds → map f xs ++ cs ≡ map f ys ++ ds → (xs ≡ ys) × (cs ≡ ds)
   same_first [] [] cs ds h k n o e = (refl, e)
   same_first [] (y ∷ ys) [] ds h k n o e = absurd (not_empty (f y) (map f ys ++ ds) e)
@@ -111,7 +111,7 @@ module _ (m : Machine) (named : AreNamed m) where
       let q = and_parts (fits_script m y.actor) (fits_cause m y.why) g in
       some_same x y (sym (waiting_back m named x p.0 p.1) ∙ ap (λ (l : List ℕ). waiting_in m (without_last (drop 6 l))) e ∙ waiting_back m named y q.0 q.1)
 
-  -- after the entries a source's line stands
+  -- after the entries comes a source's line
   pub sources_other : (names : List (List ℕ)) (stats : List Stats) (more : List (List ℕ)) → length stats ≡ length names → 0 < length names → IsOther (entry_line m) (fits_entry m) (source_rows names stats ++ more)
   sources_other [] stats more n some = absurd (omega arith)
   sources_other (name ∷ names) [] more n some = absurd (omega arith)

@@ -10,7 +10,7 @@ use Rattle.log_text.specs.Passing.{Passes, Takes}
 pub passes_none : (old : Option (List ℕ)) (before : ℕ) (buffer : List ℕ) → Passes old old before before buffer buffer
 passes_none old before buffer = λ rest new now result h. h
 
--- all that was held was written, and nothing is held
+-- the whole buffer was written, and it is empty
 pub passes_all : (old mid : Option (List ℕ)) (before then : ℕ) (buffer left bytes : List ℕ) → bytes ≡ buffer → Appends old mid bytes → before ≤ then → left ≡ [] → Passes old mid before then buffer left
 passes_all old mid before then buffer left bytes is wrote later none = λ rest new now result h.
     both_written old mid new before then now buffer rest result (subst (Appends old mid) is wrote) later (subst (λ (bs : List ℕ). WriteAll mid new then now (bs ++ rest) result) none h)
@@ -20,7 +20,7 @@ pub taken_first : (old : Option (List ℕ)) (before : ℕ) (all buffer rest : Li
 taken_first old before all buffer rest none is = λ new now result h.
     subst (λ (bs : List ℕ). WriteAll old new before now bs result) (ap (λ (bs : List ℕ). bs ++ rest) none ∙ is) h
 
--- some of what was held was passed on, and a line was put after the rest
+-- some of the buffer was written, and a line was put after the rest
 pub taken_on : (old mid next : Option (List ℕ)) (before then later : ℕ) (all buffer left put line more rest : List ℕ)
     → Takes old mid before then all (buffer ++ more) → Passes mid next then later buffer left → put ≡ left ++ line → more ≡ line ++ rest
     → Takes old next before later all (put ++ rest)
@@ -29,12 +29,12 @@ taken_on old mid next before then later all buffer left put line more rest told 
     let passed = passes (line ++ rest) new now result (subst (λ (bs : List ℕ). WriteAll next new later now bs result) behind h) in
     told new now result (subst (λ (bs : List ℕ). WriteAll mid new then now (buffer ++ bs) result) (sym first) passed)
 
--- what was held could not be passed on
+-- the buffer could not be written
 pub taken_failed : (old mid new : Option (List ℕ)) (before then now : ℕ) (all buffer more : List ℕ) (fault : Failed)
     → Takes old mid before then all (buffer ++ more) → WriteAll mid new then now buffer (Err fault) → WriteAll old new before now all (Err fault)
 taken_failed old mid new before then now all buffer more fault told failed = told new now (Err fault) (one_failed mid new then now buffer more fault failed)
 
--- what was held was the last before what comes after
+-- the buffer had the last before what comes after
 pub taken_after : (old mid new : Option (List ℕ)) (before then now : ℕ) (all buffer more behind : List ℕ) (result : Result Unit Failed)
     → Takes old mid before then all (buffer ++ (more ++ behind)) → more ≡ [] → WriteAll mid new then now (buffer ++ behind) result → WriteAll old new before now all result
 taken_after old mid new before then now all buffer more behind result told none wrote =

@@ -38,7 +38,7 @@ other_entry m line x s u named (e, f, is) =
     let same : x ≡ e = same_some (entry_in m (without_last line)) x e s (ap (λ (t : List ℕ). entry_in m (without_last t)) is ∙ entry_back m named e f) in
     unlike (entry_line m x) line u (ap (entry_line m) same ∙ sym is)
 
--- the length of what stands before the numbers
+-- the length of what comes before the numbers
 pub head_length : (name : List ℕ) → length (head_of name) ≡ 8 + length name
 head_length name = simp length-append (omega arith)
 

@@ -27,7 +27,7 @@ written_more names stats k out all name own in_names in_stats at_name at_own so_
     ∙ ap (λ (x : List ℕ). out ++ x) (sym (lines_more names stats k name own in_names in_stats at_name at_own))
     ∙ so_far
 
--- where there are more statistics than the machine's sources, the line of `autosleep` is left at the end
+-- if there are more statistics than the machine's sources, the line of `autosleep` is left at the end
 pub written_last : (names : List (List ℕ)) (stats : List Stats) (k : ℕ) (out all : List ℕ) (own : Stats) → k ≡ min (length names) (length stats) → length names < length stats → own ≡ get_or stats (length names) own → out ++ lines_from names stats k ≡ all → out ++ source_line (codes "autosleep") own ≡ all
 written_last names stats k out all own at_end below at_own so_far =
     let last : k ≡ length names = omega arith in
@@ -36,7 +36,7 @@ written_last names stats k out all own at_end below at_own so_far =
     let line : lines_from names stats k ≡ source_line (codes "autosleep") own = rw (first, second) (append-nil (source_line (codes "autosleep") own)) in
     ap (λ (x : List ℕ). out ++ x) (sym line) ∙ so_far
 
--- where there are no more statistics than the machine's sources, no line is left at the end
+-- if there are no more statistics than the machine's sources, no line is left at the end
 pub written_all : (names : List (List ℕ)) (stats : List Stats) (k : ℕ) (out all : List ℕ) → k ≡ min (length names) (length stats) → length stats ≤ length names → out ++ lines_from names stats k ≡ all → out ≡ all
 written_all names stats k out all at_end above so_far =
     let none : lines_from names stats k ≡ [] = rw (drop_all k stats (omega arith)) (no_lines (drop k names ++ codes "autosleep" ∷ [])) in

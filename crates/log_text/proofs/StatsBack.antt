@@ -71,18 +71,18 @@ stats_back s f =
     let c = decimal_no_space s.expire_count (below32 s.expire_count f.expire) in
     rw (first (decimal s.active_count) x a, second (decimal s.active_count) x a, first (decimal s.event_count) y b, second (decimal s.event_count) y b, first (decimal s.expire_count) z c, second (decimal s.expire_count) z c, word32_back s.active_count f.active, word32_back s.event_count f.event, word32_back s.expire_count f.expire) (times_back s f)
 
--- what stands before the numbers
+-- what comes before the numbers
 abbrev pub head_of : List ℕ → List ℕ
 head_of name = codes "source " ++ name ++ space
 
--- three and four parts, each after a space
+-- three and four texts, each after a space
 spaced : (n a b c : List ℕ) → n ++ (space ++ a ++ space ++ b ++ space ++ c) ≡ n ++ 32 ∷ (a ++ 32 ∷ (b ++ 32 ∷ c))
 spaced n a b c = ap (λ (x : List ℕ). n ++ x) (three (space ++ a) b c)
 
 spaced_more : (a b c d : List ℕ) → space ++ a ++ space ++ b ++ space ++ c ++ space ++ d ≡ 32 ∷ (a ++ 32 ∷ (b ++ 32 ∷ (c ++ 32 ∷ d)))
 spaced_more a b c d = three (space ++ a ++ space ++ b) c d ∙ append_assoc (space ++ a ++ space) b (32 ∷ (c ++ 32 ∷ d)) ∙ two (space ++ a) (b ++ 32 ∷ (c ++ 32 ∷ d))
 
--- what stands before other things is put together first
+-- what comes before other things is put together first
 onto : (h a b c t z : List ℕ) → h ++ 32 ∷ (a ++ 32 ∷ (b ++ 32 ∷ c)) ++ 32 ∷ t ++ z ≡ (h ++ space) ++ ((a ++ 32 ∷ (b ++ 32 ∷ (c ++ 32 ∷ t))) ++ z)
 onto h a b c t z = simp append_assoc
 

@@ -11,7 +11,8 @@ use Rattle.sleep_model.specs.declared.log.Waiting.{Waiting}
 use Rattle.sleep_model.specs.declared.machine.Machine.{Machine}
 use Rattle.sleep_model.specs.Fits.{fits_entry, fits_stats, fits_end, fits_script, fits_cause, is_filled, IsWritable}
 use Rattle.sleep_model.specs.Text.{newline, space, word_text, actor_text, body, counts_text, times_text, waiting_text, entry_line, source_line, source_lines, source_names, waiting_line, end_text, text}
-use Rattle.log_text.specs.Named.{AreNamed, are_distinct, is_name, is_name_long, is_name_byte}
+use Rattle.sleep_model.specs.NameBytes.{is_name, is_name_byte}
+use Rattle.log_text.specs.Named.{AreNamed, are_distinct, is_name_long}
 use Rattle.log_text.specs.Grammar.{lines, finished_line}
 use Rattle.log_text.proofs.Cuts.{name_without}
 use Rattle.log_text.proofs.Clean.{is_clean, entry_clean, source_clean, stuck_clean}
@@ -48,7 +49,7 @@ cut_off (b ∷ w) r h =
     on true k ls e = absurd (cc)
     on false k ls e = ap (onto_first b) e
 
--- a line that stands first is the first line
+-- a line that comes first is the first line
 pub line_first : (line r : List ℕ) → IsLine line → lines (line ++ r) ≡ line ∷ lines r
 line_first line r (w, h, is) =
     ap (λ (x : List ℕ). lines (x ++ r)) is ∙ ap lines (append_assoc w newline r) ∙ cut_off w r h ∙ ap (λ (x : List ℕ). x ∷ lines r) (sym is)

@@ -57,7 +57,7 @@ up_back up.End = refl
 pub up_injective : (w : List ℕ) (u : PlatUndo) → w ≡ up_word u → kind.PlatformUndo u ≡ platform_kind w
 up_injective w u found = up_back u ∙ ap platform_kind (sym found)
 
--- where none is, it is a step down
+-- if none is, it is a step down
 pub up_untold : (w : List ℕ) (k : Kind) → ((u : PlatUndo) → w ≢ up_word u)
     → cond (bytes_eq w (codes "recover")) (kind.PlatformUndo up.Recover) (cond (bytes_eq w (codes "wake")) (kind.PlatformUndo up.Wake)
     (cond (bytes_eq w (codes "finish")) (kind.PlatformUndo up.Finish) (cond (bytes_eq w (codes "end")) (kind.PlatformUndo up.End) k))) ≡ k

@@ -6,11 +6,11 @@ use Rattle.sleep_base.specs.Digits.{is_digit}
 use Rattle.sleep_model.specs.Fits.{is_word32, is_word64}
 use Rattle.log_text.specs.Named.{is_name_long}
 
--- what stands before the first space
+-- what comes before the first space
 abbrev pub word : List ℕ → List ℕ
 word text = before 32 text
 
--- what stands after the first space
+-- what follows the first space
 abbrev pub rest : List ℕ → List ℕ
 rest text = after_first 32 text
 
@@ -18,7 +18,7 @@ rest text = after_first 32 text
 abbrev pub without_last : List ℕ → List ℕ
 without_last text = take (length text - 1) text
 
--- the number with one digit more, where it is one and the number stays in 64 bits
+-- the number with one digit more, if it is one and the number stays in 64 bits
 abbrev pub digit_after : ℕ → ℕ → Option ℕ
 digit_after n b = if is_digit b && is_word64 (n * 10 + (b - 48)) then Some (n * 10 + (b - 48)) else None
 
@@ -27,16 +27,16 @@ abbrev pub number_after : ℕ → List ℕ → Option ℕ
 number_after n [] = Some n
 number_after n (b ∷ bytes) = option_and_then (λ k. number_after k bytes) (digit_after n b)
 
--- the number of 64 bits that the digits spell, where there are some
+-- the number of 64 bits that the digits spell, if there are some
 abbrev pub word64 : List ℕ → Option ℕ
 word64 [] = None
 word64 (b ∷ bytes) = number_after 0 (b ∷ bytes)
 
--- a number where it has 32 bits
+-- a number if it has 32 bits
 abbrev pub short : ℕ → Option ℕ
 short n = if is_word32 n then Some n else None
 
--- the number of 32 bits that the digits spell, where there are some
+-- the number of 32 bits that the digits spell, if there are some
 abbrev pub word32 : List ℕ → Option ℕ
 word32 text = option_and_then short (word64 text)
 

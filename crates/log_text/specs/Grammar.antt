@@ -29,32 +29,32 @@ IsStuckLine m line = (w : Waiting) × (fits_script m w.actor ≡ true) × (fits_
 abbrev pub finished_line : List ℕ
 finished_line = codes "finished" ++ newline
 
--- after the end no line may stand: the first bad line is the one with number n
+-- no line may follow the end: the first bad line is the one with number n
 abbrev pub IsBadAfterEnd : List (List ℕ) → ℕ → ℕ → Type 0
 IsBadAfterEnd [] n bad = ⊥
 IsBadAfterEnd (line ∷ rest) n bad = bad ≡ n
 
--- the first bad line from the one with number n on, where lines of stuck scripts may stand
+-- the first bad line from the one with number n on, if lines of stuck scripts may come there
 abbrev pub IsBadStuck : Machine → List (List ℕ) → ℕ → ℕ → Type 0
 IsBadStuck m [] n bad = ⊥
 IsBadStuck m (line ∷ rest) n bad =
     (IsStuckLine m line × IsBadStuck m rest (n + 1) bad) ⊎ ((IsStuckLine m line → ⊥) × (bad ≡ n))
 
--- the first bad line from the one with number n on, where the end has to stand, `finished` or a stuck script
+-- the first bad line from the one with number n on, if the end has to come there, `finished` or a stuck script
 abbrev pub IsBadEnd : Machine → List (List ℕ) → ℕ → ℕ → Type 0
 IsBadEnd m [] n bad = bad ≡ n
 IsBadEnd m (line ∷ rest) n bad =
     ((line ≡ finished_line) × IsBadAfterEnd rest (n + 1) bad)
     ⊎ ((line ≢ finished_line) × IsBadStuck m (line ∷ rest) n bad)
 
--- the first bad line from the one with number n on, where the lines of these sources have to stand, and then the end
+-- the first bad line from the one with number n on, if the lines of these sources have to come there, and then the end
 abbrev pub IsBadSource : Machine → List (List ℕ) → List (List ℕ) → ℕ → ℕ → Type 0
 IsBadSource m [] text n bad = IsBadEnd m text n bad
 IsBadSource m (name ∷ names) [] n bad = bad ≡ n
 IsBadSource m (name ∷ names) (line ∷ rest) n bad =
     (IsSourceLine name line × IsBadSource m names rest (n + 1) bad) ⊎ ((IsSourceLine name line → ⊥) × (bad ≡ n))
 
--- the first bad line from the one with number n on, where entries may stand, and then the sources from the first one that is none
+-- the first bad line from the one with number n on, if entries may come there, and then the sources from the first one that is none
 abbrev pub IsBadEntry : Machine → List (List ℕ) → ℕ → ℕ → Type 0
 IsBadEntry m [] n bad = IsBadSource m (source_names m) [] n bad
 IsBadEntry m (line ∷ rest) n bad =

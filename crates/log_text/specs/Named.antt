@@ -1,28 +1,21 @@
--- Machines whose names can be read back from a log: spelled without spaces, and told apart.
-use Rattle.std.specs.Prelude.{◌≡◌, ℕ, ◌==◌, Bool, true, not, ◌&&◌, ◌||◌, nat_le, List, [], ◌∷◌, length, map}
+-- Machines whose names can be read back from a log: spelled without spaces, and different.
+use Rattle.std.specs.Prelude.{◌≡◌, ℕ, Bool, true, not, ◌&&◌, nat_le, List, [], ◌∷◌, length, map}
 use Rattle.std.specs.List.{list_all, list_any}
 use Rattle.std.specs.Str.{bytes_eq}
 use Rattle.sleep_model.specs.declared.machine.Machine.{Machine}
+use Rattle.sleep_model.specs.NameBytes.{is_name}
 use Rattle.sleep_model.specs.Text.{source_names}
-
--- a byte of a name: a to z, 0 to 9, '_', '.' or '-'
-abbrev pub is_name_byte : ℕ → Bool
-is_name_byte b = (nat_le 97 b && nat_le b 122) || (nat_le 48 b && nat_le b 57) || b == 95 || b == 46 || b == 45
 
 -- as many bytes as a name may have
 abbrev pub is_name_long : List ℕ → Bool
 is_name_long name = nat_le 1 (length name) && nat_le (length name) 32
 
--- a name has 1 to 32 such bytes
-abbrev pub is_name : List ℕ → Bool
-is_name name = is_name_long name && list_all is_name_byte name
-
--- no name stands twice
+-- no name comes twice
 abbrev pub are_distinct : List (List ℕ) → Bool
 are_distinct [] = true
 are_distinct (name ∷ names) = not (list_any (bytes_eq name) names) && are_distinct names
 
--- these are names, and told apart
+-- these are names, and different
 abbrev pub are_names : List (List ℕ) → Bool
 are_names names = list_all is_name names && are_distinct names
 
@@ -38,7 +31,7 @@ notifier_names m = map (λ x. x.name) m.notifiers
 abbrev pub script_names : Machine → List (List ℕ)
 script_names m = map (λ s. s.name) m.actors
 
--- a machine whose names are spelled as names and told apart, those of sources from `autosleep` too
+-- a machine whose names are spelled as names and different, those of sources from `autosleep` too
 pub record AreNamed (m : Machine) : Type 0 where
   pub devices : are_names (device_names m) ≡ true
   pub syscore : are_names m.syscore ≡ true

@@ -8,6 +8,6 @@ abbrev pub Takes : Option (List ℕ) → Option (List ℕ) → ℕ → ℕ → L
 Takes old mid before then all left =
     (new : Option (List ℕ)) (now : ℕ) (result : Result Unit Failed) → WriteAll mid new then now left result → WriteAll old new before now all result
 
--- the same of bytes that are held, whatever comes after them
+-- the same of bytes in the buffer, whatever comes after them
 abbrev pub Passes : Option (List ℕ) → Option (List ℕ) → ℕ → ℕ → List ℕ → List ℕ → Type 0
 Passes old mid before then buffer left = (rest : List ℕ) → Takes old mid before then (buffer ++ rest) (left ++ rest)

@@ -54,55 +54,55 @@ script_in m t = index_in (script_names m) t
 
 -- ---- entries of tasks and of the autosleep work
 
--- what stands after `read`
+-- what follows `read`
 abbrev pub read_kind : List ℕ → Option ℕ → Kind
 read_kind t (Some c) = kind.Read c
 read_kind t None = if bytes_eq t (codes "wait") then kind.ReadWait else kind.ReadIntr
 
--- what stands after `save` and a count
+-- what follows `save` and a count
 abbrev pub save_kind : List ℕ → ℕ → Kind
 save_kind t c =
     if bytes_eq t (codes "wait") then kind.SaveWait c
     else (if bytes_eq t (codes "ok") then kind.Saved c else kind.SaveErr c (errno_in t))
 
--- what stands after `state`
+-- what follows `state`
 abbrev pub state_kind : List ℕ → Kind
 state_kind t =
     if bytes_eq t (codes "wait") then kind.StateWait
     else (if bytes_eq t (codes "unsaved") then kind.StateUnsaved else kind.StateErr (errno_in t))
 
--- what stands after `autosleep`
+-- what follows `autosleep`
 abbrev pub autosleep_kind : List ℕ → Kind
 autosleep_kind t =
     if bytes_eq t (name_of EINVAL) then kind.AutoBad
     else (if bytes_eq t (codes "done") then kind.AutoDone else kind.AutoSet (state_in (rest t)))
 
--- what stands after `runtime`
+-- what follows `runtime`
 abbrev pub runtime_kind : Machine → List ℕ → Option Kind
 runtime_kind m t =
     option_map
     (λ d. kind.RuntimeAsk d (bytes_eq (word (rest t)) (runtime_word true)) (answer_in (rest (rest t))))
     (device_in m (word t))
 
--- what stands after `link`
+-- what follows `link`
 abbrev pub link_kind : Machine → List ℕ → Option Kind
 link_kind m t =
     option_and_then
     (λ s. option_map (λ c. kind.LinkAdd s c (answer_in (rest (rest t)))) (device_in m (word (rest t))))
     (device_in m (word t))
 
--- what stands after the ends of `link_state`
+-- what follows the ends of `link_state`
 abbrev pub link_state_to : List ℕ → ℕ → ℕ → Kind
 link_state_to t s c = kind.LinkState s c (bytes_eq (word t) (link_word true)) (answer_in (rest t))
 
--- what stands after `link_state`
+-- what follows `link_state`
 abbrev pub link_state_kind : Machine → List ℕ → Option Kind
 link_state_kind m t =
     option_and_then
     (λ s. option_map (link_state_to (rest (rest t)) s) (device_in m (word (rest t))))
     (device_in m (word t))
 
--- what stands after `event`
+-- what follows `event`
 abbrev pub event_kind : Machine → List ℕ → Option Kind
 event_kind m t =
     option_and_then
@@ -111,47 +111,47 @@ event_kind m t =
 
 -- ---- entries of device phases
 
--- what stands after `prepare`
+-- what follows `prepare`
 abbrev pub prepare_kind : Machine → List ℕ → Option Kind
 prepare_kind m t = option_map (λ d. kind.Prepare d (prepare_in (rest t))) (device_in m (word t))
 
--- what stands after `schedule`
+-- what follows `schedule`
 abbrev pub schedule_kind : Machine → List ℕ → Option Kind
 schedule_kind m t = option_map (λ d. kind.Schedule (phase_in (word t)) d) (device_in m (rest t))
 
--- what stands after `begin`
+-- what follows `begin`
 abbrev pub begin_kind : Machine → List ℕ → Option Kind
 begin_kind m t = option_map (λ d. kind.Begin (phase_in (word t)) d) (device_in m (rest t))
 
--- what stands after `end`
+-- what follows `end`
 abbrev pub end_kind : Machine → List ℕ → Option Kind
 end_kind m t =
     option_map (λ d. kind.End (phase_in (word t)) d (answer_in (rest (rest t)))) (device_in m (word (rest t)))
 
--- what stands after `skip`
+-- what follows `skip`
 abbrev pub skip_kind : Machine → List ℕ → Option Kind
 skip_kind m t =
     option_map (λ d. kind.Skip (phase_in (word t)) d (cause_in (rest (rest t)))) (device_in m (word (rest t)))
 
 -- ---- entries of attempts
 
--- what stands after `attempt`
+-- what follows `attempt`
 abbrev pub attempt_kind : List ℕ → Option Kind
 attempt_kind t = option_map (λ n. kind.Attempt n (word32 (rest (rest t)))) (word32 (word t))
 
--- what stands after `over`
+-- what follows `over`
 abbrev pub over_kind : List ℕ → Option Kind
 over_kind t = option_map (λ n. kind.Over n (answer_in (rest t))) (word32 (word t))
 
--- what stands after `notify` and a notifier
+-- what follows `notify` and a notifier
 abbrev pub notified_kind : List ℕ → ℕ → Kind
 notified_kind t x = if bytes_eq t (codes "post") then kind.NotifyPost x else kind.NotifyPrepare x (answer_in (rest t))
 
--- what stands after `notify`
+-- what follows `notify`
 abbrev pub notify_kind : Machine → List ℕ → Option Kind
 notify_kind m t = option_map (notified_kind (rest t)) (notifier_in m (word t))
 
--- what stands after `EBUSY` if a freeze failed
+-- what follows `EBUSY` if a freeze failed
 abbrev pub failed_end : List ℕ → ℕ → ℕ → FrozeEnd
 failed_end why left first = if bytes_eq why (codes "timeout") then froze.Timeout left first else froze.Wakeup left first
 
@@ -166,11 +166,11 @@ failed_in m t =
 abbrev pub froze_in : Machine → List ℕ → Option FrozeEnd
 froze_in m t = if bytes_eq t (codes "0") then Some froze.AllFrozen else failed_in m (rest t)
 
--- what stands after `froze`
+-- what follows `froze`
 abbrev pub froze_kind : Machine → List ℕ → Option Kind
 froze_kind m t = option_map (kind.Froze (group_in (word t))) (froze_in m (rest t))
 
--- what stands after `platform`
+-- what follows `platform`
 abbrev pub platform_kind : List ℕ → Kind
 platform_kind t =
     if bytes_eq t (up_word up.Recover) then kind.PlatformUndo up.Recover
@@ -179,21 +179,21 @@ platform_kind t =
     else (if bytes_eq t (up_word up.End) then kind.PlatformUndo up.End
     else kind.PlatformDo (down_in (word t)) (answer_in (rest t)))))
 
--- what is said of a processor
+-- the entries of a processor
 abbrev pub processor_kind : List ℕ → ℕ → Kind
 processor_kind t k =
     if bytes_eq t (codes "off") then kind.CpuOff k
     else (if bytes_eq t (codes "on") then kind.CpuOn k else kind.CpuBusy k)
 
--- what stands after `cpu`
+-- what follows `cpu`
 abbrev pub cpu_kind : List ℕ → Option Kind
 cpu_kind t = option_map (processor_kind (word t)) (word32 (rest t))
 
--- what stands after `syscore suspend`
+-- what follows `syscore suspend`
 abbrev pub syscore_down : Machine → List ℕ → Option Kind
 syscore_down m t = option_map (λ x. kind.SyscoreSuspend x (answer_in (rest t))) (syscore_in m (word t))
 
--- what stands after `syscore`
+-- what follows `syscore`
 abbrev pub syscore_kind : Machine → List ℕ → Option Kind
 syscore_kind m t =
     if bytes_eq (word t) (codes "check") then Some (kind.SyscoreCheck (answer_in (rest t)))
@@ -202,7 +202,7 @@ syscore_kind m t =
 
 -- ---- by the first word
 
--- what stands after a verb of an attempt
+-- what follows a verb of an attempt
 abbrev pub attempt_by : Machine → Verb → List ℕ → Option Kind
 attempt_by m verb.Attempt t = attempt_kind t
 attempt_by m verb.Over t = over_kind t
@@ -219,7 +219,7 @@ attempt_by m verb.Wake t = Some (kind.Wake (bytes_eq t (codes "event")))
 attempt_by m verb.Clear t = Some kind.Clear
 attempt_by m _ t = None
 
--- what stands after a verb of a source or of time, and of an attempt
+-- what follows a verb of a source or of time, and of an attempt
 abbrev pub source_by : Machine → Verb → List ℕ → Option Kind
 source_by m verb.Awake t = option_map kind.Awake (source_in m t)
 source_by m verb.Relax t = option_map kind.Relax (source_in m t)
@@ -231,7 +231,7 @@ source_by m verb.Hard t = option_map kind.Hard (source_in m t)
 source_by m verb.Jump t = Some kind.Jump
 source_by m v t = attempt_by m v t
 
--- what stands after a verb of the autosleep work, and of all but tasks and devices
+-- what follows a verb of the autosleep work, and of all but tasks and devices
 abbrev pub auto_by : Machine → Verb → List ℕ → Option Kind
 auto_by m verb.Run t = Some kind.AutoRun
 auto_by m verb.Saved t = option_map kind.AutoSaved (word32 t)
@@ -241,7 +241,7 @@ auto_by m verb.Again t = Some kind.AutoAgain
 auto_by m verb.Off t = Some kind.AutoOff
 auto_by m v t = source_by m v t
 
--- what stands after a verb of a task, and of all but devices
+-- what follows a verb of a task, and of all but devices
 abbrev pub task_by : Machine → Verb → List ℕ → Option Kind
 task_by m verb.Frozen t = Some kind.Frozen
 task_by m verb.Read t = Some (read_kind t (word32 t))
@@ -260,7 +260,7 @@ task_by m verb.Link t = link_kind m t
 task_by m verb.LinkState t = link_state_kind m t
 task_by m v t = auto_by m v t
 
--- what stands after a verb
+-- what follows a verb
 abbrev pub kind_by : Machine → Verb → List ℕ → Option Kind
 kind_by m verb.Begin t = begin_kind m t
 kind_by m verb.End t = end_kind m t

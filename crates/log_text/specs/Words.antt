@@ -1,4 +1,4 @@
--- What the closed words of a log mean: of two words told apart, the last one stands for any other.
+-- What the closed words of a log mean: of two different words, the last one means any other.
 use Rattle.std.specs.Prelude.{ℕ, Bool, true, false, ℤ, pos, negsuc, neg_ℤ, List, codes, Option, Some, None, unwrap_or, if◌then◌else◌}
 use Rattle.std.specs.Str.{bytes_eq}
 use Rattle.sleep_base.specs.declared.errno.Errno.{Errno}

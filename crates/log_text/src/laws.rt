@@ -1,4 +1,4 @@
-//! Laws of logs' texts, over every log that fits a machine whose names are spelled and told apart.
+//! Laws of logs' texts, over every log that fits a machine whose names are spelled and different.
 
 ghost use Rattle.std.specs.Prelude.{◌≡◌, ℕ, List};
 ghost use Rattle.sleep_model.specs.declared.log.Log.{Log};
@@ -14,7 +14,7 @@ pub fn log_text_is_injective()
     ensures { (m : Machine) (a b : Log) → AreNamed m → IsWritable m a → IsWritable m b → text m a ≡ text m b → a ≡ b }
 {}
 
-/// Where a log fits its machine, each line of its text can be read.
+/// If a log fits its machine, each line of its text can be read.
 #[tactic(auto, using(crate::proofs::NoBadLine::none_bad))]
 pub fn written_lines_are_good()
     ensures { (m : Machine) (log : Log) → AreNamed m → IsWritable m log → (n : ℕ) → IsFirstBad m (text m log) n → ⊥ }

@@ -3,9 +3,9 @@
 //! are in `format_trials`.
 //!
 //! Promises: The written bytes are the text of the log, or a front of it if a write failed. A log is read
-//! only from its text, and fits the machine. If the machine's names are spelled as names and told apart, the
-//! text of a fitting log is read as that log, and of other bytes the first bad line is named. By the clauses
-//! of `write_log`, `LogText::write_to`; `read_log`: `text`, `fits`, `back`, `taken`, `line`;
+//! only from its text, and fits the machine. Let the machine's names be spelled as names and different. Then
+//! the text of a fitting log is read as that log, and of other bytes the first bad line is named. By the
+//! clauses of `write_log`, `LogText::write_to`; `read_log`: `text`, `fits`, `back`, `taken`, `line`;
 //! `log_text_is_injective`, `written_lines_are_good`, `first_bad_line_is_one`.
 //!
 //! Begin reading in `specs/Grammar.antt`.

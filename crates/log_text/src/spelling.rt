@@ -4,6 +4,7 @@ pub(crate) mod buffer;
 pub(crate) mod digits;
 pub(crate) mod fixed;
 pub(crate) mod front;
+pub(crate) mod number_text;
 pub(crate) mod piece;
 pub(crate) mod short;
 pub(crate) mod spelled;

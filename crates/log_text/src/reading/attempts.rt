@@ -10,7 +10,7 @@ use crate::reading::number::word32;
 use crate::spelling::fixed::{CHECK, NO_ERROR, OFF, ON, POST, RESUME, TIMEOUT};
 use sleep_model::{FrozeEnd, Kind, PlatUndo};
 
-/// What stands after `attempt`.
+/// What follows `attempt`.
 pub fn attempt_kind(text: &[u8]) -> Option<Kind>
     ensures kind { result ≡ attempt_kind text.now }
     ensures fits { (m : Machine) → IfSome result (λ k. fits_kind m k ≡ true) }
@@ -22,7 +22,7 @@ pub fn attempt_kind(text: &[u8]) -> Option<Kind>
     Some(Kind::Attempt { n, guarded })
 }
 
-/// What stands after `over`.
+/// What follows `over`.
 pub fn over_kind(text: &[u8]) -> Option<Kind>
     ensures kind { result ≡ over_kind text.now }
     ensures fits { (m : Machine) → IfSome result (λ k. fits_kind m k ≡ true) }
@@ -33,7 +33,7 @@ pub fn over_kind(text: &[u8]) -> Option<Kind>
     Some(Kind::Over { n, r })
 }
 
-/// What stands after `notify`.
+/// What follows `notify`.
 pub fn notify_kind(machine_names: &MachineNames, text: &[u8]) -> Option<Kind>
     ensures kind { result ≡ notify_kind machine_names.now text.now }
     ensures fits { IfSome result (λ k. fits_kind machine_names.now k ≡ true) }
@@ -74,7 +74,7 @@ fn froze_in(machine_names: &MachineNames, text: &[u8]) -> Option<FrozeEnd>
     failed_in(machine_names, rest)
 }
 
-/// What stands after `froze`.
+/// What follows `froze`.
 pub fn froze_kind(machine_names: &MachineNames, text: &[u8]) -> Option<Kind>
     ensures kind { result ≡ froze_kind machine_names.now text.now }
     ensures fits { IfSome result (λ k. fits_kind machine_names.now k ≡ true) }
@@ -84,7 +84,7 @@ pub fn froze_kind(machine_names: &MachineNames, text: &[u8]) -> Option<Kind>
     Some(Kind::Froze(group_in(group), end))
 }
 
-/// What stands after `platform`.
+/// What follows `platform`.
 #[tactic(auto, using(crate::proofs::WordsInjective::up_injective, crate::proofs::WordsInjective::up_untold))]
 pub fn platform_kind(text: &[u8]) -> Kind
     ensures kind { result ≡ platform_kind text.now }
@@ -99,7 +99,7 @@ pub fn platform_kind(text: &[u8]) -> Kind
     }
 }
 
-/// What stands after `cpu`.
+/// What follows `cpu`.
 pub fn cpu_kind(text: &[u8]) -> Option<Kind>
     ensures kind { result ≡ cpu_kind text.now }
     ensures fits { (m : Machine) → IfSome result (λ k. fits_kind m k ≡ true) }
@@ -115,7 +115,7 @@ pub fn cpu_kind(text: &[u8]) -> Option<Kind>
     Some(Kind::CpuBusy(cpu))
 }
 
-/// What stands after `syscore suspend`.
+/// What follows `syscore suspend`.
 fn syscore_down(machine_names: &MachineNames, text: &[u8]) -> Option<Kind>
     ensures kind { result ≡ syscore_down machine_names.now text.now }
     ensures fits { IfSome result (λ k. fits_kind machine_names.now k ≡ true) }
@@ -125,7 +125,7 @@ fn syscore_down(machine_names: &MachineNames, text: &[u8]) -> Option<Kind>
     Some(Kind::SyscoreSuspend(step, answer_in(answer)))
 }
 
-/// What stands after `syscore`.
+/// What follows `syscore`.
 pub fn syscore_kind(machine_names: &MachineNames, text: &[u8]) -> Option<Kind>
     ensures kind { result ≡ syscore_kind machine_names.now text.now }
     ensures fits { IfSome result (λ k. fits_kind machine_names.now k ≡ true) }

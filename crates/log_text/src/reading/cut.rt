@@ -4,7 +4,7 @@ ghost use Rattle.log_text.specs.Cutting.{word, rest};
 
 use sleep_base::cut;
 
-/// The first word of a text, and what stands after its space.
+/// The first word of a text, and what follows its space.
 pub fn first_word(text: &[u8]) -> (&[u8], &[u8])
     ensures word { result.0.now ≡ word text.now }
     ensures rest { result.1.now ≡ rest text.now }

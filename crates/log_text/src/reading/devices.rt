@@ -7,7 +7,7 @@ use crate::reading::machine_names::MachineNames;
 use crate::reading::meaning::{answer_in, cause_in, phase_in, prepare_in};
 use sleep_model::Kind;
 
-/// What stands after `prepare`.
+/// What follows `prepare`.
 pub fn prepare_kind(machine_names: &MachineNames, text: &[u8]) -> Option<Kind>
     ensures kind { result ≡ prepare_kind machine_names.now text.now }
     ensures fits { IfSome result (λ k. fits_kind machine_names.now k ≡ true) }
@@ -18,7 +18,7 @@ pub fn prepare_kind(machine_names: &MachineNames, text: &[u8]) -> Option<Kind>
     Some(Kind::Prepare { device, r })
 }
 
-/// What stands after `schedule`.
+/// What follows `schedule`.
 pub fn schedule_kind(machine_names: &MachineNames, text: &[u8]) -> Option<Kind>
     ensures kind { result ≡ schedule_kind machine_names.now text.now }
     ensures fits { IfSome result (λ k. fits_kind machine_names.now k ≡ true) }
@@ -28,7 +28,7 @@ pub fn schedule_kind(machine_names: &MachineNames, text: &[u8]) -> Option<Kind>
     Some(Kind::Schedule(phase_in(phase), device))
 }
 
-/// What stands after `begin`.
+/// What follows `begin`.
 pub fn begin_kind(machine_names: &MachineNames, text: &[u8]) -> Option<Kind>
     ensures kind { result ≡ begin_kind machine_names.now text.now }
     ensures fits { IfSome result (λ k. fits_kind machine_names.now k ≡ true) }
@@ -38,7 +38,7 @@ pub fn begin_kind(machine_names: &MachineNames, text: &[u8]) -> Option<Kind>
     Some(Kind::Begin(phase_in(phase), device))
 }
 
-/// What stands after `end`.
+/// What follows `end`.
 pub fn end_kind(machine_names: &MachineNames, text: &[u8]) -> Option<Kind>
     ensures kind { result ≡ end_kind machine_names.now text.now }
     ensures fits { IfSome result (λ k. fits_kind machine_names.now k ≡ true) }
@@ -49,7 +49,7 @@ pub fn end_kind(machine_names: &MachineNames, text: &[u8]) -> Option<Kind>
     Some(Kind::End(phase_in(phase), device, answer_in(answer)))
 }
 
-/// What stands after `skip`.
+/// What follows `skip`.
 pub fn skip_kind(machine_names: &MachineNames, text: &[u8]) -> Option<Kind>
     ensures kind { result ≡ skip_kind machine_names.now text.now }
     ensures fits { IfSome result (λ k. fits_kind machine_names.now k ≡ true) }

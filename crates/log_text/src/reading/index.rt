@@ -1,8 +1,9 @@
 //! The things that a log names, by their names.
 
-ghost use Rattle.std.specs.Prelude.{◌≡◌, ◌<◌, ◌^◌, length, nat_lt, true, IfOk, IfSome};
+ghost use Rattle.std.specs.Prelude.{◌≡◌, ◌<◌, ◌^◌, length, nat_lt, true, IfSome};
 ghost use Rattle.log_text.specs.Cutting.{index_in};
 
+use crate::reading::names::OfNames;
 use key_index::KeyIndex;
 use sleep_base::Mem;
 use sleep_model::Name;
@@ -15,18 +16,20 @@ pub struct NameIndex {
     ghost few: { length indices < 2 ^ 32 },
 }
 
-impl NameIndex {
-    /// The index of these names. `Mem` if there is no memory for it, or no number for each.
-    pub fn new(alloc: Global, names: Vec<Name>) -> Result<Self, Mem>
-        ensures { IfOk result (λ n. n.indices ≡ names.items) }
-    {
+impl OfNames for NameIndex {
+    ghost listed = { λ n. n.indices };
+
+    /// The index of these names. `Mem` also if there is no number for each.
+    fn of_names(alloc: Global, names: Vec<Name>) -> Result<Self, Mem> {
         if names.len() > u32::MAX as usize {
             return Err(Mem);
         }
         let indices = KeyIndex::new(alloc, names)?;
         Ok(NameIndex { indices })
     }
+}
 
+impl NameIndex {
     /// The number of the first thing of that name. None if there is none.
     #[tactic(auto, using(crate::proofs::SameNames::found_is))]
     pub fn find(&self, word: &[u8]) -> Option<u32>

@@ -29,7 +29,7 @@ pub fn kind_in(machine_names: &MachineNames, text: &[u8]) -> Option<Kind>
     kind_by(machine_names, verb, rest)
 }
 
-/// What stands after a verb.
+/// What follows a verb.
 fn kind_by(machine_names: &MachineNames, verb: Verb, text: &[u8]) -> Option<Kind>
     ensures kind { result ≡ kind_by machine_names.now verb text.now }
     ensures fits { IfSome result (λ k. fits_kind machine_names.now k ≡ true) }
@@ -49,7 +49,7 @@ fn kind_by(machine_names: &MachineNames, verb: Verb, text: &[u8]) -> Option<Kind
     }
 }
 
-/// What stands after a verb of a task, and of all but devices.
+/// What follows a verb of a task, and of all but devices.
 fn task_by(machine_names: &MachineNames, verb: Verb, text: &[u8]) -> Option<Kind>
     ensures kind { result ≡ task_by machine_names.now verb text.now }
     ensures fits { IfSome result (λ k. fits_kind machine_names.now k ≡ true) }
@@ -74,7 +74,7 @@ fn task_by(machine_names: &MachineNames, verb: Verb, text: &[u8]) -> Option<Kind
     }
 }
 
-/// What stands after a verb of the autosleep work, and of all but tasks and devices.
+/// What follows a verb of the autosleep work, and of all but tasks and devices.
 fn auto_by(machine_names: &MachineNames, verb: Verb, text: &[u8]) -> Option<Kind>
     ensures kind { result ≡ auto_by machine_names.now verb text.now }
     ensures fits { IfSome result (λ k. fits_kind machine_names.now k ≡ true) }
@@ -90,7 +90,7 @@ fn auto_by(machine_names: &MachineNames, verb: Verb, text: &[u8]) -> Option<Kind
     }
 }
 
-/// What stands after a verb of a source or of time, and of an attempt.
+/// What follows a verb of a source or of time, and of an attempt.
 fn source_by(machine_names: &MachineNames, verb: Verb, text: &[u8]) -> Option<Kind>
     ensures kind { result ≡ source_by machine_names.now verb text.now }
     ensures fits { IfSome result (λ k. fits_kind machine_names.now k ≡ true) }
@@ -108,7 +108,7 @@ fn source_by(machine_names: &MachineNames, verb: Verb, text: &[u8]) -> Option<Ki
     }
 }
 
-/// What stands after a verb of an attempt.
+/// What follows a verb of an attempt.
 fn attempt_by(machine_names: &MachineNames, verb: Verb, text: &[u8]) -> Option<Kind>
     ensures kind { result ≡ attempt_by machine_names.now verb text.now }
     ensures fits { IfSome result (λ k. fits_kind machine_names.now k ≡ true) }

@@ -5,8 +5,7 @@ ghost use Rattle.log_text.specs.Grammar.{lines};
 
 use sleep_base::{Mem, cut};
 
-/// The first line of a text that is not empty, with its newline, if it has one, and what stands
-/// after it.
+/// The first line of a text that is not empty, with its newline, if it has one, and what follows it.
 #[tactic(auto, using(crate::proofs::FirstLines::line_cut, crate::proofs::FirstLines::line_whole))]
 pub fn first_line(text: &[u8]) -> (&[u8], &[u8])
     requires { text.now ≢ [] }

@@ -51,7 +51,7 @@ pub fn phase_in(word: &[u8]) -> Phase
     Phase::of_bytes(word).unwrap_or(Phase::Complete)
 }
 
-/// Why a device was skipped; any other word stands for direct-complete.
+/// Why a device was skipped; any other word means direct-complete.
 #[tactic(auto, using(crate::proofs::WordsInjective::cause_injective))]
 pub fn cause_in(word: &[u8]) -> SkipCause
     ensures { result ≡ cause_in word.now }
@@ -59,7 +59,7 @@ pub fn cause_in(word: &[u8]) -> SkipCause
     SkipCause::of_bytes(word).unwrap_or(SkipCause::Direct)
 }
 
-/// Whom a freeze asks; any other word stands for kernel threads.
+/// Whom a freeze asks; any other word means kernel threads.
 #[tactic(auto, using(crate::proofs::WordsInjective::group_injective))]
 pub fn group_in(word: &[u8]) -> Group
     ensures { result ≡ group_in word.now }
@@ -87,7 +87,7 @@ pub fn state_in(word: &[u8]) -> State
     State::Off
 }
 
-/// The platform's step on the way down; any other word stands for the last.
+/// The platform's step on the way down; any other word means the last.
 #[tactic(auto, using(crate::proofs::WordsInjective::down_injective))]
 pub fn down_in(word: &[u8]) -> PlatDo
     ensures { result ≡ down_in word.now }

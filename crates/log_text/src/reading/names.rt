@@ -1,39 +1,93 @@
+//! The names of a machine's things, by the kind of thing.
+
 ghost use Rattle.std.specs.Prelude.{◌≡◌, ◌++◌, ◌∷◌, [], IfOk, codes, map};
+ghost use Rattle.log_text.specs.MachineNames.{HasNames};
 
 use sleep_base::Mem;
-use sleep_model::{Device, Name, Notifier, Script};
+use sleep_model::{Device, Machine, Name, Notifier, Script};
 use std::alloc::Global;
 
+/// What is made of the names of the things of one kind.
+pub trait OfNames: Sized + Drop {
+    ghost use Rattle.std.specs.Prelude.{◌≡◌, ℕ, List, IfOk};
+
+    /// The names.
+    ghost listed: { Self → List (List ℕ) };
+
+    /// What is made of these names. `Mem` if there is no memory for it.
+    fn of_names(alloc: Global, names: Vec<Name>) -> Result<Self, Mem>
+        ensures { IfOk result (λ made. listed made ≡ names.items) };
+}
+
+/// What is made of the names of a machine's things, of each kind on its own.
+#[derive(Drop)]
+pub struct ByKind<T> {
+    pub devices: T,
+    pub syscore: T,
+    pub notifiers: T,
+    /// Those of the machine, and then `autosleep`.
+    pub sources: T,
+    pub marks: T,
+    pub scripts: T,
+}
+
+impl<T: OfNames> ByKind<T> {
+    /// What is made of the names of this machine's things. `Mem` if there is no memory for it.
+    pub fn of(alloc: Global, machine: &Machine) -> Result<Self, Mem>
+        ensures { IfOk result (λ k. HasNames machine.now (T.listed k.devices) (T.listed k.syscore) (T.listed k.notifiers) (T.listed k.sources) (T.listed k.marks) (T.listed k.scripts)) }
+    {
+        let devices = T::of_names(alloc, names_of_devices(alloc, machine.devices.as_slice())?)?;
+        let syscore = T::of_names(alloc, names_of(alloc, machine.syscore.as_slice())?)?;
+        let notifiers = T::of_names(
+            alloc,
+            names_of_notifiers(alloc, machine.notifiers.as_slice())?,
+        )?;
+        let sources = T::of_names(alloc, names_of_sources(alloc, machine.sources.as_slice())?)?;
+        let marks = T::of_names(alloc, names_of(alloc, machine.marks.as_slice())?)?;
+        let scripts = T::of_names(alloc, names_of_scripts(alloc, machine.actors.as_slice())?)?;
+        Ok(ByKind {
+            devices,
+            syscore,
+            notifiers,
+            sources,
+            marks,
+            scripts,
+        })
+    }
+}
+
+/// A copy of these names.
+fn names_of(alloc: Global, names: &[Name]) -> Result<Vec<Name>, Mem>
+    ensures { IfOk result (λ v. v.items ≡ names.now) }
+{
+    let names = Vec::from_slice(alloc, names)?;
+    Ok(names)
+}
+
 /// The devices' names, in order.
-pub fn names_of_devices(alloc: Global, devices: &[Device]) -> Result<Vec<Name>, Mem>
+fn names_of_devices(alloc: Global, devices: &[Device]) -> Result<Vec<Name>, Mem>
     ensures { IfOk result (λ v. v.items ≡ map (λ d. d.name) devices.now) }
 {
-    let mut names = Vec::new(alloc);
-    for device in devices {
-        names.push(device.name)?;
-    }
+    let names = devices.iter().map(|device| device.name).collect(alloc)?;
     Ok(names)
 }
 
 /// The notifiers' names, in order.
-pub fn names_of_notifiers(alloc: Global, notifiers: &[Notifier]) -> Result<Vec<Name>, Mem>
+fn names_of_notifiers(alloc: Global, notifiers: &[Notifier]) -> Result<Vec<Name>, Mem>
     ensures { IfOk result (λ v. v.items ≡ map (λ x. x.name) notifiers.now) }
 {
-    let mut names = Vec::new(alloc);
-    for notifier in notifiers {
-        names.push(notifier.name)?;
-    }
+    let names = notifiers
+        .iter()
+        .map(|notifier| notifier.name)
+        .collect(alloc)?;
     Ok(names)
 }
 
 /// The scripts' names, in order.
-pub fn names_of_scripts(alloc: Global, scripts: &[Script]) -> Result<Vec<Name>, Mem>
+fn names_of_scripts(alloc: Global, scripts: &[Script]) -> Result<Vec<Name>, Mem>
     ensures { IfOk result (λ v. v.items ≡ map (λ s. s.name) scripts.now) }
 {
-    let mut names = Vec::new(alloc);
-    for script in scripts {
-        names.push(script.name)?;
-    }
+    let names = scripts.iter().map(|script| script.name).collect(alloc)?;
     Ok(names)
 }
 

@@ -2,8 +2,7 @@ ghost use Rattle.std.specs.Prelude.{◌≡◌, IfSome, true};
 ghost use Rattle.sleep_model.specs.Fits.{is_word32, is_word64};
 ghost use Rattle.log_text.specs.Cutting.{digit_after, word32, word64};
 
-/// The number with one digit more. None if the byte is no digit, and where the number leaves 64
-/// bits.
+/// The number with one digit more. None if the byte is no digit, or if the number leaves 64 bits.
 fn with_digit(number: u64, byte: u8) -> Option<u64>
     ensures number { result ≡ digit_after number byte }
     ensures fits { IfSome result (λ n. is_word64 n ≡ true) }

@@ -6,7 +6,7 @@ ghost use Rattle.sleep_model.specs.Text.{newline, space};
 
 use sleep_model::Phase;
 
-/// What stands after a piece at the beginning of a text. None if the text begins otherwise.
+/// What follows a piece at the beginning of a text. None if the text begins otherwise.
 #[inline(always)]
 #[tactic(auto, using(crate::proofs::Pieces::front_is))]
 pub fn after_piece<'a>(text: &'a [u8], piece: &[u8]) -> Option<&'a [u8]>
@@ -18,7 +18,7 @@ pub fn after_piece<'a>(text: &'a [u8], piece: &[u8]) -> Option<&'a [u8]>
     }
 }
 
-/// What stands after a byte.
+/// What follows a byte.
 #[inline(always)]
 pub fn after_byte(text: &[u8], byte: u8) -> Option<&[u8]>
     ensures { IfSome result (λ rest. text.now ≡ byte ∷ rest.now) }
@@ -29,7 +29,7 @@ pub fn after_byte(text: &[u8], byte: u8) -> Option<&[u8]>
     }
 }
 
-/// What stands after a word and a space.
+/// What follows a word and a space.
 #[inline(always)]
 pub fn after_word<'a>(text: &'a [u8], word: &str) -> Option<&'a [u8]>
     ensures { IfSome result (λ rest. text.now ≡ word.now ++ space ++ rest.now) }
@@ -37,7 +37,7 @@ pub fn after_word<'a>(text: &'a [u8], word: &str) -> Option<&'a [u8]>
     after_byte(after_piece(text, word.as_bytes())?, b' ')
 }
 
-/// What stands after a word that ends a line.
+/// What follows a word that ends a line.
 #[inline(always)]
 pub fn after_last_word<'a>(text: &'a [u8], word: &str) -> Option<&'a [u8]>
     ensures { IfSome result (λ rest. text.now ≡ word.now ++ newline ++ rest.now) }
@@ -45,7 +45,7 @@ pub fn after_last_word<'a>(text: &'a [u8], word: &str) -> Option<&'a [u8]>
     after_byte(after_piece(text, word.as_bytes())?, b'\n')
 }
 
-/// The phase, and what stands after its name and a space. None if the text begins otherwise.
+/// The phase, and what follows its name and a space. None if the text begins otherwise.
 #[inline(always)]
 fn after_phase(phase: Phase, text: &[u8]) -> Option<(Phase, &[u8])>
     ensures { IfSome result (λ r. text.now ≡ phase_name r.0 ++ space ++ r.1.now) }
@@ -65,7 +65,7 @@ fn resume_first(text: &[u8]) -> Option<(Phase, &[u8])>
     }
 }
 
-/// A phase of devices at the beginning of a text, and what stands after its space. None if the text begins
+/// A phase of devices at the beginning of a text, and what follows its space. None if the text begins
 /// otherwise.
 #[inline]
 pub fn phase_first(text: &[u8]) -> Option<(Phase, &[u8])>

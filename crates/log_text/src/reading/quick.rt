@@ -1,5 +1,5 @@
-//! Lines of devices and of time, of which most logs have most, read piece by piece, each piece held against
-//! its one spelling.
+//! Lines of devices and of time, of which most logs have most, read piece by piece, each compared with its
+//! one spelling.
 
 ghost use Rattle.std.specs.Prelude.{◌≡◌, ◌++◌, ◌∷◌, IfSome, length, nat_lt, true};
 ghost use Rattle.sleep_model.specs.Fits.{fits_actor, fits_kind};
@@ -15,7 +15,7 @@ use crate::spelling::verb::Verb;
 use sleep_base::cut;
 use sleep_model::{Actor, Kind, SkipCause};
 
-/// What stands after the name of that device and that byte. None if the text begins otherwise.
+/// What follows the name of that device and that byte. None if the text begins otherwise.
 #[inline]
 fn after_device<'a>(
     machine_names: &MachineNames,
@@ -50,8 +50,8 @@ fn device_named<'a>(
     Some((device, rest))
 }
 
-/// The device whose name and that byte a text begins with, and what stands after them: mostly the device that
-/// the line before names, or one beside it. None if the text begins otherwise.
+/// The device whose name and that byte a text begins with, and what follows them: mostly the device that
+/// the line before names, or the next one. None if the text begins otherwise.
 fn device_first<'a>(
     machine_names: &MachineNames,
     last: u32,
@@ -219,8 +219,8 @@ fn slept_or_device<'a>(
     }
 }
 
-/// What a text tells first of a device, of a phase of devices or of time, and what stands after its line.
-/// None also for what few lines tell, as an error.
+/// What a text begins with of a device, of a phase of devices or of time, and what follows its line.
+/// None also for what few lines have, as an error.
 #[inline]
 pub fn kind_first<'a>(
     machine_names: &MachineNames,
@@ -243,7 +243,7 @@ pub fn kind_first<'a>(
     }
 }
 
-/// What stands after that actor and a space. None also for an actor whose text is not ready.
+/// What follows that actor and a space. None also for an actor whose text is not ready.
 #[inline]
 fn after_actor<'a>(machine_names: &MachineNames, who: Actor, text: &'a [u8]) -> Option<&'a [u8]>
     ensures { IfSome result (λ rest. text.now ≡ maker_text machine_names.now who ++ rest.now) }
@@ -282,7 +282,7 @@ fn actor_named<'a>(machine_names: &MachineNames, text: &'a [u8]) -> Option<(Acto
     Some((who, rest))
 }
 
-/// Who makes an entry, and what stands after the actor and a space: mostly who made the entry before. None if
+/// Who makes an entry, and what follows the actor and a space: mostly who made the entry before. None if
 /// the text begins otherwise, and for some actors that seldom make one.
 #[inline]
 pub fn actor_first<'a>(

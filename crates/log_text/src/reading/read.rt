@@ -19,7 +19,7 @@ use sleep_base::{Mem, drop_for_mem};
 use sleep_model::{AUTOSLEEP, EntryList, ListOf, Log, LogEnd, Machine, Stats, Waiting};
 use std::alloc::Global;
 
-/// The entries at the beginning of a log's text, what stands after their lines, and the number of
+/// The entries at the beginning of a log's text, what follows their lines, and the number of
 /// the line there.
 #[tactic(auto, using(crate::proofs::NextEntry::shorter_after))]
 fn read_entries<'a>(
@@ -55,7 +55,7 @@ fn read_entries<'a>(
     Ok((entries, left, number))
 }
 
-/// The statistics of the source of that name at the beginning of a text, and what stands after
+/// The statistics of the source of that name at the beginning of a text, and what follows
 /// their line.
 fn read_source<'a>(
     reader: &mut LineReader,
@@ -79,7 +79,7 @@ fn read_source<'a>(
     }
 }
 
-/// The statistics of each source, `autosleep` last, at the beginning of a text, what stands after
+/// The statistics of each source, `autosleep` last, at the beginning of a text, what follows
 /// their lines, and the number of the line there.
 fn read_sources<'a>(
     alloc: Global,
@@ -204,7 +204,7 @@ fn read_closing(
     }
 }
 
-/// The log of a text, by the machine's book.
+/// The log of a text, by the machine's names.
 fn read_whole(alloc: Global, machine_names: &MachineNames, bytes: &[u8]) -> Result<Log, LogFault>
     ensures text { IfOk result (λ log. text machine_names.now log ≡ bytes.now) }
     ensures fits { IfOk result (λ log. IsWritable machine_names.now log) }
@@ -221,14 +221,13 @@ fn read_whole(alloc: Global, machine_names: &MachineNames, bytes: &[u8]) -> Resu
     }
 }
 
-/// The log whose text these bytes are. It fits the machine: its numbers name things of the machine,
-/// and fit the types of their fields.
+/// The log whose text these bytes are. It fits the machine: its numbers name things of the machine, and fit
+/// the types of their fields.
 ///
-/// `Line(n)` where they are the text of no log that fits the machine: n counts from 1 to the first line
-/// that the grammar has not, or that is missing. A fitting log's text is read back as that
-/// very log. For both the machine's names have to be spelled as names and told apart, as the rules on
-/// machine files ask. `Mem` comes if it is out of memory, and where lines or things of a kind are more
-/// than have numbers.
+/// `Line(n)` if they are the text of no log that fits the machine: n counts from 1 to the first line that the
+/// grammar has not, or that is missing. A fitting log's text is read back as that very log. For both the
+/// machine's names have to be spelled as names and different, as the rules on machine files ask. `Mem` comes
+/// if it is out of memory, or if lines or things of a kind are more than have numbers.
 pub fn read_log(alloc: Global, machine: &Machine, bytes: &[u8]) -> Result<Log, LogFault>
     ensures text { IfOk result (λ log. text machine.now log ≡ bytes.now) }
     ensures fits { IfOk result (λ log. IsWritable machine.now log) }

@@ -1,5 +1,5 @@
-//! Single lines: taken piece by piece where they are what most lines are, else read leniently and then held
-//! against what they have to spell.
+//! Single lines: taken piece by piece if they are what most lines are, else read leniently and then compared
+//! with what they have to spell.
 
 ghost use Rattle.std.specs.Prelude.{◌≡◌, ◌≢◌, ◌++◌, [], ℕ, true, IfOk, IfSome, IfNone};
 ghost use Rattle.std.specs.Str.{bytes_eq};
@@ -101,7 +101,7 @@ impl LineReader {
         }
     }
 
-    /// What stands after the moment and the word that a text begins with, which the front then has: mostly
+    /// What follows the moment and the word that a text begins with, which the front then has: mostly
     /// those of the line before. None if the text begins otherwise.
     fn after_front<'a>(&mut self, text: &'a [u8]) -> Option<&'a [u8]>
         ensures { IfSome result (λ rest. text.now ≡ front_text self.new.front.time self.new.front.word ++ rest.now) }
@@ -131,7 +131,7 @@ impl LineReader {
         self.spelled.is(text)
     }
 
-    /// What a text tells first, to the end of its line, and what stands after it. None if it tells nothing.
+    /// What a text begins with, to the end of its line, and what follows it. None if it is nothing.
     #[tactic(auto, using(crate::proofs::Readable::same_bytes))]
     fn other_first<'a>(
         &mut self,
@@ -158,7 +158,7 @@ impl LineReader {
         }
     }
 
-    /// What a text tells first, to the end of its line, and what stands after it: mostly something of a
+    /// What a text begins with, to the end of its line, and what follows it: mostly something of a
     /// device.
     fn first_of_text<'a>(
         &mut self,
@@ -177,7 +177,7 @@ impl LineReader {
         }
     }
 
-    /// The entry of a text's first line after its front, and what stands after the line.
+    /// The entry of a text's first line after its front, and what follows the line.
     #[tactic(auto, using(crate::proofs::NextEntry::entry_injective))]
     fn made_first<'a>(
         &mut self,
@@ -207,7 +207,7 @@ impl LineReader {
         }
     }
 
-    /// The entry of a text's first line, and what stands after the line, read at one go. None also for some
+    /// The entry of a text's first line, and what follows the line, read at one go. None also for some
     /// lines that few logs have.
     fn entry_first<'a>(
         &mut self,
@@ -246,7 +246,7 @@ impl LineReader {
         }
     }
 
-    /// The entry of a text's first line, and what stands after the line. None if it is no entry's.
+    /// The entry of a text's first line, and what follows the line. None if it is no entry's.
     pub fn next_entry<'a>(
         &mut self,
         machine_names: &MachineNames,

@@ -12,7 +12,7 @@ use crate::spelling::fixed::{DONE, HARD, OK, UNSAVED, WAIT};
 use sleep_base::Errno;
 use sleep_model::{Kind, link_word, runtime_word};
 
-/// What stands after `read`.
+/// What follows `read`.
 pub fn read_kind(text: &[u8]) -> Kind
     ensures kind { result ≡ read_kind text.now (word32 text.now) }
     ensures fits { (m : Machine) → fits_kind m result ≡ true }
@@ -24,7 +24,7 @@ pub fn read_kind(text: &[u8]) -> Kind
     }
 }
 
-/// What stands after `save`.
+/// What follows `save`.
 pub fn save_kind(text: &[u8]) -> Option<Kind>
     ensures kind { result ≡ option_map (save_kind (rest text.now)) (word32 (word text.now)) }
     ensures fits { (m : Machine) → IfSome result (λ k. fits_kind m k ≡ true) }
@@ -40,7 +40,7 @@ pub fn save_kind(text: &[u8]) -> Option<Kind>
     Some(Kind::SaveErr(count, errno_in(rest)))
 }
 
-/// What stands after `state`.
+/// What follows `state`.
 pub fn state_kind(text: &[u8]) -> Kind
     ensures kind { result ≡ state_kind text.now }
     ensures fits { (m : Machine) → fits_kind m result ≡ true }
@@ -54,7 +54,7 @@ pub fn state_kind(text: &[u8]) -> Kind
     Kind::StateErr(errno_in(text))
 }
 
-/// What stands after `autosleep`.
+/// What follows `autosleep`.
 pub fn autosleep_kind(text: &[u8]) -> Kind
     ensures kind { result ≡ autosleep_kind text.now }
     ensures fits { (m : Machine) → fits_kind m result ≡ true }
@@ -69,7 +69,7 @@ pub fn autosleep_kind(text: &[u8]) -> Kind
     Kind::AutoSet(state_in(state))
 }
 
-/// What stands after `runtime`.
+/// What follows `runtime`.
 pub fn runtime_kind(machine_names: &MachineNames, text: &[u8]) -> Option<Kind>
     ensures kind { result ≡ runtime_kind machine_names.now text.now }
     ensures fits { IfSome result (λ k. fits_kind machine_names.now k ≡ true) }
@@ -84,7 +84,7 @@ pub fn runtime_kind(machine_names: &MachineNames, text: &[u8]) -> Option<Kind>
     })
 }
 
-/// What stands after `link`.
+/// What follows `link`.
 pub fn link_kind(machine_names: &MachineNames, text: &[u8]) -> Option<Kind>
     ensures kind { result ≡ link_kind machine_names.now text.now }
     ensures fits { IfSome result (λ k. fits_kind machine_names.now k ≡ true) }
@@ -100,7 +100,7 @@ pub fn link_kind(machine_names: &MachineNames, text: &[u8]) -> Option<Kind>
     })
 }
 
-/// What stands after `link_state`.
+/// What follows `link_state`.
 pub fn link_state_kind(machine_names: &MachineNames, text: &[u8]) -> Option<Kind>
     ensures kind { result ≡ link_state_kind machine_names.now text.now }
     ensures fits { IfSome result (λ k. fits_kind machine_names.now k ≡ true) }
@@ -118,7 +118,7 @@ pub fn link_state_kind(machine_names: &MachineNames, text: &[u8]) -> Option<Kind
     })
 }
 
-/// What stands after `event`.
+/// What follows `event`.
 pub fn event_kind(machine_names: &MachineNames, text: &[u8]) -> Option<Kind>
     ensures kind { result ≡ event_kind machine_names.now text.now }
     ensures fits { IfSome result (λ k. fits_kind machine_names.now k ≡ true) }

@@ -1,6 +1,6 @@
-//! Bytes that are held in place, until there is no room for one more line.
+//! Bytes in a buffer, until there is no room for one more line.
 
-ghost use Rattle.std.specs.Prelude.{◌≡◌, ◌+◌, ◌≤◌, ◌++◌, decimal, take};
+ghost use Rattle.std.specs.Prelude.{◌≡◌, ◌+◌, ◌≤◌, ◌++◌, decimal, length, take};
 
 use crate::spelling::digits::put_decimal;
 use crate::spelling::piece::Piece;
@@ -8,7 +8,7 @@ use crate::spelling::short::ShortText;
 use crate::writing::device_words::DeviceWords;
 use std::marker::Model;
 
-/// How many bytes are held at most.
+/// How many bytes the buffer has at most.
 const BUFFER_BYTES: usize = 32_768;
 
 /// Bytes that grow at their end, and that contracts see as their list. Putting more after them takes no
@@ -58,7 +58,7 @@ impl ByteBuffer {
         &self.room[..self.used]
     }
 
-    /// How many more can be held.
+    /// For how many more there is room.
     #[inline(always)]
     pub fn left(&self) -> usize
         ensures { result + length self.now ≡ 32768 }
@@ -190,27 +190,27 @@ impl ByteBuffer {
     }
 }
 
-/// Copies all of a room after the first bytes that are held, since a copy of a known size costs least.
-/// Returns where the text in it ends.
+/// Copies all of a room after the first bytes of the buffer, since a copy of a known size costs least.
+/// Returns the end of the text in it.
 #[inline(always)]
-fn copy_room<const N: usize>(
-    buffer: &mut [u8; 32768],
+pub fn copy_room<const N: usize>(
+    buffer: &mut [u8],
     used: usize,
     room: &[u8; N],
     len: usize,
 ) -> usize
-    requires room { used + N ≤ 32768 }
+    requires room { used + N ≤ length buffer.old }
     requires len { len ≤ N }
     ensures text { take result buffer.new ≡ take used buffer.old ++ take len room.now }
     ensures end { result ≡ used + len }
 {
-    // What lies apart from all else is copied without a look at where it lies.
+    // What lies apart from all else is copied without a look at its position.
     let bytes = *room;
     buffer[used..used + N].copy_from_slice(&bytes);
     used + len
 }
 
-/// Puts a number in decimal after the first bytes that are held. Returns where it ends.
+/// Puts a number in decimal after the first bytes of the buffer. Returns its end.
 #[inline(always)]
 fn put_digits(buffer: &mut [u8; 32768], used: usize, number: u64) -> usize
     requires { used + 20 ≤ 32768 }

@@ -1,4 +1,4 @@
-//! Numbers in decimal, whose digits are written where they stay, two at a time.
+//! Numbers in decimal, whose digits are written in place, two at a time.
 
 ghost use Rattle.std.specs.Prelude.{◌≡◌, ◌+◌, ◌/◌, ◌%◌, ◌<◌, ◌≤◌, ◌∷◌, ◌++◌, [], decimal, length, take};
 
@@ -8,7 +8,18 @@ use itoa::write_digits;
 static PAIRS: [u8; 200] =
     *b"00010203040506070809101112131415161718192021222324252627282930313233343536373839404142434445464748495051525354555657585960616263646566676869707172737475767778798081828384858687888990919293949596979899";
 
-/// Puts two digits after the first bytes of a room, and answers where they end.
+/// Puts a byte after the first bytes of a room, and answers where it ends.
+#[inline(always)]
+pub fn put_byte(room: &mut [u8], used: usize, byte: u8) -> usize
+    requires { used + 1 ≤ length room.old }
+    ensures text { take result room.new ≡ take used room.old ++ byte ∷ [] }
+    ensures end { result ≡ used + 1 }
+{
+    room[used] = byte;
+    used + 1
+}
+
+/// Puts two digits after the first bytes of a room, and answers their end.
 #[inline(always)]
 fn put_pair(room: &mut [u8], used: usize, pair: u64) -> usize
     requires pair { pair < 100 }
@@ -23,7 +34,7 @@ fn put_pair(room: &mut [u8], used: usize, pair: u64) -> usize
     used + 2
 }
 
-/// Puts a digit after the first bytes of a room, and answers where it ends.
+/// Puts a digit after the first bytes of a room, and answers its end.
 #[inline(always)]
 fn put_digit(room: &mut [u8], used: usize, digit: u64) -> usize
     requires digit { digit < 10 }
@@ -35,7 +46,7 @@ fn put_digit(room: &mut [u8], used: usize, digit: u64) -> usize
     used + 1
 }
 
-/// Puts a number below 100 after the first bytes of a room, and answers where it ends.
+/// Puts a number below 100 after the first bytes of a room, and answers its end.
 #[inline(always)]
 fn put_two(room: &mut [u8], used: usize, number: u64) -> usize
     requires number { number < 100 }
@@ -50,7 +61,7 @@ fn put_two(room: &mut [u8], used: usize, number: u64) -> usize
     }
 }
 
-/// Puts a number below 10,000 after the first bytes of a room, and answers where it ends.
+/// Puts a number below 10,000 after the first bytes of a room, and answers its end.
 #[inline(always)]
 fn put_four(room: &mut [u8], used: usize, number: u64) -> usize
     requires number { number < 10000 }
@@ -65,7 +76,7 @@ fn put_four(room: &mut [u8], used: usize, number: u64) -> usize
     put_pair(room, end, number % 100)
 }
 
-/// Puts a number below 100,000,000 after the first bytes of a room, and answers where it ends.
+/// Puts a number below 100,000,000 after the first bytes of a room, and answers its end.
 #[inline(always)]
 fn put_eight(room: &mut [u8], used: usize, number: u64) -> usize
     requires number { number < 100000000 }
@@ -95,7 +106,7 @@ fn digits_of(number: u64) -> usize
     count
 }
 
-/// Puts a number in decimal after the first bytes of a room, and answers where it ends.
+/// Puts a number in decimal after the first bytes of a room, and answers its end.
 #[inline(always)]
 pub fn put_decimal(room: &mut [u8], used: usize, number: u64) -> usize
     requires { used + length (decimal number) ≤ length room.old }
@@ -112,7 +123,7 @@ pub fn put_decimal(room: &mut [u8], used: usize, number: u64) -> usize
     put_long(room, used, number)
 }
 
-/// Puts a number after the first bytes of a room, also if it is long, and answers where it ends.
+/// Puts a number after the first bytes of a room, also if it is long, and answers its end.
 #[cold]
 #[inline(never)]
 fn put_long(room: &mut [u8], used: usize, number: u64) -> usize

@@ -1,4 +1,4 @@
-//! The words of lines that stand for no value of a type of their own, each in one row for the reader and the
+//! The words of lines that mean no value of a type of their own, each in one row for the reader and the
 //! writer.
 
 /// An answer without an error.

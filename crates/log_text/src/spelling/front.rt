@@ -2,29 +2,24 @@ ghost use Rattle.std.specs.Prelude.{◌≡◌, ◌≤◌, length, true};
 ghost use Rattle.sleep_model.specs.Fits.{fits_word, is_word64};
 ghost use Rattle.log_text.specs.Front.{front_text};
 
+use crate::spelling::number_text::NumberText;
 use crate::spelling::short::ShortText;
 use sleep_model::EventNow;
 
-/// The front of an entry's line, its moment and the word, kept since lines in a row often share it.
+/// The front of an entry's line, its moment and the word, stored since lines in a row often share it.
 #[derive(Drop)]
 pub struct LineFront {
     time: u64,
     word: EventNow,
+    count: NumberText,
+    hard: NumberText,
     text: ShortText,
+    ghost count_is: { count.number ≡ word.count },
+    ghost hard_is: { hard.number ≡ word.hard },
     ghost spelled: { text ≡ front_text time word },
 }
 
 impl LineFront {
-    /// The front of lines at that moment, in ms, with that word.
-    pub fn of(time: u64, word: EventNow) -> Self
-        ensures time { result.time ≡ time }
-        ensures word { result.word ≡ word }
-    {
-        let mut text = ShortText::of(b"");
-        spell(&mut text, time, word);
-        LineFront { time, word, text }
-    }
-
     /// The front of lines at the beginning, where nothing was registered.
     pub fn start() -> Self {
         let word = EventNow {
@@ -32,7 +27,16 @@ impl LineFront {
             count: 0,
             hard: 0,
         };
-        LineFront::of(0, word)
+        let (count, hard) = (NumberText::of(0), NumberText::of(0));
+        let mut text = ShortText::of(b"");
+        text.set_front(0, word.inpr, &count, &hard);
+        LineFront {
+            time: 0,
+            word,
+            count,
+            hard,
+            text,
+        }
     }
 
     /// Goes on to that moment, in ms, and that word.
@@ -52,7 +56,10 @@ impl LineFront {
         ensures time { self.new.time ≡ time }
         ensures word { self.new.word ≡ word }
     {
-        spell(&mut self.text, time, word);
+        self.count.move_to(word.count);
+        self.hard.move_to(word.hard);
+        self.text
+            .set_front(time, word.inpr, &self.count, &self.hard);
         self.time = time;
         self.word = word;
     }
@@ -91,21 +98,4 @@ fn word_of(inpr: u32, count: u32, hard: u32) -> EventNow
     ensures fits { fits_word result ≡ true }
 {
     EventNow { inpr, count, hard }
-}
-
-/// Spells the moment and the word, each with the space after it, in place of what the text was.
-#[inline(always)]
-#[tactic(auto, using(std::proofs::Common::append_assoc, crate::proofs::Decimals::decimal_short, crate::proofs::Decimals::decimal_short32))]
-fn spell(text: &mut ShortText, time: u64, word: EventNow)
-    ensures { text.new ≡ front_text time word }
-{
-    text.clear();
-    text.push_number(time);
-    text.push_byte(b' ');
-    text.push_number(u64::from(word.inpr));
-    text.push_byte(b'/');
-    text.push_number(u64::from(word.count));
-    text.push_byte(b'/');
-    text.push_number(u64::from(word.hard));
-    text.push_byte(b' ');
 }

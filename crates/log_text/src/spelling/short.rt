@@ -2,7 +2,8 @@
 
 ghost use Rattle.std.specs.Prelude.{take};
 
-use crate::spelling::digits::put_decimal;
+use crate::spelling::digits::{put_byte, put_decimal};
+use crate::spelling::number_text::NumberText;
 use std::marker::Model;
 
 /// A short text at the beginning of its room, that contracts see as the list of its bytes.
@@ -23,7 +24,8 @@ impl Model for ShortText {
 }
 
 impl ShortText {
-    ghost use Rattle.std.specs.Prelude.{◌≡◌, ◌+◌, ◌≤◌, ◌∷◌, ◌++◌, [], decimal, length, take};
+    ghost use Rattle.std.specs.Prelude.{◌≡◌, ◌+◌, ◌≤◌, ◌++◌, length, take};
+    ghost use Rattle.log_text.specs.Front.{front_text};
 
     /// The text of these bytes.
     pub fn of(bytes: &[u8]) -> Self
@@ -48,33 +50,21 @@ impl ShortText {
         self.len = len;
     }
 
-    /// Forgets the text.
+    /// Puts a moment, in ms, and a word of these numbers in place of the text, each with the space after it.
     #[inline(always)]
-    pub fn clear(&mut self)
-        ensures { self.new ≡ [] }
+    #[tactic(auto, using(std::proofs::Common::append_assoc, crate::proofs::Decimals::decimal_short, crate::proofs::Decimals::decimal_short32))]
+    pub fn set_front(&mut self, time: u64, inpr: u32, count: &NumberText, hard: &NumberText)
+        ensures { self.new ≡ front_text time (record { inpr = inpr; count = count.now.number; hard = hard.now.number }) }
     {
-        self.len = 0;
-    }
-
-    /// Puts a byte after the text.
-    #[inline(always)]
-    pub fn push_byte(&mut self, byte: u8)
-        requires { length self.old + 1 ≤ 56 }
-        ensures text { self.new ≡ self.old ++ byte ∷ [] }
-        ensures len { length self.new ≡ length self.old + 1 }
-    {
-        self.room[self.len] = byte;
-        self.len += 1;
-    }
-
-    /// Puts the number in decimal after the text.
-    #[inline(always)]
-    pub fn push_number(&mut self, number: u64)
-        requires { length self.old + length (decimal number) ≤ 56 }
-        ensures text { self.new ≡ self.old ++ decimal number }
-        ensures len { length self.new ≡ length self.old + length (decimal number) }
-    {
-        self.len = put_decimal(&mut self.room, self.len, number);
+        let room = &mut self.room;
+        let end = put_decimal(room, 0, time);
+        let end = put_byte(room, end, b' ');
+        let end = put_decimal(room, end, u64::from(inpr));
+        let end = put_byte(room, end, b'/');
+        let end = count.put_after(room, end);
+        let end = put_byte(room, end, b'/');
+        let end = hard.put_after(room, end);
+        self.len = put_byte(room, end, b' ');
     }
 
     /// The text.

@@ -1,4 +1,4 @@
-//! What has one spelling in a log, and how its parts are put together.
+//! What has one spelling in a log, and how its pieces are put together.
 
 ghost use Rattle.std.specs.Prelude.{◌∷◌, [], decimal, length};
 
@@ -14,7 +14,7 @@ pub trait Spelled {
     /// The most bytes that the spelling has.
     ghost most: { Self → ℕ };
 
-    /// Puts it after what is held.
+    /// Puts it at the end of the buffer.
     fn put_on(self, out: &mut ByteBuffer)
         requires short { most self ≤ 64 }
         requires room { length out.old + 64 ≤ 32768 }
@@ -88,14 +88,14 @@ impl Spelled for u64 {
     }
 }
 
-/// Puts each part in turn after what is held, as `put!(out; "source ", name)`.
+/// Puts each piece in turn at the end of the buffer, as `put!(out; "source ", name)`.
 macro_rules! put {
     ($out:expr; $($part:expr),+) => {{
         $(Spelled::put_on($part, $out);)+
     }};
 }
 
-/// Puts each word in turn after what is held, with a space between two, as `put_words!(out; Verb::Save,
+/// Puts each word in turn at the end of the buffer, with a space between two, as `put_words!(out; Verb::Save,
 /// count, OK)`.
 macro_rules! put_words {
     ($out:expr; $first:expr $(, $word:expr)*) => {{

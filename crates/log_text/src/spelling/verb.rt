@@ -57,7 +57,7 @@ pub enum Verb {
     Clear,
 }
 
-/// Picks one column of the table of verbs: each verb has its word. Those of device phases stand first, since
+/// Picks one column of the table of verbs: each verb has its word. Those of device phases come first, since
 /// a log has most of them.
 macro_rules! by_verb {
     (@word $from:expr; $($verb:ident $word:literal;)*) => {

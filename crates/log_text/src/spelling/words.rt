@@ -122,7 +122,7 @@ impl Spelled for PlatUndo {
     }
 }
 
-/// What stands before a script's name.
+/// What comes before a script's name.
 pub fn script_word(kind: TaskKind) -> &'static str
     ensures word { result.now ≡ script_word kind }
     ensures few { length result.now ≤ 5 }

@@ -17,7 +17,7 @@ pub struct DeviceWords {
     pub ending: Piece,
 }
 
-/// What an entry of a device's prepare says, where it answered 0.
+/// What an entry of a device's prepare says, if it answered 0.
 #[inline(always)]
 fn prepared_words(device: u32, r: i32) -> Option<DeviceWords>
     ensures { IfSome result (λ w. (m : Machine) → body m (kind.Prepare device r) ++ newline ≡ w.verb ++ w.phase ++ device_of m w.device ++ w.ending) }
@@ -33,7 +33,7 @@ fn prepared_words(device: u32, r: i32) -> Option<DeviceWords>
     })
 }
 
-/// What an entry says, to the end of its line, where that is words round a device's name.
+/// What an entry says, to the end of its line, if that is words round a device's name.
 #[inline(always)]
 pub fn device_words(kind: Kind) -> Option<DeviceWords>
     ensures { IfSome result (λ w. (m : Machine) → body m kind ++ newline ≡ w.verb ++ w.phase ++ device_of m w.device ++ w.ending) }
@@ -45,7 +45,7 @@ pub fn device_words(kind: Kind) -> Option<DeviceWords>
             device,
             ending: Piece::newline(),
         }),
-        // Most answers are 0. An error takes the way of other lines, where the table of errors spells it.
+        // Most answers are 0. An error takes the way of other lines, which the table of errors spells.
         Kind::End(phase, device, None) => Some(DeviceWords {
             verb: Piece::of(b"end             ", 4),
             phase: phase_piece(phase),

@@ -50,7 +50,7 @@ fn put_script(out: &mut ByteBuffer, names: &ReadyNames, index: u32)
     }
 }
 
-/// Writes the line of an entry part by part, whose front is given.
+/// Writes the line of an entry piece by piece, whose front is given.
 #[cold]
 #[inline(never)]
 fn put_fields(out: &mut ByteBuffer, names: &ReadyNames, front: &LineFront, actor: Actor, kind: Kind)

@@ -7,9 +7,7 @@ ghost use Rattle.sleep_model.specs.Text.{device_name, name_in, script_text, sour
 ghost use Rattle.log_text.specs.Front.{maker_text};
 ghost use Rattle.log_text.specs.Named.{device_names, notifier_names, script_names};
 
-use crate::reading::names::{
-    names_of_devices, names_of_notifiers, names_of_scripts, names_of_sources,
-};
+use crate::reading::names::{ByKind, OfNames, names_of_sources};
 use crate::spelling::short::ShortText;
 use crate::spelling::words::script_word;
 use sleep_base::{Mem, drop_for_mem};
@@ -31,12 +29,7 @@ pub struct ReadyNames<'a> {
     timers: Vec<ShortText>,
     auto: ShortText,
     time: ShortText,
-    devices: Vec<ShortText>,
-    syscore: Vec<ShortText>,
-    notifiers: Vec<ShortText>,
-    sources: Vec<ShortText>,
-    marks: Vec<ShortText>,
-    tasks: Vec<ShortText>,
+    names: ByKind<Vec<ShortText>>,
 }
 
 impl<'a> Model for ReadyNames<'a> {
@@ -48,7 +41,7 @@ impl<'a> Model for ReadyNames<'a> {
 
     ghost view = { λ r. r.machine.now };
 
-    ghost invariant = { λ r. IsReady r.machine.now r.none r.auto r.time r.makers.items r.scripts.items r.timers.items r.devices.items r.syscore.items r.notifiers.items r.sources.items r.marks.items r.tasks.items };
+    ghost invariant = { λ r. IsReady r.machine.now r.none r.auto r.time r.makers.items r.scripts.items r.timers.items r.names.devices.items r.names.syscore.items r.names.notifiers.items r.names.sources.items r.names.marks.items r.names.scripts.items };
 }
 
 impl<'a> ReadyNames<'a> {
@@ -61,15 +54,10 @@ impl<'a> ReadyNames<'a> {
         ensures { IfOk result (λ r. r ≡ machine.now) }
     {
         let actors = makers_of(alloc, machine)?;
-        let Ok(things) = texts_of_things(alloc, machine) else {
+        let Ok(names) = ByKind::of(alloc, machine) else {
             return Err(drop_for_mem(actors));
         };
-        let Ok(tasks) = texts_of_tasks(alloc, machine) else {
-            return Err(drop_for_mem((actors, things)));
-        };
         let (makers, scripts, timers) = actors;
-        let (devices, syscore, notifiers) = things;
-        let (sources, marks, tasks) = tasks;
         Ok(ReadyNames {
             machine,
             none: ShortText::of(b""),
@@ -78,12 +66,7 @@ impl<'a> ReadyNames<'a> {
             timers,
             auto: ShortText::of(b"auto "),
             time: ShortText::of(b"time "),
-            devices,
-            syscore,
-            notifiers,
-            sources,
-            marks,
-            tasks,
+            names,
         })
     }
 
@@ -100,23 +83,23 @@ impl<'a> ReadyNames<'a> {
     pub fn device(&self, index: u32) -> &ShortText
         ensures { result.now ≡ device self.now index }
     {
-        name_at(self.devices.as_slice(), &self.none, index)
+        name_at(self.names.devices.as_slice(), &self.none, index)
     }
 
-    /// The name of the device with that number, where it is there.
+    /// The name of the device with that number, if it is there.
     #[inline(always)]
     #[tactic(auto, using(crate::proofs::Lists::device_at))]
     pub fn known_device(&self, index: u32) -> Option<&ShortText>
         ensures { IfSome result (λ t. t.now ≡ device self.now index) }
     {
-        self.devices.as_slice().get(index as usize)
+        self.names.devices.as_slice().get(index as usize)
     }
 
     /// The name of the syscore step with that number, empty past the end.
     pub fn syscore(&self, index: u32) -> &ShortText
         ensures { result.now ≡ syscore self.now index }
     {
-        name_at(self.syscore.as_slice(), &self.none, index)
+        name_at(self.names.syscore.as_slice(), &self.none, index)
     }
 
     /// The name of the notifier with that number, empty past the end.
@@ -124,21 +107,21 @@ impl<'a> ReadyNames<'a> {
     pub fn notifier(&self, index: u32) -> &ShortText
         ensures { result.now ≡ notifier self.now index }
     {
-        name_at(self.notifiers.as_slice(), &self.none, index)
+        name_at(self.names.notifiers.as_slice(), &self.none, index)
     }
 
     /// The name of the source with that number, `autosleep` after those of the machine, empty past it.
     pub fn source(&self, index: u32) -> &ShortText
         ensures { result.now ≡ source self.now index }
     {
-        name_at(self.sources.as_slice(), &self.none, index)
+        name_at(self.names.sources.as_slice(), &self.none, index)
     }
 
     /// The name of the mark with that number, empty past the end.
     pub fn mark(&self, index: u32) -> &ShortText
         ensures { result.now ≡ mark self.now index }
     {
-        name_at(self.marks.as_slice(), &self.none, index)
+        name_at(self.names.marks.as_slice(), &self.none, index)
     }
 
     /// The name of the task with that number, empty past the end.
@@ -146,10 +129,10 @@ impl<'a> ReadyNames<'a> {
     pub fn task(&self, index: u32) -> &ShortText
         ensures { result.now ≡ task self.now index }
     {
-        name_at(self.tasks.as_slice(), &self.none, index)
+        name_at(self.names.scripts.as_slice(), &self.none, index)
     }
 
-    /// Who makes an entry, with the space after it, where it is ready.
+    /// Who makes an entry, with the space after it, if it is ready.
     #[inline(always)]
     pub fn maker(&self, who: Actor) -> Option<&ShortText>
         ensures { IfSome result (λ t. t.now ≡ maker_text self.now who) }
@@ -179,95 +162,51 @@ fn name_at<'a>(names: &'a [ShortText], none: &'a ShortText, index: u32) -> &'a S
     }
 }
 
-/// These names. `Mem` also if one has more bytes than a name may have, which no name has.
+impl OfNames for Vec<ShortText> {
+    ghost listed = { λ texts. texts.items };
+
+    /// The texts of these names. `Mem` also if one has more bytes than a name may have, which no name has.
+    fn of_names(alloc: Global, names: Vec<Name>) -> Result<Self, Mem> {
+        name_texts(alloc, names.as_slice())
+    }
+}
+
+/// These names. `Mem` also if one has more bytes than a name may have.
 fn name_texts(alloc: Global, names: &[Name]) -> Result<Vec<ShortText>, Mem>
     ensures { IfOk result (λ v. v.items ≡ names.now) }
 {
     let mut texts = Vec::with_capacity(alloc, names.len())?;
     for name in names {
-        let name = name.bytes();
-        if name.len() > LONGEST {
-            return Err(Mem);
-        }
-        texts.push(ShortText::of(name))?;
+        texts.push(name_text(name)?)?;
     }
     Ok(texts)
 }
 
-/// The names of the devices.
-fn texts_of_devices(alloc: Global, machine: &Machine) -> Result<Vec<ShortText>, Mem>
-    ensures { IfOk result (λ v. v.items ≡ device_names machine.now) }
+/// The text of a name. `Mem` if it has more bytes than a name may have.
+fn name_text(name: &Name) -> Result<ShortText, Mem>
+    ensures { IfOk result (λ t. t ≡ name.now) }
 {
-    let names = names_of_devices(alloc, machine.devices.as_slice())?;
-    name_texts(alloc, names.as_slice())
+    let name = name.bytes();
+    if name.len() > LONGEST {
+        return Err(Mem);
+    }
+    Ok(ShortText::of(name))
 }
 
-/// The names of the notifiers.
-fn texts_of_notifiers(alloc: Global, machine: &Machine) -> Result<Vec<ShortText>, Mem>
-    ensures { IfOk result (λ v. v.items ≡ notifier_names machine.now) }
+/// Who makes an entry, of that kind and that name, with the space after it. `Mem` if the name has more bytes
+/// than a name may have.
+fn maker(kind: &[u8], name: &Name) -> Result<ShortText, Mem>
+    requires { length kind.now ≤ 6 }
+    ensures { IfOk result (λ t. t ≡ (kind.now ++ name.now) ++ space) }
 {
-    let names = names_of_notifiers(alloc, machine.notifiers.as_slice())?;
-    name_texts(alloc, names.as_slice())
-}
-
-/// The names of the sources.
-fn texts_of_sources(alloc: Global, machine: &Machine) -> Result<Vec<ShortText>, Mem>
-    ensures { IfOk result (λ v. v.items ≡ source_names machine.now) }
-{
-    let names = names_of_sources(alloc, machine.sources.as_slice())?;
-    name_texts(alloc, names.as_slice())
-}
-
-/// The names of the tasks.
-fn texts_of_scripts(alloc: Global, machine: &Machine) -> Result<Vec<ShortText>, Mem>
-    ensures { IfOk result (λ v. v.items ≡ script_names machine.now) }
-{
-    let names = names_of_scripts(alloc, machine.actors.as_slice())?;
-    name_texts(alloc, names.as_slice())
-}
-
-/// The names of the devices, of the syscore steps and of the notifiers.
-fn texts_of_things(alloc: Global, machine: &Machine) -> Result<ThreeTexts, Mem>
-    ensures devices { IfOk result (λ t. t.0.items ≡ device_names machine.now) }
-    ensures syscore { IfOk result (λ t. t.1.items ≡ machine.now.syscore) }
-    ensures notifiers { IfOk result (λ t. t.2.items ≡ notifier_names machine.now) }
-{
-    let devices = texts_of_devices(alloc, machine)?;
-    let Ok(syscore) = name_texts(alloc, machine.syscore.as_slice()) else {
-        return Err(drop_for_mem(devices));
-    };
-    let Ok(notifiers) = texts_of_notifiers(alloc, machine) else {
-        return Err(drop_for_mem((devices, syscore)));
-    };
-    Ok((devices, syscore, notifiers))
-}
-
-/// The names of the sources, of the marks and of the tasks.
-fn texts_of_tasks(alloc: Global, machine: &Machine) -> Result<ThreeTexts, Mem>
-    ensures sources { IfOk result (λ t. t.0.items ≡ source_names machine.now) }
-    ensures marks { IfOk result (λ t. t.1.items ≡ machine.now.marks) }
-    ensures tasks { IfOk result (λ t. t.2.items ≡ script_names machine.now) }
-{
-    let sources = texts_of_sources(alloc, machine)?;
-    let Ok(marks) = name_texts(alloc, machine.marks.as_slice()) else {
-        return Err(drop_for_mem(sources));
-    };
-    let Ok(tasks) = texts_of_scripts(alloc, machine) else {
-        return Err(drop_for_mem((sources, marks)));
-    };
-    Ok((sources, marks, tasks))
-}
-
-/// Who makes an entry, of that kind and that name, with the space after it.
-fn maker(kind: &[u8], name: &[u8]) -> ShortText
-    requires kind { length kind.now ≤ 6 }
-    requires name { length name.now ≤ 32 }
-    ensures { result ≡ (kind.now ++ name.now) ++ space }
-{
+    let name = name.bytes();
+    if name.len() > LONGEST {
+        return Err(Mem);
+    }
     let mut text = ShortText::of(kind);
     text.push(name);
     text.push(b" ");
-    text
+    Ok(text)
 }
 
 /// Devices, scripts and the timers of sources as who makes an entry.
@@ -293,11 +232,7 @@ fn device_makers(alloc: Global, devices: &[Device]) -> Result<Vec<ShortText>, Me
 {
     let mut texts = Vec::with_capacity(alloc, devices.len())?;
     for device in devices {
-        let name = device.name.bytes();
-        if name.len() > LONGEST {
-            return Err(Mem);
-        }
-        texts.push(maker(b"dev:", name))?;
+        texts.push(maker(b"dev:", &device.name)?)?;
     }
     Ok(texts)
 }
@@ -309,12 +244,8 @@ fn script_makers(alloc: Global, scripts: &[Script]) -> Result<Vec<ShortText>, Me
 {
     let mut texts = Vec::with_capacity(alloc, scripts.len())?;
     for script in scripts {
-        let name = script.name.bytes();
-        if name.len() > LONGEST {
-            return Err(Mem);
-        }
         let word = script_word(script.kind).as_bytes();
-        texts.push(maker(word, name))?;
+        texts.push(maker(word, &script.name)?)?;
     }
     Ok(texts)
 }
@@ -335,11 +266,7 @@ fn timer_texts(alloc: Global, names: &[Name]) -> Result<Vec<ShortText>, Mem>
 {
     let mut texts = Vec::with_capacity(alloc, names.len())?;
     for name in names {
-        let name = name.bytes();
-        if name.len() > LONGEST {
-            return Err(Mem);
-        }
-        texts.push(maker(b"timer:", name))?;
+        texts.push(maker(b"timer:", name)?)?;
     }
     Ok(texts)
 }

@@ -1,4 +1,4 @@
-//! The lines of entries that stay where they are.
+//! The lines of entries that are not moved.
 
 ghost use Rattle.std.specs.Prelude.{◌≡◌, ◌++◌, OnOk, IfOk, flat_map};
 ghost use Rattle.sleep_model.specs.Text.{entry_line};

@@ -73,7 +73,7 @@ fn closing_lines(alloc: Global, names: &ReadyNames, log: &Log) -> Result<Vec<u8>
     out.into_vec()
 }
 
-/// Writes what is held.
+/// Writes the buffer.
 #[cold]
 #[inline(never)]
 #[tactic(auto, using(crate::proofs::Passed::passes_all))]
@@ -88,7 +88,7 @@ fn pass_on<K: ByteSink>(sink: &mut K, buffer: &mut ByteBuffer) -> Result<(), Fai
     Ok(())
 }
 
-/// Writes what is held, where there is no room for one more line.
+/// Writes the buffer, if there is no room for one more line.
 #[tactic(auto, using(crate::proofs::Passed::passes_none))]
 #[inline(always)]
 fn make_room<K: ByteSink>(sink: &mut K, buffer: &mut ByteBuffer) -> Result<(), Failed>
@@ -103,7 +103,7 @@ fn make_room<K: ByteSink>(sink: &mut K, buffer: &mut ByteBuffer) -> Result<(), F
     pass_on(sink, buffer)
 }
 
-/// Writes what is held and the bytes after it, in one piece where there is room for them.
+/// Writes the buffer and the bytes after it, in one piece if there is room for them.
 #[tactic(auto, using(sleep_base::proofs::Written::one_failed, sleep_base::proofs::Written::both_written))]
 fn write_last<K: ByteSink>(
     sink: &mut K,

@@ -13,11 +13,11 @@ use sleep_model::{Entry, Kind, Stats, Waiting};
 use std::alloc::Global;
 use std::marker::Model;
 
-/// The room that any line has where it is put together.
+/// The room in which any line is put together.
 pub const LINE: usize = 2048;
 
 /// Lines that are written one after the other, and that contracts see as the list of their bytes. The last
-/// ones are held in place, where a line takes no memory.
+/// ones are in a buffer, in which a line takes no memory.
 #[derive(Drop)]
 pub struct LineWriter {
     bytes: Vec<u8>,
@@ -32,7 +32,7 @@ impl Model for LineWriter {
     ghost view = { λ w. w.bytes.items ++ w.buffer };
 }
 
-/// Puts the bytes that are held after the others.
+/// Puts the bytes of the buffer after the others.
 #[cold]
 #[inline(never)]
 fn pass_on(bytes: &mut Vec<u8>, buffer: &mut ByteBuffer) -> Result<(), Mem>

@@ -1,4 +1,4 @@
-use Rattle.std.proofs.Common.{◌≡◌, ◌≤◌, ◌++◌, drop, length}
+use Rattle.std.proofs.Common.{◌≡◌, ◌+◌, ◌≤◌, ◌++◌, drop, length, vec_len, vec_capacity}
 use Rattle.log_merge.specs.WithCounts.{with_counts}
 use Rattle.log_merge.specs.Remainders.{seen}
 use Rattle.log_merge.proofs.with_counts.put_leading.Given as goal
@@ -8,3 +8,4 @@ invariant-loop-place l =
     (l.all.items ++ with_counts l.before l.reader (drop l.place (seen l.others))
     ≡ l.fn.all.items ++ with_counts l.before l.reader (drop l.from (seen l.others)))
     × (l.place ≤ length l.others)
+    × (vec_len l.all + length l.others ≤ vec_capacity l.all + l.place)

@@ -1,4 +1,4 @@
--- The first bytes of the room stand after those that were held.
+-- The first bytes of the room follow those in the buffer.
 use Rattle.std.proofs.Common.{◌≤◌, length, arith}
 use Rattle.log_text.proofs.Buffering.{buffered_room}
 use Rattle.log_text.proofs.spelling.buffer.copy_room.Goals as goal

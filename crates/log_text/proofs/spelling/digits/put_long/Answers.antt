@@ -1,4 +1,4 @@
--- The digits stand after the first bytes.
+-- The digits follow the first bytes.
 use Rattle.std.proofs.Common.{◌≡◌, ◌≤◌, length, decimal, arith}
 use Rattle.log_text.proofs.Buffering.{held_digits}
 use Rattle.log_text.proofs.spelling.digits.put_long.Goals as goal

@@ -1,4 +1,4 @@
--- The parts that were put, one after another.
+-- The texts that were put, one after another.
 use Rattle.std.proofs.Common.{append_assoc}
 use Rattle.log_text.proofs.writing.body.put_froze_end.Goals as goal
 

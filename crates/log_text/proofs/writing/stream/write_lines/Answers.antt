@@ -1,4 +1,4 @@
--- What is told of the rest is told of all lines.
+-- What holds of the rest holds of all lines.
 use Rattle.std.proofs.Common.{◌++◌, ◌∙◌, ap, append_assoc, flat_map, arith}
 use Rattle.std.proofs.lemmas.Result.{err_from_is_err_and}
 use Rattle.sleep_model.specs.Text.{entry_line}

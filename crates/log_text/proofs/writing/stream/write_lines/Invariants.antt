@@ -1,4 +1,4 @@
--- What is told of the lines that are held, of those of the entries that are left and of those after is told of all.
+-- The lines in the buffer, those of the entries that are left and those after are all lines.
 use Rattle.std.proofs.Common.{◌≤◌, ◌++◌, length, flat_map}
 use Rattle.sleep_model.specs.Text.{entry_line}
 use Rattle.sleep_model.specs.Interleaved.{unread}

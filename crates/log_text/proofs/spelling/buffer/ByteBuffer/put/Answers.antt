@@ -1,4 +1,4 @@
--- The bytes stand after those that were held.
+-- The bytes follow those in the buffer.
 use Rattle.std.proofs.Common.{◌≤◌, ◌∙◌, length, length-append, take, ap, sym, arith}
 use Rattle.log_text.proofs.Buffering.{buffered_bytes}
 use Rattle.log_text.proofs.spelling.buffer.ByteBuffer.put.Goals as goal
