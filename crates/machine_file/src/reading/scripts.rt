@@ -18,7 +18,7 @@ ghost use Rattle.machine_file.specs.Stopping.{StopsUnless};
 ghost use Rattle.machine_file.specs.Knows.{texts, names, AreFew, known_seen};
 
 use crate::fault::Stop;
-use crate::names::devices::Devices;
+use crate::names::devices::NamedDevices;
 use crate::names::known::{Known, index_of_name};
 use crate::reading::texts::{name_of_text, text_from};
 use crate::rules::cycles::index_among;
@@ -175,7 +175,7 @@ fn thing_in(value: &Value<'_>, member: &str, names: &KeyIndex<&str>) -> Result<u
 }
 
 /// The number of the device that has to be named at a member.
-fn device_in(value: &Value<'_>, member: &str, devices: &Devices) -> Result<u32, Stop>
+fn device_in(value: &Value<'_>, member: &str, devices: &NamedDevices) -> Result<u32, Stop>
     ensures ok { IfOk result (λ n. (names_thing member.now (names devices.now) (view value.now) ≡ true) × (n ≡ thing_at member.now (names devices.now) (view value.now))) }
     ensures err { IfErr result (StopsUnless (names_thing member.now (names devices.now) (view value.now))) }
 {
@@ -228,7 +228,7 @@ fn runtime_in(operation: &Value<'_>, known: &Known<'_>) -> Result<Op, Stop>
 }
 
 /// The numbers of the supplier and the consumer that have to be named.
-fn ends_in(operation: &Value<'_>, devices: &Devices) -> Result<(u32, u32), Stop>
+fn ends_in(operation: &Value<'_>, devices: &NamedDevices) -> Result<(u32, u32), Stop>
     ensures valid { IfOk result (λ _. names_ends (names devices.now) (view operation.now) ≡ true) }
     ensures supplier { IfOk result (λ t. t.0 ≡ thing_at (codes "supplier") (names devices.now) (view operation.now)) }
     ensures consumer { IfOk result (λ t. t.1 ≡ thing_at (codes "consumer") (names devices.now) (view operation.now)) }
