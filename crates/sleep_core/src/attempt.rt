@@ -30,7 +30,7 @@ impl<'m> Core<'m> {
         }
     }
 
-    /// How a freeze of a group ends that a wakeup breaks off.
+    /// How a freeze ends that a wakeup breaks off: with the tasks that are left, or as frozen if none is.
     fn woken_end(&self, group: Group) -> FrozeEnd
         ensures { result ≡ woken_end (left self.now.machine group (entries self.now.past)) }
     {
@@ -44,7 +44,7 @@ impl<'m> Core<'m> {
         }
     }
 
-    /// A freeze of a group that goes on since that time. The tasks that it waits for are counted already,
+    /// A freeze of a group that has gone on since that time. The tasks that it waits for are counted already,
     /// and looked for only at its end.
     fn froze_due(&self, now: EventNow, group: Group, since: u64) -> Due
         requires { since ≤ 2 ^ 63 }
@@ -75,7 +75,7 @@ impl<'m> Core<'m> {
         }
     }
 
-    /// A step of the platform on the way down.
+    /// The platform is asked for a step on the way down (`suspend_ops`).
     fn platform_due(&self, step: PlatDo) -> Due
         ensures { result ≡ Makes (kind.PlatformDo step (answered self.now.machine (entries self.now.past) (what.Platform step))) }
     {
@@ -93,7 +93,7 @@ impl<'m> Core<'m> {
         }
     }
 
-    /// The next part of the core is suspended.
+    /// The `suspend` of the next `syscore_ops` is called.
     fn syscore_suspend_due(&self) -> Due
         ensures { result ≡ if_left (λ x. kind.SyscoreSuspend x (answered self.now.machine (entries self.now.past) (what.Syscore x)))
             (next_syscore_suspended self.now.machine (entries self.now.past)) }
@@ -104,7 +104,7 @@ impl<'m> Core<'m> {
         }
     }
 
-    /// What wakes a machine that entered sleep so.
+    /// What wakes a machine that entered sleep at that time, at that position of the word.
     fn wakes_due(&self, now: EventNow, sleep: Sleep) -> Due
         requires { sleep.since ≤ 2 ^ 63 }
         ensures { result ≡ wakes_due self.now.machine (entries self.now.past) now sleep }
@@ -118,7 +118,7 @@ impl<'m> Core<'m> {
         }
     }
 
-    /// The entering, and the sleep after it.
+    /// The machine enters sleep; after that, what wakes it.
     fn enter_due(&self, now: EventNow) -> Due
         ensures { result ≡ enter_due self.now.machine (entries self.now.past) now (sleep_of (entries self.now.past)) }
     {
@@ -130,7 +130,7 @@ impl<'m> Core<'m> {
         }
     }
 
-    /// The next part of the core is resumed.
+    /// The `resume` of the next `syscore_ops` is called.
     fn syscore_resume_due(&self) -> Due
         ensures { result ≡ if_left kind.SyscoreResume (next_syscore_resumed self.now.machine (entries self.now.past)) }
     {
@@ -192,7 +192,8 @@ impl<'m> Core<'m> {
         }
     }
 
-    /// What is made at a stage, or else at the one after it.
+    /// What is made at a stage, or else at the one after it. One look ahead is enough: no two stages in a row
+    /// have nothing to do. Its code stays out of line, since few entries come from these stages.
     #[inline(never)]
     pub(crate) fn stage_or_next(&self, now: EventNow, stage: Stage) -> Due
         requires { IsProper stage }

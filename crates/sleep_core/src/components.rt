@@ -86,6 +86,7 @@ fn move_work(autosleep: &mut Autosleep, kind: Kind, actor: Actor)
 {
     match actor {
         Actor::Auto => {
+            // A copy of its own, so that the compiler stores the entry's kind in this arm only.
             let own = kind;
             autosleep.note(own, actor);
         }
@@ -166,7 +167,8 @@ impl<'m> Components<'m> {
     }
 
     /// Takes note of an entry by which a task, or the autosleep work, sleeps, has slept, passes, or posts or
-    /// takes a mark. It concerns the position of that task or the state of the work, and the marks.
+    /// takes a mark. It concerns the position of that task or the state of the work, and the marks. The word
+    /// is an argument for the clause only.
     #[inline(always)]
     pub(crate) fn note_task(&mut self, now: EventNow, actor: Actor, kind: Kind)
         requires task { IsOfTask kind }
