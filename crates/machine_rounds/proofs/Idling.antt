@@ -39,13 +39,13 @@ use Rattle.end_laws.proofs.Waking.{events_first, time_forward}
 use Rattle.fit_laws.specs.Ranged.{is_ranged_entry}
 use Rattle.fit_laws.proofs.Fitted.{log_fits}
 use Rattle.wakeup_source.specs.SourceStates.{SourceState}
-use Rattle.machine_rounds.specs.declared.after_idle_round.AfterIdleRound.{AfterIdleRound}
+use Rattle.machine_rounds.specs.declared.after_idle_round.RunEnd.{RunEnd}
 use Rattle.machine_rounds.specs.declared.run.RunFault.{RunFault}
 use Rattle.machine_rounds.specs.declared.run.RunFault.TheVariants as fault
 use Rattle.running_laws.specs.Running.{entry_count, histories, journal_histories, of_sources}
 use Rattle.running_laws.proofs.Ends.{running_ends, running_keeps, stats_are, told_all}
 use Rattle.machine_rounds.specs.Waits.{all_stats, script_waits}
-use Rattle.machine_rounds.specs.Runs.{AfterStretches, AfterTry, EndsSo, Fails, IsClosed, IsHalted, IsRefused, IsRun, MadeNothing, IsLastLook, RunState, entries_made, nobody_enabled}
+use Rattle.machine_rounds.specs.Runs.{AfterStretches, AfterTry, EndsSo, Fails, IsAfterIdleRound, IsClosed, IsHalted, IsRefused, IsRun, MadeNothing, IsLastLook, RunState, entries_made, nobody_enabled}
 
 -- ---- tries
 
@@ -62,10 +62,16 @@ same_then first second third h g = record {
 }
 
 -- what stretches came to, if no fewer entries were made before them
-pub stretched : (first second third : RunState) (n : ℕ) (came : Result (Option AfterIdleRound) RunFault) → entries_made first ≤ entries_made second → AfterStretches n second third came → AfterStretches n first third came
+pub stretched : (first second third : RunState) (n : ℕ) (came : Result (Option RunEnd) RunFault) → entries_made first ≤ entries_made second → AfterStretches n second third came → AfterStretches n first third came
 stretched first second third n (Ok None) more h = omega (arith, more, h)
-stretched first second third n (Ok (Some rest)) more h = h
+stretched first second third n (Ok (Some run_end)) more h = h
 stretched first second third n (Err fault) more h = h
+
+-- what comes after rounds, the last of which did nothing
+pub after_rounds : (first second third : RunState) (came : Result (Option RunEnd) RunFault) → entries_made first ≤ entries_made second → IsAfterIdleRound second third came → AfterStretches 1 first third came
+after_rounds first second third (Ok None) more h = omega (arith, more, h)
+after_rounds first second third (Ok (Some run_end)) more h = h.1
+after_rounds first second third (Err fault) more h = h
 
 -- a try after another
 pub try_then : (first second third : RunState) (x y : Bool) → AfterTry first second (Ok x) → AfterTry second third (Ok y) → AfterTry first third (Ok (y || x))
@@ -73,12 +79,6 @@ try_then first second third true true h g = omega (arith, h, g)
 try_then first second third false true h g = omega (arith, g, made_same first second h)
 try_then first second third true false h g = omega (arith, h, made_same second third g)
 try_then first second third false false h g = same_then first second third h g
-
--- one actor more that is not enabled
-pub none_more : (m : Machine) (journal : List Entry) (of : ℕ → List Entry) (now : EventNow) (kind : ℕ → Actor) (n k : ℕ) (none on : Bool) → k ≡ suc n → none ≡ none_enabled m journal of now kind n
-    → on ≡ is_enabled m journal of now (kind n) → (not on && none) ≡ none_enabled m journal of now kind k
-none_more m journal of now kind n k none on next so is =
-    ap₂ (λ x y. not x && y) is so ∙ ap (none_enabled m journal of now kind) (sym next)
 
 -- ---- nobody goes on
 

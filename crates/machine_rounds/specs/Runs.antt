@@ -30,8 +30,8 @@ use Rattle.running_laws.specs.Running.{IsRunning, calls_made, entry_count, histo
 use Rattle.end_laws.specs.Attempts.{attempts_end}
 use Rattle.end_laws.specs.Waking.{events_wake_first, time_goes_forward}
 use Rattle.run_objects.specs.Closed.{IsClosedTable}
-use Rattle.machine_rounds.specs.declared.after_idle_round.AfterIdleRound.{AfterIdleRound}
-use Rattle.machine_rounds.specs.declared.after_idle_round.AfterIdleRound.TheVariants.{GoesOn, Finished, Stuck}
+use Rattle.machine_rounds.specs.declared.after_idle_round.RunEnd.{RunEnd}
+use Rattle.machine_rounds.specs.declared.after_idle_round.RunEnd.TheVariants.{Finished, Stuck}
 use Rattle.machine_rounds.specs.declared.run.RunFault.{RunFault}
 use Rattle.machine_rounds.specs.declared.run.RunFault.TheVariants as fault
 
@@ -109,6 +109,12 @@ abbrev pub CanGoOn : RunState → EventNow → Actor → Type 0
 CanGoOn run word who =
     IsActor run.machine who × (is_enabled run.machine (entries run.journal) (histories run.sources) word who ≡ true)
 
+-- after the first who can go on was looked for, by that word: it made an entry, or nobody can and nothing has changed
+abbrev pub AfterGoing : RunState → RunState → EventNow → Result Bool RunFault → Type 0
+AfterGoing old new word (Ok true) = entries_made old < entries_made new
+AfterGoing old new word (Ok false) = (new ≡ old) × (nobody_enabled new word ≡ true)
+AfterGoing old new word (Err fault) = IsRefused new fault
+
 -- the run is over, by that word
 abbrev pub is_over : RunState → EventNow → Bool
 is_over run word = is_finished run.machine (entries run.journal) (histories run.sources) word
@@ -125,11 +131,15 @@ pub record IsQuiescent (run : RunState) : Type 0 where
   pub made : (who : Actor) → IsActor run.machine who
       → calls_made run.machine run.sources who ≡ calls_due run.machine who (entries run.journal)
 
+-- a run is over: nothing is left to do, or nobody goes on, by a word that was looked at last
+abbrev pub IsAtEnd : RunState → RunEnd → Type 0
+IsAtEnd run (Finished word) = IsLastLook run word × (is_over run word ≡ true)
+IsAtEnd run (Stuck word) = IsLastLook run word × IsHalted run word
+
 -- after a round that did nothing, somebody who can go on does, or time jumps; else the run is over
-abbrev pub IsAfterIdleRound : RunState → RunState → Result AfterIdleRound RunFault → Type 0
-IsAfterIdleRound old new (Ok GoesOn) = entries_made old < entries_made new
-IsAfterIdleRound old new (Ok (Finished word)) = MadeNothing old new × IsLastLook new word × (is_over new word ≡ true)
-IsAfterIdleRound old new (Ok (Stuck word)) = MadeNothing old new × IsLastLook new word × IsHalted new word
+abbrev pub IsAfterIdleRound : RunState → RunState → Result (Option RunEnd) RunFault → Type 0
+IsAfterIdleRound old new (Ok None) = entries_made old < entries_made new
+IsAfterIdleRound old new (Ok (Some run_end)) = MadeNothing old new × IsAtEnd new run_end
 IsAfterIdleRound old new (Err fault) = IsRefused new fault
 
 -- after rounds for as long as each makes entries: the last one did, or there are no fewer entries
@@ -138,17 +148,10 @@ AfterRounds old new (Ok true) = entries_made old < entries_made new
 AfterRounds old new (Ok false) = entries_made old ≤ entries_made new
 AfterRounds old new (Err fault) = IsRefused new fault
 
--- after all rounds the run is over
-abbrev pub AfterAll : RunState → Result AfterIdleRound RunFault → Type 0
-AfterAll run (Ok GoesOn) = ⊥
-AfterAll run (Ok (Finished word)) = IsLastLook run word × (is_over run word ≡ true)
-AfterAll run (Ok (Stuck word)) = IsLastLook run word × IsHalted run word
-AfterAll run (Err fault) = IsRefused run fault
-
 -- after n stretches at least n entries more were made, or the run is over
-abbrev pub AfterStretches : ℕ → RunState → RunState → Result (Option AfterIdleRound) RunFault → Type 0
+abbrev pub AfterStretches : ℕ → RunState → RunState → Result (Option RunEnd) RunFault → Type 0
 AfterStretches n old new (Ok None) = entries_made old + n ≤ entries_made new
-AfterStretches n old new (Ok (Some rest)) = AfterAll new (Ok rest)
+AfterStretches n old new (Ok (Some run_end)) = IsAtEnd new run_end
 AfterStretches n old new (Err fault) = IsRefused new fault
 
 -- the run is over, and ends so, by a word that was looked at last

@@ -18,14 +18,12 @@ use sleep_model::{Actor, Due, EventNow, Journal, ListOf, LogEnd, SourceList, Sta
 use std::alloc::{AllocError, Global};
 use std::sync::Wait;
 
-/// What comes after a round that did nothing.
+/// How a run is over, by the word that was looked at last.
 #[derive(Clone, Copy)]
-pub(crate) enum AfterIdleRound {
-    /// Another round.
-    GoesOn,
-    /// The end, by the word that was looked at last: nothing is left to do.
+pub(crate) enum RunEnd {
+    /// Nothing is left to do.
     Finished(EventNow),
-    /// The end, by that word: nobody goes on.
+    /// Nobody goes on.
     Stuck(EventNow),
 }
 
@@ -71,105 +69,14 @@ fn wake_sleepers(core: &Core<'_>, waiters: &mut Waiters) {
 }
 
 impl<'m> Run<'m> {
-    ghost use Rattle.std.specs.Prelude.{◌≡◌, ◌<◌, ◌+◌, true, length, Ok, IfOk, OnOk, IfErr};
+    ghost use Rattle.std.specs.Prelude.{◌≡◌, ◌<◌, true, IfOk, OnOk, IfErr};
     ghost use Rattle.std.specs.List.{list_all};
     ghost use Rattle.sleep_model.specs.Fits.{fits_stats};
-    ghost use Rattle.std.specs.Bool.{OnTrue};
-    ghost use Rattle.sleep_model.specs.declared.entry.Actor.TheVariants.{Script, Dev};
-    ghost use Rattle.sleep_model.specs.Legal.{JumpStep, is_enabled, none_enabled, none_expires, waiting};
+    ghost use Rattle.sleep_model.specs.Legal.{JumpStep, waiting};
     ghost use Rattle.sleep_model.specs.Numbers.{time_of};
     ghost use Rattle.sleep_state.specs.JournalRooms.{entries};
     ghost use Rattle.running_laws.specs.Running.{histories, journal_histories};
-    ghost use Rattle.machine_rounds.specs.Runs.{nobody_enabled, IsQuiescent, IsClosed, IsHalted, IsLastLook, IsAfterIdleRound, AfterAll, EndsSo, Fails, IsRefused, IsRun, entries_made};
-
-    /// Whether the run is quiescent: nobody has a call on a source to make, and no attempt is open.
-    fn is_quiescent(&self) -> bool
-        ensures { OnTrue result (IsQuiescent self.now) }
-    {
-        self.jobs.owe_none() && !self.core().is_open()
-    }
-
-    /// Whether a script can make anything that sees this word. If the run is quiescent, none can that has
-    /// exited or sleeps on.
-    #[inline(always)]
-    fn may_go(&self, quiescent: bool, script: u32, word: EventNow) -> bool
-        requires quiescent { OnTrue quiescent (IsQuiescent self.now) }
-        requires script { script < length self.now.machine.actors }
-        ensures { result ≡ is_enabled self.now.machine (entries self.now.journal) (histories self.now.sources) word (Script script) }
-    {
-        if quiescent && self.core().is_stopped(script) {
-            return false;
-        }
-        self.is_enabled(Actor::Script(script), word)
-    }
-
-    /// Whether no script can make anything that sees this word. If the run is quiescent and all scripts are
-    /// stopped, none is asked.
-    fn scripts_idle(&self, quiescent: bool, word: EventNow) -> bool
-        requires { OnTrue quiescent (IsQuiescent self.now) }
-        ensures { result ≡ none_enabled self.now.machine (entries self.now.journal) (histories self.now.sources) word Script (length self.now.machine.actors) }
-    {
-        if quiescent && self.core().are_stopped() {
-            return true;
-        }
-        self.all_scripts_idle(quiescent, word)
-    }
-
-    /// Whether no script can make anything that sees this word, by a pass over all.
-    fn all_scripts_idle(&self, quiescent: bool, word: EventNow) -> bool
-        requires { OnTrue quiescent (IsQuiescent self.now) }
-        ensures { result ≡ none_enabled self.now.machine (entries self.now.journal) (histories self.now.sources) word Script (length self.now.machine.actors) }
-    {
-        let mut none = true;
-        for script in 0..self.machine.actors.len() as u32 {
-            none = !self.may_go(quiescent, script, word) & none;
-        }
-        none
-    }
-
-    /// Whether no device can make anything that sees this word. If the run is quiescent, none can.
-    fn devices_idle(&self, quiescent: bool, word: EventNow) -> bool
-        requires { OnTrue quiescent (IsQuiescent self.now) }
-        ensures { result ≡ none_enabled self.now.machine (entries self.now.journal) (histories self.now.sources) word Dev (length self.now.machine.devices) }
-    {
-        // A look at the field makes the invariant known here: the entries are legal.
-        let _ = &self.machine;
-        quiescent || self.all_devices_idle(word)
-    }
-
-    /// Whether no device can make anything that sees this word, each of them being asked.
-    fn all_devices_idle(&self, word: EventNow) -> bool
-        ensures { result ≡ none_enabled self.now.machine (entries self.now.journal) (histories self.now.sources) word Dev (length self.now.machine.devices) }
-    {
-        let mut none = true;
-        for device in 0..self.machine.devices.len() as u32 {
-            none = !self.is_enabled(Actor::Dev(device), word) & none;
-        }
-        none
-    }
-
-    /// Whether no timer of a source is to make anything.
-    fn timers_idle(&self) -> bool
-        ensures { result ≡ none_expires (length self.now.machine.sources + 1) (histories self.now.sources) (time_of (entries self.now.journal)) }
-    {
-        let mut none = true;
-        for source in 0..self.sources() {
-            none = !self.has_expired(source) & none;
-        }
-        none
-    }
-
-    /// Whether nobody can make anything that sees this word.
-    fn nobody_enabled(&self, word: EventNow) -> bool
-        ensures { result ≡ nobody_enabled self.now word }
-    {
-        let quiescent = self.is_quiescent();
-        let by_script = self.scripts_idle(quiescent, word);
-        let works = self.is_enabled(Actor::Auto, word);
-        let by_device = self.devices_idle(quiescent, word);
-        let by_timer = self.timers_idle();
-        by_script & !works & by_device & by_timer
-    }
+    ghost use Rattle.machine_rounds.specs.Runs.{IsClosed, IsHalted, IsLastLook, IsAfterIdleRound, IsAtEnd, EndsSo, Fails, IsRefused, IsRun, entries_made};
 
     /// Wakes whoever may wait for the moment to which time has jumped: devices wait for none, nor do frozen
     /// scripts, and the timers only if one is due.
@@ -202,25 +109,24 @@ impl<'m> Run<'m> {
     }
 
     /// After a round that did nothing: whoever can go on makes an entry by the word that is looked at; time
-    /// jumps if nobody can; or the run is over.
-    pub(crate) fn after_idle_round<R: Wait>(&mut self, rt: &R) -> Result<AfterIdleRound, RunFault>
+    /// jumps if nobody can; or the run is over. Answers how it is over, if it is.
+    pub(crate) fn after_idle_round<R: Wait>(&mut self, rt: &R) -> Result<Option<RunEnd>, RunFault>
         ensures machine { self.new.machine ≡ self.old.machine }
         ensures after { IsAfterIdleRound self.old self.new result }
     {
         let word = self.look(rt);
-        if !self.nobody_enabled(word) {
-            self.go_by(rt, word)?;
-            return Ok(AfterIdleRound::GoesOn);
+        if self.go_by(rt, word)? {
+            return Ok(None);
         }
         if self.is_whole() {
-            return Ok(AfterIdleRound::Finished(word));
+            return Ok(Some(RunEnd::Finished(word)));
         }
         match self.next_time() {
             Some(to) => {
                 self.jump(word, to)?;
-                Ok(AfterIdleRound::GoesOn)
+                Ok(None)
             }
-            None => Ok(AfterIdleRound::Stuck(word)),
+            None => Ok(Some(RunEnd::Stuck(word))),
         }
     }
 
@@ -238,16 +144,16 @@ impl<'m> Run<'m> {
     }
 
     /// How a run that is over ended.
-    fn end(&self, alloc: Global, after_idle_round: AfterIdleRound) -> Result<LogEnd, AllocError>
-        requires { AfterAll self.now (Ok after_idle_round) }
+    fn end(&self, alloc: Global, run_end: RunEnd) -> Result<LogEnd, AllocError>
+        requires { IsAtEnd self.now run_end }
         ensures { IfOk result (λ end. EndsSo self.now end) }
     {
-        match after_idle_round {
-            AfterIdleRound::Stuck(word) => {
+        match run_end {
+            RunEnd::Stuck(word) => {
                 let those = self.waiting(alloc, word)?;
                 Ok(LogEnd::Stuck(ListOf::of_vec(those)))
             }
-            _ => Ok(LogEnd::Finished),
+            RunEnd::Finished(_) => Ok(LogEnd::Finished),
         }
     }
 
@@ -261,17 +167,13 @@ impl<'m> Run<'m> {
     }
 
     /// How a run that is over ended, and the statistics of all sources then.
-    fn ending(
-        &self,
-        alloc: Global,
-        after_idle_round: AfterIdleRound,
-    ) -> Result<(LogEnd, Vec<Stats>), AllocError>
-        requires { AfterAll self.now (Ok after_idle_round) }
+    fn ending(&self, alloc: Global, run_end: RunEnd) -> Result<(LogEnd, Vec<Stats>), AllocError>
+        requires { IsAtEnd self.now run_end }
         ensures end { IfOk result (λ e. EndsSo self.now e.0) }
         ensures stats { IfOk result (λ e. e.1.items ≡ all_stats self.now.sources (time_of (entries self.now.journal))) }
         ensures ranged { IfOk result (λ e. list_all fits_stats e.1.items ≡ true) }
     {
-        let end = self.end(alloc, after_idle_round)?;
+        let end = self.end(alloc, run_end)?;
         let stats = self.stats(alloc)?;
         Ok((end, stats))
     }
@@ -305,15 +207,11 @@ impl<'m> Run<'m> {
     }
 
     /// The log of a run that is over.
-    pub(crate) fn into_log(
-        self,
-        alloc: Global,
-        after_idle_round: AfterIdleRound,
-    ) -> Result<ApartLog, Mem>
-        requires { AfterAll self (Ok after_idle_round) }
+    pub(crate) fn into_log(self, alloc: Global, run_end: RunEnd) -> Result<ApartLog, Mem>
+        requires { IsAtEnd self run_end }
         ensures { IfOk result (λ log. IsRun self.entry.machine log) }
     {
-        match self.ending(alloc, after_idle_round) {
+        match self.ending(alloc, run_end) {
             Ok((end, stats)) => self.merged(alloc, end, stats),
             Err(_) => Err(drop_for_mem(self)),
         }

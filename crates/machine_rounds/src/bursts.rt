@@ -4,7 +4,7 @@
 ghost use Rattle.std.specs.Prelude.{◌≡◌, ◌≤◌, IfOk};
 ghost use Rattle.machine_rounds.specs.declared.run.RunFault.TheVariants as fault;
 
-use crate::after_idle_round::AfterIdleRound;
+use crate::after_idle_round::RunEnd;
 use crate::jobs::Jobs;
 use crate::pace::Pace;
 use crate::run::{Run, RunFault};
@@ -43,7 +43,7 @@ struct RunInBurst<'m> {
 #[derive(Drop)]
 struct Advance<'m> {
     run: Run<'m>,
-    came: Result<Option<AfterIdleRound>, RunFault>,
+    came: Result<Option<RunEnd>, RunFault>,
 }
 
 /// A run after a burst.
@@ -273,7 +273,7 @@ impl<'m> Run<'m> {
     }
 
     /// Makes that many stretches of the caller's own rounds. Answers how the run is over, if it is.
-    fn alone<R: Wait>(&mut self, rt: &R, stretches: u32) -> Result<Option<AfterIdleRound>, RunFault>
+    fn alone<R: Wait>(&mut self, rt: &R, stretches: u32) -> Result<Option<RunEnd>, RunFault>
         ensures machine { self.new.machine ≡ self.old.machine }
         ensures after { AfterStretches stretches self.old self.new result }
     {

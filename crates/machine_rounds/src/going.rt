@@ -7,7 +7,8 @@ use sleep_model::{Actor, EventNow, Want};
 use std::sync::Wait;
 
 impl<'m> Run<'m> {
-    ghost use Rattle.std.specs.Prelude.{◌≡◌, ◌≤◌, ◌<◌, ◌+◌, true, false, length, IfSome, IfNone, OnOk, IfErr};
+    ghost use Rattle.std.specs.Bool.{OnTrue};
+    ghost use Rattle.std.specs.Prelude.{◌≡◌, ◌≤◌, ◌<◌, ◌+◌, true, length, IfSome, IfNone, OnOk, IfErr};
     ghost use Rattle.sleep_model.specs.declared.entry.Actor.TheVariants.{Script, Dev};
     ghost use Rattle.sleep_model.specs.Calls.{calls_due};
     ghost use Rattle.sleep_model.specs.Due.{due};
@@ -17,26 +18,58 @@ impl<'m> Run<'m> {
     ghost use Rattle.sleep_state.specs.JournalRooms.{entries};
     ghost use Rattle.sleep_core.specs.Cores.{IsActor};
     ghost use Rattle.running_laws.specs.Running.{calls_made, histories};
-    ghost use Rattle.machine_rounds.specs.Runs.{CanGoOn, IsRefused, IsLastLook, actors_idle, entries_made, nobody_enabled};
+    ghost use Rattle.machine_rounds.specs.Runs.{AfterGoing, CanGoOn, IsQuiescent, IsRefused, IsLastLook, actors_idle, entries_made};
 
-    /// The first script that can make something that sees this word.
-    fn enabled_script(&self, word: EventNow) -> Option<Actor>
+    /// Whether the run is quiescent: nobody has a call on a source to make, and no attempt is open.
+    fn is_quiescent(&self) -> bool
+        ensures { OnTrue result (IsQuiescent self.now) }
+    {
+        self.jobs.owe_none() && !self.core().is_open()
+    }
+
+    /// Whether a script can make anything that sees this word. If the run is quiescent, none can that has
+    /// exited or sleeps on.
+    #[inline(always)]
+    fn may_go(&self, quiescent: bool, script: u32, word: EventNow) -> bool
+        requires quiescent { OnTrue quiescent (IsQuiescent self.now) }
+        requires script { script < length self.now.machine.actors }
+        ensures { result ≡ is_enabled self.now.machine (entries self.now.journal) (histories self.now.sources) word (Script script) }
+    {
+        if quiescent && self.core().is_stopped(script) {
+            return false;
+        }
+        self.is_enabled(Actor::Script(script), word)
+    }
+
+    /// The first script that can make something that sees this word. If the run is quiescent and all scripts
+    /// are stopped, none is asked.
+    fn enabled_script(&self, quiescent: bool, word: EventNow) -> Option<Actor>
+        requires { OnTrue quiescent (IsQuiescent self.now) }
         ensures one { IfSome result (CanGoOn self.now word) }
         ensures none { IfNone result (none_enabled self.now.machine (entries self.now.journal) (histories self.now.sources) word Script (length self.now.machine.actors) ≡ true) }
     {
+        if quiescent && self.core().are_stopped() {
+            return None;
+        }
         for script in 0..self.machine.actors.len() as u32 {
-            if self.is_enabled(Actor::Script(script), word) {
+            if self.may_go(quiescent, script, word) {
                 return Some(Actor::Script(script));
             }
         }
         None
     }
 
-    /// The first device that can.
-    fn enabled_device(&self, word: EventNow) -> Option<Actor>
+    /// The first device that can. If the run is quiescent, none can.
+    fn enabled_device(&self, quiescent: bool, word: EventNow) -> Option<Actor>
+        requires { OnTrue quiescent (IsQuiescent self.now) }
         ensures one { IfSome result (CanGoOn self.now word) }
         ensures none { IfNone result (none_enabled self.now.machine (entries self.now.journal) (histories self.now.sources) word Dev (length self.now.machine.devices) ≡ true) }
     {
+        // A look at the field makes the invariant known here: the entries are legal.
+        let _ = &self.machine;
+        if quiescent {
+            return None;
+        }
         for device in 0..self.machine.devices.len() as u32 {
             if self.is_enabled(Actor::Dev(device), word) {
                 return Some(Actor::Dev(device));
@@ -50,10 +83,11 @@ impl<'m> Run<'m> {
         ensures one { IfSome result (CanGoOn self.now word) }
         ensures none { IfNone result (actors_idle self.now word ≡ true) }
     {
-        match self.enabled_script(word) {
+        let quiescent = self.is_quiescent();
+        match self.enabled_script(quiescent, word) {
             Some(who) => Some(who),
             None if self.is_enabled(Actor::Auto, word) => Some(Actor::Auto),
-            None => self.enabled_device(word),
+            None => self.enabled_device(quiescent, word),
         }
     }
 
@@ -119,22 +153,23 @@ impl<'m> Run<'m> {
         }
     }
 
-    /// The next entry of somebody who can go on, by the word that was looked at last, if not all are idle.
-    /// All actors are asked again after it.
-    pub(crate) fn go_by<R: Wait>(&mut self, rt: &R, word: EventNow) -> Result<(), RunFault>
-        requires seen { IsLastLook self.old word }
-        requires some { nobody_enabled self.old word ≡ false }
+    /// The next entry of the first who can go on by the word that was looked at last, if anybody can. All
+    /// actors are asked again after it. Whether it was made.
+    pub(crate) fn go_by<R: Wait>(&mut self, rt: &R, word: EventNow) -> Result<bool, RunFault>
+        requires { IsLastLook self.old word }
         ensures machine { self.new.machine ≡ self.old.machine }
-        ensures made { OnOk result (entries_made self.old < entries_made self.new) }
-        ensures fault { IfErr result (IsRefused self.new) }
+        ensures after { AfterGoing self.old self.new word result }
     {
-        self.waiters.wake_all();
         if let Some(who) = self.enabled_actor(word) {
-            return self.act_by(rt, who, word);
+            self.waiters.wake_all();
+            self.act_by(rt, who, word)?;
+            return Ok(true);
         }
-        match self.expired_source() {
-            Some(source) => self.expire(rt, source),
-            None => unreachable!(),
+        if let Some(source) = self.expired_source() {
+            self.waiters.wake_all();
+            self.expire(rt, source)?;
+            return Ok(true);
         }
+        Ok(false)
     }
 }

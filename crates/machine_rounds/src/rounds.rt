@@ -1,6 +1,6 @@
 //! Rounds over the actors, and what comes after them.
 
-use crate::after_idle_round::AfterIdleRound;
+use crate::after_idle_round::RunEnd;
 use crate::run::{Run, RunFault, TurnOutcome};
 use sleep_model::{Actor, Want, Why};
 use std::sync::Wait;
@@ -224,20 +224,13 @@ impl<'m> Run<'m> {
 
     /// A stretch: rounds, and if the last one made no entry what comes then, an entry or the end of the run.
     /// How the run is over, if it is.
-    pub(crate) fn stretch<R: Wait>(
-        &mut self,
-        rt: &R,
-        most: u64,
-    ) -> Result<Option<AfterIdleRound>, RunFault>
+    pub(crate) fn stretch<R: Wait>(&mut self, rt: &R, most: u64) -> Result<Option<RunEnd>, RunFault>
         ensures machine { self.new.machine ≡ self.old.machine }
         ensures after { AfterStretches 1 self.old self.new result }
     {
         if self.rounds(rt, most)? {
             return Ok(None);
         }
-        match self.after_idle_round(rt)? {
-            AfterIdleRound::GoesOn => Ok(None),
-            end => Ok(Some(end)),
-        }
+        self.after_idle_round(rt)
     }
 }
