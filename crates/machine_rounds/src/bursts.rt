@@ -1,5 +1,5 @@
-//! Bursts: the actors' turns on worker threads, between the caller's own rounds. A stretch is a number of rounds,
-//! and what the run does after a round that made nothing.
+//! Bursts: the actors' turns on worker threads, between the caller's own rounds. A stretch is rounds up to a
+//! number, or to one that made nothing and what then comes.
 
 ghost use Rattle.std.specs.Prelude.{◌≡◌, ◌≤◌, IfOk};
 ghost use Rattle.machine_rounds.specs.declared.run.RunFault.TheVariants as fault;
@@ -34,7 +34,7 @@ struct RunInBurst<'m> {
     machine: &'m Machine,
     /// The event word.
     table: EventTable,
-    /// A stamp that all actors may know.
+    /// The last stamp that anybody made before the burst: each task is taken to know it.
     floor: Stamp,
     waiters: Waiters,
 }
@@ -54,7 +54,7 @@ struct AfterBurst<'m> {
     beside: u64,
     /// How many tasks there were.
     tasks: usize,
-    /// Why a worker stopped, if one did.
+    /// Why a task stopped, if one did.
     stop: Option<Stop>,
 }
 
@@ -63,7 +63,7 @@ impl<'m> RunInBurst<'m> {
     ghost use Rattle.machine_rounds.specs.BurstsOf.{IsRunInBurst, IsBack, IsJoined, entries_of};
     ghost use Rattle.machine_rounds.specs.Runs.{entries_made};
 
-    /// The burst of these parts.
+    /// Makes the burst: the tasks run on worker threads, and all that went in comes back.
     fn make<R: Threads + Wait + Sync, G: Gate + Sync>(
         &self,
         rt: &R,
@@ -79,6 +79,7 @@ impl<'m> RunInBurst<'m> {
             made.contents.core made.contents.sources.items made.contents.tasks.items) }
         ensures grown { IfOk result (λ made. entries_of contents.entry.core contents.entry.sources.items ≤ entries_of made.contents.core made.contents.sources.items) }
     {
+        // `autosleep` is one source more than the machine's own.
         let Ok(actors) = actors_of(
             alloc,
             self.machine.actors.len() as u32,
@@ -97,8 +98,8 @@ impl<'m> RunInBurst<'m> {
         make_burst(rt, alloc, &plan, contents)
     }
 
-    /// Puts the run together again from what came back from a burst. `floor` is a stamp that all actors may know.
-    /// Everybody who waits is to be asked again.
+    /// Puts the run together again from what came back from a burst. `floor` is the last stamp that anybody
+    /// made. Everybody who waits is to be asked again.
     fn joined(
         self,
         core: SeatedCore<'m>,
@@ -147,7 +148,7 @@ impl<'m> RunInBurst<'m> {
         Ok(self.joined(core, sources, jobs, floor))
     }
 
-    /// The burst of these parts, and the run after it.
+    /// Makes the burst of these parts, and gives the run after it.
     fn run_on<R: Threads + Wait + Sync, G: Gate + Sync>(
         self,
         rt: &R,
@@ -188,8 +189,8 @@ impl<'m> Run<'m> {
     ghost use Rattle.machine_rounds.specs.BurstsOf.{IsRunInBurst, entries_of};
     ghost use Rattle.machine_rounds.specs.Runs.{AfterStretches, Fails, IsRefused, IsRun, entries_made};
 
-    /// Whether the journal is so short that no job comes to the end of its numbers in a burst, in which each
-    /// makes at most 1,000 turns.
+    /// Whether the journal is so short that no job's count of turns overflows in a burst, in which each makes
+    /// at most 1,000.
     fn is_short(&self) -> bool
         ensures { OnTrue result (length self.now.journal + 1000 < 2 ^ 63) }
     {
@@ -213,7 +214,7 @@ impl<'m> Run<'m> {
             floor,
             waiters,
         } = self;
-        // A machine has at most 255 sources, and `autosleep` is the last.
+        // The cast loses nothing: a machine has at most 255 sources, and `autosleep` is one more, the last.
         let Ok(tasks) = jobs.into_tasks(alloc, sources.len() as u32, floor) else {
             return Err(drop_for_mem((table, core, sources, waiters)));
         };
@@ -231,8 +232,8 @@ impl<'m> Run<'m> {
         Ok((during, contents))
     }
 
-    /// A burst by this number of workers: each actor of the machine, and each source's timer, makes turns as
-    /// long as it can. `Mem` if there is no memory, or if the journal is too long for a burst (`is_short`).
+    /// A burst by that many workers: each actor, and each source's timer, makes turns while it can, 1,000 at
+    /// most. `Mem`: no memory, or too long a journal (`is_short`).
     fn burst<R: Threads + Wait + Sync, G: Gate + Sync>(
         self,
         rt: &R,
@@ -261,7 +262,8 @@ impl<'m> Run<'m> {
         }
     }
 
-    /// The fault of the run, if a worker stopped: it was out of memory, or it met a full source.
+    /// The fault of the run, if a task stopped: it was out of memory, or met a full source, which is looked
+    /// at again, since no clause speaks of `stop`.
     fn refused(&self, stop: Option<Stop>) -> Option<RunFault>
         ensures { IfSome result (IsRefused self.now) }
     {
