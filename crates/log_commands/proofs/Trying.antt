@@ -1,6 +1,7 @@
 -- A link that is tried after those that there are.
-use Rattle.std.proofs.Common.{◌≡◌, ◌≤◌, ◌<◌, ◌∙◌, ◌||◌, ℕ, Bool, true, false, cond, List, [], ◌∷◌, ◌++◌, length, reverse, nat_le, Some, None, refl, sym, ap, subst, arith, le-leb, leb-true}
+use Rattle.std.proofs.Common.{◌≡◌, ◌≤◌, ◌<◌, ◌∙◌, ◌||◌, ℕ, Bool, true, false, cond, List, [], ◌∷◌, ◌++◌, length, reverse, nat_le, Option, Some, None, refl, sym, ap, subst, arith, le-leb, leb-true}
 use Rattle.std.proofs.lemmas.List.{length-reverse, reverse-append, reverse-reverse}
+use Rattle.sleep_model.specs.declared.entry.Kind.{Kind}
 use Rattle.sleep_model.specs.declared.entry.Kind.TheVariants as kind
 use Rattle.sleep_model.specs.declared.machine.Link.{Link}
 use Rattle.sleep_model.specs.Links.{is_dependent, is_linked}
@@ -10,7 +11,9 @@ use Rattle.sleep_model.proofs.Paths.{no_path_moved, path_below}
 use Rattle.device_links.specs.Adds.{Closes, IsOpen, with_link}
 use Rattle.device_links.specs.Linked.{Linked}
 use Rattle.program_ending.specs.declared.refusal.Refusal.TheVariants.{TooManyLinks, LinkCycle}
-use Rattle.log_commands.specs.Taking.{IsTaken, LinksAreOrdered, link_refusal}
+use Rattle.sleep_stats.specs.Linked.{added_ends}
+use Rattle.sleep_stats.proofs.AddedEnds.{none_added}
+use Rattle.log_commands.specs.Taking.{IsTaken, LinksAreOrdered, link_refusal, refusal_at}
 
 exchanged : (a b c : Bool) → (a || (b || c)) ≡ (b || (a || c))
 exchanged true true c = refl
@@ -84,3 +87,18 @@ module _ (l : Linked) (s c : ℕ) (stands : LinksAreOrdered l) where
     links = rw (linked_is true old) refl;
     stands = stands;
   })
+
+-- an entry without ends is not refused
+none_refused : (parents : List (Option ℕ)) (links : List Link) (what : Kind) → added_ends what ≡ None → refusal_at parents links what ≡ None
+none_refused parents links (kind.LinkAdd supplier consumer None) h = absurd (cc)
+none_refused parents links (kind.LinkAdd supplier consumer (Some error)) h = refl
+none_refused parents links what h = refl
+
+-- .. and nothing changes by it
+pub none_taken : (l : Linked) (what : Kind) → LinksAreOrdered l → added_ends what ≡ None → IsTaken l l what
+none_taken l what stands h = record {
+  good = none_refused l.parents (reverse l.links) what h;
+  parents = refl;
+  links = sym (none_added what (reverse l.links) h);
+  stands = stands;
+}

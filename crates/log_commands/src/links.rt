@@ -10,6 +10,7 @@ ghost use Rattle.log_commands.specs.Taking.{AddsWithin, AllWithin, IsTaken, Link
 use device_links::{LinkFault, Links};
 use program_ending::{Ending, Refusal};
 use sleep_model::{Kind, Log};
+use sleep_stats::{Ends, added_ends};
 
 /// Adds a link that is active. One that is there already is passed over.
 fn add_link(links: &mut Links, supplier: u32, consumer: u32) -> Result<(), Ending>
@@ -38,13 +39,9 @@ fn take_link(links: &mut Links, kind: Kind) -> Result<(), Ending>
     ensures refused { IfErr result (Refuses (λ r.
         refusal_at links.old.parents (reverse links.old.links) kind ≡ Some r)) }
 {
-    match kind {
-        Kind::LinkAdd {
-            supplier,
-            consumer,
-            r: None,
-        } => add_link(links, supplier, consumer),
-        _ => Ok(()),
+    match added_ends(kind) {
+        Some(Ends { supplier, consumer }) => add_link(links, supplier, consumer),
+        None => Ok(()),
     }
 }
 

@@ -1,3 +1,4 @@
 -- The lemmas of this crate.
+pub mod AddedEnds
 mod Marking
 mod LinkIndexes

@@ -9,12 +9,18 @@ use Rattle.sleep_model.specs.declared.machine.Machine.{Machine}
 use Rattle.sleep_model.specs.Links.{is_linked}
 use Rattle.sleep_model.specs.Order.{parents_of}
 use Rattle.device_links.specs.Linked.{Linked}
+use Rattle.sleep_stats.specs.declared.linked.Ends.{Ends}
 
 -- links, the oldest first, with one more at their end that is active; one that there is already is not added again (device_link_add)
 abbrev pub with_one : List Link → ℕ → ℕ → List Link
 with_one links supplier consumer =
     if is_linked links supplier consumer then links
     else links ++ record { supplier = supplier; consumer = consumer; active = true } ∷ []
+
+-- the ends of the link that an entry adds: 0 adds one (device_link_add)
+abbrev pub added_ends : Kind → Option Ends
+added_ends (kind.LinkAdd supplier consumer None) = Some (record { supplier = supplier; consumer = consumer })
+added_ends _ = None
 
 -- links, the oldest first, after an entry: 0 adds one (device_link_add)
 abbrev pub added_after : Kind → List Link → List Link

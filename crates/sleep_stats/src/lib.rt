@@ -16,3 +16,4 @@ mod linked;
 pub use chain::{certified, longest};
 pub use counts::{Counts, LastDev, LastDevs, LastErrnos, count};
 pub use device_chain::Chain;
+pub use linked::{Ends, added_ends};

@@ -6,7 +6,7 @@ ghost use Rattle.sleep_model.specs.declared.entry.Entry.{Entry};
 ghost use Rattle.sleep_model.specs.Accepted.{IsAccepted};
 ghost use Rattle.sleep_model.specs.Order.{parents_of};
 ghost use Rattle.device_links.specs.Passes.{CanBeAdded};
-ghost use Rattle.sleep_stats.specs.Linked.{added_after, added_links, last_linked, last_links, with_last, with_one};
+ghost use Rattle.sleep_stats.specs.Linked.{added_after, added_ends, added_links, last_linked, last_links, with_last, with_one};
 ghost use Rattle.sleep_stats.specs.States.{AreLast, AreMarked, AreSet};
 
 use device_links::Links;
@@ -17,9 +17,23 @@ use std::alloc::Global;
 
 /// The ends of a link.
 #[derive(Clone, Copy, PartialEq, Eq, Hash)]
-struct Ends {
-    supplier: u32,
-    consumer: u32,
+pub struct Ends {
+    pub supplier: u32,
+    pub consumer: u32,
+}
+
+/// The ends of the link that an entry adds. `None` if it adds none.
+pub fn added_ends(kind: Kind) -> Option<Ends>
+    ensures { result ≡ added_ends kind }
+{
+    match kind {
+        Kind::LinkAdd {
+            supplier,
+            consumer,
+            r: None,
+        } => Some(Ends { supplier, consumer }),
+        _ => None,
+    }
 }
 
 /// Links, the oldest first, and whether they are active by their ends, so that a link is found at once.
@@ -70,13 +84,9 @@ fn note_link(link_index: &mut LinkIndex, kind: Kind) -> Result<(), Mem>
     ensures links { OnOk result (link_index.new.links.items ≡ added_after kind link_index.old.links.items) }
     ensures marked { OnOk result (AreMarked link_index.new.links.items (get ⟦<Ends as PartialEq>⟧.eq link_index.new.ends)) }
 {
-    match kind {
-        Kind::LinkAdd {
-            supplier,
-            consumer,
-            r: None,
-        } => add_link(link_index, supplier, consumer),
-        _ => Ok(()),
+    match added_ends(kind) {
+        Some(Ends { supplier, consumer }) => add_link(link_index, supplier, consumer),
+        None => Ok(()),
     }
 }
 
