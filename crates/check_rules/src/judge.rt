@@ -6,7 +6,7 @@ ghost use Rattle.sleep_model.specs.EntryClasses.{class_of};
 ghost use Rattle.rule_definitions.specs.Entry.{KeepsEntry, KeepsRule};
 ghost use Rattle.rule_definitions.specs.Verdict.{rule_number};
 ghost use Rattle.check_past.specs.Passing.{past_of};
-ghost use Rattle.check_sources.specs.Classes.{meant};
+ghost use Rattle.check_sources.specs.Classes.{meant as class_meant};
 ghost use Rattle.check_rules.specs.Judging.{IsBroken, KeepsTogether, is_of_journal, meant, rule_at};
 
 use crate::answers::{keeps_answers, keeps_links, keeps_runtime};
@@ -93,7 +93,7 @@ fn rule_number(rule: Rule) -> u8
 
 /// Whether an entry of that class is the journal's.
 fn is_class_of_journal(class: EntryClass) -> bool
-    ensures { result ≡ is_of_journal (meant class) }
+    ensures { result ≡ is_of_journal (class_meant class) }
 {
     match class {
         EntryClass::Journal => true,
