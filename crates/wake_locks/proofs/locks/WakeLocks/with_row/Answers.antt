@@ -25,7 +25,7 @@ loop-at-preserved g c =
       below = omega (arith, c.loop-at.invariant.below);
       in_range = omega (arith, c.loop-at-test.true);
       soonest = λ to k h. subst (IsSoonest to locks at) (sym c.with_lock-found.ensures)
-          (one_more to locks at lock c.end_or_never-end.result c.loop-at.found k l is c.end_or_never-end.ensures.end c.end_or_never-end.ensures.after
+          (one_more to locks at lock c.end_or_never-end.result c.loop-at.found k l is c.end_or_never-end.ensures.end c.end_or_never-end.ensures.following
           (subst (λ n. IsSoonest to locks n c.loop-at.found) {y = suc at} (omega (arith, c.loop-at-test.true)) (c.loop-at.invariant.soonest to k h)));
       none = within_more locks at c.args.until lock c.end_or_never-end.result c.loop-at.least c.min-least.result l is c.end_or_never-end.ensures.end c.min-least.ensures none;
     }
