@@ -68,6 +68,16 @@ fn wake_sleepers(core: &Core<'_>, waiters: &mut Waiters) {
     }
 }
 
+/// Wakes whoever may wait for a moment that has come: devices wait for none, nor do frozen scripts, and the
+/// timers only if one is due.
+fn wake_waiters(core: &Core<'_>, waiters: &mut Waiters, is_due: bool) {
+    waiters.wake_but_sleepers();
+    if is_due {
+        waiters.wake_timers();
+    }
+    wake_sleepers(core, waiters);
+}
+
 impl<'m> Run<'m> {
     ghost use Rattle.std.specs.Prelude.{◌≡◌, ◌<◌, true, IfOk, OnOk, IfErr};
     ghost use Rattle.std.specs.List.{list_all};
@@ -78,17 +88,12 @@ impl<'m> Run<'m> {
     ghost use Rattle.running_laws.specs.Running.{histories, journal_histories};
     ghost use Rattle.machine_rounds.specs.Runs.{IsClosed, IsHalted, IsLastLook, IsAfterIdleRound, IsAtEnd, EndsSo, Fails, IsRefused, IsRun, entries_made};
 
-    /// Wakes whoever may wait for the moment to which time has jumped: devices wait for none, nor do frozen
-    /// scripts, and the timers only if one is due.
+    /// Wakes whoever may wait for the moment to which time has jumped.
     fn wake_for_time(&mut self)
         ensures { self.new ≡ self.old }
     {
         let is_due = self.expired_source().is_some();
-        self.waiters.wake_but_sleepers();
-        if is_due {
-            self.waiters.wake_timers();
-        }
-        wake_sleepers(self.seated.core(), &mut self.waiters);
+        wake_waiters(self.seated.core(), &mut self.waiters, is_due);
     }
 
     /// Time jumps to the next pending moment, if nobody can make anything by the word that was looked at
