@@ -1,4 +1,5 @@
-//! What an attempt's maker does next (`kernel/power/suspend.c`).
+//! What an attempt's maker does next (`kernel/power/suspend.c`). `Mem` is also the answer to a sum that
+//! overflows: no log that fits into memory comes to it (`later_by`).
 
 ghost use Rattle.std.specs.Prelude.{◌≡◌, IfOk};
 ghost use Rattle.sleep_model.specs.declared.progress.Stage.TheVariants.{Notifies, NotifiesPost, StartsCpus, StartsSyscore, StopsCpus, StopsSyscore};
@@ -25,7 +26,8 @@ fn freeze_due(past: &Passed<'_>, now: EventNow, group: Group) -> Result<Due, Mem
     }
 }
 
-/// The machine enters sleep, or it sleeps until it wakes. `Mem` if the alarm is beyond all time.
+/// The machine enters sleep, unless a wakeup is pending (`busy`); once asleep, what wakes it. `Mem` if the
+/// alarm is beyond all time.
 fn enter_due(past: &Passed<'_>, now: EventNow) -> Result<Due, Mem>
     ensures { IfOk result (λ d. d ≡ enter_due past.now.machine (journal_of past.now) now (sleep_of (journal_of past.now))) }
 {

@@ -1,4 +1,5 @@
-//! The rule that each actor makes its own steps, each once and in order.
+//! The rule that each actor makes its own steps, each once and in order. The maker's order is left to
+//! `path.rt` and `walk.rt`, reads and writes to `reads.rt`.
 
 ghost use Rattle.std.specs.Prelude.{◌≡◌, ◌↔◌, true, IsTrue, IfOk, option_copied, slice_get};
 ghost use Rattle.rule_definitions.specs.Steps.{IsDeviceStep, IsLinkOf, IsLinkStateOf, IsMakerStep, IsOfAutosleep, IsOfOp, IsPostOf, IsRequestOf, IsScriptStep, IsStep, IsWorkStep, KeepsSteps, is_of_state_write};
@@ -176,7 +177,8 @@ fn is_script_step(past: &Passed<'_>, i: u32, kind: Kind) -> Result<bool, Mem>
     }
 }
 
-/// Whether the entry is of autosleep's work in that state. `Mem` if a nap ends beyond all time.
+/// Whether the entry is of autosleep's work in that state. That an attempt needs autosleep on is a rule of
+/// `reads.rt`. `Mem` if a nap ends beyond all time.
 fn is_work_step(past: &Passed<'_>, now: EventNow, work: Work, kind: Kind) -> Result<bool, Mem>
     ensures { IfOk result (λ b. IsTrue b ↔ IsWorkStep past.now.machine (journal_of past.now) now work kind) }
 {
@@ -242,8 +244,9 @@ fn is_maker_step(past: &Passed<'_>, kind: Kind) -> bool
     }
 }
 
-/// Whether an entry of the journal is the next step of its actor (`kernel/power/main.c`,
-/// `kernel/power/autosleep.c`, `drivers/base/power/main.c`). `Mem` if a sleep ends beyond all time.
+/// Whether an entry of the journal is its actor's next step, or any of an attempt's maker
+/// (`kernel/power/main.c`, `autosleep.c`, `suspend.c`, `drivers/base/power/main.c`). `Mem` if a sleep ends
+/// beyond all time.
 pub fn keeps_steps(past: &Passed<'_>, now: EventNow, who: Actor, kind: Kind) -> Result<bool, Mem>
     ensures { IfOk result (λ b. IsTrue b ↔ KeepsSteps past.now.machine (journal_of past.now) now who kind) }
 {

@@ -5,7 +5,7 @@ use crate::kinds::entry_of;
 use crate::parts::{CaseRunner, answer_lines};
 use crate::reply::{CaseReply, NO_CALL, NO_REPLY, Out, error, long, maybe_long, number, one, two};
 use sleep_model::{Actor, Kind, Sleep, Stage, Thaw};
-use sleep_state::Path;
+use sleep_state::OpenAttempt;
 
 /// A question about an attempt.
 #[derive(Clone, Copy)]
@@ -103,12 +103,12 @@ fn sleep_reply(sleep: Option<Sleep>) -> CaseReply {
 }
 
 /// The reply to a question about the path.
-fn reply_of(path: &Path, verb: PathQuestion) -> CaseReply {
+fn reply_of(path: &OpenAttempt, verb: PathQuestion) -> CaseReply {
     match verb {
         PathQuestion::Attempts => one(number(path.attempts())),
         PathQuestion::Maker => maker_reply(path.maker()),
         PathQuestion::Stage => stage_of_reply(path.stage()),
-        PathQuestion::Failed => one(error(path.failed())),
+        PathQuestion::Failed => one(error(path.error())),
         PathQuestion::FreezeSince => one(maybe_long(path.freeze_since())),
         PathQuestion::Sleep => sleep_reply(path.sleep()),
     }
@@ -116,7 +116,7 @@ fn reply_of(path: &Path, verb: PathQuestion) -> CaseReply {
 
 /// Notes an entry of an actor, after a position and at a time, after few attempts.
 #[tactic(auto, using(sleep_state::proofs::Counting::attempts_few))]
-fn noted(path: &mut Path, who: Actor, kind: Kind, pos: u64, time: u64) -> CaseReply {
+fn noted(path: &mut OpenAttempt, who: Actor, kind: Kind, pos: u64, time: u64) -> CaseReply {
     if path.attempts() > 9 {
         return NO_CALL;
     }
@@ -125,7 +125,7 @@ fn noted(path: &mut Path, who: Actor, kind: Kind, pos: u64, time: u64) -> CaseRe
 }
 
 /// The same by a text: the position, the time and the entry.
-fn note(path: &mut Path, text: &str) -> CaseReply {
+fn note(path: &mut OpenAttempt, text: &str) -> CaseReply {
     let (pos, rest) = cut(text, ' ');
     let (time, entry) = cut(rest, ' ');
     let (pos, time) = (Words::of(pos).long(0), Words::of(time).long(0));
@@ -135,7 +135,7 @@ fn note(path: &mut Path, text: &str) -> CaseReply {
     }
 }
 
-impl CaseRunner for Path {
+impl CaseRunner for OpenAttempt {
     /// Answers a question about the path, or notes an entry.
     fn answer(&mut self, line: &str, out: &mut Out) {
         let (word, rest) = cut(line, ' ');
@@ -149,5 +149,5 @@ impl CaseRunner for Path {
 
 /// Answers the lines of a path.
 pub fn paths(lines: &str, out: &mut Out) {
-    answer_lines(&mut Path::new(), lines, out);
+    answer_lines(&mut OpenAttempt::new(), lines, out);
 }

@@ -14,7 +14,7 @@ use sleep_model::{Due, Kind, Phase, SkipCause, Why};
 pub struct Down {
     /// The last error of any device, or `EBUSY` of a wakeup that was found.
     pub async_error: Option<Errno>,
-    /// The last error of a synchronous device's callback.
+    /// The error of the synchronous device's callback that failed, if one did: the walk ends at it.
     pub error: Option<Errno>,
 }
 
@@ -33,8 +33,8 @@ pub struct DownEnv<'a> {
     pub wakeup_pending: bool,
 }
 
-/// Whether the phase skips the device as direct-complete. Suspend does if the device asked for it, is runtime
-/// suspended, may not wake the machine, and all right below it are direct-complete. Late and noirq follow it.
+/// Whether the phase skips the device as direct-complete: in suspend if it asked, is runtime suspended, may
+/// not wake, and its children and consumers all are; late and noirq likewise.
 fn is_direct(env: &DownEnv<'_>, p: Phase, device: u32) -> bool
     ensures { (down : Down) → result ≡ is_direct_on (down_state down env.now) p device }
 {
@@ -109,7 +109,8 @@ impl Down {
         }
     }
 
-    /// The walk at a device if there is no error: it schedules an asynchronous one, and suspends another itself.
+    /// The walk at a device if there is no error: an asynchronous one is scheduled, a synchronous one waits,
+    /// is skipped or begins inside the walk.
     fn walk_device(&self, env: &DownEnv<'_>, p: Phase, device: u32) -> Due
         requires { self.now.async_error ≡ None }
         ensures { result ≡ walk_device_on (down_state self.now env.now) p device }

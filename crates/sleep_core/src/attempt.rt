@@ -1,4 +1,5 @@
-//! What the maker of the open attempt does next, stage by stage (`kernel/power/suspend.c`).
+//! What the maker of the open attempt, the task inside `enter_state`, does next, stage by stage
+//! (`kernel/power/suspend.c`).
 
 ghost use Rattle.std.specs.Prelude.{◌≡◌, ◌≤◌, ◌^◌};
 ghost use Rattle.sleep_model.specs.declared.progress.Due.TheVariants.{Makes};
@@ -30,7 +31,8 @@ impl<'m> Core<'m> {
         }
     }
 
-    /// How a freeze ends that a wakeup breaks off: with the tasks that are left, or as frozen if none is.
+    /// How a freeze ends that a wakeup breaks off: with the tasks that are left. One at least is: `None` only
+    /// makes the match total.
     fn woken_end(&self, group: Group) -> FrozeEnd
         ensures { result ≡ woken_end (left self.now.machine group (entries self.now.past)) }
     {
@@ -44,8 +46,8 @@ impl<'m> Core<'m> {
         }
     }
 
-    /// A freeze of a group that has gone on since that time. The tasks that it waits for are counted already,
-    /// and looked for only at its end.
+    /// A freeze of a group that has gone on since that time. The number of tasks left is kept; the first of
+    /// them is looked up only at the end.
     fn froze_due(&self, now: EventNow, group: Group, since: u64) -> Due
         requires { since ≤ 2 ^ 63 }
         ensures { result ≡ froze_due (entries self.now.past) now group since (left self.now.machine group (entries self.now.past)) }
@@ -104,7 +106,8 @@ impl<'m> Core<'m> {
         }
     }
 
-    /// What wakes a machine that entered sleep at that time, at that position of the word.
+    /// What wakes a machine that sleeps: a step of the event word (`combined_event_count`) since it entered,
+    /// else its alarm.
     fn wakes_due(&self, now: EventNow, sleep: Sleep) -> Due
         requires { sleep.since ≤ 2 ^ 63 }
         ensures { result ≡ wakes_due self.now.machine (entries self.now.past) now sleep }
@@ -118,7 +121,7 @@ impl<'m> Core<'m> {
         }
     }
 
-    /// The machine enters sleep; after that, what wakes it.
+    /// The machine enters sleep, unless a wakeup is pending (`busy`); after that, what wakes it.
     fn enter_due(&self, now: EventNow) -> Due
         ensures { result ≡ enter_due self.now.machine (entries self.now.past) now (sleep_of (entries self.now.past)) }
     {
@@ -187,13 +190,14 @@ impl<'m> Core<'m> {
             Stage::NotifiesPost => self.notify_post_due(),
             Stage::Ends => Due::Makes(Kind::Over {
                 n: self.attempts(),
-                r: self.history.path().failed(),
+                r: self.history.attempt().error(),
             }),
         }
     }
 
     /// What is made at a stage, or else at the one after it. One look ahead is enough: no two stages in a row
-    /// have nothing to do. Its code stays out of line, since few entries come from these stages.
+    /// have nothing to do. It stays out of line: `due_of` answers the stages of devices itself, and the
+    /// others make few entries.
     #[inline(never)]
     pub(crate) fn stage_or_next(&self, now: EventNow, stage: Stage) -> Due
         requires { IsProper stage }

@@ -15,7 +15,7 @@ use device_links::Links;
 use platform_steps::Platform;
 use sleep_base::{Mem, drop_for_mem};
 use sleep_model::{Actor, Device, DeviceFlags, Entry, EventNow, Kind, Machine, pos};
-use sleep_state::{Devices, Path, Tasks};
+use sleep_state::{Devices, OpenAttempt, Tasks};
 use std::alloc::Global;
 use syscore_ops::Syscore;
 use task_freezer::Freezer;
@@ -98,7 +98,7 @@ fn move_work(autosleep: &mut Autosleep, kind: Kind, actor: Actor)
 #[derive(Drop)]
 pub(crate) struct Components<'m> {
     pub(crate) guard: Guard<24>,
-    pub(crate) path: Path,
+    pub(crate) path: OpenAttempt,
     pub(crate) devices: Devices,
     pub(crate) board: Board,
     pub(crate) tasks: Tasks,
@@ -143,7 +143,7 @@ impl<'m> Components<'m> {
         };
         Ok(Components {
             guard: Guard::new(),
-            path: Path::new(),
+            path: OpenAttempt::new(),
             devices,
             board,
             tasks,

@@ -8,7 +8,7 @@ use device_links::Links;
 use platform_steps::Platform;
 use sleep_base::Mem;
 use sleep_model::{Actor, Entry, EventNow, Journal, JournalEntry, Kind, Machine, Stamp};
-use sleep_state::{Devices, Path, Tasks};
+use sleep_state::{Devices, OpenAttempt, Tasks};
 use std::alloc::{AllocError, Global};
 use std::marker::Model;
 use syscore_ops::Syscore;
@@ -264,7 +264,7 @@ impl<'m> History<'m> {
     }
 
     /// The state of the open attempt.
-    pub fn path(&self) -> &Path
+    pub fn attempt(&self) -> &OpenAttempt
         ensures { result.now ≡ path_of (entries self.now.past) }
     {
         &self.components.path

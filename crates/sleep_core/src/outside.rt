@@ -128,14 +128,14 @@ impl<'m> Core<'m> {
     pub fn whole(&self) -> bool
         ensures { result ≡ is_over self.now.machine (entries self.now.past) }
     {
-        self.history.tasks().all_exited() && self.history.path().maker().is_none()
+        self.history.tasks().all_exited() && self.history.attempt().maker().is_none()
     }
 
     /// Whether an attempt is open.
     pub fn is_open(&self) -> bool
         ensures { result ≡ is_some (maker (entries self.now.past)) }
     {
-        self.history.path().maker().is_some()
+        self.history.attempt().maker().is_some()
     }
 
     /// Whether each script has exited, or sleeps to a moment that has not come. False may also mean that this

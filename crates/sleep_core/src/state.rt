@@ -97,28 +97,29 @@ impl<'m> Core<'m> {
         ensures is { result ≡ attempts (entries self.now.past) }
         ensures few { result + 1 < 2 ^ 32 }
     {
-        self.history.path().attempts()
+        self.history.attempt().attempts()
     }
 
     /// What the machine answers for a thing in the open attempt.
     pub(crate) fn answered(&self, what: What) -> Option<Errno>
         ensures { result ≡ answered self.now.machine (entries self.now.past) what }
     {
-        self.answers().error(what, self.history.path().attempts())
+        self.answers()
+            .error(what, self.history.attempt().attempts())
     }
 
     /// Whether that actor makes the open attempt.
     pub(crate) fn is_maker(&self, who: Actor) -> bool
         ensures { result ≡ is_actor who (maker (entries self.now.past)) }
     {
-        is_actor(who, self.history.path().maker())
+        is_actor(who, self.history.attempt().maker())
     }
 
     /// Whether the machine sleeps.
     pub(crate) fn is_asleep(&self) -> bool
         ensures { result ≡ sleeps_now (entries self.now.past) }
     {
-        self.history.path().sleep().is_some()
+        self.history.attempt().sleep().is_some()
     }
 
     /// The state of each device.
@@ -154,7 +155,7 @@ impl<'m> Core<'m> {
         ensures is { result ≡ freeze_since (entries self.now.past) }
         ensures early { IfSome result (λ since. since ≤ 2 ^ 63) }
     {
-        self.history.path().freeze_since()
+        self.history.attempt().freeze_since()
     }
 
     /// The machine's sleep, if it sleeps.
@@ -162,7 +163,7 @@ impl<'m> Core<'m> {
         ensures is { result ≡ sleep_of (entries self.now.past) }
         ensures early { IfSome result (λ sleep. sleep.since ≤ 2 ^ 63) }
     {
-        self.history.path().sleep()
+        self.history.attempt().sleep()
     }
 
     /// The stage of the open attempt, if one is open.
@@ -170,7 +171,7 @@ impl<'m> Core<'m> {
         ensures is { result ≡ stage_of (entries self.now.past) }
         ensures proper { IfSome result IsProper }
     {
-        self.history.path().stage()
+        self.history.attempt().stage()
     }
 
     /// What becomes of a freeze of the group that goes on since then.

@@ -249,7 +249,7 @@ impl<'m> Core<'m> {
                     tick,
                 };
                 let made = self.make(makes, who, word, kind, stamp);
-                let attempt = self.history.path().attempts();
+                let attempt = self.history.attempt().attempts();
                 made?;
                 Ok(CoreTurn::Did {
                     stamp,

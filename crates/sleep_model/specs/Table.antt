@@ -61,6 +61,7 @@ row (stage.Ups phase.ResumeNoirq) = always (stage.Ups phase.Early)
 row (stage.Ups phase.Early) = always (stage.PlatformUndo undo.Finish)
 row (stage.PlatformUndo undo.Finish) = always (stage.Ups phase.Resume)
 row (stage.PlatformUndo undo.Recover) = always (stage.Ups phase.Resume)
+-- this is Ups of Resume: no stage is Ups of a phase but the three (dpm_resume_end)
 row (stage.Ups _) = always stage.Completes
 row stage.Completes = always (stage.PlatformUndo undo.End)
 row (stage.PlatformUndo undo.End) = always stage.ClearsSavedCount
@@ -69,7 +70,7 @@ row (stage.Thaws thaw.Kernel) = always (stage.Thaws thaw.All)
 row (stage.Thaws thaw.All) = always stage.NotifiesPost
 row stage.NotifiesPost = always stage.Ends
 row stage.Ends = always stage.Ends
--- no stage is of another phase on the way down
+-- no stage is Downs of another phase: Prepare and Syscore have stages of their own. failed_phase of Prepare reads Recover here
 row (stage.Downs _) = may_fail (stage.PlatformDo down.PrepareLate) (stage.PlatformUndo undo.Recover)
 
 -- ---- the columns of the table, for each sort of stage
@@ -79,8 +80,8 @@ abbrev pub next_stage : Stage → Stage
 next_stage s = (row s).next
 
 -- the stage after a stage that failed (enter_state, suspend_devices_and_enter, suspend_enter)
-abbrev pub failed_at : Stage → Stage
-failed_at s = (row s).failed
+abbrev pub after_failure : Stage → Stage
+after_failure s = (row s).failed
 
 -- after a phase on the devices' way down (suspend_devices_and_enter, suspend_enter)
 abbrev pub stage_after_down : Phase → Stage
@@ -90,7 +91,7 @@ stage_after_down p = (row (stage.Downs p)).next
 abbrev pub stage_after_up : Phase → Stage
 stage_after_up p = (row (stage.Ups p)).next
 
--- after a freeze that left none (suspend_freeze_processes)
+-- after a freeze that froze all its tasks (suspend_freeze_processes)
 abbrev pub stage_after_freeze : Group → Stage
 stage_after_freeze g = (row (stage.Freezes g)).next
 
@@ -110,7 +111,7 @@ stage_after_thaw those = (row (stage.Thaws those)).next
 abbrev pub failed_platform_down : PlatDo → Stage
 failed_platform_down step = (row (stage.PlatformDo step)).failed
 
--- after a freeze that left tasks (suspend_freeze_processes)
+-- after a freeze that left tasks unfrozen (suspend_freeze_processes)
 abbrev pub failed_freeze : Group → Stage
 failed_freeze g = (row (stage.Freezes g)).failed
 
@@ -125,7 +126,7 @@ abbrev pub by_error : Option Errno → Stage → Stage → Stage
 by_error None good failed = good
 by_error (Some r) good failed = failed
 
--- the first if a freeze left none, else the second
+-- the first if a freeze froze all its tasks, else the second
 abbrev pub by_froze : FrozeEnd → Stage → Stage → Stage
 by_froze AllFrozen good failed = good
 by_froze _ good failed = failed
@@ -135,16 +136,16 @@ abbrev pub by_case : Bool → Stage → Stage → Stage
 by_case true here there = here
 by_case false here there = there
 
--- the stage after a phase that is done. That of syscore operations does not fail: one that fails ends the phase at once
+-- the stage after a phase that is done. Nobody makes Done of the two syscore phases: their operations move the stage themselves
 -- (suspend_devices_and_enter, suspend_enter)
 abbrev pub after_done : Phase → Option Errno → Stage
-after_done phase.Prepare r = by_error r (next_stage stage.Prepares) (failed_at stage.Prepares)
+after_done phase.Prepare r = by_error r (next_stage stage.Prepares) (after_failure stage.Prepares)
 after_done phase.Syscore r = next_stage stage.StopsSyscore
 after_done phase.SyscoreResume r = next_stage stage.StartsSyscore
 after_done phase.Complete r = next_stage stage.Completes
 after_done p r = if is_down p then by_error r (stage_after_down p) (failed_phase p) else stage_after_up p
 
--- the stage of the open attempt after an entry; one that is none of the attempt's own leaves the stage as it is
+-- the stage of the open attempt after an entry; one of a single device, or of no attempt, leaves the stage as it is
 -- (enter_state, suspend_devices_and_enter, suspend_enter)
 abbrev pub stage_after : Kind → Option Stage → Option Stage
 stage_after (kind.Attempt n guarded) before = Some stage.Notifies

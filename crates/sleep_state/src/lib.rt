@@ -8,14 +8,14 @@
 #![tactic(auto)]
 
 mod devices;
-mod ladder;
 mod moments;
 mod path;
 mod positions;
+mod table;
 mod tasks;
 
 pub use devices::{Devices, is_device};
-pub use ladder::next_stage;
 pub use moments::sooner;
-pub use path::{Path, busy_error};
+pub use path::{OpenAttempt, busy_error};
+pub use table::next_stage;
 pub use tasks::Tasks;

@@ -6,7 +6,7 @@ ghost use Rattle.sleep_model.specs.Walk.{or_else};
 ghost use Rattle.sleep_model.specs.declared.progress.Stage.{Stage};
 ghost use Rattle.sleep_model.specs.Table.{stage_after, after_done, by_froze, by_case};
 
-use crate::ladder::{failed_at, leave, next_stage, stay};
+use crate::table::{after_failure, after_stage, next_stage, within_stage};
 use sleep_base::Errno;
 use sleep_model::{Actor, FrozeEnd, Kind, Phase, Sleep, Stage};
 use std::marker::Model;
@@ -14,7 +14,7 @@ use std::marker::Model;
 /// The state of the open attempt: who makes it, its number, the stage under way, its error, since when a
 /// freeze goes on, and whether the machine sleeps (`kernel/power/suspend.c`).
 #[derive(Drop)]
-pub struct Path {
+pub struct OpenAttempt {
     attempts: u32,
     maker: Option<Actor>,
     stage: Option<Stage>,
@@ -23,7 +23,7 @@ pub struct Path {
     sleep: Option<Sleep>,
 }
 
-impl Model for Path {
+impl Model for OpenAttempt {
     ghost use Rattle.sleep_state.specs.Paths.{PathState};
 
     ghost Value = { PathState };
@@ -43,8 +43,11 @@ fn after_done(phase: Phase, r: Option<Errno>) -> Stage
     ensures { result ≡ after_done phase r }
 {
     match phase {
-        Phase::Prepare => leave(Stage::Prepares, r.is_some()),
-        Phase::Suspend | Phase::Late | Phase::Noirq => leave(Stage::Downs(phase), r.is_some()),
+        Phase::Prepare => after_stage(Stage::Prepares, r.is_some()),
+        Phase::Suspend | Phase::Late | Phase::Noirq => after_stage(
+            Stage::Downs(phase),
+            r.is_some(),
+        ),
         Phase::Syscore => next_stage(Stage::StopsSyscore),
         Phase::SyscoreResume => next_stage(Stage::StartsSyscore),
         Phase::ResumeNoirq | Phase::Early | Phase::Resume => next_stage(Stage::Ups(phase)),
@@ -65,17 +68,17 @@ fn stage_after(kind: Kind, before: Option<Stage>) -> Option<Stage>
 {
     Some(match kind {
         Kind::Attempt { .. } => Stage::Notifies,
-        Kind::NotifyPrepare(_, r) => stay(Stage::Notifies, r.is_some()),
+        Kind::NotifyPrepare(_, r) => within_stage(Stage::Notifies, r.is_some()),
         Kind::Freeze(group) => Stage::Freezes(group),
-        Kind::Froze(group, end) => leave(Stage::Freezes(group), is_broken(end)),
-        Kind::PlatformDo(step, r) => leave(Stage::PlatformDo(step), r.is_some()),
+        Kind::Froze(group, end) => after_stage(Stage::Freezes(group), is_broken(end)),
+        Kind::PlatformDo(step, r) => after_stage(Stage::PlatformDo(step), r.is_some()),
         Kind::Done(phase, r) => after_done(phase, r),
         Kind::CpuOff(_) => Stage::StopsCpus,
-        Kind::CpuBusy(_) => failed_at(Stage::StopsCpus),
+        Kind::CpuBusy(_) => after_failure(Stage::StopsCpus),
         Kind::Irqs { on: false } => next_stage(Stage::StopsIrqs),
-        Kind::SyscoreCheck(r) => leave(Stage::ChecksWakeup, r.is_some()),
-        Kind::SyscoreSuspend(_, r) => stay(Stage::StopsSyscore, r.is_some()),
-        Kind::Enter { busy } => stay(Stage::Enters, busy),
+        Kind::SyscoreCheck(r) => after_stage(Stage::ChecksWakeup, r.is_some()),
+        Kind::SyscoreSuspend(_, r) => within_stage(Stage::StopsSyscore, r.is_some()),
+        Kind::Enter { busy } => within_stage(Stage::Enters, busy),
         Kind::Wake { .. } => next_stage(Stage::Enters),
         Kind::SyscoreResume(_) => Stage::StartsSyscore,
         Kind::Irqs { on: true } => next_stage(Stage::StartsIrqs),
@@ -178,7 +181,7 @@ fn attempts_after(kind: Kind, before: u32) -> u32
     }
 }
 
-impl Path {
+impl OpenAttempt {
     ghost use Rattle.std.specs.Prelude.{◌≡◌, ◌<◌, ◌^◌};
     ghost use Rattle.sleep_model.specs.Path.{attempts_after};
     ghost use Rattle.sleep_state.specs.Paths.{path_after, no_path};
@@ -187,7 +190,7 @@ impl Path {
     pub fn new() -> Self
         ensures { result ≡ no_path }
     {
-        Path {
+        OpenAttempt {
             attempts: 0,
             maker: None,
             stage: None,
@@ -232,7 +235,7 @@ impl Path {
     }
 
     /// The error of the open attempt's stage that failed.
-    pub fn failed(&self) -> Option<Errno>
+    pub fn error(&self) -> Option<Errno>
         ensures { result ≡ self.now.failed }
     {
         self.failed

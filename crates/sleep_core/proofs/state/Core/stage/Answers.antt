@@ -6,4 +6,4 @@ use Rattle.sleep_state.specs.JournalRooms.{entries}
 use Rattle.sleep_core.proofs.state.Core.stage.Goals as goal
 
 pub returns-clause-proper : goal.returns-clause-proper
-returns-clause-proper c = proper_if (entries c.self.inside.history.past) c.stage.result (c.stage.ensures ∙ ap (λ (p : PathState). p.stage) c.path.ensures)
+returns-clause-proper c = proper_if (entries c.self.inside.history.past) c.stage.result (c.stage.ensures ∙ ap (λ (p : PathState). p.stage) c.attempt.ensures)

@@ -1,13 +1,13 @@
 //! The table of an attempt (`enter_state`, `suspend_devices_and_enter`, `suspend_enter`).
 
 ghost use Rattle.std.specs.Prelude.{◌≡◌};
-ghost use Rattle.sleep_model.specs.Table.{next_stage, by_case, failed_at};
+ghost use Rattle.sleep_model.specs.Table.{next_stage, by_case, after_failure};
 
 use sleep_model::{Group, Phase, PlatDo, PlatUndo, Stage, Thaw};
 
 /// Picks one column of the table of an attempt: each stage, what follows it, and the stage that its failure
 /// leads to. A stage that does not fail has what follows it in both.
-macro_rules! ladder {
+macro_rules! table {
     (@next $from:expr; $($stage:pat => $next:expr, $failed:expr;)*) => {
         match $from { $($stage => $next,)* }
     };
@@ -15,7 +15,7 @@ macro_rules! ladder {
         match $from { $($stage => $failed,)* }
     };
     ($column:ident of $from:expr) => {
-        ladder! { @$column $from;
+        table! { @$column $from;
             Stage::Notifies => Stage::Freezes(Group::User), Stage::NotifiesPost;
             Stage::Freezes(Group::User) => Stage::Freezes(Group::Kernel), Stage::Thaws(Thaw::All);
             Stage::Freezes(Group::Kernel) => Stage::PlatformDo(PlatDo::Begin), Stage::Thaws(Thaw::Kernel);
@@ -47,7 +47,7 @@ macro_rules! ladder {
             Stage::Thaws(Thaw::All) => Stage::NotifiesPost, Stage::NotifiesPost;
             Stage::NotifiesPost => Stage::Ends, Stage::Ends;
             Stage::Ends => Stage::Ends, Stage::Ends;
-            // No stage is of another phase.
+            // Never reached: each other phase has a stage of its own. These two only make the match total.
             Stage::Downs(_) => Stage::PlatformDo(PlatDo::PrepareLate), Stage::PlatformUndo(PlatUndo::Recover);
             Stage::Ups(_) => Stage::Completes, Stage::Completes;
         }
@@ -58,30 +58,30 @@ macro_rules! ladder {
 pub fn next_stage(stage: Stage) -> Stage
     ensures { result ≡ next_stage stage }
 {
-    ladder!(next of stage)
+    table!(next of stage)
 }
 
 /// The stage that follows a stage that failed.
-pub(crate) fn failed_at(stage: Stage) -> Stage
-    ensures { result ≡ failed_at stage }
+pub(crate) fn after_failure(stage: Stage) -> Stage
+    ensures { result ≡ after_failure stage }
 {
-    ladder!(failed of stage)
+    table!(failed of stage)
 }
 
 /// The stage after one that is over; `fails` says whether it failed.
-pub(crate) fn leave(stage: Stage, fails: bool) -> Stage
-    ensures { result ≡ by_case fails (failed_at stage) (next_stage stage) }
+pub(crate) fn after_stage(stage: Stage, fails: bool) -> Stage
+    ensures { result ≡ by_case fails (after_failure stage) (next_stage stage) }
 {
     if fails {
-        failed_at(stage)
+        after_failure(stage)
     } else {
         next_stage(stage)
     }
 }
 
 /// The stage after an entry of a stage that goes on; `fails` says whether the entry ends it by a failure.
-pub(crate) fn stay(stage: Stage, fails: bool) -> Stage
-    ensures { result ≡ by_case fails (failed_at stage) stage }
+pub(crate) fn within_stage(stage: Stage, fails: bool) -> Stage
+    ensures { result ≡ by_case fails (after_failure stage) stage }
 {
-    if fails { failed_at(stage) } else { stage }
+    if fails { after_failure(stage) } else { stage }
 }
