@@ -1,5 +1,7 @@
-//! What an attempt's maker does next (`kernel/power/suspend.c`). `Mem` is also the answer to a sum that
-//! overflows: no log that fits into memory comes to it (`later_by`).
+//! What an attempt's maker, the task inside `enter_state`, does next (`kernel/power/suspend.c`). The checker
+//! of logs finds it anew, without the core: `past` is what it knows from the entries that it has gone
+//! through. `Mem` is also the answer to a sum of times that overflows, which is beyond all time: no log that
+//! fits into memory comes to it (`later_by`).
 
 ghost use Rattle.std.specs.Prelude.{◌≡◌, IfOk};
 ghost use Rattle.sleep_model.specs.declared.progress.Stage.TheVariants.{Notifies, NotifiesPost, StartsCpus, StartsSyscore, StopsCpus, StopsSyscore};

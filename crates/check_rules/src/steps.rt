@@ -1,5 +1,5 @@
-//! The rule that each actor makes its own steps, each once and in order. The maker's order is left to
-//! `path.rt` and `walk.rt`, reads and writes to `reads.rt`.
+//! The rule that each actor makes its own steps, each once and in order. `path.rt` and `walk.rt` look at the
+//! maker's order, and `reads.rt` at what reads and writes answer.
 
 ghost use Rattle.std.specs.Prelude.{◌≡◌, ◌↔◌, true, IsTrue, IfOk, option_copied, slice_get};
 ghost use Rattle.rule_definitions.specs.Steps.{IsDeviceStep, IsLinkOf, IsLinkStateOf, IsMakerStep, IsOfAutosleep, IsOfOp, IsPostOf, IsRequestOf, IsScriptStep, IsStep, IsWorkStep, KeepsSteps, is_of_state_write};
@@ -41,7 +41,7 @@ fn is_of_state_write(kind: Kind) -> bool
 }
 
 /// Whether the entry is of a write to `/sys/power/autosleep`. `mem`, `off`: what the text says; `begun`: the
-/// setting was begun.
+/// setting was begun. `reads.rt` sees that only another text is refused (`AutoBad`).
 fn is_of_autosleep(begun: bool, mem: bool, off: bool, kind: Kind) -> bool
     ensures { IsTrue result ↔ IsOfAutosleep begun mem off kind }
 {
@@ -54,7 +54,8 @@ fn is_of_autosleep(begun: bool, mem: bool, off: bool, kind: Kind) -> bool
     }
 }
 
-/// Whether the entry is a post to that mark.
+/// Whether the entry is a post to that mark. A mark is a semaphore by which scripts wait for one another: a
+/// post raises it by one, and a wait that ends lowers it by one.
 fn is_post_of(mark: u32, kind: Kind) -> bool
     ensures { IsTrue result ↔ IsPostOf mark kind }
 {
@@ -257,6 +258,7 @@ pub fn keeps_steps(past: &Passed<'_>, now: EventNow, who: Actor, kind: Kind) -> 
         Actor::Script(i) => is_script_step(past, i, kind),
         Actor::Auto => is_work_step(past, now, past.work(), kind),
         Actor::Dev(d) => Ok(is_device_step(d, async_work(past, d), kind)),
+        // A timer only makes calls on its source, and time only jumps: `entries.rt` looks at both.
         Actor::Timer(_) | Actor::Time => Ok(false),
     }
 }

@@ -1,5 +1,6 @@
-//! Bursts: the actors' turns on worker threads, between the caller's own rounds. A stretch is rounds up to a
-//! number, or to one that made nothing and what then comes.
+//! Bursts: the actors' turns on worker threads, between the caller's own rounds. In a round each actor that
+//! may have something to do has one try. A stretch is rounds, up to a number. A round that made no entry ends
+//! it too: then an actor makes one after all, time jumps, or the run is over.
 
 ghost use Rattle.std.specs.Prelude.{◌≡◌, ◌≤◌, IfOk};
 ghost use Rattle.machine_rounds.specs.declared.run.RunFault.TheVariants as fault;
@@ -22,19 +23,24 @@ use std::thread::Threads;
 use wakeup_source::MOST_ENTRIES;
 use world_workers::{Burst, BurstContents, BurstPlan, Stop, make_burst};
 
-/// The most entries of a journal at which a burst is begun, far above what memory holds.
+/// The most entries of a journal at which a burst is begun. No run comes near it (`MOST_LOG`): the test only
+/// gives the burst the bound that its contract asks for.
 const MOST_JOURNAL: usize = 1 << 62;
 
-/// The most entries that a log has, whatever the accepted machine is (`end_laws`, `all_logs_are_bounded`).
+/// The most entries that a log has, whatever the accepted machine is (`end_laws`, `all_logs_are_bounded`). A
+/// log is the core's journal with the histories of the sources merged in.
 const MOST_LOG: u64 = 37_585_025;
 
-/// What stays of a run while its core, its sources and its jobs are in a burst.
+/// What stays of a run while its core, its sources and its jobs are in a burst. A job says what a script, the
+/// autosleep work or a device does next. In a burst each job is a task, and so is each source's timer.
 #[derive(Drop)]
 struct RunInBurst<'m> {
     machine: &'m Machine,
-    /// The event word.
+    /// The event word. The core and each source have a seat at it: the right to look at it, and for a source
+    /// to step it.
     table: EventTable,
-    /// The last stamp that anybody made before the burst: each task is taken to know it.
+    /// The last stamp that anybody made before the burst. A stamp is the position of the word that an entry
+    /// saw, and a tick. Each entry that a task makes has a later tick.
     floor: Stamp,
     waiters: Waiters,
 }
@@ -63,7 +69,8 @@ impl<'m> RunInBurst<'m> {
     ghost use Rattle.machine_rounds.specs.BurstsOf.{IsRunInBurst, IsBack, IsJoined, entries_of};
     ghost use Rattle.machine_rounds.specs.Runs.{entries_made};
 
-    /// Makes the burst: the tasks run on worker threads, and all that went in comes back.
+    /// Makes the burst: the tasks run on worker threads, and all that went in comes back. The gate sees each
+    /// turn; a test waits in it, to bring turns into an order.
     fn make<R: Threads + Wait + Sync, G: Gate + Sync>(
         &self,
         rt: &R,
@@ -79,7 +86,7 @@ impl<'m> RunInBurst<'m> {
             made.contents.core made.contents.sources.items made.contents.tasks.items) }
         ensures grown { IfOk result (λ made. entries_of contents.entry.core contents.entry.sources.items ≤ entries_of made.contents.core made.contents.sources.items) }
     {
-        // `autosleep` is one source more than the machine's own.
+        // The machine's own `actors` are its scripts. `autosleep` is one source more than the machine's own.
         let Ok(actors) = actors_of(
             alloc,
             self.machine.actors.len() as u32,
@@ -189,8 +196,8 @@ impl<'m> Run<'m> {
     ghost use Rattle.machine_rounds.specs.BurstsOf.{IsRunInBurst, entries_of};
     ghost use Rattle.machine_rounds.specs.Runs.{AfterStretches, Fails, IsRefused, IsRun, entries_made};
 
-    /// Whether the journal is so short that no job's count of turns overflows in a burst, in which each makes
-    /// at most 1,000.
+    /// Whether the journal is so short that no job's count of turns overflows in a burst. Each turn that a
+    /// job has counted made an entry of the journal; a burst adds 1,000 at most (`MOST_TURNS`).
     fn is_short(&self) -> bool
         ensures { OnTrue result (length self.now.journal + 1000 < 2 ^ 63) }
     {
@@ -347,7 +354,7 @@ impl<'m> Run<'m> {
         }
     }
 
-    /// A run has made no more entries than a log has at most. It does nothing.
+    /// Shows that a run has made no more entries than a log has at most. The function changes nothing.
     fn entries_are_few(&self)
         ensures { entries_made self.now ≤ 37585025 }
     {
@@ -355,8 +362,9 @@ impl<'m> Run<'m> {
         let _ = &self.machine;
     }
 
-    /// The log of the whole run: one worker makes all rounds, several make bursts between rounds. Each turn
-    /// of the loop makes an entry or ends it, and no run has more entries than a log has at most.
+    /// The log of the whole run. If `workers` is 1 the caller makes all rounds itself, else bursts come
+    /// between them. Each turn of the loop makes an entry or ends the run, and no run has more entries than a
+    /// log has at most.
     pub fn to_end<R: Threads + Wait + Sync, G: Gate + Sync>(
         self,
         rt: &R,

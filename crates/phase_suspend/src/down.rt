@@ -1,4 +1,5 @@
-//! What the walk of a phase on the way down does next, and what a device does.
+//! What the walk of a phase on the way down does next, and what a device does. Each makes an entry of the
+//! journal, whose `Kind` says what it is, or waits (`Due`).
 ghost use Rattle.std.specs.Prelude.{◌≡◌, None};
 ghost use Rattle.sleep_model.specs.Devices.{unless_failed};
 ghost use Rattle.sleep_model.specs.Walk.{or_else};
@@ -33,8 +34,9 @@ pub struct DownEnv<'a> {
     pub wakeup_pending: bool,
 }
 
-/// Whether the phase skips the device as direct-complete: in suspend if it asked, is runtime suspended, may
-/// not wake, and its children and consumers all are; late and noirq likewise.
+/// Whether the phase skips the device as direct-complete. Suspend does if the device asked for it, is runtime
+/// suspended, may not wake the machine, and all right below it are direct-complete. Right below are its
+/// children, and its consumers by active links. Late and noirq skip it if suspend did.
 fn is_direct(env: &DownEnv<'_>, p: Phase, device: u32) -> bool
     ensures { (down : Down) → result ≡ is_direct_on (down_state down env.now) p device }
 {

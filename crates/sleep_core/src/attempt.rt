@@ -20,7 +20,8 @@ use sleep_state::{busy_error, next_stage};
 use task_freezer::Round;
 
 impl<'m> Core<'m> {
-    /// The next notifier hears of the attempt.
+    /// The next notifier hears of the attempt. The core calls nothing: the machine says what the notifier
+    /// answers (`answered`).
     fn notify_prepare_due(&self) -> Due
         ensures { result ≡ if_left (λ x. kind.NotifyPrepare x (answered self.now.machine (entries self.now.past) (what.Notifier x)))
             (next_notified self.now.machine (entries self.now.past)) }
@@ -46,8 +47,9 @@ impl<'m> Core<'m> {
         }
     }
 
-    /// A freeze of a group that has gone on since that time. The number of tasks left is kept; the first of
-    /// them is looked up only at the end.
+    /// A freeze of a group that has gone on since that moment, in ms. A `Round` is one look of the freezer at
+    /// the group (`try_to_freeze_tasks`); `Late` is its timeout. The freezer counts the tasks that are left,
+    /// and looks up the first of them only as the freeze ends.
     fn froze_due(&self, now: EventNow, group: Group, since: u64) -> Due
         requires { since ≤ 2 ^ 63 }
         ensures { result ≡ froze_due (entries self.now.past) now group since (left self.now.machine group (entries self.now.past)) }
@@ -84,7 +86,8 @@ impl<'m> Core<'m> {
         Due::Makes(Kind::PlatformDo(step, self.answered(What::Platform(step))))
     }
 
-    /// The next processor is stopped, unless a wakeup is pending.
+    /// The next processor is stopped, unless a wakeup is pending. `platform` keeps which processors are off,
+    /// and which notifiers have heard of the attempt.
     fn cpu_off_due(&self, now: EventNow) -> Due
         ensures { result ≡ if_left (cpu_kind (pending (entries self.now.past) now)) (next_cpu_off self.now.machine (entries self.now.past)) }
     {
@@ -107,7 +110,7 @@ impl<'m> Core<'m> {
     }
 
     /// What wakes a machine that sleeps: a step of the event word (`combined_event_count`) since it entered,
-    /// else its alarm.
+    /// else its alarm. An event's start, its finish and a hard event are steps; `pos` is how many were made.
     fn wakes_due(&self, now: EventNow, sleep: Sleep) -> Due
         requires { sleep.since ≤ 2 ^ 63 }
         ensures { result ≡ wakes_due self.now.machine (entries self.now.past) now sleep }

@@ -79,7 +79,8 @@ pub(crate) fn after_stage(stage: Stage, fails: bool) -> Stage
     }
 }
 
-/// The stage after an entry of a stage that goes on; `fails` says whether the entry ends it by a failure.
+/// The stage after an entry that need not be its stage's last, such as one notifier's. It is the same stage,
+/// or, if the entry `fails`, the one that its failure leads to.
 pub(crate) fn within_stage(stage: Stage, fails: bool) -> Stage
     ensures { result ≡ by_case fails (after_failure stage) stage }
 {
