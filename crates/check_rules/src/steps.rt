@@ -30,7 +30,8 @@ fn is_of_count_save(kind: Kind) -> bool
     matches!(kind, Kind::SaveWait(_) | Kind::Saved(_) | Kind::SaveErr(..))
 }
 
-/// Whether the entry is of a write to `/sys/power/state`, up to the beginning of its attempt.
+/// Whether the entry is of a write to `/sys/power/state`, up to the beginning of its attempt. `StateUnsaved`:
+/// the script left the write out, since it needs a good save and the last one was not.
 fn is_of_state_write(kind: Kind) -> bool
     ensures { result ≡ is_of_state_write kind }
 {
@@ -245,7 +246,7 @@ fn is_maker_step(past: &Passed<'_>, kind: Kind) -> bool
     }
 }
 
-/// Whether an entry of the journal is its actor's next step, or any of an attempt's maker
+/// Whether an entry of the journal is its actor's next step, or any step of an attempt's maker
 /// (`kernel/power/main.c`, `autosleep.c`, `suspend.c`, `drivers/base/power/main.c`). `Mem` if a sleep ends
 /// beyond all time.
 pub fn keeps_steps(past: &Passed<'_>, now: EventNow, who: Actor, kind: Kind) -> Result<bool, Mem>

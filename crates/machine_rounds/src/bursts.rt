@@ -1,6 +1,6 @@
 //! Bursts: the actors' turns on worker threads, between the caller's own rounds. In a round each actor that
 //! may have something to do has one try. A stretch is rounds, up to a number. A round that made no entry ends
-//! it too: then an actor makes one after all, time jumps, or the run is over.
+//! it too: then an actor that it left out makes one after all, time jumps, or the run is over.
 
 ghost use Rattle.std.specs.Prelude.{◌≡◌, ◌≤◌, IfOk};
 ghost use Rattle.machine_rounds.specs.declared.run.RunFault.TheVariants as fault;
@@ -40,7 +40,8 @@ struct RunInBurst<'m> {
     /// to step it.
     table: EventTable,
     /// The last stamp that anybody made before the burst. A stamp is the position of the word that an entry
-    /// saw, and a tick. Each entry that a task makes has a later tick.
+    /// saw, and a tick: no time, but a number that rises along each list and actor. Each entry that a task
+    /// makes has a later tick.
     floor: Stamp,
     waiters: Waiters,
 }
@@ -259,7 +260,7 @@ impl<'m> Run<'m> {
         during.run_on(rt, alloc, contents, workers, gate)
     }
 
-    /// Whether that source has fewer than the four places that a call may need.
+    /// Whether that source's history has fewer than the four free places that a call may need.
     fn is_full(&self, source: u32) -> bool
         ensures { OnTrue result (IsRefused self.now (fault.SourceFull source)) }
     {

@@ -36,7 +36,8 @@ pub struct DownEnv<'a> {
 
 /// Whether the phase skips the device as direct-complete. Suspend does if the device asked for it, is runtime
 /// suspended, may not wake the machine, and all right below it are direct-complete. Right below are its
-/// children, and its consumers by active links. Late and noirq skip it if suspend did.
+/// children, and its consumers by active links (in the kernel by dormant ones, too). Late and noirq skip it
+/// if suspend did.
 fn is_direct(env: &DownEnv<'_>, p: Phase, device: u32) -> bool
     ensures { (down : Down) → result ≡ is_direct_on (down_state down env.now) p device }
 {

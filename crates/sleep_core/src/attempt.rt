@@ -1,5 +1,6 @@
 //! What the maker of the open attempt, the task inside `enter_state`, does next, stage by stage
-//! (`kernel/power/suspend.c`).
+//! (`kernel/power/suspend.c`). `now` is no time: it is the event word (`combined_event_count`, and
+//! `pm_abort_suspend` for hard events) as the maker sees it.
 
 ghost use Rattle.std.specs.Prelude.{◌≡◌, ◌≤◌, ◌^◌};
 ghost use Rattle.sleep_model.specs.declared.progress.Due.TheVariants.{Makes};
@@ -20,8 +21,8 @@ use sleep_state::{busy_error, next_stage};
 use task_freezer::Round;
 
 impl<'m> Core<'m> {
-    /// The next notifier hears of the attempt. The core calls nothing: the machine says what the notifier
-    /// answers (`answered`).
+    /// The next notifier hears of the attempt. The core calls nothing: the description of the machine
+    /// (`Machine`) says what the notifier answers (`answered`).
     fn notify_prepare_due(&self) -> Due
         ensures { result ≡ if_left (λ x. kind.NotifyPrepare x (answered self.now.machine (entries self.now.past) (what.Notifier x)))
             (next_notified self.now.machine (entries self.now.past)) }
@@ -48,8 +49,9 @@ impl<'m> Core<'m> {
     }
 
     /// A freeze of a group that has gone on since that moment, in ms. A `Round` is one look of the freezer at
-    /// the group (`try_to_freeze_tasks`); `Late` is its timeout. The freezer counts the tasks that are left,
-    /// and looks up the first of them only as the freeze ends.
+    /// the group (`try_to_freeze_tasks`). `Late`: the freeze has timed out. `Again`: tasks are left, and the
+    /// freeze times out at `until`. The freezer counts the tasks that are left, and looks up the first of
+    /// them only as the freeze ends.
     fn froze_due(&self, now: EventNow, group: Group, since: u64) -> Due
         requires { since ≤ 2 ^ 63 }
         ensures { result ≡ froze_due (entries self.now.past) now group since (left self.now.machine group (entries self.now.past)) }
@@ -109,8 +111,8 @@ impl<'m> Core<'m> {
         }
     }
 
-    /// What wakes a machine that sleeps: a step of the event word (`combined_event_count`) since it entered,
-    /// else its alarm. An event's start, its finish and a hard event are steps; `pos` is how many were made.
+    /// What wakes a machine that sleeps: a step of the event word since it entered, else its alarm. An
+    /// event's start, its finish and a hard event are steps; `pos` is how many were made.
     fn wakes_due(&self, now: EventNow, sleep: Sleep) -> Due
         requires { sleep.since ≤ 2 ^ 63 }
         ensures { result ≡ wakes_due self.now.machine (entries self.now.past) now sleep }

@@ -35,8 +35,9 @@ may_fail next failed = record { next = next; failed = failed }
 abbrev pub always : Stage → Row
 always next = record { next = next; failed = next }
 
--- the table. A phase late or noirq that fails resumes what it suspended. PrepareLate comes after noirq. ChecksWakeup is the test
--- with which syscore_suspend begins; Enters has the test after it. ClearsSavedCount sets events_check_enabled to false
+-- the table. A phase late or noirq that fails resumes what it suspended. PrepareLate is the prepare_late of suspend_ops, after noirq.
+-- ChecksWakeup is the test with which syscore_suspend begins; Enters begins with the test after syscore_suspend.
+-- ClearsSavedCount sets events_check_enabled to false
 -- (enter_state, suspend_devices_and_enter, suspend_enter, dpm_suspend_late, dpm_suspend_noirq, platform_suspend_prepare_noirq)
 abbrev pub row : Stage → Row
 row stage.Notifies = may_fail (stage.Freezes group.User) stage.NotifiesPost
@@ -72,7 +73,7 @@ row (stage.Thaws thaw.All) = always stage.NotifiesPost
 row stage.NotifiesPost = always stage.Ends
 row stage.Ends = always stage.Ends
 -- no attempt comes to this row: Prepare and Syscore have stages of their own. So its first column means nothing.
--- failed_phase of Prepare reads the second, which is the same as that of Prepares
+-- The checker asks failed_phase of Prepare (check_account), which reads the second: it is the same as that of Prepares
 row (stage.Downs _) = may_fail (stage.PlatformDo down.PrepareLate) (stage.PlatformUndo undo.Recover)
 
 -- ---- the columns of the table, for each sort of stage
@@ -138,8 +139,8 @@ abbrev pub by_case : Bool → Stage → Stage → Stage
 by_case true here there = here
 by_case false here there = there
 
--- the stage after a phase that is done. Nobody makes an entry Done of the two syscore phases: an operation that fails moves the stage,
--- else the entry that follows the last one, Enter or Irqs
+-- the stage after a phase that is done. Nobody makes an entry Done of the two syscore phases. The entry of an operation that fails
+-- moves the stage; if none fails, Enter or Irqs does, the entry after the last operation's
 -- (suspend_devices_and_enter, suspend_enter)
 abbrev pub after_done : Phase → Option Errno → Stage
 after_done phase.Prepare r = by_error r (next_stage stage.Prepares) (after_failure stage.Prepares)
@@ -149,7 +150,8 @@ after_done phase.Complete r = next_stage stage.Completes
 after_done p r = if is_down p then by_error r (stage_after_down p) (failed_phase p) else stage_after_up p
 
 -- the stage of the open attempt after an entry of the journal: one step that an actor made, whose kind says what it was.
--- An entry of a single device, or of no attempt, leaves the stage as it is
+-- An entry of a single device, or of no attempt, leaves the stage as it is. So does a good one of a single notifier, processor or
+-- syscore operation: an entry of the next stage moves it
 -- (enter_state, suspend_devices_and_enter, suspend_enter)
 abbrev pub stage_after : Kind → Option Stage → Option Stage
 stage_after (kind.Attempt n guarded) before = Some stage.Notifies

@@ -5,8 +5,8 @@ ghost use Rattle.sleep_model.specs.Table.{next_stage, by_case, after_failure};
 
 use sleep_model::{Group, Phase, PlatDo, PlatUndo, Stage, Thaw};
 
-/// Picks one column of the table of an attempt: each stage, what follows it, and the stage that its failure
-/// leads to. A stage that does not fail has what follows it in both.
+/// Picks a column of the table of an attempt: `next` is what follows a stage, `failed` is the stage that its
+/// failure leads to. Both are the same if a stage does not fail, or if its failure changes nothing.
 macro_rules! table {
     (@next $from:expr; $($stage:pat => $next:expr, $failed:expr;)*) => {
         match $from { $($stage => $next,)* }
