@@ -1,12 +1,11 @@
 //! Tests of bursts of workers on threads.
 
-ghost use Rattle.std.specs.Prelude.{◌≡◌, ◌≤◌, ◌+◌, [], ◌∷◌, length, map, IfOk, reverse};
+ghost use Rattle.std.specs.Prelude.{◌≡◌, ◌≤◌, ◌+◌, length, IfOk, reverse};
 ghost use Rattle.sleep_model.specs.Accepted.{IsAccepted};
 ghost use Rattle.sleep_model.specs.Numbers.{time_of};
 ghost use Rattle.sleep_model.specs.Order.{parents_of};
 ghost use Rattle.sleep_state.specs.JournalRooms.{entries};
 ghost use Rattle.run_world.specs.ObjectLists.{AreTimely};
-ghost use Rattle.run_world.specs.Acts.{actor_of};
 ghost use Rattle.world_workers.specs.Bursts.{AreReady, AreTasksIn, HaveTurns};
 
 use device_links::Links;
@@ -17,7 +16,7 @@ use run_objects::{SeatedCore, seated_sources};
 use run_world::{OpenGate, Task};
 use sleep_base::Mem;
 use sleep_core::Core;
-use sleep_model::{Actor, Machine};
+use sleep_model::Machine;
 use sleep_script::{ActorJob, TimerJob};
 use std::alloc::Global;
 use std::sync::Wait;
@@ -32,24 +31,12 @@ const ATTEMPT: &str =
 const LID: &str =
     r#"{"version":1,"sources":["lid"],"actors":[{"name":"k","kind":"irq","script":[{"op":"awake","source":"lid"},{"op":"relax","source":"lid"}]}]}"#;
 
-/// Whose tasks there are, if a machine has no source of its own.
-const FEW: [Actor; 3] = [Actor::Script(0), Actor::Auto, Actor::Timer(0)];
-
-/// Whose tasks there are, if it has one.
-const MORE: [Actor; 4] = [
-    Actor::Script(0),
-    Actor::Auto,
-    Actor::Timer(0),
-    Actor::Timer(1),
-];
-
 /// The tasks of a machine of one script and no source, before anything was done.
 fn few_tasks<'m>(alloc: Global, plans: &'m MachinePlans<'_>) -> Result<Vec<Task<'m>>, Mem>
     requires accepted { IsAccepted plans.now }
     requires one { length plans.now.actors ≡ 1 }
     ensures in_all { IfOk result (λ tasks. AreTasksIn plans.now tasks.items) }
     ensures turns { IfOk result (λ tasks. HaveTurns tasks.items) }
-    ensures actors { IfOk result (λ tasks. map actor_of tasks.items ≡ FEW) }
     ensures count { IfOk result (λ tasks. length tasks.items ≡ 3) }
 {
     let script = ActorJob::of_script(plans, 0);
@@ -67,7 +54,6 @@ fn more_tasks<'m>(alloc: Global, plans: &'m MachinePlans<'_>) -> Result<Vec<Task
     requires one { (length plans.now.actors ≡ 1) × (length plans.now.sources ≡ 1) }
     ensures in_all { IfOk result (λ tasks. AreTasksIn plans.now tasks.items) }
     ensures turns { IfOk result (λ tasks. HaveTurns tasks.items) }
-    ensures actors { IfOk result (λ tasks. map actor_of tasks.items ≡ MORE) }
     ensures count { IfOk result (λ tasks. length tasks.items ≡ 4) }
 {
     let script = ActorJob::of_script(plans, 0);
@@ -111,13 +97,11 @@ fn first_burst<'m, R: Threads + Sync + Wait>(
     plans: &'m MachinePlans<'_>,
     links: Links,
     tasks: Vec<Task<'m>>,
-    actors: &[Actor],
 ) -> Result<u64, Mem>
     requires accepted { IsAccepted plans.now }
     requires links { links ≡ record { parents = parents_of plans.now.devices; links = reverse plans.now.links } }
     requires tasks { AreTasksIn plans.now tasks.items }
     requires turns { HaveTurns tasks.items }
-    requires actors { actors.now ≡ map actor_of tasks.items }
     requires count { (1 ≤ length tasks.items) × (length tasks.items ≤ 2000) }
 {
     let (table, contents) = first_contents(alloc, plans, links, tasks)?;
@@ -125,7 +109,6 @@ fn first_burst<'m, R: Threads + Sync + Wait>(
         gate: &OpenGate,
         table: &table,
         machine: plans.machine(),
-        actors,
         workers: 2,
     };
     Ok(make_burst(rt, alloc, &plan, contents)?.did)
@@ -145,10 +128,10 @@ fn burst_over<R: Threads + Sync + Wait>(
 {
     if plans.machine().sources.len() == 1 {
         let tasks = more_tasks(alloc, plans)?;
-        return first_burst(rt, alloc, plans, links, tasks, &MORE);
+        return first_burst(rt, alloc, plans, links, tasks);
     }
     let tasks = few_tasks(alloc, plans)?;
-    first_burst(rt, alloc, plans, links, tasks, &FEW)
+    first_burst(rt, alloc, plans, links, tasks)
 }
 
 /// How many turns did something in the first burst of a machine of one script and at most one source.

@@ -1,6 +1,6 @@
 -- The tasks of a burst before anything is done: whose each is, and that no two are of one actor.
 use Rattle.std.proofs.Common.{◌≡◌, ◌≤◌, ◌<◌, ◌+◌, ◌++◌, ◌∙◌, ◌⊎◌, inl, inr, ℕ, zero, suc, Bool, true, false, ◌||◌, List, [], ◌∷◌, length, map, Some, None, slice_get, slice_index_or, cond, refl, sym, ap, subst, length-append, arith}
-use Rattle.std.proofs.lemmas.List.{length-map, map-append}
+use Rattle.std.proofs.lemmas.List.{length-map}
 use Rattle.sleep_model.specs.declared.entry.Actor.{Actor}
 use Rattle.sleep_model.specs.declared.entry.Actor.TheVariants as actor
 use Rattle.sleep_model.specs.declared.entry.JournalEntry.{JournalEntry}
@@ -19,8 +19,7 @@ use Rattle.run_world.specs.declared.task.Task.TheVariants as task
 use Rattle.run_world.specs.Acts.{actor_of, known_by}
 use Rattle.burst_laws.specs.Courses.{HaveDistinctActors, AreTasks, GoesOnAt, IsTaskOf, has_task, lists_of}
 use Rattle.machine_rounds.specs.JobsOf.{AreAllJobs, JobsState, job_at}
-use Rattle.machine_rounds.specs.TasksOf.{acts, all_actors, numbered, numbered_from, all_tasks, timers}
-use Rattle.machine_rounds.proofs.Numbered.{from_more}
+use Rattle.machine_rounds.specs.TasksOf.{acts, all_tasks, timers}
 
 -- ---- lists
 
@@ -320,40 +319,3 @@ module _ (m : Machine) (journal : List JournalEntry) (sources : List SourceState
   pub floors_first : (who : Actor) → goes_on_first.floors who ≡ known_among floor (all_tasks floor (length m.sources + 1) jobs) who
   unfolding goes_on_first
   floors_first who = refl
-
--- ---- whose they are, in order
-
-named_from : (kind : ℕ → Actor) (floor : Stamp) (i : ℕ) (js : List JobState) (d : JobState) → ((k : ℕ) → k < length js → (slice_index_or js k d).who ≡ kind (i + k))
-    → map actor_of (map (acts floor) js) ≡ numbered_from kind i (length js)
-named_from kind floor i [] d h = refl
-named_from kind floor i (j ∷ js) d h =
-    let first : j.who ≡ kind i = h 0 (omega arith) ∙ ap kind (omega arith) in
-    ap (λ (who : Actor). who ∷ map actor_of (map (acts floor) js)) first
-    ∙ ap (λ (l : List Actor). kind i ∷ l) (named_from kind floor (suc i) js d (λ k l. h (suc k) (omega (arith, l)) ∙ ap kind (omega arith)))
-
-timer_actors : (floor : Stamp) (n : ℕ) → map actor_of (timers floor n) ≡ numbered actor.Timer n
-timer_actors floor zero = refl
-timer_actors floor (suc n) =
-    map-append actor_of (timers floor n) (task.Fires (raised_timer floor (first_timer n)) ∷ [])
-    ∙ (ap (λ (l : List Actor). l ++ actor.Timer n ∷ []) (timer_actors floor n)
-    ∙ (ap (λ (k : ℕ). numbered_from actor.Timer 0 n ++ actor.Timer k ∷ []) (let is : n ≡ 0 + n = omega arith in is) ∙ sym (from_more actor.Timer 0 n)))
-
-pub actors_are : (m : Machine) (floor : Stamp) (jobs : JobsState) → AreAllJobs m jobs → ((who : Actor) → IsActor m who → (job_at jobs who).who ≡ who)
-    → map actor_of (all_tasks floor (length m.sources + 1) jobs) ≡ all_actors (length m.actors) (length m.devices) (length m.sources + 1)
-actors_are m floor jobs all who_is =
-    map-append actor_of (map (acts floor) jobs.scripts) (acts floor jobs.auto ∷ (map (acts floor) jobs.devices ++ timers floor (length m.sources + 1)))
-    ∙ (ap (λ (l : List Actor). l ++ map actor_of (acts floor jobs.auto ∷ (map (acts floor) jobs.devices ++ timers floor (length m.sources + 1)))) scripts
-    ∙ ap (λ (l : List Actor). numbered actor.Script (length m.actors) ++ l) after_them)
-  where
-    scripts : map actor_of (map (acts floor) jobs.scripts) ≡ numbered actor.Script (length m.actors)
-    scripts = named_from actor.Script floor 0 jobs.scripts jobs.auto (λ k l. who_is (actor.Script k) (omega (arith, l, all.scripts)) ∙ ap actor.Script (let is : k ≡ 0 + k = omega arith in is)) ∙ ap (numbered actor.Script) all.scripts
-
-    devices : map actor_of (map (acts floor) jobs.devices) ≡ numbered actor.Dev (length m.devices)
-    devices = named_from actor.Dev floor 0 jobs.devices jobs.auto (λ k l. who_is (actor.Dev k) (omega (arith, l, all.devices)) ∙ ap actor.Dev (let is : k ≡ 0 + k = omega arith in is)) ∙ ap (numbered actor.Dev) all.devices
-
-    after_them : map actor_of (acts floor jobs.auto ∷ (map (acts floor) jobs.devices ++ timers floor (length m.sources + 1)))
-        ≡ actor.Auto ∷ (numbered actor.Dev (length m.devices) ++ numbered actor.Timer (length m.sources + 1))
-    after_them =
-        ap (λ (who : Actor). who ∷ map actor_of (map (acts floor) jobs.devices ++ timers floor (length m.sources + 1))) (who_is actor.Auto tt)
-        ∙ ap (λ (l : List Actor). actor.Auto ∷ l) (map-append actor_of (map (acts floor) jobs.devices) (timers floor (length m.sources + 1))
-        ∙ (ap (λ (l : List Actor). l ++ map actor_of (timers floor (length m.sources + 1))) devices ∙ ap (λ (l : List Actor). numbered actor.Dev (length m.devices) ++ l) (timer_actors floor (length m.sources + 1))))

@@ -1,23 +1,11 @@
 -- Lists that a loop puts together, one more at its end.
 use Rattle.std.proofs.Common.{◌≡◌, ◌+◌, ◌++◌, ◌∙◌, ℕ, zero, suc, List, [], ◌∷◌, length, take, slice_index_or, ◌<◌, refl, sym, ap, append_assoc, arith}
-use Rattle.sleep_model.specs.declared.entry.Actor.{Actor}
 use Rattle.sleep_model.specs.declared.word.Stamp.{Stamp}
 use Rattle.sleep_script.specs.Jobs.{JobState, later}
 use Rattle.run_world.specs.declared.task.Task.{Task}
 use Rattle.run_world.specs.declared.task.Task.TheVariants as task
 use Rattle.run_world.specs.Acts.{known_by}
-use Rattle.machine_rounds.specs.TasksOf.{highest, jobs_in, numbered, numbered_from}
-
-pub from_more : (kind : ℕ → Actor) (i n : ℕ) → numbered_from kind i (suc n) ≡ numbered_from kind i n ++ kind (i + n) ∷ []
-from_more kind i zero = ap (λ (k : ℕ). kind k ∷ []) (omega arith)
-from_more kind i (suc n) = ap (λ (l : List Actor). kind i ∷ l) (from_more kind (suc i) n ∙ ap (λ (k : ℕ). numbered_from kind (suc i) n ++ kind k ∷ []) (omega arith))
-
--- one actor more of a kind after others
-pub one_more : (kind : ℕ → Actor) (base old new : List Actor) (n : ℕ) → old ≡ base ++ numbered kind n → new ≡ old ++ kind n ∷ [] → new ≡ base ++ numbered kind (n + 1)
-one_more kind base old new n h g =
-    g ∙ (ap (λ (l : List Actor). l ++ kind n ∷ []) h ∙ (append_assoc base (numbered kind n) (kind n ∷ [])
-    ∙ ap (λ (l : List Actor). base ++ l) (ap (λ (k : ℕ). numbered_from kind 0 n ++ kind k ∷ []) (let is : n ≡ 0 + n = omega arith in is)
-    ∙ (sym (from_more kind 0 n) ∙ ap (numbered kind) (let is : suc n ≡ n + 1 = omega arith in is)))))
+use Rattle.machine_rounds.specs.TasksOf.{highest, jobs_in}
 
 -- one task more
 pub jobs_more : (tasks : List Task) (job : JobState) → jobs_in (tasks ++ task.Acts job ∷ []) ≡ jobs_in tasks ++ job ∷ []

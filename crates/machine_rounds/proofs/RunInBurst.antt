@@ -17,18 +17,17 @@ use Rattle.run_world.specs.ObjectLists.{AreTimely}
 use Rattle.running_laws.specs.Running.{AreSources, IsRunning}
 use Rattle.running_laws.proofs.Asked.{timely}
 use Rattle.run_world.specs.declared.task.Task.{Task}
-use Rattle.run_world.specs.Acts.{actor_of}
 use Rattle.run_world.specs.Bursts.{IsBurst}
 use Rattle.world_workers.specs.declared.contents.Burst.{Burst}
 use Rattle.world_workers.specs.Bursts.{AreReady, AreTasksIn, HaveTurns}
 use Rattle.machine_rounds.specs.BurstsOf.{IsRunInBurst, IsBack, entries_of}
 use Rattle.machine_rounds.specs.JobsOf.{AreAllJobs, JobsState, job_at}
 use Rattle.machine_rounds.specs.RunFields as fields
-use Rattle.machine_rounds.specs.TasksOf.{AreJobsOf, acts, all_actors, highest, jobs_in, all_tasks, timers}
+use Rattle.machine_rounds.specs.TasksOf.{AreJobsOf, acts, highest, jobs_in, all_tasks, timers}
 use Rattle.machine_rounds.proofs.BurstContents.{are_in, sources_back, timely_all, turns_left}
 use Rattle.machine_rounds.proofs.Bursting.{all_back, back, goes_on_after, grown}
 use Rattle.machine_rounds.proofs.CameBack.{CameBack, same_jobs}
-use Rattle.machine_rounds.proofs.FirstTasks.{actors_are, named, timers_long}
+use Rattle.machine_rounds.proofs.FirstTasks.{named, timers_long}
 
 counted : (xs : List JournalEntry) → length (entries xs) ≡ length xs
 counted [] = refl
@@ -63,9 +62,6 @@ module _ (m : Machine) (table : TableId) (floor : Stamp) (core : SeatedCoreState
 
   pub during_timely : AreTimely (time_of (entries core.core.past)) sources
   during_timely = timely_all (time_of (entries core.core.past)) sources (timely m core.core.past (fields.sources_of sources) (job_at a.jobs) a.running)
-
-  pub during_actors : map actor_of tasks ≡ all_actors (length m.actors) (length m.devices) (length m.sources + 1)
-  during_actors = ap (map actor_of) a.tasks_are ∙ actors_are m floor a.jobs a.all_jobs its_actor
 
   pub during_turns : HaveTurns tasks
   during_turns =

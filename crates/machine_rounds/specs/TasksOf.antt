@@ -1,7 +1,5 @@
 -- The jobs of a run's actors and the timers of its sources as the tasks of a burst.
 use Rattle.std.specs.Prelude.{◌≡◌, ℕ, zero, suc, List, [], ◌∷◌, ◌++◌, length, map}
-use Rattle.sleep_model.specs.declared.entry.Actor.{Actor}
-use Rattle.sleep_model.specs.declared.entry.Actor.TheVariants as actor
 use Rattle.sleep_model.specs.declared.word.Stamp.{Stamp}
 use Rattle.sleep_script.specs.Jobs.{JobState, first_timer, later, raised, raised_timer}
 use Rattle.run_world.specs.declared.task.Task.{Task}
@@ -22,20 +20,6 @@ timers floor (suc n) = timers floor n ++ task.Fires (raised_timer floor (first_t
 abbrev pub all_tasks : Stamp → ℕ → JobsState → List Task
 all_tasks floor sources jobs =
     map (acts floor) jobs.scripts ++ (acts floor jobs.auto ∷ (map (acts floor) jobs.devices ++ timers floor sources))
-
--- n actors of a kind, from number i on
-abbrev pub numbered_from : (ℕ → Actor) → ℕ → ℕ → List Actor
-numbered_from kind i zero = []
-numbered_from kind i (suc n) = kind i ∷ numbered_from kind (suc i) n
-
--- n actors of a kind
-abbrev pub numbered : (ℕ → Actor) → ℕ → List Actor
-numbered kind n = numbered_from kind 0 n
-
--- the actors whose tasks these are, in order
-abbrev pub all_actors : ℕ → ℕ → ℕ → List Actor
-all_actors scripts devices sources =
-    numbered actor.Script scripts ++ (actor.Auto ∷ (numbered actor.Dev devices ++ numbered actor.Timer sources))
 
 -- the jobs among tasks, in order
 abbrev pub jobs_in : List Task → List JobState

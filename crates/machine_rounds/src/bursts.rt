@@ -9,7 +9,7 @@ use crate::after_idle_round::RunEnd;
 use crate::jobs::Jobs;
 use crate::pace::Pace;
 use crate::run::{Run, RunFault};
-use crate::tasks::{actors_of, highest_of};
+use crate::tasks::highest_of;
 use crate::waiters::Waiters;
 use apart_log::ApartLog;
 use event_word::EventTable;
@@ -87,20 +87,10 @@ impl<'m> RunInBurst<'m> {
             made.contents.core made.contents.sources.items made.contents.tasks.items) }
         ensures grown { IfOk result (λ made. entries_of contents.entry.core contents.entry.sources.items ≤ entries_of made.contents.core made.contents.sources.items) }
     {
-        // The machine's own `actors` are its scripts. `autosleep` is one source more than the machine's own.
-        let Ok(actors) = actors_of(
-            alloc,
-            self.machine.actors.len() as u32,
-            self.machine.devices.len() as u32,
-            self.machine.sources.len() as u32 + 1,
-        ) else {
-            return Err(drop_for_mem(contents));
-        };
         let plan = BurstPlan {
             gate,
             table: &self.table,
             machine: self.machine,
-            actors: &actors,
             workers,
         };
         make_burst(rt, alloc, &plan, contents)

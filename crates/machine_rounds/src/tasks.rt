@@ -1,14 +1,13 @@
 //! The jobs of a run's actors and the timers of its sources as the tasks of a burst, and back.
 
 ghost use Rattle.std.specs.Prelude.{◌≡◌, ◌<◌, ◌^◌, ◌++◌, ◌∷◌, [], length, map, OnOk, IfOk};
-ghost use Rattle.sleep_model.specs.declared.entry.Actor.TheVariants as actor;
 ghost use Rattle.sleep_script.specs.Jobs.{later};
-ghost use Rattle.machine_rounds.specs.TasksOf.{AreJobsOf, acts, all_actors, highest, jobs_in, numbered, all_tasks, timers};
+ghost use Rattle.machine_rounds.specs.TasksOf.{AreJobsOf, acts, highest, jobs_in, all_tasks, timers};
 
 use crate::jobs::{ActorJobs, Jobs};
 use run_world::Task;
 use sleep_base::Mem;
-use sleep_model::{Actor, Stamp};
+use sleep_model::Stamp;
 use sleep_script::{ActorJob, TimerJob};
 use std::alloc::{AllocError, Global};
 
@@ -49,53 +48,6 @@ fn push_timers(tasks: &mut Vec<Task<'_>>, sources: u32, floor: Stamp) -> Result<
         tasks.push(Task::Fires(timer))?;
     }
     Ok(())
-}
-
-/// Puts the first scripts after other actors.
-fn push_scripts(actors: &mut Vec<Actor>, many: u32) -> Result<(), AllocError>
-    ensures { OnOk result (actors.new.items ≡ actors.old.items ++ numbered actor.Script many) }
-{
-    for script in 0..many {
-        actors.push(Actor::Script(script))?;
-    }
-    Ok(())
-}
-
-/// Puts the first devices after other actors.
-fn push_devices(actors: &mut Vec<Actor>, many: u32) -> Result<(), AllocError>
-    ensures { OnOk result (actors.new.items ≡ actors.old.items ++ numbered actor.Dev many) }
-{
-    for device in 0..many {
-        actors.push(Actor::Dev(device))?;
-    }
-    Ok(())
-}
-
-/// Puts the timers of the first sources after other actors.
-fn push_sources(actors: &mut Vec<Actor>, many: u32) -> Result<(), AllocError>
-    ensures { OnOk result (actors.new.items ≡ actors.old.items ++ numbered actor.Timer many) }
-{
-    for source in 0..many {
-        actors.push(Actor::Timer(source))?;
-    }
-    Ok(())
-}
-
-/// The actors whose tasks go into a burst, in order.
-pub(crate) fn actors_of(
-    alloc: Global,
-    scripts: u32,
-    devices: u32,
-    sources: u32,
-) -> Result<Vec<Actor>, AllocError>
-    ensures { IfOk result (λ actors. actors.items ≡ all_actors scripts devices sources) }
-{
-    let mut actors = Vec::new(alloc);
-    push_scripts(&mut actors, scripts)?;
-    actors.push(Actor::Auto)?;
-    push_devices(&mut actors, devices)?;
-    push_sources(&mut actors, sources)?;
-    Ok(actors)
 }
 
 /// The jobs among these tasks.

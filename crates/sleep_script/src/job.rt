@@ -268,6 +268,13 @@ impl<'m> ActorJob<'m> {
         self.due > 0
     }
 
+    /// The actor whose job it is.
+    pub fn who(&self) -> Actor
+        ensures { result ≡ self.now.who }
+    {
+        self.who
+    }
+
     /// How many calls on sources its actor has made.
     pub fn calls(&self) -> u32
         ensures { result ≡ self.now.calls }

@@ -72,11 +72,6 @@ contents_count (w ∷ workers) (p ∷ passes) (t ∷ tasks) are =
     let less = contents_count workers passes tasks are.1 in
     (ap (λ (n : ℕ). suc n) less.0, ap (λ (n : ℕ). suc n) less.1)
 
--- after so many tasks comes this one's actor
-pub actor_there : (before after : List Task) (t : Task) (none_there : Actor) → slice_index_or (map actor_of (before ++ t ∷ after)) (length before) none_there ≡ actor_of t
-actor_there [] after t none_there = refl
-actor_there (u ∷ before) after t none_there = actor_there before after t none_there
-
 -- ---- while passes are given to tasks
 
 module _ (passes lent left : List WorldPass) (tasks yielded rest : List Task) (workers : List Worker) (passes_are : passes ≡ lent ++ left) (counted : length passes ≡ length tasks)
@@ -96,15 +91,6 @@ module _ (passes lent left : List WorldPass) (tasks yielded rest : List Task) (w
       let less = fewer t more is in
       let all = ap (λ (l : List WorldPass). length l) passes_are in
       absurd (omega (arith, n.1, less, all, counted, none_left, length-append lent left))
-
-  -- the actor at that index is the task's
-  pub its_actor : (t : Task) (more : List Task) → rest ≡ t ∷ more → (actors : List Actor) → actors ≡ map actor_of tasks → (place : ℕ) → place ≡ length workers
-      → (d : Actor) → slice_index_or actors place d ≡ actor_of t
-  its_actor t more is actors actors_are place place_is d =
-      let n = contents_count workers lent yielded contents in
-      let whole : tasks ≡ yielded ++ t ∷ more = tasks_are ∙ ap (λ (l : List Task). yielded ++ l) is in
-      ap (λ (l : List Actor). slice_index_or l place d) (actors_are ∙ ap (λ (l : List Task). map actor_of l) whole)
-      ∙ ap (λ (k : ℕ). slice_index_or (map actor_of (yielded ++ t ∷ more)) k d) (place_is ∙ sym n.0) ∙ actor_there yielded more t d
 
   -- each pass is with a worker if no task is left
   pub all_lent : rest ≡ [] → AreContents workers passes tasks

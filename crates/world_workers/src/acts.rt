@@ -6,7 +6,6 @@ ghost use Rattle.sleep_model.specs.Calls.{note};
 ghost use Rattle.sleep_script.specs.Jobs.{IsWanted};
 ghost use Rattle.fit_laws.specs.Ranged.{is_ranged};
 ghost use Rattle.run_world.specs.declared.task.Task.TheVariants as variant;
-ghost use Rattle.run_world.specs.Acts.{actor_of};
 ghost use Rattle.world_workers.specs.Tries.{GoesIn, HasActed, IsRangedTurn, told_source, timer_after_call, told_core, turns_of};
 
 use crate::contents::Stop;
@@ -94,17 +93,16 @@ fn turn<'m, R: Wait, G: Gate>(
     world: &World<'_, 'm, R, G>,
     pass: WorldPass<'m>,
     job: &mut ActorJob<'m>,
-    who: Actor,
 ) -> Tried<'m>
     requires goes { GoesIn world.now.machine.now world.now.table.now.cells.shared.table_id
         world.now.cells.now.shared.table_id world.now.moment (variant.Acts job.old) pass.token }
-    requires who { who ≡ job.old.who }
     requires wants { IsWanted job.old want.Core }
     requires few { job.old.turns < 2 ^ 63 }
     ensures { HasActed world.now.machine.now world.now.table.now.cells.shared.table_id
         world.now.cells.now.shared.table_id world.now.moment (variant.Acts job.old) (variant.Acts job.new)
         pass.entry.token result.pass.token }
 {
+    let who = job.who();
     if is_synchronous(world.machine, who) {
         return Reply {
             pass,
@@ -124,13 +122,11 @@ fn call<'m, R: Wait, G: Gate>(
     world: &World<'_, 'm, R, G>,
     pass: WorldPass<'m>,
     job: &mut ActorJob<'m>,
-    who: Actor,
     source: u32,
     call: SourceCall,
 ) -> Tried<'m>
     requires goes { GoesIn world.now.machine.now world.now.table.now.cells.shared.table_id
         world.now.cells.now.shared.table_id world.now.moment (variant.Acts job.old) pass.token }
-    requires who { who ≡ job.old.who }
     requires wants { IsWanted job.old (want.Source source call) }
     ensures { HasActed world.now.machine.now world.now.table.now.cells.shared.table_id
         world.now.cells.now.shared.table_id world.now.moment (variant.Acts job.old) (variant.Acts job.new)
@@ -144,7 +140,7 @@ fn call<'m, R: Wait, G: Gate>(
     }
     calls_are_ranged(source, call);
     let by = CallBy {
-        actor: who,
+        actor: job.who(),
         floor: job.floor(),
         now: world.moment,
     };
@@ -189,19 +185,17 @@ fn act_job<'m, R: Wait, G: Gate>(
     world: &World<'_, 'm, R, G>,
     pass: WorldPass<'m>,
     job: &mut ActorJob<'m>,
-    who: Actor,
 ) -> Tried<'m>
     requires goes { GoesIn world.now.machine.now world.now.table.now.cells.shared.table_id
         world.now.cells.now.shared.table_id world.now.moment (variant.Acts job.old) pass.token }
-    requires who { who ≡ job.old.who }
     requires few { job.old.turns < 2 ^ 63 }
     ensures { HasActed world.now.machine.now world.now.table.now.cells.shared.table_id
         world.now.cells.now.shared.table_id world.now.moment (variant.Acts job.old) (variant.Acts job.new)
         pass.entry.token result.pass.token }
 {
     match job.next() {
-        Want::Core => turn(world, pass, job, who),
-        Want::Source(source, wanted) => call(world, pass, job, who, source, wanted),
+        Want::Core => turn(world, pass, job),
+        Want::Source(source, wanted) => call(world, pass, job, source, wanted),
         Want::Nothing => Reply {
             pass,
             answer: Ok(Turn::Done),
@@ -227,23 +221,21 @@ fn act_timer<'m, R: Wait, G: Gate>(
     }
 }
 
-/// One try of a task of that actor: the call on a source that is next, else a turn of the machine. The task
-/// notes what was made, and the pass made just that. It takes one lock, or none.
+/// One try of a task: the call on a source that is next, else a turn of the machine. The task notes what was
+/// made, and the pass made just that. It takes one lock, or none.
 pub fn act<'m, R: Wait, G: Gate>(
     world: &World<'_, 'm, R, G>,
     pass: WorldPass<'m>,
     task: &mut Task<'m>,
-    who: Actor,
 ) -> Tried<'m>
     requires goes { GoesIn world.now.machine.now world.now.table.now.cells.shared.table_id
         world.now.cells.now.shared.table_id world.now.moment task.old pass.token }
-    requires who { who ≡ actor_of task.old }
     requires few { turns_of task.old < 2 ^ 63 }
     ensures { HasActed world.now.machine.now world.now.table.now.cells.shared.table_id
         world.now.cells.now.shared.table_id world.now.moment task.old task.new pass.entry.token result.pass.token }
 {
     match task {
-        Task::Acts(job) => act_job(world, pass, job, who),
+        Task::Acts(job) => act_job(world, pass, job),
         Task::Fires(timer) => act_timer(world, pass, timer),
     }
 }

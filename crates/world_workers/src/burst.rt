@@ -19,7 +19,6 @@ use crate::worker::Worker;
 use fit_laws::moments_are_ranged;
 use run_world::{Gate, SharedWorld, World, WorldObject, close_world, world_objects};
 use sleep_base::{Mem, drop_for_mem};
-use sleep_model::Actor;
 use sleep_pool::burst;
 use std::alloc::Global;
 use std::sync::Wait;
@@ -34,12 +33,10 @@ type WorldLocks<'m> = LockTable<WorldObject<'m>>;
 fn open_burst<'m>(
     alloc: Global,
     contents: BurstContents<'m>,
-    actors: &[Actor],
     moment: u64,
 ) -> Result<(WorldLocks<'m>, Vec<Worker<'m>>), Mem>
     requires timely { AreTimely moment contents.sources.items }
     requires small { moment ≤ 2 ^ 63 }
-    requires actors { actors.now ≡ map actor_of contents.tasks.items }
     requires turns { HaveTurns contents.tasks.items }
     requires few { (length contents.tasks.items ≤ 2000) × (length contents.sources.items ≤ 256) }
     requires some { 1 ≤ length contents.tasks.items }
@@ -60,7 +57,7 @@ fn open_burst<'m>(
     let Ok((locks, passes)) = LockTable::new(alloc, objects, count) else {
         return Err(drop_for_mem(tasks));
     };
-    let Ok(workers) = workers_of(alloc, passes, tasks, actors, moment) else {
+    let Ok(workers) = workers_of(alloc, passes, tasks, moment) else {
         return Err(drop_for_mem(locks));
     };
     Ok((locks, workers))
@@ -137,7 +134,6 @@ pub fn make_burst<'m, R: Threads + Sync + Wait, G: Gate + Sync>(
 ) -> Result<Burst<'m>, Mem>
     requires ready { AreReady plan.now.machine.now plan.now.table.now.cells.shared.table_id contents.core contents.sources.items contents.tasks.items }
     requires timely { AreTimely (time_of (entries contents.core.core.past)) contents.sources.items }
-    requires actors { plan.now.actors.now ≡ map actor_of contents.tasks.items }
     requires turns { HaveTurns contents.tasks.items }
     requires some { (0 < plan.now.workers) × (1 ≤ length contents.tasks.items) }
     requires few { (length contents.tasks.items ≤ 2000) × (length plan.now.machine.now.sources ≤ 255) }
@@ -146,10 +142,10 @@ pub fn make_burst<'m, R: Threads + Sync + Wait, G: Gate + Sync>(
     ensures ready { IfOk result (λ made. AreReady plan.now.machine.now plan.now.table.now.cells.shared.table_id
         made.contents.core made.contents.sources.items made.contents.tasks.items) }
     ensures kept { IfOk result (λ made. SourcesInvariant made.contents.sources.items) }
-    ensures actors { IfOk result (λ made. map actor_of made.contents.tasks.items ≡ plan.now.actors.now) }
+    ensures actors { IfOk result (λ made. map actor_of made.contents.tasks.items ≡ map actor_of contents.entry.tasks.items) }
 {
     let moment = contents.core.core().time();
-    let (locks, mut workers) = open_burst(alloc, contents, plan.actors, moment)?;
+    let (locks, mut workers) = open_burst(alloc, contents, moment)?;
     let did = run_workers(rt, plan, &locks.cells, workers.as_mut_slice(), moment);
     close_burst(alloc, locks, workers, did)
 }

@@ -3,7 +3,7 @@
 use event_word::EventTable;
 use run_objects::{SeatedCore, SeatedSource};
 use run_world::Task;
-use sleep_model::{Actor, Machine};
+use sleep_model::Machine;
 
 /// What is the same in each burst of a run.
 #[derive(Drop)]
@@ -14,8 +14,6 @@ pub struct BurstPlan<'w, 'm, G> {
     pub table: &'w EventTable,
     /// The machine that is run.
     pub machine: &'m Machine,
-    /// Whose task each index has.
-    pub actors: &'w [Actor],
     /// How many workers there are.
     pub workers: u8,
 }

@@ -1,9 +1,8 @@
 //! The workers of a burst, as they go into it and come out.
 
-ghost use Rattle.std.specs.Prelude.{◌≡◌, ◌≤◌, ◌<◌, ◌+◌, ◌^◌, ℕ, List, length, map, IfOk};
+ghost use Rattle.std.specs.Prelude.{◌≡◌, ◌≤◌, ◌<◌, ◌+◌, ◌^◌, ℕ, List, length, IfOk};
 ghost use Rattle.sleep_model.specs.declared.machine.Machine.{Machine};
 ghost use Rattle.atomic_table.specs.Seated.{TableId};
-ghost use Rattle.run_world.specs.Acts.{actor_of};
 ghost use Rattle.world_workers.specs.Bursts.{HaveTurns};
 ghost use Rattle.world_workers.specs.Workers.{AreFresh, AreOneMore, AreContents, AreWorkersOf};
 
@@ -11,7 +10,6 @@ use crate::contents::{Stop, graver};
 use crate::worker::Worker;
 use run_world::{Task, WorldPass};
 use sleep_base::{Mem, drop_for_mem};
-use sleep_model::Actor;
 use std::alloc::Global;
 
 /// A worker for each task, with a pass each, for a burst at that moment in ms.
@@ -19,12 +17,10 @@ pub(crate) fn workers_of<'m>(
     alloc: Global,
     passes: Vec<WorldPass<'m>>,
     tasks: Vec<Task<'m>>,
-    actors: &[Actor],
     moment: u64,
 ) -> Result<Vec<Worker<'m>>, Mem>
     requires count { length passes.items ≡ length tasks.items }
     requires few { length tasks.items ≤ 2000 }
-    requires actors { actors.now ≡ map actor_of tasks.items }
     requires turns { HaveTurns tasks.items }
     ensures contents { IfOk result (λ workers. AreContents workers.items passes.entry.items tasks.entry.items) }
     ensures fresh { IfOk result (λ workers. AreFresh moment workers.items) }
@@ -38,7 +34,7 @@ pub(crate) fn workers_of<'m>(
         let Some(pass) = left.next() else {
             unreachable!()
         };
-        let worker = Worker::new(pass, task, actors[place], place as u32, moment);
+        let worker = Worker::new(pass, task, place as u32, moment);
         let Ok(()) = workers.push(worker) else {
             return Err(drop_for_mem((workers, left)));
         };

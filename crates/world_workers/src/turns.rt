@@ -45,7 +45,7 @@ impl<'w, 'm, R: Wait, G: Gate> Work<World<'w, 'm, R, G>> for Worker<'m> {
             return Turn::NotYet;
         }
         let pass = taken(&mut self.pass);
-        let Reply { pass, answer } = act(shared, pass, &mut self.task, self.who);
+        let Reply { pass, answer } = act(shared, pass, &mut self.task);
         self.pass = Some(pass);
         self.stop = answer.err();
         let turn = turn_of(answer);

@@ -1,13 +1,11 @@
 //! A worker of a burst.
 
 ghost use Rattle.std.specs.Prelude.{◌≡◌, ◌<◌, ◌+◌, ◌^◌, Some, IsSome};
-ghost use Rattle.run_world.specs.Acts.{actor_of};
 ghost use Rattle.world_workers.specs.Tries.{turns_of};
 
 use crate::contents::Stop;
 use crate::pause::Pause;
 use run_world::{Task, WorldPass};
-use sleep_model::Actor;
 
 /// A worker's own in a burst: a task, and the pass by which it takes the locks of the world.
 #[derive(Drop)]
@@ -15,8 +13,6 @@ pub struct Worker<'m> {
     // The pass is out only within a turn.
     pub(crate) pass: Option<WorldPass<'m>>,
     pub(crate) task: Task<'m>,
-    /// Whose task it is.
-    pub(crate) who: Actor,
     /// The index of the task among those of the burst.
     pub(crate) place: u32,
     /// The time in ms, which does not pass in a burst.
@@ -29,7 +25,6 @@ pub struct Worker<'m> {
     pub(crate) called: u32,
     /// For how long it tries nothing.
     pub(crate) pause: Pause,
-    ghost named: { who ≡ actor_of task },
     ghost few: { turns_of task + left < 2 ^ 63 },
 }
 
@@ -37,10 +32,8 @@ pub struct Worker<'m> {
 const MOST_TURNS: u64 = 1000;
 
 impl<'m> Worker<'m> {
-    /// The worker of that actor's task, which has that index, with that pass, for a burst at that moment in
-    /// ms.
-    pub fn new(pass: WorldPass<'m>, task: Task<'m>, who: Actor, place: u32, moment: u64) -> Self
-        requires who { who ≡ actor_of task }
+    /// The worker of the task with that index, with that pass, for a burst at that moment in ms.
+    pub fn new(pass: WorldPass<'m>, task: Task<'m>, place: u32, moment: u64) -> Self
         requires few { turns_of task + 1000 < 2 ^ 63 }
         ensures pass { result.pass ≡ Some pass.entry }
         ensures task { (result.task ≡ task.entry) × (result.moment ≡ moment) × (result.left ≡ 1000) }
@@ -49,7 +42,6 @@ impl<'m> Worker<'m> {
         Worker {
             pass: Some(pass),
             task,
-            who,
             place,
             moment,
             left: MOST_TURNS,

@@ -23,7 +23,7 @@ returns g c =
     let m = w.machine.now in
     let table = w.table.now.cells.shared.table_id in
     let locks = w.cells.now.shared.table_id in
-    let by_who = subst (λ (x : Actor). AfterReport (record { actor = x; floor = c.floor.result; now = w.moment }) c.args.call c.args.source made.2 reply.result.answer made.0) c.requires.who made.4 in
+    let by_who = subst (λ (x : Actor). AfterReport (record { actor = x; floor = c.floor.result; now = w.moment }) c.args.call c.args.source made.2 reply.result.answer made.0) c.who.ensures made.4 in
     let after = subst (λ (f : Stamp). AfterReport (record { actor = job.who; floor = f; now = w.moment }) c.args.call c.args.source made.2 reply.result.answer made.0) c.floor.ensures by_who in
     subst (λ (j : JobState). HasActed m table locks w.moment (task.Acts job) (task.Acts j) c.args.pass.token reply.result.pass.token) (sym c.pass_call.ensures)
     (acted_call m table locks w.moment c.args.pass.token reply.result.pass.token reply.ensures.pass made.0

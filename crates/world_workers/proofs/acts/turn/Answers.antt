@@ -23,7 +23,7 @@ returns g c =
     let m = w.machine.now in
     let table = w.table.now.cells.shared.table_id in
     let locks = w.cells.now.shared.table_id in
-    let by_who = subst (λ (x : Actor). AfterCoreTurn m x c.calls.result c.floor.result w.moment made.2 reply.result.answer made.0) c.requires.who made.4 in
+    let by_who = subst (λ (x : Actor). AfterCoreTurn m x c.calls.result c.floor.result w.moment made.2 reply.result.answer made.0) c.who-who.ensures made.4 in
     let by_calls = subst (λ (n : ℕ). AfterCoreTurn m job.who n c.floor.result w.moment made.2 reply.result.answer made.0) c.calls.ensures by_who in
     let after = subst (λ (f : Stamp). AfterCoreTurn m job.who job.calls f w.moment made.2 reply.result.answer made.0) c.floor.ensures by_calls in
     subst (λ (j : JobState). HasActed m table locks w.moment (task.Acts job) (task.Acts j) c.args.pass.token reply.result.pass.token) (sym c.pass_turn-answer.ensures.shown)

@@ -126,6 +126,6 @@ returns-clause-actors g c =
     has_run b own locks workers.len c.as_mut_slice.result.now new workers.items c.run_workers-did.result opened c.as_mut_slice.ensures.value c.run_workers-did.auto.workers
     (let count : workers.len ≡ length workers.items = omega (arith, workers.ok.0) in count) c.run_workers-did.ensures.went c.run_workers-did.ensures.goes in
     if_ok (λ (made : Burst). (x : Began) → HasRun x own locks all → HasEnded x made.contents.core made.contents.sources.items made.contents.tasks.items)
-    (λ (made : Burst). map actor_of made.contents.tasks.items ≡ plan.actors.now)
-    (λ made ended. (ended b ran).actors ∙ sym c.requires.actors)
+    (λ (made : Burst). map actor_of made.contents.tasks.items ≡ map actor_of contents.tasks.items)
+    (λ made ended. (ended b ran).actors)
     c.close_burst.result c.close_burst.ensures.ended

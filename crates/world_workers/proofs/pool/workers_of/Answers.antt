@@ -1,15 +1,11 @@
--- Proof that `workers_of` meets its contract, and that its loop keeps its invariant, and that it meets what `new` requires, and that its
--- indices and sums stay in range.
+-- Proof that `workers_of` meets its contract, that its loop keeps its invariant, and that its casts stay in range.
 use Rattle.std.proofs.Common.{◌≡◌, ◌∙◌, ◌<◌, List, [], ◌∷◌, ◌++◌, length, sym, ap, subst, arith, append_assoc}
-use Rattle.std.proofs.lemmas.List.{length-map}
-use Rattle.sleep_model.specs.declared.entry.Actor.{Actor}
 use Rattle.turn_lock.specs.declared.table.Pass.{Pass}
 use Rattle.run_laws.specs.Passes.{Noted}
 use Rattle.run_world.specs.declared.object.WorldObject.{WorldObject}
 use Rattle.run_world.specs.declared.task.Task.{Task}
-use Rattle.run_world.specs.Acts.{actor_of}
 use Rattle.world_workers.specs.Bursts.{HaveTurns}
-use Rattle.world_workers.proofs.Pools.{all_lent, fewer, fresh_more, its_actor, no_length, one_left, contents_more}
+use Rattle.world_workers.proofs.Pools.{all_lent, fewer, fresh_more, no_length, one_left, contents_more}
 use Rattle.world_workers.proofs.pool.workers_of.Goals as goal
 
 pub unreachable-requires : goal.unreachable-requires
@@ -19,25 +15,6 @@ unreachable-requires c =
     one_left c.args.passes.items is.0.0 l.left.rest.items c.args.tasks.items l.yielded l.task-iterator.rest.items l.workers.items is.0.1 c.requires.count is.3 is.0.2
     c.in-Some.task c.next.new.self.rest.items c.in-Some.ensures.steps.0 (sym is.2 ∙ c.in_default-next.ensures.cases.0)
 
-pub offset_bounds-actors-place : goal.offset_bounds-actors-place
-offset_bounds-actors-place c =
-    let l = c.loop-task in
-    let is = l.invariant in
-    let less : length l.workers.items < length c.args.tasks.items =
-    fewer c.args.passes.items is.0.0 l.left.rest.items c.args.tasks.items l.yielded l.task-iterator.rest.items l.workers.items is.0.1 c.requires.count is.3 is.0.2
-    c.in-Some.task c.next.new.self.rest.items c.in-Some.ensures.steps.0 in
-    omega (arith, less, c.requires.few, c.len-place.ensures, l.workers.ok.0)
-
-pub bounds-actors-place : goal.bounds-actors-place
-bounds-actors-place c =
-    let l = c.loop-task in
-    let is = l.invariant in
-    let less : length l.workers.items < length c.args.tasks.items =
-    fewer c.args.passes.items is.0.0 l.left.rest.items c.args.tasks.items l.yielded l.task-iterator.rest.items l.workers.items is.0.1 c.requires.count is.3 is.0.2
-    c.in-Some.task c.next.new.self.rest.items c.in-Some.ensures.steps.0 in
-    let many : length c.args.actors.now ≡ length c.args.tasks.items = ap (λ (l : List Actor). length l) c.requires.actors ∙ length-map c.args.tasks.items actor_of in
-    omega (arith, less, many, c.len-place.ensures, l.workers.ok.0)
-
 pub overflow_cast-place : goal.overflow_cast-place
 overflow_cast-place c =
     let l = c.loop-task in
@@ -46,14 +23,6 @@ overflow_cast-place c =
     fewer c.args.passes.items is.0.0 l.left.rest.items c.args.tasks.items l.yielded l.task-iterator.rest.items l.workers.items is.0.1 c.requires.count is.3 is.0.2
     c.in-Some.task c.next.new.self.rest.items c.in-Some.ensures.steps.0 in
     omega (arith, less, c.requires.few, c.len-place.ensures, l.workers.ok.0)
-
-pub new-worker-requires-clause-who : goal.new-worker-requires-clause-who
-new-worker-requires-clause-who c =
-    let l = c.loop-task in
-    let is = l.invariant in
-    let place_is : c.len-place.result ≡ length l.workers.items = omega (arith, c.len-place.ensures, l.workers.ok.0) in
-    its_actor c.args.passes.items is.0.0 l.left.rest.items c.args.tasks.items l.yielded l.task-iterator.rest.items l.workers.items is.0.1 c.requires.count is.3 is.0.2
-    c.in-Some.task c.next.new.self.rest.items c.in-Some.ensures.steps.0 c.args.actors.now c.requires.actors c.len-place.result place_is _
 
 pub loop-task-preserved : goal.loop-task-preserved
 loop-task-preserved c =

@@ -1,7 +1,6 @@
 -- Proof that `RunInBurst::make` meets its contract, and that it meets what `make_burst` requires.
-use Rattle.std.proofs.Common.{◌+◌, ◌∙◌, ℕ, length, sym, ap, arith}
-use Rattle.machine_rounds.specs.TasksOf.{all_actors}
-use Rattle.machine_rounds.proofs.RunInBurst.{during_actors, during_few, during_ready, during_some, during_timely, during_turns, grown_of, is_back_of}
+use Rattle.std.proofs.Common.{arith}
+use Rattle.machine_rounds.proofs.RunInBurst.{during_few, during_ready, during_some, during_timely, during_turns, grown_of, is_back_of}
 use Rattle.machine_rounds.proofs.bursts.RunInBurst.make.Goals as goal
 
 pub make_burst-requires-clause-ready : goal.make_burst-requires-clause-ready
@@ -9,15 +8,6 @@ make_burst-requires-clause-ready g c = λ κs h. during_ready _ _ _ _ _ _ c.requ
 
 pub make_burst-requires-clause-timely : goal.make_burst-requires-clause-timely
 make_burst-requires-clause-timely g c = λ κs h. during_timely _ _ _ _ _ _ c.requires.during
-
-pub make_burst-requires-clause-actors : goal.make_burst-requires-clause-actors
-make_burst-requires-clause-actors g c =
-    let m = c.args.self.now.machine.now in
-    λ κs h.
-    c.deref.ensures.value ∙ (c.in-Ok.ensures
-    ∙ (ap (λ (n : ℕ). all_actors n c.len-2.result (c.len-3.result + 1)) c.len.ensures
-    ∙ (ap (λ (n : ℕ). all_actors (length m.actors) n (c.len-3.result + 1)) c.len-2.ensures
-    ∙ (ap (λ (n : ℕ). all_actors (length m.actors) (length m.devices) (n + 1)) c.len-3.ensures ∙ sym (during_actors _ _ _ _ _ _ c.requires.during)))))
 
 pub make_burst-requires-clause-turns : goal.make_burst-requires-clause-turns
 make_burst-requires-clause-turns g c = λ κs h. during_turns _ _ _ _ _ _ c.requires.during
