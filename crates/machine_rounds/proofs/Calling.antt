@@ -16,10 +16,10 @@ use Rattle.running_laws.specs.Running.{IsRunning, source_entry_count, histories,
 use Rattle.running_laws.proofs.Asked.{timely}
 use Rattle.running_laws.proofs.Lists.{history_at, source_at}
 use Rattle.machine_rounds.specs.declared.run.Run.TheInside.{Inside}
-use Rattle.machine_rounds.specs.declared.run.RunFault.{RunFault}
-use Rattle.machine_rounds.specs.declared.run.RunFault.TheVariants as fault
+use Rattle.world_workers.specs.declared.fault.RunFault.{RunFault}
+use Rattle.world_workers.specs.declared.fault.RunFault.TheVariants as fault
 use Rattle.machine_rounds.specs.JobsOf.{job_at}
-use Rattle.machine_rounds.specs.Refused.{run_fault}
+use Rattle.world_workers.specs.Refused.{run_fault}
 use Rattle.machine_rounds.specs.RunFields.{RunFieldsInvariant, sources_of, state}
 use Rattle.machine_rounds.specs.Runs.{IsRefused}
 use Rattle.machine_rounds.proofs.SeatedSources.{put_back, seat_is, source_is, sources_set, more_set}

@@ -40,8 +40,8 @@ use Rattle.fit_laws.specs.Ranged.{is_ranged_entry}
 use Rattle.fit_laws.proofs.Fitted.{log_fits}
 use Rattle.wakeup_source.specs.SourceStates.{SourceState}
 use Rattle.machine_rounds.specs.declared.after_idle_round.RunEnd.{RunEnd}
-use Rattle.machine_rounds.specs.declared.run.RunFault.{RunFault}
-use Rattle.machine_rounds.specs.declared.run.RunFault.TheVariants as fault
+use Rattle.world_workers.specs.declared.fault.RunFault.{RunFault}
+use Rattle.world_workers.specs.declared.fault.RunFault.TheVariants as fault
 use Rattle.running_laws.specs.Running.{entry_count, histories, journal_histories, of_sources}
 use Rattle.running_laws.proofs.Ends.{running_ends, running_keeps, stats_are, told_all}
 use Rattle.machine_rounds.specs.Waits.{all_stats, script_waits}

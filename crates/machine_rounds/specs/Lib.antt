@@ -3,7 +3,6 @@ pub mod BurstsOf
 pub mod JobsFields
 pub mod JobsOf
 pub mod NumberSets
-pub mod Refused
 pub mod RunFields
 pub mod Runs
 pub mod TasksOf

@@ -32,8 +32,8 @@ use Rattle.end_laws.specs.Waking.{events_wake_first, time_goes_forward}
 use Rattle.run_objects.specs.Closed.{IsClosedTable}
 use Rattle.machine_rounds.specs.declared.after_idle_round.RunEnd.{RunEnd}
 use Rattle.machine_rounds.specs.declared.after_idle_round.RunEnd.TheVariants.{Finished, Stuck}
-use Rattle.machine_rounds.specs.declared.run.RunFault.{RunFault}
-use Rattle.machine_rounds.specs.declared.run.RunFault.TheVariants as fault
+use Rattle.world_workers.specs.declared.fault.RunFault.{RunFault}
+use Rattle.world_workers.specs.declared.fault.RunFault.TheVariants as fault
 
 -- the machine of a run, its journal and its sources so far, the seat by which it looks at the event word, and the last stamp that anybody
 -- made

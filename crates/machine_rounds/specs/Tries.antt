@@ -2,7 +2,7 @@
 use Rattle.std.specs.Prelude.{◌<◌, Result, Ok, Err}
 use Rattle.machine_rounds.specs.declared.run.TurnOutcome.{TurnOutcome}
 use Rattle.machine_rounds.specs.declared.run.TurnOutcome.TheVariants.{Made}
-use Rattle.machine_rounds.specs.declared.run.RunFault.{RunFault}
+use Rattle.world_workers.specs.declared.fault.RunFault.{RunFault}
 use Rattle.machine_rounds.specs.Runs.{RunState, IsRefused, MadeNothing, entries_made}
 
 -- after an actor's try entries were made, or nothing has changed

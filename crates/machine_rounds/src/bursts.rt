@@ -3,12 +3,12 @@
 //! it too: then an actor that it left out makes one after all, time jumps, or the run is over.
 
 ghost use Rattle.std.specs.Prelude.{◌≡◌, ◌≤◌, IfOk};
-ghost use Rattle.machine_rounds.specs.declared.run.RunFault.TheVariants as fault;
+ghost use Rattle.world_workers.specs.declared.fault.RunFault.TheVariants as fault;
 
 use crate::after_idle_round::RunEnd;
 use crate::jobs::Jobs;
 use crate::pace::Pace;
-use crate::run::{Run, RunFault};
+use crate::run::Run;
 use crate::tasks::highest_of;
 use crate::waiters::Waiters;
 use apart_log::ApartLog;
@@ -21,7 +21,7 @@ use std::alloc::Global;
 use std::sync::Wait;
 use std::thread::Threads;
 use wakeup_source::MOST_ENTRIES;
-use world_workers::{Burst, BurstContents, BurstPlan, Stop, make_burst};
+use world_workers::{Burst, BurstContents, BurstPlan, RunFault, make_burst};
 
 /// The most entries of a journal at which a burst is begun. No run comes near it (`MOST_LOG`): the test only
 /// gives the burst the bound that its contract asks for.
@@ -62,7 +62,7 @@ struct AfterBurst<'m> {
     /// How many tasks there were.
     tasks: usize,
     /// Why a task stopped, if one did.
-    stop: Option<Stop>,
+    stop: Option<RunFault>,
 }
 
 impl<'m> RunInBurst<'m> {
@@ -260,14 +260,23 @@ impl<'m> Run<'m> {
         }
     }
 
-    /// The fault of the run, if a task stopped: it was out of memory, or met a full source, which is looked
-    /// at again, since no clause speaks of `stop`.
-    fn refused(&self, stop: Option<Stop>) -> Option<RunFault>
+    /// Whether a task may have stopped for that: it was out of memory, or met a source that is full.
+    fn is_refused(&self, fault: RunFault) -> bool
+        ensures { OnTrue result (IsRefused self.now fault) }
+    {
+        match fault {
+            RunFault::SourceFull(source) => self.is_full(source),
+            RunFault::Mem => true,
+        }
+    }
+
+    /// The fault of the run, if a task stopped. A full source is looked at again, since no clause speaks of
+    /// `stop`.
+    fn refused(&self, stop: Option<RunFault>) -> Option<RunFault>
         ensures { IfSome result (IsRefused self.now) }
     {
         match stop {
-            Some(Stop::Mem) => Some(RunFault::Mem),
-            Some(Stop::Full(source)) if self.is_full(source) => Some(RunFault::SourceFull(source)),
+            Some(fault) if self.is_refused(fault) => Some(fault),
             _ => None,
         }
     }

@@ -1,10 +1,11 @@
 //! Who can go on after a round that did nothing: its next entry is made by the word that was looked at.
 
-use crate::run::{Run, RunFault};
+use crate::run::Run;
 use fit_laws::{kinds_are_ranged, moments_are_ranged};
 use sleep_core::CoreTurn;
 use sleep_model::{Actor, EventNow, Want};
 use std::sync::Wait;
+use world_workers::RunFault;
 
 impl<'m> Run<'m> {
     ghost use Rattle.std.specs.Bool.{OnTrue};

@@ -24,4 +24,5 @@ mod run;
 mod tasks;
 mod waiters;
 
-pub use run::{Run, RunFault};
+pub use run::Run;
+pub use world_workers::RunFault;

@@ -1,9 +1,10 @@
 //! Rounds over the actors, and what comes after them.
 
 use crate::after_idle_round::RunEnd;
-use crate::run::{Run, RunFault, TurnOutcome};
+use crate::run::{Run, TurnOutcome};
 use sleep_model::{Actor, Want, Why};
 use std::sync::Wait;
+use world_workers::RunFault;
 
 impl<'m> Run<'m> {
     ghost use Rattle.std.specs.Prelude.{◌≡◌, ◌≤◌, ◌<◌, length, IfSome};

@@ -1,9 +1,7 @@
 //! A run of a machine, turn by turn.
 
 ghost use Rattle.std.specs.Prelude.{◌≡◌, ◌≤◌, ◌<◌, ◌+◌, zero, suc, true, length, IfOk};
-ghost use Rattle.machine_rounds.specs.declared.run.RunFault.TheVariants as fault;
 ghost use Rattle.sleep_model.specs.Accepted.{IsAccepted};
-ghost use Rattle.machine_rounds.specs.Refused.{run_fault};
 
 use crate::jobs::Jobs;
 use crate::waiters::Waiters;
@@ -13,48 +11,13 @@ use fit_laws::{calls_are_ranged, kinds_are_ranged, moments_are_ranged};
 use machine_plans::MachinePlans;
 use run_objects::{SeatedCore, SeatedSource, seated_sources};
 use sleep_base::{Mem, drop_for_mem};
-use sleep_core::{Core, CoreFault, CoreTurn};
+use sleep_core::{Core, CoreTurn};
 use sleep_model::{Actor, EventNow, Kind, Machine, Phase, SourceCall, Stamp, Why};
-use std::alloc::{AllocError, Global};
+use std::alloc::Global;
 use std::marker::Model;
 use std::sync::Wait;
-use thiserror::Error;
-use wakeup_source::{CallBy, SourceFault};
-
-/// Why a run gives nothing.
-#[derive(Clone, Copy, Debug, PartialEq, Eq, Error)]
-pub enum RunFault {
-    /// The history of that source has no place left for a call.
-    #[error("the history of wakeup source {0} has no place left for a call")]
-    SourceFull(u32),
-    /// There was no memory.
-    #[error("out of memory")]
-    Mem,
-}
-
-impl From<AllocError> for RunFault {
-    ghost from_gives = { λ _ e. e ≡ fault.Mem };
-
-    fn from(_: AllocError) -> Self {
-        RunFault::Mem
-    }
-}
-
-impl From<Mem> for RunFault {
-    ghost from_gives = { λ _ e. e ≡ fault.Mem };
-
-    fn from(_: Mem) -> Self {
-        RunFault::Mem
-    }
-}
-
-impl From<CoreFault> for RunFault {
-    ghost from_gives = { λ _ e. e ≡ fault.Mem };
-
-    fn from(_: CoreFault) -> Self {
-        RunFault::Mem
-    }
-}
+use wakeup_source::CallBy;
+use world_workers::RunFault;
 
 /// What came of an actor's try.
 #[derive(Clone, Copy)]
@@ -107,16 +70,6 @@ fn all_waiters(alloc: Global, machine: &Machine) -> Result<Waiters, Mem>
     )
 }
 
-/// Why a call on that source was refused.
-fn fault_of(fault: SourceFault, source: u32) -> RunFault
-    ensures { result ≡ run_fault fault source }
-{
-    match fault {
-        SourceFault::Full => RunFault::SourceFull(source),
-        SourceFault::Mem => RunFault::Mem,
-    }
-}
-
 /// A device is done with that phase: the devices that waited for it are right above it on the way down, right
 /// below it on the way up.
 fn waiting_for<'a>(core: &'a Core<'_>, phase: Phase, device: u32) -> &'a [u32] {
@@ -149,7 +102,7 @@ impl<'m> Run<'m> {
     ghost use Rattle.sleep_core.specs.Cores.{IsActor};
     ghost use Rattle.running_laws.specs.Running.{CallsNext, calls_made, histories, of_sources};
     ghost use Rattle.run_objects.specs.Objects.{AreUncalled, seats_of};
-    ghost use Rattle.machine_rounds.specs.declared.run.RunFault.TheVariants as fault;
+    ghost use Rattle.world_workers.specs.declared.fault.RunFault.TheVariants as fault;
     ghost use Rattle.machine_rounds.specs.Runs.{IsGoingOn, IsRefused, MadeNothing, IsLastLook, entries_made};
     ghost use Rattle.machine_rounds.specs.Tries.{AfterAsking};
     ghost use Rattle.machine_rounds.specs.JobsOf.{first_jobs};
@@ -255,7 +208,7 @@ impl<'m> Run<'m> {
                 self.waiters.wake_for_word();
                 Ok(())
             }
-            Err(fault) => Err(fault_of(fault, source)),
+            Err(fault) => Err(RunFault::of_call(fault, source)),
         }
     }
 
@@ -281,7 +234,7 @@ impl<'m> Run<'m> {
                 self.waiters.wake_for_word();
                 Ok(())
             }
-            Err(fault) => Err(fault_of(fault, source)),
+            Err(fault) => Err(RunFault::of_call(fault, source)),
         }
     }
 

@@ -3,3 +3,4 @@ pub mod Tries
 pub mod Workers
 pub mod Bursts
 pub mod Opened
+pub mod Refused

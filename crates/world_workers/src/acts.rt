@@ -8,7 +8,7 @@ ghost use Rattle.fit_laws.specs.Ranged.{is_ranged};
 ghost use Rattle.run_world.specs.declared.task.Task.TheVariants as variant;
 ghost use Rattle.world_workers.specs.Tries.{GoesIn, HasActed, IsRangedTurn, told_source, timer_after_call, told_core, turns_of};
 
-use crate::contents::Stop;
+use crate::fault::RunFault;
 use fit_laws::{calls_are_ranged, kinds_are_ranged};
 use run_world::{Gate, Reply, Task, World, WorldPass};
 use sleep_core::{CoreFault, CoreTurn};
@@ -20,10 +20,10 @@ use wakeup_source::{CallBy, SourceFault};
 
 /// What came of a try of a task, with the pass: what the pool hears of it, or why the task comes to no end of
 /// its own.
-pub type Tried<'m> = Reply<'m, Result<Turn, Stop>>;
+pub type Tried<'m> = Reply<'m, Result<Turn, RunFault>>;
 
 /// Reports to a job what its turn of the machine came to.
-fn pass_turn(job: &mut ActorJob<'_>, answer: Result<CoreTurn, CoreFault>) -> Result<Turn, Stop>
+fn pass_turn(job: &mut ActorJob<'_>, answer: Result<CoreTurn, CoreFault>) -> Result<Turn, RunFault>
     requires made { job.old.pending ≡ [] }
     requires few { job.old.turns < 2 ^ 63 }
     ensures shown { job.new ≡ told_core answer job.old }
@@ -43,17 +43,16 @@ fn pass_turn(job: &mut ActorJob<'_>, answer: Result<CoreTurn, CoreFault>) -> Res
         }
         Ok(CoreTurn::NotYet(_)) => Ok(Turn::NotYet),
         Ok(CoreTurn::Done) => Ok(Turn::Done),
-        Err(CoreFault::Mem) => Err(Stop::Mem),
+        Err(CoreFault::Mem) => Err(RunFault::Mem),
     }
 }
 
 /// What the pool hears of a call on that source.
-fn turn_of_call(source: u32, answer: Result<Option<Stamp>, SourceFault>) -> Result<Turn, Stop> {
+fn turn_of_call(source: u32, answer: Result<Option<Stamp>, SourceFault>) -> Result<Turn, RunFault> {
     match answer {
         Ok(Some(_)) => Ok(Turn::Did),
         Ok(None) => Ok(Turn::NotYet),
-        Err(SourceFault::Full) => Err(Stop::Full(source)),
-        Err(SourceFault::Mem) => Err(Stop::Mem),
+        Err(fault) => Err(RunFault::of_call(fault, source)),
     }
 }
 

@@ -1,5 +1,6 @@
 //! What goes into a burst, and comes out of it.
 
+use crate::fault::RunFault;
 use event_word::EventTable;
 use run_objects::{SeatedCore, SeatedSource};
 use run_world::Task;
@@ -27,15 +28,6 @@ pub struct BurstContents<'m> {
     pub tasks: Vec<Task<'m>>,
 }
 
-/// Why a task came to no end of its own.
-#[derive(Clone, Copy, Debug, Drop, PartialEq, Eq)]
-pub enum Stop {
-    /// There was no memory for it.
-    Mem,
-    /// The history of that source has no place left for its call.
-    Full(u32),
-}
-
 /// What a burst came to.
 #[derive(Drop)]
 pub struct Burst<'m> {
@@ -46,14 +38,5 @@ pub struct Burst<'m> {
     pub beside: u64,
     /// Why a task stopped, if one did: out of memory before a full source, and the least of those. No clause
     /// speaks of it.
-    pub stop: Option<Stop>,
-}
-
-/// Which of two counts: out of memory before a full source, and the lesser source.
-pub(crate) fn graver(one: Option<Stop>, other: Option<Stop>) -> Option<Stop> {
-    match (one, other) {
-        (None, _) | (Some(Stop::Full(_)), Some(Stop::Mem)) => other,
-        (Some(Stop::Full(source)), Some(Stop::Full(less))) if less < source => other,
-        _ => one,
-    }
+    pub stop: Option<RunFault>,
 }

@@ -18,6 +18,7 @@
 mod acts;
 mod burst;
 mod contents;
+mod fault;
 mod pause;
 mod pool;
 mod turns;
@@ -25,5 +26,6 @@ mod worker;
 
 pub use acts::{Tried, act};
 pub use burst::make_burst;
-pub use contents::{Burst, BurstContents, BurstPlan, Stop};
+pub use contents::{Burst, BurstContents, BurstPlan};
+pub use fault::RunFault;
 pub use worker::Worker;

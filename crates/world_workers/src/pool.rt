@@ -6,7 +6,7 @@ ghost use Rattle.atomic_table.specs.Seated.{TableId};
 ghost use Rattle.world_workers.specs.Bursts.{HaveTurns};
 ghost use Rattle.world_workers.specs.Workers.{AreFresh, AreOneMore, AreContents, AreWorkersOf};
 
-use crate::contents::{Stop, graver};
+use crate::fault::{RunFault, graver};
 use crate::worker::Worker;
 use run_world::{Task, WorldPass};
 use sleep_base::{Mem, drop_for_mem};
@@ -44,7 +44,7 @@ pub(crate) fn workers_of<'m>(
 
 /// Why one of these workers stopped, if one did, and how many calls on sources they made, but for those of
 /// the busiest.
-pub(crate) fn came_to(workers: &[Worker<'_>]) -> (Option<Stop>, u64) {
+pub(crate) fn came_to(workers: &[Worker<'_>]) -> (Option<RunFault>, u64) {
     let mut stop = None;
     let mut calls: u64 = 0;
     let mut most = 0;

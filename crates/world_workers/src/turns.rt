@@ -4,14 +4,14 @@ ghost use Rattle.std.specs.Prelude.{◌≡◌, Some, IsSome};
 ghost use Rattle.world_workers.specs.Workers.{IsWorkerOf, WorkerWentOn, turns_left};
 
 use crate::acts::act;
-use crate::contents::Stop;
+use crate::fault::RunFault;
 use crate::worker::Worker;
 use run_world::{Gate, Reply, World, WorldPass};
 use sleep_pool::{Job as Work, Turn};
 use std::sync::Wait;
 
 /// What the pool hears of a try.
-fn turn_of(answer: Result<Turn, Stop>) -> Turn {
+fn turn_of(answer: Result<Turn, RunFault>) -> Turn {
     match answer {
         Ok(turn) => turn,
         Err(_) => Turn::Stop,

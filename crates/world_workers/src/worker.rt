@@ -3,7 +3,7 @@
 ghost use Rattle.std.specs.Prelude.{◌≡◌, ◌<◌, ◌+◌, ◌^◌, Some, IsSome};
 ghost use Rattle.world_workers.specs.Tries.{turns_of};
 
-use crate::contents::Stop;
+use crate::fault::RunFault;
 use crate::pause::Pause;
 use run_world::{Task, WorldPass};
 
@@ -20,7 +20,7 @@ pub struct Worker<'m> {
     /// How many turns it can still make.
     pub(crate) left: u64,
     /// Why it stopped, if it did.
-    pub(crate) stop: Option<Stop>,
+    pub(crate) stop: Option<RunFault>,
     /// How many calls on sources its task had made when the burst began.
     pub(crate) called: u32,
     /// For how long it tries nothing.

@@ -18,7 +18,7 @@ use Rattle.running_laws.proofs.Calls.{IsCalledNow, running_call}
 use Rattle.running_laws.proofs.Invariant.{actor_told}
 use Rattle.running_laws.proofs.Rising.{call_longer}
 use Rattle.machine_rounds.specs.declared.run.Run.TheInside.{Inside}
-use Rattle.machine_rounds.specs.declared.run.RunFault.TheVariants as fault
+use Rattle.world_workers.specs.declared.fault.RunFault.TheVariants as fault
 use Rattle.machine_rounds.specs.JobsOf.{AreAllJobs, JobsState, job_at, with_job}
 use Rattle.machine_rounds.specs.RunFields.{RunFieldsInvariant, sources_of, state}
 use Rattle.machine_rounds.specs.Runs.{RunState, entries_made}
@@ -154,8 +154,8 @@ returns-in-Err-clause-fault g c =
     let r = c.self.inside in
     let k = c.self.invariant in
     let t = there r k c.args.self.now c.self.view_is c.args.who c.args.source c.args.call c.requires.next in
-    refused_put r k c.args.source t c.index_mut-one.result.now c.index_mut-one.ensures.value c.call.new.self c.in-Err.ensures.err c.fault_of.result
-    (refused r k c.args.source t c.index_mut-one.result.now c.index_mut-one.ensures.value c.in-Err.fault c.fault_of.result c.fault_of.ensures (λ e. c.in-Err.ensures.full.0 (ap Err e)))
+    refused_put r k c.args.source t c.index_mut-one.result.now c.index_mut-one.ensures.value c.call.new.self c.in-Err.ensures.err c.of_call.result
+    (refused r k c.args.source t c.index_mut-one.result.now c.index_mut-one.ensures.value c.in-Err.fault c.of_call.result c.of_call.ensures (λ e. c.in-Err.ensures.full.0 (ap Err e)))
 
 pub returns-in-Err-clause-want : goal.returns-in-Err-clause-want
 returns-in-Err-clause-want g c want =
@@ -163,5 +163,5 @@ returns-in-Err-clause-want g c want =
     let k = c.self.invariant in
     let t = there r k c.args.self.now c.self.view_is c.args.who c.args.source c.args.call c.requires.next in
     subst (λ (x : RunState). length (of_sources x.sources c.args.source) + 4 ≤ most_entries) c.self.view_is
-    (wanted r k c.args.source t c.index_mut-one.result.now c.index_mut-one.ensures.value c.in-Err.fault c.fault_of.result c.fault_of.ensures
-    (λ l. (let full = c.in-Err.ensures.full.1 l in cc)) (let no : c.fault_of.result ≡ fault.Mem = cc in no))
+    (wanted r k c.args.source t c.index_mut-one.result.now c.index_mut-one.ensures.value c.in-Err.fault c.of_call.result c.of_call.ensures
+    (λ l. (let full = c.in-Err.ensures.full.1 l in cc)) (let no : c.of_call.result ≡ fault.Mem = cc in no))

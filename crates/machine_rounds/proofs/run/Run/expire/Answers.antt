@@ -17,7 +17,7 @@ use Rattle.running_laws.specs.Running.{IsRunning, histories, of_sources}
 use Rattle.running_laws.proofs.Calls.{IsCalledNow, running_expire}
 use Rattle.running_laws.proofs.Rising.{call_longer}
 use Rattle.machine_rounds.specs.declared.run.Run.TheInside.{Inside}
-use Rattle.machine_rounds.specs.declared.run.RunFault.TheVariants as fault
+use Rattle.world_workers.specs.declared.fault.RunFault.TheVariants as fault
 use Rattle.machine_rounds.specs.JobsOf.{job_at}
 use Rattle.machine_rounds.specs.RunFields.{sources_of, state}
 use Rattle.machine_rounds.specs.Runs.{RunState, entries_made}
@@ -132,8 +132,8 @@ returns-in-Err-clause-fault g c =
     let r = c.self.inside in
     let k = c.self.invariant in
     let t = there r c.args.self.now c.self.view_is c.args.source c.requires.there in
-    refused_put r k c.args.source t c.index_mut-one.result.now c.index_mut-one.ensures.value c.call.new.self c.in-Err.ensures.err c.fault_of.result
-    (refused r k c.args.source t c.index_mut-one.result.now c.index_mut-one.ensures.value c.in-Err.fault c.fault_of.result c.fault_of.ensures (λ e. c.in-Err.ensures.full.0 (ap Err e)))
+    refused_put r k c.args.source t c.index_mut-one.result.now c.index_mut-one.ensures.value c.call.new.self c.in-Err.ensures.err c.of_call.result
+    (refused r k c.args.source t c.index_mut-one.result.now c.index_mut-one.ensures.value c.in-Err.fault c.of_call.result c.of_call.ensures (λ e. c.in-Err.ensures.full.0 (ap Err e)))
 
 pub returns-in-Err-clause-want : goal.returns-in-Err-clause-want
 returns-in-Err-clause-want g c want =
@@ -141,5 +141,5 @@ returns-in-Err-clause-want g c want =
     let k = c.self.invariant in
     let t = there r c.args.self.now c.self.view_is c.args.source c.requires.there in
     subst (λ (x : RunState). length (of_sources x.sources c.args.source) + 4 ≤ most_entries) c.self.view_is
-    (wanted r k c.args.source t c.index_mut-one.result.now c.index_mut-one.ensures.value c.in-Err.fault c.fault_of.result c.fault_of.ensures
-    (λ l. (let full = c.in-Err.ensures.full.1 l in cc)) (let no : c.fault_of.result ≡ fault.Mem = cc in no))
+    (wanted r k c.args.source t c.index_mut-one.result.now c.index_mut-one.ensures.value c.in-Err.fault c.of_call.result c.of_call.ensures
+    (λ l. (let full = c.in-Err.ensures.full.1 l in cc)) (let no : c.of_call.result ≡ fault.Mem = cc in no))

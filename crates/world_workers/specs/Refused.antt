@@ -2,8 +2,8 @@
 use Rattle.std.specs.Prelude.{ℕ}
 use Rattle.wakeup_source.specs.declared.fault.SourceFault.{SourceFault}
 use Rattle.wakeup_source.specs.declared.fault.SourceFault.TheVariants as source
-use Rattle.machine_rounds.specs.declared.run.RunFault.{RunFault}
-use Rattle.machine_rounds.specs.declared.run.RunFault.TheVariants as fault
+use Rattle.world_workers.specs.declared.fault.RunFault.{RunFault}
+use Rattle.world_workers.specs.declared.fault.RunFault.TheVariants as fault
 
 -- why a call on that source was refused
 abbrev pub run_fault : SourceFault → ℕ → RunFault
