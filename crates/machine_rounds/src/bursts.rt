@@ -46,11 +46,11 @@ struct RunInBurst<'m> {
     waiters: Waiters,
 }
 
-/// A run that was brought on, and what came of it: how it is over, if it is, or why it gives nothing.
+/// A run after rounds or a burst, and what came of them: how it is over, if it is, or why it gives no log.
 #[derive(Drop)]
 struct Advance<'m> {
     run: Run<'m>,
-    came: Result<Option<RunEnd>, RunFault>,
+    outcome: Result<Option<RunEnd>, RunFault>,
 }
 
 /// A run after a burst.
@@ -58,9 +58,9 @@ struct Advance<'m> {
 struct AfterBurst<'m> {
     run: Run<'m>,
     /// How many calls on sources were made, but for those of the busiest task.
-    beside: u64,
+    other_calls: u64,
     /// How many tasks there were.
-    tasks: usize,
+    task_count: usize,
     /// Why a task stopped, if one did.
     stop: Option<RunFault>,
 }
@@ -72,7 +72,7 @@ impl<'m> RunInBurst<'m> {
 
     /// Makes the burst: the tasks run on worker threads, and all that went in comes back. The gate sees each
     /// turn; a test waits in it, to bring turns into an order.
-    fn make<R: Threads + Wait + Sync, G: Gate + Sync>(
+    fn run_tasks<R: Threads + Wait + Sync, G: Gate + Sync>(
         &self,
         rt: &R,
         alloc: Global,
@@ -161,21 +161,21 @@ impl<'m> RunInBurst<'m> {
         ensures machine { IfOk result (λ after. after.run.machine ≡ self.entry.machine.now) }
         ensures grown { IfOk result (λ after. entries_of contents.entry.core contents.entry.sources.items ≤ entries_made after.run) }
     {
-        let tasks = contents.tasks.len();
-        let Ok(burst) = self.make(rt, alloc, contents, workers, gate) else {
+        let task_count = contents.tasks.len();
+        let Ok(burst) = self.run_tasks(rt, alloc, contents, workers, gate) else {
             return Err(drop_for_mem(self));
         };
         let Burst {
             contents,
-            beside,
+            other_calls,
             stop,
             ..
         } = burst;
         let run = self.come_back(alloc, contents)?;
         Ok(AfterBurst {
             run,
-            beside,
-            tasks,
+            other_calls,
+            task_count,
             stop,
         })
     }
@@ -298,11 +298,11 @@ impl<'m> Run<'m> {
     /// and most stretches make a few entries.
     fn advance_alone<R: Wait>(self, rt: &R, stretches: u32) -> Advance<'m>
         ensures machine { result.run.machine ≡ self.entry.machine }
-        ensures after { AfterStretches stretches self.entry result.run result.came }
+        ensures after { AfterStretches stretches self.entry result.run result.outcome }
     {
         let mut run = self;
-        let came = run.alone(rt, stretches);
-        Advance { run, came }
+        let outcome = run.alone(rt, stretches);
+        Advance { run, outcome }
     }
 
     /// A burst, and then a round of the caller's own.
@@ -314,24 +314,24 @@ impl<'m> Run<'m> {
         pace: &mut Pace,
     ) -> Result<Advance<'m>, Mem>
         ensures machine { IfOk result (λ next. next.run.machine ≡ self.entry.machine) }
-        ensures after { IfOk result (λ next. AfterStretches 1 self.entry next.run next.came) }
+        ensures after { IfOk result (λ next. AfterStretches 1 self.entry next.run next.outcome) }
     {
         let workers = pace.workers();
         let AfterBurst {
             mut run,
-            beside,
-            tasks,
+            other_calls,
+            task_count,
             stop,
         } = self.burst(rt, alloc, workers, gate)?;
-        pace.note(beside, tasks, workers);
+        pace.note(other_calls, task_count, workers);
         if let Some(fault) = run.refused(stop) {
             return Ok(Advance {
                 run,
-                came: Err(fault),
+                outcome: Err(fault),
             });
         }
-        let came = run.stretch(rt, 1);
-        Ok(Advance { run, came })
+        let outcome = run.stretch(rt, 1);
+        Ok(Advance { run, outcome })
     }
 
     /// Brings the run on, by as many stretches of the caller's own rounds as the pace wants, else by a burst:
@@ -344,7 +344,7 @@ impl<'m> Run<'m> {
         pace: &mut Pace,
     ) -> Result<Advance<'m>, Mem>
         ensures machine { IfOk result (λ next. next.run.machine ≡ self.entry.machine) }
-        ensures after { IfOk result (λ next. AfterStretches 1 self.entry next.run next.came) }
+        ensures after { IfOk result (λ next. AfterStretches 1 self.entry next.run next.outcome) }
     {
         let alone = pace.take_alone();
         if alone > 0 {
@@ -379,8 +379,8 @@ impl<'m> Run<'m> {
         let mut run = self;
         let mut pace = Pace::new(workers);
         for _turn in 0..MOST_LOG + 1 {
-            let Advance { run: next, came } = run.advance(rt, alloc, gate, &mut pace)?;
-            match came {
+            let Advance { run: next, outcome } = run.advance(rt, alloc, gate, &mut pace)?;
+            match outcome {
                 Ok(None) => run = next,
                 Ok(Some(end)) => return Ok(next.into_log(alloc, end)?),
                 Err(fault) => return Err(next.into_fault(rt, alloc, fault)?),

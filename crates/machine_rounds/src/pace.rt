@@ -72,14 +72,14 @@ impl Pace {
         self.most.min(2).max(self.worth as u8)
     }
 
-    /// A burst of `tasks` tasks by that many workers made `beside` calls on sources that were not the busiest
-    /// task's.
-    pub(crate) fn note(&mut self, beside: u64, tasks: usize, workers: u8) {
+    /// A burst of so many tasks and workers was made. `other_calls`: how many calls on sources were not the
+    /// busiest task's.
+    pub(crate) fn note(&mut self, other_calls: u64, tasks: usize, workers: u8) {
         self.made = self.made.saturating_add(1);
-        self.worth = beside / WORTH + 1;
+        self.worth = other_calls / WORTH + 1;
         let threads = (tasks as u64).min(u64::from(workers)).saturating_sub(1);
         let least = (threads * WORTH).max((tasks as u64).saturating_mul(WORTH_A_TASK));
-        if beside >= least {
+        if other_calls >= least {
             self.short = 0;
             return;
         }

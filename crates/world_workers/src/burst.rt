@@ -103,7 +103,7 @@ fn close_burst<'m>(
         → HasEnded b made.contents.core made.contents.sources.items made.contents.tasks.items) }
     ensures kept { IfOk result (λ made. SourcesInvariant made.contents.sources.items) }
 {
-    let (stop, beside) = came_to(workers.as_slice());
+    let (stop, other_calls) = came_to(workers.as_slice());
     let Ok(brought) = taken_apart(alloc, workers) else {
         return Err(drop_for_mem(locks));
     };
@@ -118,7 +118,7 @@ fn close_burst<'m>(
             tasks,
         },
         did,
-        beside,
+        other_calls,
         stop,
     })
 }

@@ -35,7 +35,7 @@ pub struct Burst<'m> {
     /// How many turns did something.
     pub did: u64,
     /// How many calls on sources were made, but for those of the task that made most. No clause speaks of it.
-    pub beside: u64,
+    pub other_calls: u64,
     /// Why a task stopped, if one did: out of memory before a full source, and the least of those. No clause
     /// speaks of it.
     pub stop: Option<RunFault>,

@@ -1,7 +1,7 @@
--- Proof that `RunInBurst::make` meets its contract, and that it meets what `make_burst` requires.
+-- Proof that `RunInBurst::run_tasks` meets its contract, and that it meets what `make_burst` requires.
 use Rattle.std.proofs.Common.{arith}
 use Rattle.machine_rounds.proofs.RunInBurst.{during_few, during_ready, during_some, during_timely, during_turns, grown_of, is_back_of}
-use Rattle.machine_rounds.proofs.bursts.RunInBurst.make.Goals as goal
+use Rattle.machine_rounds.proofs.bursts.RunInBurst.run_tasks.Goals as goal
 
 pub make_burst-requires-clause-ready : goal.make_burst-requires-clause-ready
 make_burst-requires-clause-ready g c = λ κs h. during_ready _ _ _ _ _ _ c.requires.during
