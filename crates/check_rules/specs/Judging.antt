@@ -15,22 +15,22 @@ is_of_journal OfJournal = true
 is_of_journal _ = false
 
 -- the rule that is meant (own)
-abbrev pub meant : Rule → model.Rule
-meant ours.Links = model.Links
-meant ours.Numbers = model.Numbers
-meant ours.Attempts = model.Attempts
-meant ours.Reads = model.Reads
-meant ours.Walk = model.Walk
-meant ours.Skip = model.Skip
-meant ours.Runtime = model.Runtime
-meant ours.Owed = model.Owed
-meant ours.Freezer = model.Freezer
-meant ours.Path = model.Path
-meant ours.Answers = model.Answers
-meant ours.Restored = model.Restored
-meant ours.Steps = model.Steps
-meant ours.Enabled = model.Enabled
-meant ours.Source = model.Source
+abbrev pub rule_meant : Rule → model.Rule
+rule_meant ours.Links = model.Links
+rule_meant ours.Numbers = model.Numbers
+rule_meant ours.Attempts = model.Attempts
+rule_meant ours.Reads = model.Reads
+rule_meant ours.Walk = model.Walk
+rule_meant ours.Skip = model.Skip
+rule_meant ours.Runtime = model.Runtime
+rule_meant ours.Owed = model.Owed
+rule_meant ours.Freezer = model.Freezer
+rule_meant ours.Path = model.Path
+rule_meant ours.Answers = model.Answers
+rule_meant ours.Restored = model.Restored
+rule_meant ours.Steps = model.Steps
+rule_meant ours.Enabled = model.Enabled
+rule_meant ours.Source = model.Source
 
 -- the index of a rule among all by rising number, from 0 (own)
 abbrev pub rule_index : model.Rule → ℕ

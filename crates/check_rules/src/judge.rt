@@ -6,8 +6,8 @@ ghost use Rattle.sleep_model.specs.EntryClasses.{class_of};
 ghost use Rattle.rule_definitions.specs.Entry.{KeepsEntry, KeepsRule};
 ghost use Rattle.rule_definitions.specs.Verdict.{rule_number};
 ghost use Rattle.check_past.specs.Passing.{past_of};
-ghost use Rattle.check_sources.specs.Classes.{meant as class_meant};
-ghost use Rattle.check_rules.specs.Judging.{IsBroken, KeepsTogether, is_of_journal, meant, rule_at};
+ghost use Rattle.check_sources.specs.Classes.{meant};
+ghost use Rattle.check_rules.specs.Judging.{IsBroken, KeepsTogether, is_of_journal, rule_at, rule_meant};
 
 use crate::answers::{keeps_answers, keeps_links, keeps_runtime};
 use crate::entries::{enabled_entry, freezer_entry, path_entry, steps_entry, walk_entry};
@@ -47,7 +47,7 @@ pub(crate) enum Rule {
 
 /// The rule at that index, from 0, among all by rising number.
 fn rule_at(place: u8) -> Rule
-    ensures { meant result ≡ rule_at place }
+    ensures { rule_meant result ≡ rule_at place }
 {
     match place {
         0 => Rule::Links,
@@ -70,7 +70,7 @@ fn rule_at(place: u8) -> Rule
 
 /// The number that a verdict gives a rule.
 fn rule_number(rule: Rule) -> u8
-    ensures { result ≡ rule_number (meant rule) }
+    ensures { result ≡ rule_number (rule_meant rule) }
 {
     match rule {
         Rule::Links => 2,
@@ -93,7 +93,7 @@ fn rule_number(rule: Rule) -> u8
 
 /// Whether an entry of that class is the journal's.
 fn is_class_of_journal(class: EntryClass) -> bool
-    ensures { result ≡ is_of_journal (class_meant class) }
+    ensures { result ≡ is_of_journal (meant class) }
 {
     match class {
         EntryClass::Journal => true,
@@ -120,7 +120,7 @@ fn in_journal(kind: Kind, keeps: bool) -> bool
 #[inline(never)]
 fn keeps(past: &Passed<'_>, e: Entry, rule: Rule) -> Result<bool, Mem>
     requires { fits_entry past.now.machine e ≡ true }
-    ensures { IfOk result (λ b. IsTrue b ↔ KeepsRule past.now.machine (past_of past.now) e (class_of e.kind) (meant rule)) }
+    ensures { IfOk result (λ b. IsTrue b ↔ KeepsRule past.now.machine (past_of past.now) e (class_of e.kind) (rule_meant rule)) }
 {
     let (now, kind) = (past.word(), e.kind);
     match rule {
