@@ -33,7 +33,14 @@ fn save_due(
 {
     let held = past.holder().is_some();
     let number = saved_number(count, position.last_read);
-    count_due(held, past.is_on(), position.waits, asked, now, number)
+    count_due(
+        held,
+        past.autosleep_is_on(),
+        position.waits,
+        asked,
+        now,
+        number,
+    )
 }
 
 /// A request for a runtime status.

@@ -108,7 +108,7 @@ pub(crate) fn write_due(
     let held = past.holder().is_some();
     let due = state_due(
         held,
-        past.is_on(),
+        past.autosleep_is_on(),
         position.waits,
         asked,
         is_mem(text),

@@ -39,7 +39,7 @@ fn nap_due(past: &Passed<'_>, until: Option<u64>) -> Result<Due, Mem>
 fn if_on(past: &Passed<'_>, kind: Kind) -> Due
     ensures { result ≡ (if is_on (journal_of past.now) then Makes kind else Makes AutoOff) }
 {
-    if past.is_on() {
+    if past.autosleep_is_on() {
         Due::Makes(kind)
     } else {
         Due::Makes(Kind::AutoOff)

@@ -143,7 +143,7 @@ impl<'m> Passed<'m> {
     }
 
     /// Whether autosleep is on (`pm_autosleep_state`).
-    pub fn is_on(&self) -> bool
+    pub fn autosleep_is_on(&self) -> bool
         ensures { result ≡ is_on (journal_of self.now) }
     {
         self.past_state.journal.tasks.is_on()

@@ -30,7 +30,7 @@ fn is_save_else(past: &Passed<'_>, now: EventNow, who: Actor, c: u32, kind: Kind
     ensures { IsTrue result ↔ IsSaveElse (journal_of past.now) now who c kind }
 {
     let held = past.holder().is_some();
-    let due = count_due(held, past.is_on(), false, false, now, c);
+    let due = count_due(held, past.autosleep_is_on(), false, false, now, c);
     !is_actor(who, past.holder()) && makes(due, kind)
 }
 
@@ -41,7 +41,7 @@ fn is_write_else(past: &Passed<'_>, who: Actor, kind: Kind) -> Result<bool, Mem>
 {
     let attempt = next_attempt(past)?;
     let held = past.holder().is_some();
-    let due = state_due(held, past.is_on(), false, false, true, attempt);
+    let due = state_due(held, past.autosleep_is_on(), false, false, true, attempt);
     Ok(!is_actor(who, past.holder()) && makes(due, kind))
 }
 
@@ -105,7 +105,14 @@ fn is_save(
             let held = past.holder().is_some();
             let number = saved_number(*count, position.last_read);
             makes(
-                count_due(held, past.is_on(), position.waits, asked, now, number),
+                count_due(
+                    held,
+                    past.autosleep_is_on(),
+                    position.waits,
+                    asked,
+                    now,
+                    number,
+                ),
                 kind,
             )
         }
@@ -128,7 +135,7 @@ fn written(
     let held = past.holder().is_some();
     let due = state_due(
         held,
-        past.is_on(),
+        past.autosleep_is_on(),
         position.waits,
         asked,
         is_mem(text),
@@ -247,7 +254,7 @@ fn reads_work(past: &Passed<'_>, now: EventNow, work: Work, kind: Kind) -> Resul
         (Work::Saving(c), Kind::AutoSaved(_)) | (Work::Saving(c), Kind::AutoUnsaved(_)) => {
             Ok(is_auto_save(past, now, c, kind))
         }
-        (Work::Attempting(_), Kind::Attempt { .. }) => Ok(past.is_on()),
+        (Work::Attempting(_), Kind::Attempt { .. }) => Ok(past.autosleep_is_on()),
         _ => {
             let right = reads_else(past, now, Actor::Auto, kind)?;
             Ok(right)

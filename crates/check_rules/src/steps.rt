@@ -189,14 +189,14 @@ fn is_work_step(past: &Passed<'_>, now: EventNow, work: Work, kind: Kind) -> Res
         (Work::Reading, Kind::Read(_)) => Ok(true),
         (Work::Saving(_), Kind::AutoSaved(_)) | (Work::Saving(_), Kind::AutoUnsaved(_)) => Ok(true),
         (Work::Attempting(_), Kind::Attempt { .. }) => Ok(true),
-        (Work::Attempting(_), Kind::AutoOff) => Ok(!past.is_on()),
+        (Work::Attempting(_), Kind::AutoOff) => Ok(!past.autosleep_is_on()),
         (Work::Looking(_), Kind::AutoAfter(seen)) => Ok(is_same_number(seen, seen_count(now))),
         (Work::Napping(None), Kind::SleepD(until)) => Ok(
             until == later_by(past.journal_time(), NAP_MSECS)?,
         ),
         (Work::Napping(Some(until)), Kind::Slept) => Ok(until <= past.journal_time()),
-        (Work::Closing, Kind::AutoAgain) => Ok(past.is_on()),
-        (Work::Closing, Kind::AutoOff) => Ok(!past.is_on()),
+        (Work::Closing, Kind::AutoAgain) => Ok(past.autosleep_is_on()),
+        (Work::Closing, Kind::AutoOff) => Ok(!past.autosleep_is_on()),
         _ => Ok(false),
     }
 }
