@@ -7,7 +7,7 @@ mod Growing
 mod Linked
 mod Parting
 mod Passing
-mod Propers
+mod FittingPhases
 mod Reporting
 mod Positioned
 pub mod Stopped

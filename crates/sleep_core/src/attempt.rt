@@ -12,7 +12,7 @@ ghost use Rattle.sleep_model.specs.Guard.{pending};
 ghost use Rattle.sleep_model.specs.Notifiers.{next_notified, next_post_notified, next_cpu_off, next_cpu_on, next_syscore_suspended, next_syscore_resumed};
 ghost use Rattle.sleep_model.specs.Table.{stage_of, next_stage};
 ghost use Rattle.sleep_state.specs.JournalRooms.{entries};
-ghost use Rattle.sleep_core.specs.Stages.{IsProper};
+ghost use Rattle.sleep_core.specs.Stages.{FitsPhase};
 ghost use Rattle.sleep_core.specs.Steps.{woken_end};
 
 use crate::state::Core;
@@ -170,7 +170,7 @@ impl<'m> Core<'m> {
 
     /// What the maker makes at a stage, if that has anything left.
     fn stage_due(&self, now: EventNow, stage: Stage) -> Due
-        requires { IsProper stage }
+        requires { FitsPhase stage }
         ensures { result ≡ stage_due self.now.machine (entries self.now.past) now stage }
     {
         match stage {
@@ -205,7 +205,7 @@ impl<'m> Core<'m> {
     /// others make few entries.
     #[inline(never)]
     pub(crate) fn stage_or_next(&self, now: EventNow, stage: Stage) -> Due
-        requires { IsProper stage }
+        requires { FitsPhase stage }
         ensures { result ≡ stage_or_next self.now.machine (entries self.now.past) now stage }
     {
         match self.stage_due(now, stage) {

@@ -49,7 +49,7 @@ impl<'m> Core<'m> {
     ghost use Rattle.sleep_model.specs.Notifiers.{next_notified, next_syscore_suspended};
     ghost use Rattle.sleep_model.specs.Table.{stage_of};
     ghost use Rattle.task_freezer.specs.Freezers.{IsLeft, round_of};
-    ghost use Rattle.sleep_core.specs.Stages.{IsProper};
+    ghost use Rattle.sleep_core.specs.Stages.{FitsPhase};
     ghost use Rattle.async_board.specs.AtPoints.{board_at};
     ghost use Rattle.sleep_model.specs.Numbers.{time_of};
     ghost use Rattle.sleep_model.specs.Path.{attempts, is_actor, maker};
@@ -169,7 +169,7 @@ impl<'m> Core<'m> {
     /// The stage of the open attempt, if one is open.
     pub(crate) fn stage(&self) -> Option<Stage>
         ensures is { result ≡ stage_of (entries self.now.past) }
-        ensures proper { IfSome result IsProper }
+        ensures fits { IfSome result FitsPhase }
     {
         self.history.attempt().stage()
     }
