@@ -13,8 +13,9 @@ use Rattle.log_check.specs.declared.ending.Verdict.TheVariants.{Good, Bad}
 use Rattle.log_check.specs.Verdicts.{IsVerdict}
 use Rattle.program_ending.specs.declared.refusal.Refusal.{Refusal}
 use Rattle.program_ending.specs.Streams.{most_machine}
+use Rattle.program_ending.specs.Texts.{with_number}
 use Rattle.log_commands.specs.Input.{IsBadMachine, file_in, text_in}
-use Rattle.log_commands.specs.Telling.{count_row, counted}
+use Rattle.log_commands.specs.Telling.{count_row}
 
 -- a text has that verdict: that on the log whose text it is; if it is none's, its first line that the grammar has not is the first bad one
 pub data IsVerdictOf (m : Machine) (bytes : List ℕ) : Verdict → Type 0 where
@@ -24,7 +25,7 @@ pub data IsVerdictOf (m : Machine) (bytes : List ℕ) : Verdict → Type 0 where
 -- the text of a verdict
 abbrev pub verdict_text : Verdict → List ℕ
 verdict_text Good = codes "legal\n"
-verdict_text (Bad line definition) = counted (codes "illegal line ") line ++ count_row (codes " definition ") definition
+verdict_text (Bad line definition) = with_number (codes "illegal line ") line ++ count_row (codes " definition ") definition
 
 -- the log is legal and finished
 abbrev pub is_good : Verdict → Bool

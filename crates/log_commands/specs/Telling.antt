@@ -10,14 +10,11 @@ use Rattle.sleep_model.specs.Text.{device, newline, space}
 use Rattle.device_chain.specs.declared.chain.Chain.{Chain}
 use Rattle.sleep_stats.specs.declared.counts.Counts.{Counts}
 use Rattle.sleep_stats.specs.declared.counts.LastDev.{LastDev}
-
--- a number after its word
-abbrev pub counted : List ℕ → ℕ → List ℕ
-counted word n = word ++ decimal n
+use Rattle.program_ending.specs.Texts.{with_number}
 
 -- the line of a count
 abbrev pub count_row : List ℕ → ℕ → List ℕ
-count_row word n = counted word n ++ newline
+count_row word n = with_number word n ++ newline
 
 -- the lines of the counts (suspend_stats_show)
 abbrev pub counts_text : Counts → List ℕ
@@ -58,7 +55,7 @@ names_text m devices = flat_map (λ d. space ++ device m d) devices
 
 -- the line of a chain: its length, and its devices
 abbrev pub chain_row : Machine → List ℕ → List ℕ
-chain_row m devices = counted (codes "chain ") (length devices) ++ names_text m devices ++ newline
+chain_row m devices = with_number (codes "chain ") (length devices) ++ names_text m devices ++ newline
 
 -- the line of a device's level
 abbrev pub level_row : Machine → ℕ → ℕ → List ℕ

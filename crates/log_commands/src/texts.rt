@@ -1,9 +1,9 @@
 //! The text for a log's counts and for the longest chain of devices.
 
 ghost use Rattle.std.specs.Prelude.{◌≡◌, ◌<◌, ◌^◌, ◌++◌, OnOk, IfOk, length};
-ghost use Rattle.log_commands.specs.Telling.{chain_row, count_row, counted, counts_text, dev_row, errno_row, failed_dev_row, failed_errno_row, failures_text, level_row, levels_text, names_text, stats_text};
+ghost use Rattle.log_commands.specs.Telling.{chain_row, count_row, counts_text, dev_row, errno_row, failed_dev_row, failed_errno_row, failures_text, level_row, levels_text, names_text, stats_text};
 
-use itoa::Buffer;
+use program_ending::put_count;
 use sleep_base::{Errno, Mem};
 use sleep_model::Machine;
 use sleep_stats::{Chain, Counts, LastDev};
@@ -23,14 +23,6 @@ fn put_words(text: &mut Vec<u8>, word: &str, other: &str) -> Result<(), Mem>
     ensures { OnOk result (text.new.items ≡ text.old.items ++ (word.now ++ other.now)) }
 {
     put_word(text, word, other.as_bytes())
-}
-
-/// Puts a word and a number after a text.
-pub(crate) fn put_count(text: &mut Vec<u8>, word: &str, number: usize) -> Result<(), Mem>
-    ensures { OnOk result (text.new.items ≡ text.old.items ++ counted word.now number) }
-{
-    let mut digits = Buffer::new();
-    put_word(text, word, digits.format(number).as_bytes())
 }
 
 /// Puts a word and a number after a text, in a line.

@@ -7,10 +7,10 @@ ghost use Rattle.program_ending.specs.CommandEndings.{Refuses};
 ghost use Rattle.log_commands.specs.Judging.{IsJudged, IsVerdictOf, RefusesCheck, ShowsVerdict, is_good, verdict_text};
 
 use crate::input::{cut_line, machine_of};
-use crate::texts::{put_count, put_row};
+use crate::texts::put_row;
 use log_check::{Verdict, check};
 use log_text::{LogFault, read_log};
-use program_ending::Ending;
+use program_ending::{Ending, put_count};
 use sleep_base::Mem;
 use sleep_model::Machine;
 use std::alloc::Global;

@@ -2,3 +2,4 @@
 pub mod Endings
 pub mod Streams
 pub mod CommandEndings
+pub mod Texts

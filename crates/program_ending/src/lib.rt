@@ -12,12 +12,14 @@
 //! `specs/Endings.antt`, `specs/Streams.antt`, `specs/CommandEndings.antt`.
 #![tactic(auto)]
 
+mod count_text;
 mod ending;
 mod input;
 mod refusal;
 mod run_text;
 mod standard_error;
 
+pub use count_text::put_count;
 pub use ending::Ending;
 pub use input::{MOST_MACHINE, read_input};
 pub use refusal::Refusal;

@@ -1,11 +1,12 @@
 -- What a log comes to: how many entries it has, and what became of its attempts.
-use Rattle.std.specs.Prelude.{ℕ, ◌+◌, ◌-◌, ◌++◌, Bool, true, false, not, List, [], ◌∷◌, length, codes, decimal}
+use Rattle.std.specs.Prelude.{ℕ, ◌+◌, ◌-◌, ◌++◌, Bool, true, false, not, List, [], ◌∷◌, length, codes}
 use Rattle.sleep_model.specs.declared.entry.Entry.{Entry}
 use Rattle.sleep_model.specs.declared.entry.Kind.{Kind}
 use Rattle.sleep_model.specs.declared.entry.Kind.TheVariants.{Attempt, Enter}
 use Rattle.sleep_model.specs.declared.log.Log.{Log}
 use Rattle.sleep_model.specs.Places.{one_if}
 use Rattle.sleep_model.specs.Text.{newline}
+use Rattle.program_ending.specs.Texts.{with_number}
 use Rattle.run_commands.specs.declared.counts.LogCounts.{LogCounts}
 
 -- an attempt begins (enter_state)
@@ -37,10 +38,6 @@ counts_of log = record {
   aborted = attempts_in log.entries - entered_in log.entries;
 }
 
--- a number after its word
-abbrev pub counted : List ℕ → ℕ → List ℕ
-counted word n = word ++ decimal n
-
 -- how the line ends: with how the run ended
 abbrev pub line_end : Bool → List ℕ
 line_end false = codes " finished" ++ newline
@@ -49,5 +46,5 @@ line_end true = codes " stuck" ++ newline
 -- the line of a log's numbers, and of how the run ended
 abbrev pub count_line : LogCounts → Bool → List ℕ
 count_line c stuck =
-    counted (codes "entries ") c.entries ++ counted (codes " attempts ") c.attempts ++ counted (codes " entered ") c.entered
-    ++ counted (codes " aborted ") c.aborted ++ line_end stuck
+    with_number (codes "entries ") c.entries ++ with_number (codes " attempts ") c.attempts ++ with_number (codes " entered ") c.entered
+    ++ with_number (codes " aborted ") c.aborted ++ line_end stuck

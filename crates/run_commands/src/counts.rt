@@ -1,11 +1,11 @@
 //! What a log comes to: how many entries and attempts it has, and whether its run was stuck.
 
-ghost use Rattle.std.specs.Prelude.{◌≡◌, ◌++◌, IfOk, OnOk};
-ghost use Rattle.run_commands.specs.Counting.{begins_attempt, begins_sleep, count_line, counted, counts_of, line_end};
+ghost use Rattle.std.specs.Prelude.{◌≡◌, IfOk};
+ghost use Rattle.run_commands.specs.Counting.{begins_attempt, begins_sleep, count_line, counts_of, line_end};
 ghost use Rattle.run_commands.specs.Endings.{is_stuck};
 ghost use Rattle.sleep_model.specs.Places.{one_if};
 
-use itoa::Buffer;
+use program_ending::put_count;
 use sleep_base::Mem;
 use sleep_model::{Kind, Log, LogEnd};
 use std::alloc::Global;
@@ -72,16 +72,6 @@ pub fn counts_of(log: &Log) -> LogCounts
         entered,
         aborted: attempts.saturating_sub(entered),
     }
-}
-
-/// Puts a number after a line, with its word before it.
-fn put_count(line: &mut Vec<u8>, word: &str, number: usize) -> Result<(), Mem>
-    ensures { OnOk result (line.new.items ≡ line.old.items ++ counted word.now number) }
-{
-    let mut digits = Buffer::new();
-    line.extend_from_slice(word.as_bytes())?;
-    line.extend_from_slice(digits.format(number).as_bytes())?;
-    Ok(())
 }
 
 /// The end of the line: how the run ended.

@@ -189,7 +189,7 @@ SECTIONS = [
     ("log_commands", "The command `stats`", "`kernel/power/main.c`", ["Input", "Taking", "Telling", "Stats"]),
     ("log_check", "The verdict on a log", "own", ["Verdicts"]),
     ("log_commands", "The command `check`", "own", ["Judging", "Endings"]),
-    ("program_ending", "Statuses and their texts, and what was read and written", "own", ["Endings", "Streams", "CommandEndings"]),
+    ("program_ending", "Statuses and their texts, and what was read and written", "own", ["Endings", "Streams", "CommandEndings", "Texts"]),
     ("idle_gate", "The idler's gate", "`kernel/power/suspend.c`", ["Gates"]),
     ("idle_loop", "Suspend-to-idle", "`kernel/power/suspend.c`", ["IdleLogs", "Laws", "Merging"]),
     ("idle_commands", "The command `idle`", "own", ["Lines", "Endings"]),
