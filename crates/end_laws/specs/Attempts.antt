@@ -1,5 +1,5 @@
 -- Each attempt ends, and makes few entries.
-use Rattle.std.specs.Prelude.{◌≡◌, ◌≤◌, ◌⊎◌, ◌+◌, ℕ, Bool, true, false, ◌==◌, ◌&&◌, ◌||◌, List, [], ◌∷◌}
+use Rattle.std.specs.Prelude.{◌≡◌, ◌≤◌, ◌⊎◌, ℕ, Bool, true, false, ◌==◌, ◌&&◌, ◌||◌, List, [], ◌∷◌}
 use Rattle.std.specs.List.{list_any}
 use Rattle.sleep_model.specs.declared.entry.Entry.{Entry}
 use Rattle.sleep_model.specs.declared.entry.Kind.{Kind}
@@ -7,6 +7,7 @@ use Rattle.sleep_model.specs.declared.entry.Kind.TheVariants.{Attempt, Over}
 use Rattle.sleep_model.specs.declared.log.Log.{Log}
 use Rattle.sleep_model.specs.declared.machine.Machine.{Machine}
 use Rattle.sleep_model.specs.Accepted.{IsAccepted}
+use Rattle.sleep_model.specs.Calls.{one_more}
 use Rattle.sleep_model.specs.Devices.{is_device}
 use Rattle.sleep_model.specs.Legal.{IsFinishedLog, IsLegalLog, IsStuckLog, JournalPart}
 use Rattle.sleep_model.specs.Path.{is_actor, maker}
@@ -44,11 +45,6 @@ AttemptsEnd =
 -- an entry counts: of the open attempt's maker, or of a device (enter_state)
 abbrev pub is_own : List Entry → Entry → Bool
 is_own past e = is_actor e.actor (maker past) || is_device e.actor
-
--- one more where it is so
-abbrev pub one_more : Bool → ℕ → ℕ
-one_more true before = before + 1
-one_more false before = before
 
 -- an attempt's first entry is 1; each that counts is one more
 abbrev pub own_entry_count_after : Bool → Bool → ℕ → ℕ
