@@ -1,5 +1,5 @@
 -- The log of a machine with one worker, only by the definitions: each job in turn makes what is due of it.
-use Rattle.std.specs.Prelude.{ℕ, zero, suc, ◌+◌, Bool, true, false, ◌==◌, List, [], ◌∷◌, ◌++◌, filter, length, reverse, slice_get, Option, Some, None}
+use Rattle.std.specs.Prelude.{ℕ, zero, suc, ◌+◌, Bool, true, false, ◌==◌, List, [], ◌∷◌, ◌++◌, filter, length, reverse, Option, Some, None}
 use Rattle.std.specs.List.{range_with_len}
 use Rattle.sleep_model.specs.declared.entry.Actor.{Actor}
 use Rattle.sleep_model.specs.declared.entry.Actor.TheVariants as actor
@@ -10,26 +10,20 @@ use Rattle.sleep_model.specs.declared.machine.Machine.{Machine}
 use Rattle.sleep_model.specs.declared.progress.Due.{Due}
 use Rattle.sleep_model.specs.declared.progress.Due.TheVariants.{Makes}
 use Rattle.sleep_model.specs.declared.word.WordKind.{WordKind}
-use Rattle.sleep_model.specs.declared.word.WordKind.TheVariants as step
-use Rattle.sleep_model.specs.Calls.{calls_of, made}
 use Rattle.sleep_model.specs.Devices.{is_async_device}
 use Rattle.sleep_model.specs.Due.{due}
 use Rattle.sleep_model.specs.Legal.{is_finished_after, next_time}
 use Rattle.sleep_model.specs.Numbers.{numbers, time_of}
 use Rattle.sleep_model.specs.EntryClasses.{EntryClass, Notes, class_of, journal}
 use Rattle.sleep_model.specs.Sources.{history, owed, expiry, has_expired}
+use Rattle.wakeup_source.specs.SourceStates.{step_kind}
+use Rattle.end_laws.specs.Makers.{call_next}
 
 -- an entry of that actor, with the time and the word of its index, before the others
 abbrev pub put : List Entry → Actor → Kind → List Entry
 put past who k = record { time = time_of past; now = numbers past; actor = who; kind = k } ∷ past
 
 -- ---- one turn
-
--- a step of a source on the word
-abbrev pub step_kind : ℕ → WordKind → Kind
-step_kind s step.Start = kind.Start s
-step_kind s step.Finish = kind.Finish s
-step_kind s step.Hard = kind.Hard s
 
 -- these steps, one after the other
 abbrev pub put_steps : ℕ → Actor → List WordKind → List Entry → List Entry
@@ -60,14 +54,10 @@ abbrev pub put_expiry : List Entry → ℕ → Bool → List Entry
 put_expiry past s true = put_call past (actor.Timer s) (kind.Expire s)
 put_expiry past s false = past
 
--- the call that an actor makes next, if it has not made all that come before its next turn
-abbrev pub next_call : Machine → List Entry → Actor → Option Kind
-next_call m past who = slice_get (calls_of m who (journal past)) (made (length m.sources + 1) (λ s. history s past) who)
-
 -- one turn of a job
 abbrev pub turn : Machine → List Entry → Actor → List Entry
 turn m past (actor.Timer s) = put_expiry past s (has_expired (expiry (history s past)) (time_of past))
-turn m past who = put_next m past who (next_call m past who)
+turn m past who = put_next m past who (call_next m past who)
 
 -- ---- rounds
 
