@@ -13,7 +13,7 @@ use Rattle.sleep_state.specs.JournalRooms.{entries}
 use Rattle.sleep_script.specs.Jobs.{IsJobOf, JobState}
 use Rattle.wakeup_source.specs.SourceStates.{SourceState}
 use Rattle.fit_laws.specs.Ranged.{is_ranged_entry}
-use Rattle.run_laws.specs.Acts.{unstamped}
+use Rattle.log_merge.specs.Remainders.{unstamped}
 use Rattle.run_laws.specs.Invariant.{AllOf, RunInvariant}
 use Rattle.run_laws.specs.Turned.{newest_stamp}
 use Rattle.running_laws.specs.Running.{AreSources, FloorsKnow, IsGoing, IsSourceOf, entry_count, made_so, of_sources}

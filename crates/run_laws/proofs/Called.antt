@@ -21,13 +21,14 @@ use Rattle.sleep_model.specs.Path.{is_same}
 use Rattle.sleep_model.specs.Sources.{IsNext as Next, SourceStep, steps_after_first, caller, caller_after, is_of, makes, owed, owed_after, since}
 use Rattle.sleep_model.specs.Word.{position}
 use Rattle.log_merge.proofs.Reading.{both}
+use Rattle.log_merge.specs.Remainders.{unstamped}
 use Rattle.merge_laws.proofs.Calling.{same_actor}
 use Rattle.wakeup_source.specs.declared.call_by.CallBy.{CallBy}
 use Rattle.wakeup_source.specs.Called.{SourceView, Steps, after_note, after_step}
 use Rattle.wakeup_source.specs.SourceStates.{RiseUpTo, SourceState, note_entry, note_tick, step_entry, step_kind, with_note, with_step}
 use Rattle.wakeup_source.specs.SourceStates as states
 use Rattle.wakeup_source.specs.Shown.{MayCall}
-use Rattle.run_laws.specs.Acts.{IsNext, Made, MayHave, unstamped, put_if, with_entry}
+use Rattle.run_laws.specs.Acts.{IsNext, Made, MayHave, put_if, with_entry}
 use Rattle.run_laws.specs.Called.{CallGrows, IsCalled, IsReady, knows}
 use Rattle.run_laws.specs.Invariant.{EachJump, RunInvariant, IsGrowth, IsNewestOfOwn, IsInTime, follows, is_above}
 use Rattle.run_laws.proofs.Invariant.{each_by, grows}

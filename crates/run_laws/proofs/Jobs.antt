@@ -16,8 +16,9 @@ use Rattle.sleep_model.specs.Path.{attempts, is_actor, is_same}
 use Rattle.sleep_model.specs.Sources.{caller, owed}
 use Rattle.sleep_script.specs.Jobs.{IsJobOf, IsWanted, JobState, after_call, after_turn}
 use Rattle.sleep_script.proofs.Following.{call_made, other_entry, own_entry, wanted_core, wanted_source}
+use Rattle.log_merge.specs.Remainders.{unstamped}
 use Rattle.merge_laws.specs.Apart.{IsCall, is_journals}
-use Rattle.run_laws.specs.Acts.{Made, unstamped, put_if, with_entry}
+use Rattle.run_laws.specs.Acts.{Made, put_if, with_entry}
 use Rattle.run_laws.specs.Jobs.{IsJob, JobsFollow, JobsWantNext, SettledIsFree, is_timer}
 
 module _ (m : Machine) (made : Made) (e : JournalEntry) (who : Actor) (job : JobState) (stamp : Stamp) (h : IsJob m made who job) where

@@ -1,5 +1,5 @@
 -- What was made so far, and which entry may be made next (own).
-use Rattle.std.specs.Prelude.{◌≡◌, ◌+◌, ℕ, Bool, true, false, List, ◌∷◌, length, map, filter, if◌then◌else◌}
+use Rattle.std.specs.Prelude.{◌≡◌, ◌+◌, ℕ, Bool, true, false, List, ◌∷◌, length, filter, if◌then◌else◌}
 use Rattle.sleep_model.specs.declared.entry.Actor.{Actor}
 use Rattle.sleep_model.specs.declared.entry.Entry.{Entry}
 use Rattle.sleep_model.specs.declared.entry.JournalEntry.{JournalEntry}
@@ -10,6 +10,7 @@ use Rattle.sleep_model.specs.Merge.{entries_of}
 use Rattle.sleep_model.specs.EntryClasses.{EntryClass, OfJournal, Notes, Moves, OfTime, class_of}
 use Rattle.sleep_model.specs.Path.{is_same}
 use Rattle.sleep_model.specs.Sources.{SourceStep, is_of}
+use Rattle.log_merge.specs.Remainders.{unstamped}
 use Rattle.merge_laws.specs.Apart.{AreActorSteps, IsCall, IsSource, calls_after, is_inside, is_journals}
 
 -- what was made so far: the journal, the entries of each source, and each actor's own, the newest first
@@ -17,10 +18,6 @@ pub record Made : Type 0 where
   pub journal : List JournalEntry
   pub of : ℕ → List JournalEntry
   pub own : Actor → List JournalEntry
-
--- entries without their stamps
-abbrev pub unstamped : List JournalEntry → List Entry
-unstamped entries = map (λ e. e.entry) entries
 
 -- the entry before these, if that is so
 abbrev pub put_if : Bool → JournalEntry → List JournalEntry → List JournalEntry

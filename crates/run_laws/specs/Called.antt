@@ -15,8 +15,9 @@ use Rattle.wakeup_source.specs.Called.{Calls, SourceView}
 use Rattle.wakeup_source.specs.SourceStates.{IsSettled, SourceState}
 use Rattle.wakeup_source.specs.SourceStates as states
 use Rattle.wakeup_source.specs.Shown.{MayCall}
+use Rattle.log_merge.specs.Remainders.{unstamped}
 use Rattle.merge_laws.specs.Apart.{IsCall}
-use Rattle.run_laws.specs.Acts.{IsBetweenCalls, Made, unstamped}
+use Rattle.run_laws.specs.Acts.{IsBetweenCalls, Made}
 use Rattle.run_laws.specs.Invariant.{EachJump, RunInvariant}
 
 -- who last knew that stamp knew the newest of these entries: its tick, and the position that it left

@@ -13,7 +13,8 @@ use Rattle.sleep_model.specs.EntryClasses.{OfJournal, Notes, Moves, class_of}
 use Rattle.sleep_model.specs.Path.{attempts, is_same}
 use Rattle.sleep_model.specs.Sources.{owed}
 use Rattle.sleep_script.specs.Jobs.{IsJobOf, IsWanted, JobState, after_call, after_turn}
-use Rattle.run_laws.specs.Acts.{IsBetweenCalls, IsNext, Made, unstamped, with_entry}
+use Rattle.log_merge.specs.Remainders.{unstamped}
+use Rattle.run_laws.specs.Acts.{IsBetweenCalls, IsNext, Made, with_entry}
 
 -- the job has the state that all that was made leaves it in
 abbrev pub IsJob : Machine → Made → Actor → JobState → Type 0

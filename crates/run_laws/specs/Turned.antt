@@ -9,7 +9,8 @@ use Rattle.sleep_model.specs.Calls.{calls_due, notes_of}
 use Rattle.sleep_model.specs.Legal.{JournalPart, JumpStep}
 use Rattle.sleep_model.specs.EntryClasses.{OfTime, class_of}
 use Rattle.sleep_model.specs.Path.{is_same}
-use Rattle.run_laws.specs.Acts.{IsBetweenCalls, Made, unstamped, with_entry}
+use Rattle.log_merge.specs.Remainders.{unstamped}
+use Rattle.run_laws.specs.Acts.{IsBetweenCalls, Made, with_entry}
 use Rattle.run_laws.specs.Called.{knows}
 use Rattle.run_laws.specs.Invariant.{AllOf, EachJump, RunInvariant}
 

@@ -32,8 +32,9 @@ use Rattle.wakeup_source.specs.SourceStates as states
 use Rattle.wakeup_source.specs.Shown.{MayCall}
 use Rattle.fit_laws.specs.Ranged.{is_ranged, is_ranged_entry}
 use Rattle.log_merge.proofs.Reading.{both}
+use Rattle.log_merge.specs.Remainders.{unstamped}
 use Rattle.merge_laws.specs.Apart.{IsCall}
-use Rattle.run_laws.specs.Acts.{Made, unstamped}
+use Rattle.run_laws.specs.Acts.{Made}
 use Rattle.run_laws.specs.Called.{IsCalled, IsReady, knows}
 use Rattle.run_laws.specs.Invariant.{EachJump, RunInvariant}
 use Rattle.run_laws.proofs.Acts.{actor_is}

@@ -19,6 +19,7 @@ use Rattle.sleep_model.specs.Places.{one_if}
 use Rattle.sleep_laws.proofs.LockHolding.{entry_of}
 use Rattle.source_laws.proofs.Summing.{below_total, if_there, total}
 use Rattle.source_laws.proofs.Weighing.{below, below_most}
+use Rattle.log_merge.specs.Remainders.{unstamped}
 use Rattle.merge_laws.specs.Apart.{AreJumps, JumpIsLegal, before}
 use Rattle.end_laws.specs.Bounds.{but_jumps, one_but_jump}
 use Rattle.end_laws.proofs.Bounding.{few_in_journal, journal_bounded}
@@ -27,7 +28,6 @@ use Rattle.end_laws.proofs.Nearby.{are_bounded}
 use Rattle.sleep_state.specs.JournalRooms.{entries}
 use Rattle.sleep_script.specs.Jobs.{JobState}
 use Rattle.wakeup_source.specs.SourceStates.{SourceState}
-use Rattle.run_laws.specs.Acts.{unstamped}
 use Rattle.running_laws.specs.Running.{IsGoing, source_entry_count, entry_count, histories}
 use Rattle.running_laws.proofs.Invariant.{short}
 use Rattle.running_laws.proofs.Lists.{entries_unstamped, source_beyond}

@@ -15,7 +15,7 @@ use Rattle.sleep_script.proofs.Following.{first_is_job}
 use Rattle.sleep_core.specs.Cores.{IsActor}
 use Rattle.wakeup_source.specs.SourceStates.{IsSettled, SourceState, new_source}
 use Rattle.fit_laws.specs.Ranged.{is_ranged_entry}
-use Rattle.run_laws.specs.Acts.{unstamped}
+use Rattle.log_merge.specs.Remainders.{unstamped}
 use Rattle.run_laws.specs.Invariant.{RunInvariant, nothing}
 use Rattle.run_laws.specs.Turned.{newest_stamp}
 use Rattle.run_laws.proofs.Invariant.{invariant_begins}

@@ -1,6 +1,7 @@
 -- What is so of a run between turns.
 use Rattle.std.proofs.Common.{◌≡◌, ◌≤◌, ◌<◌, ◌+◌, ◌∙◌, ℕ, suc, Bool, true, false, ◌||◌, nat_lt, List, [], ◌∷◌, length, slice_index_or, refl, sym, ap, subst, arith, nat_le, ◌&&◌}
 use Rattle.log_merge.proofs.Reading.{both_left}
+use Rattle.log_merge.specs.Remainders.{unstamped}
 use Rattle.merge_laws.proofs.Lists.{all_head}
 use Rattle.sleep_core.specs.Histories.{last_stamp}
 use Rattle.sleep_model.specs.Merge.{next_position}
@@ -25,7 +26,7 @@ use Rattle.sleep_script.specs.Jobs.{JobState}
 use Rattle.sleep_script.proofs.Following.{all_made}
 use Rattle.wakeup_source.specs.SourceStates.{SourceState}
 use Rattle.wakeup_source.specs.SourceStates as states
-use Rattle.run_laws.specs.Acts.{IsBetweenCalls, Made, unstamped}
+use Rattle.run_laws.specs.Acts.{IsBetweenCalls, Made}
 use Rattle.run_laws.specs.Called.{knows}
 use Rattle.run_laws.specs.Invariant.{AllOf}
 use Rattle.run_laws.proofs.Jobs.{settled_is_free}

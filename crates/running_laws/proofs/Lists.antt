@@ -9,7 +9,7 @@ use Rattle.sleep_model.specs.Merge.{of_source}
 use Rattle.sleep_state.specs.JournalRooms.{entries}
 use Rattle.wakeup_source.specs.SourceStates.{SourceState}
 use Rattle.wakeup_source.specs.SourceStates as states
-use Rattle.run_laws.specs.Acts.{unstamped}
+use Rattle.log_merge.specs.Remainders.{unstamped}
 use Rattle.run_laws.proofs.Called.{unstamped_same}
 use Rattle.running_laws.specs.Running.{AreSources, IsSourceOf, histories, of_sources}
 
