@@ -11,7 +11,7 @@ use Rattle.serde_json.specs.Data.{Num, float, Data, null, boolean, number, strin
 use Rattle.serde_json.specs.Read.{number_of}
 use Rattle.serde_json.specs.View.{items_of}
 
--- the number that a text says; where that is out of range, a float that nothing asks for
+-- the number that a text says; if that is out of range, a float that nothing asks for
 abbrev pub numeral : List ℕ → Num
 numeral text = unwrap_or (number_of text) (float (nearest binary64 false (scan text)))
 

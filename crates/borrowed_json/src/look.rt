@@ -58,7 +58,7 @@ pub fn as_array<'v, 'a>(value: &'v Value<'a>) -> Option<&'v [Value<'a>]>
     }
 }
 
-/// The members of the object that it is, as they stand in the text: a name may stand twice, and the last one
+/// The members of the object that it is, in the order of the text: a name may come twice, and the last one
 /// counts. None if it is none.
 #[tactic(auto, unfolding(crate::specs::View::view))]
 pub fn as_object<'v, 'a>(value: &'v Value<'a>) -> Option<&'v [(&'a str, Value<'a>)]>
@@ -70,8 +70,7 @@ pub fn as_object<'v, 'a>(value: &'v Value<'a>) -> Option<&'v [(&'a str, Value<'a
     }
 }
 
-/// What is at the name in the object that it is; None if it is none, or where the name is none of its
-/// members.
+/// What is at the name in the object that it is; None if it is none, or if the name is none of its members.
 pub fn get<'v, 'a>(value: &'v Value<'a>, name: &str) -> Option<&'v Value<'a>>
     ensures { option_map (λ v. view v.now) result ≡ get name.now (view value.now) }
 {

@@ -12,9 +12,9 @@ use std::alloc::Global;
 /// How deep arrays and objects nest at most in what `serde_json` reads.
 const MAX_DEPTH: usize = 127;
 
-/// The value that the bytes are. None exactly where `serde_json` reads none.
+/// The value that the bytes are. None exactly if `serde_json` reads none.
 ///
-/// The scratch keeps the texts with escapes, and is lent for as long as the value is.
+/// The scratch stores the texts with escapes, and is lent for as long as the value is.
 ///
 /// `Mem`: memory ran out.
 pub fn read_value<'a>(

@@ -78,7 +78,7 @@ or_second : (a b : Bool) → b ≡ true → (a || b) ≡ true
 or_second true b e = refl
 or_second false b e = e
 
--- where an attempt is open, one of these entries ends it
+-- if an attempt is open, one of these entries ends it
 abbrev OpenEnds : List Entry → List Entry → Type 0
 OpenEnds past later = is_some (maker past) ≡ true → ends_among (attempts past) later ≡ true
 

@@ -101,7 +101,7 @@ one_at_most : (b : Bool) → one_if b ≤ 1
 one_at_most true = omega arith
 one_at_most false = omega arith
 
--- the entries of sources have their places
+-- the entries of sources have their room
 class_counted : (n : ℕ) (e : Entry) (past : List Entry) (p : EntryClass) → class_of e.kind ≡ p → source_within n p ≡ true → one_but_jump e.kind (but_jumps (journal past) + places n past) ≤ but_jumps (cond (is_in_journal p) (e ∷ journal past) (journal past)) + places n (e ∷ past)
 class_counted n e past OfJournal x t = omega (arith, one_same e.kind (but_jumps (journal past)) (places n past), places_rise n e past)
 class_counted n e past OfTime x t = omega (arith, one_same e.kind (but_jumps (journal past)) (places n past), places_rise n e past)

@@ -32,11 +32,11 @@ pub record IsDozing (o : Option Op) (position : ScriptPosition) : Type 0 where
   pub there : position.exited ≡ false
   pub sleep : IsSleep o
 
--- so where its sleep has an end
+-- so if its sleep has an end
 abbrev DozesAt : Option Op → ScriptPosition → Type 0
 DozesAt o position = is_some position.until ≡ true → IsDozing o position
 
--- what an entry does to a seat at that operation: a sleep begins at one, and no other wait and no exit does
+-- what an entry does to a position at that operation: a sleep begins at one, and no other wait and no exit does
 abbrev ClassFits : PositionEffect → Option Op → ScriptPosition → Type 0
 ClassFits Waits o position = IsSleep o → ⊥
 ClassFits Sets o position = IsSleep o → ⊥
@@ -74,7 +74,7 @@ entry_fits m past now _ _ (ByTask i _ a (TaskMade.Freezes s go f)) = tt
 entry_fits m past now _ _ (ByTask i _ a (TaskMade.Steps s k o go e d)) =
     subst (λ (x : Option Op). ClassFits (position_effect k) x (position_of m past i)) (sym (ap (λ (x : Option Script). op_at x (position_of m past i).done) go.script ∙ e)) (step_fits m past now _ _ o k d go.there)
 
--- where script i stands, a sleep with an end has begun
+-- of script i a sleep with an end has begun
 abbrev IsDozer : Machine → List Entry → ℕ → Type 0
 IsDozer m past i = DozesAt (op_at (slice_get m.actors i) (position_of m past i).done) (position_of m past i)
 

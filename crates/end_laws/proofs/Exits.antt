@@ -1,4 +1,4 @@
--- Who has not exited makes something or waits, and so is named where a log goes no further.
+-- Who has not exited makes something or waits, and so is named if a log goes no further.
 use Rattle.std.proofs.Common.{◌≡◌, ◌<◌, ◌+◌, ◌∙◌, ◌⊎◌, inl, inr, ℕ, zero, suc, Bool, true, false, not, ◌==◌, ◌&&◌, ◌||◌, nat_lt, nat_le, List, [], ◌∷◌, length, Option, Some, None, is_none, is_some, slice_get, cond, refl, sym, ap, subst, arith}
 use Rattle.std.specs.List.{list_any}
 use Rattle.std.proofs.lemmas.Bool.{true≢false}
@@ -259,7 +259,7 @@ module _ (m : Machine) (past : List Entry) (now : EventNow) where
 
 -- ---- the maker of an open attempt has not exited
 
--- the part leaves a script there
+-- this effect does not let a script exit
 NoExit : PositionEffect → Type 0
 NoExit Exits = ⊥
 NoExit _ = Unit {0}
@@ -294,7 +294,7 @@ same_maker k who maker' before e = inl e
 exit_maker : (k : Kind) (who : Actor) (before : Option Actor) → k ≡ kind.Exit → maker_after k who before ≡ before
 exit_maker k who before e = ap (λ (x : Kind). maker_after x who before) e
 
--- after such an entry the script is there still
+-- after such an entry the script has not exited
 abbrev IsThere : Machine → List Entry → ℕ → Actor → Kind → Type 0
 IsThere m past i a k = (position_at (positions_after a (position_effect k) (positions (length m.actors) past)) i).exited ≡ false
 

@@ -48,7 +48,7 @@ abbrev pub freezes : List Entry → ℕ
 freezes [] = 0
 freezes (e ∷ past) = freezes_after e.kind (freezes past)
 
--- how many the open attempt may begin still, from that stage on, where the freeze there goes on or not
+-- how many the open attempt may still begin, from that stage on, by whether the freeze of that stage goes on
 abbrev ahead : Option Stage → Bool → ℕ
 ahead (Some stage.Notifies) begun = 2
 ahead (Some (stage.Freezes group.User)) begun = 1 + one_unless begun

@@ -66,7 +66,7 @@ sooner_ahead t (Some x) (Some y) h k = omega (arith, h, k)
 not_come : (at t : ℕ) → nat_le at t ≡ false → t < at
 not_come at t h = grind (arith, nat_tests)
 
--- what is made where a moment has come is not made where it has not
+-- what is made once a moment has come is not made before it
 test_made : (b : Bool) (x y : Due) → is_made x ≡ true → is_made (cond b x y) ≡ false → b ≡ false
 test_made true x y m h = absurd (true≢false (sym m ∙ h))
 test_made false x y m h = refl
@@ -223,7 +223,7 @@ module _ (m : Machine) (past : List Entry) (of : ℕ → List Entry) (now : Even
       let own = sooner_ahead (time_of past) (alarm_at m (sleep_of past)) (sooner (deadline_at (freeze_since past)) (sooner (pending_nap past) (next_sleep m past (length m.actors)))) (alarm_ahead (sleep_of past) refl) freezes in
       sooner_ahead (time_of past) (journal_time m past) (next_expiry (length m.sources + 1) of) own (expiries_ahead (length m.sources + 1) of (time_of past) (none_due m past of now idle))
 
--- a run in which nobody can make anything is over where it is finished
+-- a run in which nobody can make anything is over if it is finished
 left_over : (m : Machine) (past : List Entry) (of : ℕ → List Entry) (now : EventNow) → is_idle m past of now ≡ true → is_finished m past of now ≡ false → is_over m past ≡ false
 left_over m past of now idle goes = by_over (have_all_exited m past) (is_none (maker past)) (is_idle m past of now) idle goes
   where

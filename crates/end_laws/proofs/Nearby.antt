@@ -60,7 +60,7 @@ by_more t u (Some x) l h = omega (arith, l, h)
 
 -- ---- time
 
--- an entry has the time of its place, or leads on
+-- an entry has the time of its index, or leads on
 time_on : (m : Machine) (past : List Entry) (e : Entry) → JournalPart m (e ∷ past) → (time_of past ≤ time_of (e ∷ past)) × (e.time ≤ time_of (e ∷ past))
 time_on m past e h = by_kind e.kind e.time h.0
   where
@@ -176,7 +176,7 @@ module _ (m : Machine) (acc : IsAccepted m) (past : List Entry) (now : EventNow)
   ClassNear (Sleeps u) = u ≤ time_of past + day
   ClassNear _ = Unit {0}
 
-  -- a sleep ends where its length says
+  -- a sleep ends after its length
   slept : (b : Bool) (ms u : ℕ) (begins : ℕ → Kind) (other : Kind) → (begins u ≡ other → ⊥) → ((x y : ℕ) → begins x ≡ begins y → x ≡ y) → ms ≤ day → cond b (Makes other) (Makes (begins (time_of past + ms))) ≡ Makes (begins u) → u ≤ time_of past + day
   slept true ms u begins other n i l e = absurd (n (sym (makes_is other (begins u) e)))
   slept false ms u begins other n i l e = let same : time_of past + ms ≡ u = i (time_of past + ms) u (makes_is (begins (time_of past + ms)) (begins u) e) in omega (arith, same, l)

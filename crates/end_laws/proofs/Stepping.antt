@@ -83,7 +83,7 @@ preserved_less p (x ∷ xs) = by_test (p x) (preserved_less p xs)
     by_test true l = omega (arith, l)
     by_test false l = omega (arith, l)
 
--- scripts whose seats are these come no further together than all their operations
+-- scripts in these positions come no further together than all their operations
 all_far : (scripts : List Script) (places : List ScriptPosition) → length places ≡ length scripts → ((i : ℕ) → (position_at places i).done ≤ length (steps_if (slice_get scripts i))) → total far places ≤ 2 * length (flat_map operations scripts) + 2 * length scripts
 all_far [] [] l h = omega arith
 all_far [] (p ∷ places) l h = absurd (omega arith)

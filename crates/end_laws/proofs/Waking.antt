@@ -1,4 +1,4 @@
--- Where time jumps a machine that sleeps has seen no step, and each jump is to a later moment.
+-- If time jumps a machine that sleeps has seen no step, and each jump is to a later moment.
 use Rattle.std.proofs.Common.{◌≡◌, ◌≤◌, ◌<◌, ◌+◌, ◌∙◌, ℕ, Bool, true, false, not, ◌==◌, ◌&&◌, nat_lt, nat_le, List, [], ◌∷◌, length, Option, Some, None, cond, refl, sym, ap, subst, arith}
 use Rattle.std.proofs.lemmas.Bool.{true≢false}
 use Rattle.std.proofs.lemmas.Bool.Decides.{nat_tests}
@@ -30,9 +30,9 @@ use Rattle.sleep_laws.proofs.LockHolding.{StageMaker, at_stage, lock_agrees}
 use Rattle.sleep_laws.proofs.Telling.{some≢none}
 use Rattle.end_laws.specs.Waking.{EventsWakeFirst, TimeGoesForward, events_wake_first, is_unstirred, jumps_unstirred, keeps_time, time_goes_forward}
 
--- ---- the parts of a list
+-- ---- classes of entries
 
--- the rest of a list is legal in each part
+-- the rest of a list is legal in each class
 pub journal_rest : (m : Machine) (e : Entry) (past : List Entry) (b : Bool) → JournalPart m (cond b (e ∷ past) past) → JournalPart m past
 journal_rest m e past true h = h.1
 journal_rest m e past false h = h
@@ -139,7 +139,7 @@ module _ (m : Machine) (past : List Entry) (of : ℕ → List Entry) (now : Even
   unfolding scripts works devices expiries
   work_idle = and_right scripts works (and_left (scripts && works) devices (and_left (scripts && works && devices) expiries idle))
 
-  -- where nobody can make anything no timer of a source is to expire
+  -- if nobody can make anything no timer of a source is to expire
   pub none_due : none_expires (length m.sources + 1) of (time_of past) ≡ true
   unfolding scripts works devices expiries
   none_due = and_right (scripts && works && devices) expiries idle

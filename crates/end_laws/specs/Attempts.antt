@@ -24,7 +24,7 @@ is_end_of n _ = false
 abbrev pub ends_among : ℕ → List Entry → Bool
 ends_among n entries = list_any (λ e. is_end_of n e.kind) entries
 
--- where an entry begins an attempt, one of those after it ends that attempt (pm_suspend)
+-- if an entry begins an attempt, one of those after it ends that attempt (pm_suspend)
 abbrev pub ends_after : Kind → List Entry → Bool
 ends_after (Attempt n guarded) later = ends_among n later
 ends_after _ later = true
@@ -56,6 +56,6 @@ abbrev pub own_entry_count : List Entry → ℕ
 own_entry_count [] = 0
 own_entry_count (e ∷ past) = own_entry_count_after (is_attempt e.kind) (is_own past e) (own_entry_count past)
 
--- at each place of a legal journal of an accepted machine they are no more than are enough for an attempt (enter_state)
+-- after each entry of a legal journal of an accepted machine they are no more than are enough for an attempt (enter_state)
 abbrev pub AttemptsAreShort : Type 0
 AttemptsAreShort = (m : Machine) → IsAccepted m → (past : List Entry) → JournalPart m past → own_entry_count past ≤ enough m

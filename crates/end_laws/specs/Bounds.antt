@@ -30,7 +30,7 @@ abbrev pub most_of_journal : Machine → ℕ
 most_of_journal m =
     most_attempts m * enough m + (2 * most_attempts m * length m.actors + (most_steps m + 8 * m.auto_cycles))
 
--- those of the first n sources: no history has more than its calls have places, nor than it has (own)
+-- those of the first n sources: no history has more than its calls have room for, nor than it has (own)
 abbrev pub most_of_sources : Machine → ℕ → ℕ
 most_of_sources m zero = 0
 most_of_sources m (suc n) = min (places m n) most_entries + most_of_sources m n

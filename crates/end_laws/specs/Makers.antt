@@ -1,4 +1,4 @@
--- Who makes the entries of a legal log tells all of it (own: Linux keeps no log).
+-- Who makes the entries of a legal log determines all of it (own: Linux keeps no log).
 use Rattle.std.specs.Prelude.{◌≡◌, ℕ, ◌+◌, Bool, List, [], ◌∷◌, length, map, if◌then◌else◌, Option, Some, None, slice_get}
 use Rattle.sleep_model.specs.declared.entry.Actor.{Actor}
 use Rattle.sleep_model.specs.declared.entry.Actor.TheVariants as actor

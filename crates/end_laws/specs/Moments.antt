@@ -1,4 +1,4 @@
--- The moments for which something waits: none is past where nobody can make anything, each is at most a day ahead, and each wakes somebody.
+-- The moments for which something waits: none is past if nobody can make anything, each is at most a day ahead, and each wakes somebody.
 use Rattle.std.specs.Prelude.{◌≡◌, ◌≤◌, ◌<◌, ◌+◌, ℕ, true, false, List, ◌∷◌, IfSome}
 use Rattle.sleep_model.specs.declared.entry.Actor.TheVariants as actor
 use Rattle.sleep_model.specs.declared.entry.Entry.{Entry}
@@ -16,8 +16,8 @@ use Rattle.sleep_model.specs.Sources.{expiry}
 abbrev pub LiesAhead : Machine → List Entry → (ℕ → List Entry) → Type 0
 LiesAhead m past of = IfSome (next_time m past of) (λ at. time_of past < at)
 
--- so it is after each legal journal where nobody can make anything and something is left to do, by whatever histories of sources and
--- whatever word (schedule_timeout, mod_timer)
+-- so it is after each legal journal if nobody can make anything and something is left to do, by whatever histories of sources and whatever
+-- word (schedule_timeout, mod_timer)
 abbrev pub NextMomentsLieAhead : Type 0
 NextMomentsLieAhead =
     (m : Machine) (past : List Entry) (of : ℕ → List Entry) (now : EventNow) → JournalPart m past

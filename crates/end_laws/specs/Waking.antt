@@ -18,7 +18,7 @@ abbrev pub is_unstirred : Option Sleep → EventNow → Bool
 is_unstirred None now = true
 is_unstirred (Some s) now = position now == s.pos
 
--- so it is where time jumps (suspend_enter, pm_wakeup_pending)
+-- so it is if time jumps (suspend_enter, pm_wakeup_pending)
 abbrev pub jumps_unstirred : Kind → Option Sleep → EventNow → Bool
 jumps_unstirred Jump sleep now = is_unstirred sleep now
 jumps_unstirred _ sleep now = true
@@ -35,7 +35,7 @@ EventsWakeFirst = (m : Machine) (past : List Entry) → IsLegal m past → event
 
 -- ---- time goes forward
 
--- a jump is to a later moment; each other entry has the moment of its place (own: one virtual clock)
+-- a jump is to a later moment; each other entry has the moment of its index (own: one virtual clock)
 abbrev pub keeps_time : Kind → ℕ → ℕ → Bool
 keeps_time Jump before at = nat_lt before at
 keeps_time _ before at = at == before

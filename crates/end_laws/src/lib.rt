@@ -15,7 +15,7 @@ ghost use Rattle.end_laws.specs.Makers.{MakersDetermineEntries, MakersDetermineL
 ghost use Rattle.end_laws.specs.Moments.{JumpsWake, NextMomentsAreBounded, NextMomentsLieAhead};
 ghost use Rattle.end_laws.specs.Waking.{EventsWakeFirst, TimeGoesForward};
 
-/// An event that comes while the machine sleeps wakes it before any time passes: where time jumps while the
+/// An event that comes while the machine sleeps wakes it before any time passes. If time jumps while the
 /// machine sleeps, no step was made on the event word since it entered (`kernel/power/suspend.c`,
 /// `suspend_enter`; `drivers/base/power/wakeup.c`, `pm_wakeup_pending`).
 #[tactic(auto, using(crate::proofs::Waking::events_first))]
@@ -30,7 +30,7 @@ pub fn time_goes_forward()
     ensures { TimeGoesForward }
 {}
 
-/// Each attempt that a log of an accepted machine begins it ends, where it is finished or goes no further
+/// Each attempt that a log of an accepted machine begins it ends, if it is finished or goes no further
 /// (`kernel/power/suspend.c`, `pm_suspend`).
 #[tactic(auto, using(crate::proofs::Attempts::all_end))]
 pub fn attempts_end()
@@ -38,7 +38,7 @@ pub fn attempts_end()
 {}
 
 /// An attempt's maker and its devices make no more entries in it than are enough: 40, 20 more a device, and 2
-/// more a notifier, a part of the core and a processor (`kernel/power/suspend.c`, `enter_state`).
+/// more a notifier, a syscore operation and a processor (`kernel/power/suspend.c`, `enter_state`).
 #[tactic(auto, using(crate::proofs::Attempts::short))]
 pub fn attempts_are_short()
     ensures { AttemptsAreShort }
@@ -75,9 +75,9 @@ pub fn journals_are_bounded()
     ensures { JournalsAreBounded }
 {}
 
-/// A legal log of an accepted machine has no more entries than the machine tells: its journal has as many but
-/// for the jumps, each source no more than its calls have places, and no jump follows a jump (own: Linux
-/// keeps no log).
+/// A legal log of an accepted machine has no more entries than the machine determines. Its journal has as
+/// many but for the jumps, each source no more than its calls have room for, and no jump follows a jump (own:
+/// Linux keeps no log).
 #[tactic(auto, using(crate::proofs::Bounding::logs_bounded))]
 pub fn logs_are_bounded()
     ensures { LogsAreBounded }
@@ -109,8 +109,8 @@ pub fn done_have_exited()
     ensures { DoneHaveExited }
 {}
 
-/// What is due of an actor is never a wait for numbers that somebody keeps: `Stale` is told only by a world,
-/// which compares them first (own).
+/// What is due of an actor is never a wait for numbers that somebody else knows: only a world answers
+/// `Stale`, which compares them first (own).
 pub fn none_wait_stale()
     ensures { NoneWaitStale }
 {}

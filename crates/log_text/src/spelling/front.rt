@@ -20,7 +20,7 @@ pub struct LineFront {
 }
 
 impl LineFront {
-    /// The front of lines at the beginning, where nothing was registered.
+    /// The front of lines at the beginning, when nothing was registered.
     pub fn start() -> Self {
         let word = EventNow {
             inpr: 0,
