@@ -1,3 +1,4 @@
+-- The lemmas of this crate.
 pub mod Looks
 pub mod MembersNamed
 pub mod Ranges

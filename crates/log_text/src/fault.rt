@@ -1,3 +1,4 @@
+//! Why bytes are not read as the text of a log.
 ghost use Rattle.std.specs.Prelude.{◌≡◌};
 ghost use Rattle.log_text.specs.declared.fault.LogFault.TheVariants as fault;
 

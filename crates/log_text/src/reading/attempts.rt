@@ -1,3 +1,5 @@
+//! What the entries of an attempt say after their verb, read: its notifiers, freezer, platform, processors
+//! and syscore operations.
 ghost use Rattle.std.specs.Prelude.{◌≡◌, true, IfSome};
 ghost use Rattle.sleep_model.specs.Fits.{fits_kind, fits_froze};
 ghost use Rattle.sleep_model.specs.declared.machine.Machine.{Machine};

@@ -1,3 +1,4 @@
+//! The first word of a text, and what follows it.
 ghost use Rattle.std.specs.Prelude.{◌≡◌};
 ghost use Rattle.std.specs.Str.{bytes_eq};
 ghost use Rattle.log_text.specs.Cutting.{word, rest};

@@ -1,3 +1,4 @@
+//! What the entries of a device's phases say after their verb, read.
 ghost use Rattle.std.specs.Prelude.{◌≡◌, true, IfSome};
 ghost use Rattle.sleep_model.specs.Fits.{fits_kind};
 ghost use Rattle.log_text.specs.Reading.{prepare_kind, schedule_kind, begin_kind, end_kind, skip_kind};

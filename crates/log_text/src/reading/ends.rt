@@ -1,3 +1,4 @@
+//! The lines of sources and of stuck scripts, read.
 ghost use Rattle.std.specs.Prelude.{◌≡◌, true, IfSome};
 ghost use Rattle.sleep_model.specs.Fits.{fits_stats, fits_script, fits_cause, is_word32};
 ghost use Rattle.log_text.specs.Reading.{times_in, stats_in, why_in, waiting_in};

@@ -1,3 +1,4 @@
+//! The line of an entry, read: its event word, its actor and what it says.
 ghost use Rattle.std.specs.Prelude.{◌≡◌, true, IfSome};
 ghost use Rattle.sleep_model.specs.Fits.{fits_word, fits_actor, fits_entry, is_word64};
 ghost use Rattle.log_text.specs.Reading.{now_in, actor_in, entry_by_text, entry_in};

@@ -1,3 +1,4 @@
+//! What an entry says, read by its verb.
 ghost use Rattle.std.specs.Prelude.{◌≡◌, true, IfSome, Some};
 ghost use Rattle.sleep_model.specs.Fits.{fits_kind, fits_froze};
 ghost use Rattle.log_text.specs.Reading.{kind_in, kind_by, task_by, auto_by, source_by, attempt_by};

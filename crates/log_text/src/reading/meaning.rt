@@ -1,3 +1,4 @@
+//! What the fixed words of a log mean.
 ghost use Rattle.std.specs.Prelude.{◌≡◌, true};
 ghost use Rattle.sleep_model.specs.Fits.{is_answer};
 ghost use Rattle.log_text.specs.Words.{errno_in, answer_in, error_number, prepare_in, phase_in, cause_in, group_in, thaw_in, state_in, down_in};

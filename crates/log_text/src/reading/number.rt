@@ -1,3 +1,4 @@
+//! Decimal numbers of 64 and of 32 bits, read.
 ghost use Rattle.std.specs.Prelude.{◌≡◌, IfSome, true};
 ghost use Rattle.sleep_model.specs.Fits.{is_word32, is_word64};
 ghost use Rattle.log_text.specs.Cutting.{digit_after, word32, word64};

@@ -1,3 +1,4 @@
+//! What the entries of scripts and sources say after their verb, read.
 ghost use Rattle.std.specs.Prelude.{◌≡◌, true, IfSome, option_map};
 ghost use Rattle.sleep_model.specs.Fits.{fits_kind};
 ghost use Rattle.sleep_model.specs.declared.machine.Machine.{Machine};

@@ -1,3 +1,4 @@
+//! The front of an entry's line: its time and the event word.
 ghost use Rattle.std.specs.Prelude.{◌≡◌, ◌≤◌, length, true};
 ghost use Rattle.sleep_model.specs.Fits.{fits_word, is_word64};
 ghost use Rattle.log_text.specs.Front.{front_text};

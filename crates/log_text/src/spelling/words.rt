@@ -1,3 +1,4 @@
+//! The spellings of verbs, errors, phases and the other fixed words.
 ghost use Rattle.std.specs.Prelude.{◌≡◌, ◌≤◌, length};
 ghost use Rattle.sleep_base.specs.Errno.{name_of};
 ghost use Rattle.phase_table.specs.Phases.{phase_name};

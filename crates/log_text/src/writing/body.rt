@@ -1,3 +1,4 @@
+//! What an entry says, written after its actor.
 ghost use Rattle.std.specs.Prelude.{◌≡◌, ◌+◌, ◌≤◌, ◌++◌, length, true};
 ghost use Rattle.log_text.specs.Words.{is_negative};
 ghost use Rattle.sleep_model.specs.declared.entry.Kind.TheVariants as kind;

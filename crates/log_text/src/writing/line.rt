@@ -1,3 +1,4 @@
+//! The lines of entries, of sources and of stuck scripts, written.
 ghost use Rattle.std.specs.Prelude.{◌≡◌, ◌+◌, ◌≤◌, ◌++◌, codes, decimal, length, slice_get};
 ghost use Rattle.log_text.specs.Front.{front_text, maker_text};
 ghost use Rattle.sleep_model.specs.Text.{body, hard_word, newline, space, script_text, waiting_text, entry_line, source_line, counts_text, times_text, waiting_line};

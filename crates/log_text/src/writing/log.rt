@@ -1,3 +1,4 @@
+//! The text of a whole log, as the stream writes it.
 ghost use Rattle.std.specs.Prelude.{◌≡◌, ◌++◌, OnOk, IfOk, flat_map};
 ghost use Rattle.sleep_model.specs.Text.{source_lines, source_names, end_text, waiting_line, text};
 

@@ -1,3 +1,4 @@
+//! A writer of lines into one buffer.
 ghost use Rattle.std.specs.Prelude.{◌≡◌, ◌+◌, ◌≤◌, ◌++◌, [], OnOk, codes, length};
 ghost use Rattle.sleep_model.specs.Text.{body, entry_line, newline, source_line, waiting_line};
 

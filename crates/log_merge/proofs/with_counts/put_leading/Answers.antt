@@ -1,3 +1,4 @@
+-- Proof by hand of `put_leading`, by the lemmas of `Placing`.
 use Rattle.std.proofs.Common.{refl, arith}
 use Rattle.log_merge.proofs.Placing.{placed_here, turn_at}
 use Rattle.log_merge.proofs.with_counts.put_leading.Goals as goal

@@ -1,3 +1,4 @@
+-- The invariant of the loop of `put_leading`.
 use Rattle.std.proofs.Common.{◌≡◌, ◌+◌, ◌≤◌, ◌++◌, drop, length, vec_len, vec_capacity}
 use Rattle.log_merge.specs.WithCounts.{with_counts}
 use Rattle.log_merge.specs.Remainders.{seen}

@@ -1,3 +1,4 @@
+-- The invariant of the loop of `with_counts`.
 use Rattle.std.proofs.Common.{◌≡◌, ◌≤◌, ◌+◌, ◌++◌, drop, length, reverse, vec_len, vec_capacity}
 use Rattle.log_merge.specs.WithCounts.{with_counts}
 use Rattle.log_merge.specs.Remainders.{seen}
