@@ -165,7 +165,7 @@ fn keeps_together(past: &Passed<'_>, e: Entry) -> Result<bool, Mem>
 
 /// Whether an entry of a source or a jump keeps every rule; false of the journal's. `Mem` as above.
 #[tactic(auto, using(crate::proofs::Judging::each_preserved))]
-fn keeps_aside(past: &Passed<'_>, e: Entry) -> Result<bool, Mem>
+fn keeps_outside_journal(past: &Passed<'_>, e: Entry) -> Result<bool, Mem>
     requires { fits_entry past.now.machine e ≡ true }
     ensures { IfOk result (λ b. IsTrue b → KeepsEntry past.now.machine (past_of past.now) e) }
 {
@@ -199,7 +199,7 @@ pub fn first_broken(past: &Passed<'_>, e: Entry) -> Result<Option<u8>, Mem>
 {
     // Most entries of sources break none, and only one that does wants the rules in order. Of the journal's a
     // caller asks first whether it is the next (`is_next_entry`).
-    match keeps_aside(past, e) {
+    match keeps_outside_journal(past, e) {
         Ok(true) => Ok(None),
         _ => least_broken(past, e),
     }
