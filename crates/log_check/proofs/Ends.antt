@@ -12,11 +12,11 @@ use Rattle.log_check.specs.declared.ending.Verdict.{Verdict}
 use Rattle.log_check.specs.declared.ending.Verdict.TheVariants.{Bad}
 use Rattle.log_check.specs.Verdicts.{Differ, IsVerdict}
 
-module _ (m : Machine) (log : Log) (past : List Entry) (all : past ≡ reverse log.entries) (kept : KeepsEach m (reverse log.entries)) (told : List Stats) (is_told : told ≡ log.stats) (o : Option ℕ) (differ : Differ told (stats_of m past) o) where
+module _ (m : Machine) (log : Log) (past : List Entry) (all : past ≡ reverse log.entries) (kept : KeepsEach m (reverse log.entries)) (logged : List Stats) (is_logged : logged ≡ log.stats) (o : Option ℕ) (differ : Differ logged (stats_of m past) o) where
   differs : Differ log.stats (stats_of m (reverse log.entries)) o
   differs =
-      subst (λ (xs : List Stats). Differ xs (stats_of m (reverse log.entries)) o) is_told
-      (subst (λ (es : List Entry). Differ told (stats_of m es) o) all differ)
+      subst (λ (xs : List Stats). Differ xs (stats_of m (reverse log.entries)) o) is_logged
+      (subst (λ (es : List Entry). Differ logged (stats_of m es) o) all differ)
 
   -- the first source whose statistics are not its own
   pub bad_stats : (k before n : ℕ) (v : Verdict) → o ≡ Some k → before ≡ length log.entries → n ≡ before + k → v ≡ Bad (n + 1) 22 → IsVerdict m log v
@@ -34,7 +34,7 @@ module _ (m : Machine) (log : Log) (past : List Entry) (all : past ≡ reverse l
     is_good finished = record { legal = record { legal = (lists m (reverse log.entries)).legal kept; stats = same }; finished = finished }
 
     -- the end of a log that is not finished
-    pub bad_end : (before more n : ℕ) (v : Verdict) → before ≡ length log.entries → more ≡ length told → n ≡ before + more → v ≡ Bad (n + 1) 20 → (IsFinishedLog m log → ⊥) → IsVerdict m log v
+    pub bad_end : (before more n : ℕ) (v : Verdict) → before ≡ length log.entries → more ≡ length logged → n ≡ before + more → v ≡ Bad (n + 1) 20 → (IsFinishedLog m log → ⊥) → IsVerdict m log v
     bad_end before more n v many stats line v_is not =
-        let place : n ≡ length log.entries + length log.stats = line ∙ (ap (λ j. j + more) many ∙ ap (λ j. length log.entries + j) (stats ∙ ap length is_told)) in
+        let place : n ≡ length log.entries + length log.stats = line ∙ (ap (λ j. j + more) many ∙ ap (λ j. length log.entries + j) (stats ∙ ap length is_logged)) in
         subst (IsVerdict m log) (sym (v_is ∙ ap (λ j. Bad (j + 1) 20) place)) (AtEnd kept same not)

@@ -31,15 +31,15 @@ pub same_further : (xs ys : List Stats) (n : ℕ) (x : Stats) → take n xs ≡ 
 same_further xs ys n x same h g = rw (add-one n) (taken xs n x h ∙ (ap (λ zs. zs ++ x ∷ []) same ∙ sym (taken ys n x g)))
 
 -- two lists of one length that are one as far as that
-pub same_whole : (m : Machine) (past : List Entry) (told : List Stats) → length told ≡ length m.sources + 1 → take (length told) told ≡ take (length told) (stats_of m past) → told ≡ stats_of m past
-same_whole m past told e same =
+pub same_whole : (m : Machine) (past : List Entry) (logged : List Stats) → length logged ≡ length m.sources + 1 → take (length logged) logged ≡ take (length logged) (stats_of m past) → logged ≡ stats_of m past
+same_whole m past logged e same =
     let own = length-map-range_with_len (λ s. stats_at (history s past) (time_of past)) 0 (length m.sources + 1) in
-    sym (take_all (length told) told (omega arith)) ∙ (same ∙ take_all (length told) (stats_of m past) (omega (arith, e, own)))
+    sym (take_all (length logged) logged (omega arith)) ∙ (same ∙ take_all (length logged) (stats_of m past) (omega (arith, e, own)))
 
 -- an index at which they differ
-pub differ_here : (m : Machine) (past : List Entry) (told : List Stats) (k : ℕ) (x own : Stats) → length told ≡ length m.sources + 1 → k < length told → take k told ≡ take k (stats_of m past) → slice_get told k ≡ Some x
-    → own ≡ stats_at (history k past) (time_of past) → (x ≡ own → ⊥) → Differ told (stats_of m past) (Some k)
-differ_here m past told k x own each here same is own_is not_same = (here, same, λ e. not_same (one _ (sym is ∙ (e ∙ own_stats m past k (omega (arith, each, here)))) ∙ sym own_is))
+pub differ_here : (m : Machine) (past : List Entry) (logged : List Stats) (k : ℕ) (x own : Stats) → length logged ≡ length m.sources + 1 → k < length logged → take k logged ≡ take k (stats_of m past) → slice_get logged k ≡ Some x
+    → own ≡ stats_at (history k past) (time_of past) → (x ≡ own → ⊥) → Differ logged (stats_of m past) (Some k)
+differ_here m past logged k x own each here same is own_is not_same = (here, same, λ e. not_same (one _ (sym is ∙ (e ∙ own_stats m past k (omega (arith, each, here)))) ∙ sym own_is))
   where
     one : (y : Stats) → Some x ≡ Some y → x ≡ y
     one y h = cc

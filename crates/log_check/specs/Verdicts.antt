@@ -14,6 +14,6 @@ IsVerdict m log (Bad line definition) = IsFirstBad m log line definition
 
 -- two lists of statistics are equal, or that is the first index at which they differ (own)
 abbrev pub Differ : List Stats → List Stats → Option ℕ → Type 0
-Differ told own None = told ≡ own
-Differ told own (Some k) =
-    (k < length told) × (take k told ≡ take k own) × (slice_get told k ≡ slice_get own k → ⊥)
+Differ logged own None = logged ≡ own
+Differ logged own (Some k) =
+    (k < length logged) × (take k logged ≡ take k own) × (slice_get logged k ≡ slice_get own k → ⊥)

@@ -58,21 +58,21 @@ fn stats_of(past: &Passed<'_>, source: u32) -> Result<Stats, Mem>
 }
 
 /// Whether both are the same statistics.
-fn is_same(told: Stats, own: Stats) -> bool
-    ensures { IsTrue result ↔ (told ≡ own) }
+fn is_same(logged: Stats, own: Stats) -> bool
+    ensures { IsTrue result ↔ (logged ≡ own) }
 {
-    told == own
+    logged == own
 }
 
 /// The first source whose statistics are not those of the log, if there is one. `Mem` if a sum has no room.
-fn first_wrong(past: &Passed<'_>, told: &[Stats]) -> Result<Option<usize>, Mem>
-    requires each { length told.now ≡ length past.now.machine.sources + 1 }
+fn first_wrong(past: &Passed<'_>, logged: &[Stats]) -> Result<Option<usize>, Mem>
+    requires each { length logged.now ≡ length past.now.machine.sources + 1 }
     requires few { length past.now.machine.sources ≤ 255 }
-    ensures { IfOk result (Differ told.now (stats_of past.now.machine (past_of past.now))) }
+    ensures { IfOk result (Differ logged.now (stats_of past.now.machine (past_of past.now))) }
 {
-    for source in 0..told.len() {
+    for source in 0..logged.len() {
         let own = stats_of(past, source as u32)?;
-        if !is_same(told[source], own) {
+        if !is_same(logged[source], own) {
             return Ok(Some(source));
         }
     }
@@ -109,13 +109,13 @@ pub(crate) fn judge_end(past: &Passed<'_>, log: &Log) -> Result<Verdict, Mem>
     requires few { length past.now.machine.sources ≤ 255 }
     ensures { IfOk result (λ v. IsVerdict past.now.machine log.now v) }
 {
-    let told = log.stats.as_slice();
-    if let Some(source) = first_wrong(past, told)? {
+    let logged = log.stats.as_slice();
+    if let Some(source) = first_wrong(past, logged)? {
         return bad(lines(log.entries.len(), source)?, SOURCE);
     }
     if ends_finished(past, log)? {
         Ok(Verdict::Good)
     } else {
-        bad(lines(log.entries.len(), told.len())?, END)
+        bad(lines(log.entries.len(), logged.len())?, END)
     }
 }

@@ -8,17 +8,17 @@ use Rattle.log_check.proofs.ending.first_wrong.Goals as goal
 
 pub returns-then-not-is_same : goal.returns-then-not-is_same
 returns-then-not-is_same c =
-    differ_here c.args.past.now.machine (past_of c.args.past.now) c.args.told.now c.loop-source.source _ c.in_ok-own.own c.requires.each c.loop-source-test.true c.loop-source.invariant
-    (slice_get-get_or c.args.told.now c.loop-source.source _ c.loop-source-test.true) c.in_ok-own.ensures (λ e. true≢false (sym (c.is_same.ensures.1 e) ∙ c.if-not-is_same.true))
+    differ_here c.args.past.now.machine (past_of c.args.past.now) c.args.logged.now c.loop-source.source _ c.in_ok-own.own c.requires.each c.loop-source-test.true c.loop-source.invariant
+    (slice_get-get_or c.args.logged.now c.loop-source.source _ c.loop-source-test.true) c.in_ok-own.ensures (λ e. true≢false (sym (c.is_same.ensures.1 e) ∙ c.if-not-is_same.true))
 
 pub loop-source-preserved : goal.loop-source-preserved
 loop-source-preserved c =
     let is = c.is_same.ensures.0 c.if-not-is_same.false in
-    same_further c.args.told.now (stats_of c.args.past.now.machine (past_of c.args.past.now)) c.loop-source.source c.in_ok-own.own c.loop-source.invariant
-    (slice_get-get_or c.args.told.now c.loop-source.source _ c.loop-source-test.true ∙ ap (λ x. Some x) is)
+    same_further c.args.logged.now (stats_of c.args.past.now.machine (past_of c.args.past.now)) c.loop-source.source c.in_ok-own.own c.loop-source.invariant
+    (slice_get-get_or c.args.logged.now c.loop-source.source _ c.loop-source-test.true ∙ ap (λ x. Some x) is)
     (own_stats c.args.past.now.machine (past_of c.args.past.now) c.loop-source.source (omega (arith, c.requires.each, c.loop-source-test.true)) ∙ ap (λ x. Some x) (sym c.in_ok-own.ensures))
 
 pub returns : goal.returns
 returns c =
-    same_whole c.args.past.now.machine (past_of c.args.past.now) c.args.told.now c.requires.each
-    (subst (λ (k : ℕ). take k c.args.told.now ≡ take k (stats_of c.args.past.now.machine (past_of c.args.past.now))) (omega (arith, c.loop-source-test.false, c.loop-source.auto.source-end)) c.loop-source.invariant)
+    same_whole c.args.past.now.machine (past_of c.args.past.now) c.args.logged.now c.requires.each
+    (subst (λ (k : ℕ). take k c.args.logged.now ≡ take k (stats_of c.args.past.now.machine (past_of c.args.past.now))) (omega (arith, c.loop-source-test.false, c.loop-source.auto.source-end)) c.loop-source.invariant)

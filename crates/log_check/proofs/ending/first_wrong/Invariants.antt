@@ -6,4 +6,4 @@ use Rattle.log_check.proofs.ending.first_wrong.Given as goal
 
 -- the statistics so far are those of the log
 abbrev pub invariant-loop-source : goal.invariant-loop-source
-invariant-loop-source l = take l.source l.told ≡ take l.source (stats_of l.past.machine (past_of l.past))
+invariant-loop-source l = take l.source l.logged ≡ take l.source (stats_of l.past.machine (past_of l.past))
