@@ -33,7 +33,8 @@ use Rattle.sleep_laws.proofs.MakingOwn.{made}
 use Rattle.sleep_laws.proofs.Passing.{device_phases}
 use Rattle.sleep_laws.proofs.DevicePhases.{DevicePhases}
 use Rattle.async_board.specs.Boards.{BoardState, first_board}
-use Rattle.sleep_core.specs.Histories.{Changes, Settles, board_of}
+use Rattle.async_board.specs.AtPoints.{board_at}
+use Rattle.sleep_core.specs.Histories.{Changes, Settles}
 
 -- an accepted machine has few devices
 pub few_parents : (m : Machine) → IsAccepted m → length (parents_of m.devices) ≤ 1024
@@ -93,7 +94,7 @@ board_linked m past legal none ls =
 pub settles : (m : Machine) (past : List Entry) → JournalPart m past → (time : ℕ) (now : EventNow) (who : Actor) (k : Kind) → due m past who now ≡ Makes k → Settles m past (record { time = time; now = now; actor = who; kind = k })
 settles m past legal time now who k makes h = by_kind k h (entry_closed m past now who k (made m past now who k makes) h)
   where
-    by_kind : (j : Kind) → Changes j → maker past ≡ None → first_board (parents_of m.devices) (links_after j (links_at m past)) (map is_async m.devices) ≡ board_of m (record { time = time; now = now; actor = who; kind = j } ∷ past)
+    by_kind : (j : Kind) → Changes j → maker past ≡ None → first_board (parents_of m.devices) (links_after j (links_at m past)) (map is_async m.devices) ≡ board_at m (record { time = time; now = now; actor = who; kind = j } ∷ past)
     by_kind (kind.LinkAdd s c r) h none = board_linked m past legal none (links_after (kind.LinkAdd s c r) (links_at m past))
     by_kind (kind.LinkState s c active r) h none = board_linked m past legal none (links_after (kind.LinkState s c active r) (links_at m past))
     by_kind _ h none = absurd h

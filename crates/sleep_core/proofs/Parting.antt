@@ -12,7 +12,8 @@ use Rattle.sleep_model.specs.Autosleep.{work_after}
 use Rattle.sleep_model.specs.Numbers.{time_after}
 use Rattle.autosleep_loop.specs.Autosleeps.{AutosleepState, autosleep_after}
 use Rattle.async_board.proofs.Agreement.{board_next}
-use Rattle.sleep_core.specs.Histories.{IsOfTask, guard_of, path_of, devices_of, board_of, tasks_of, freezer_of, autosleep_of, platform_of, syscore_of}
+use Rattle.async_board.specs.AtPoints.{board_at}
+use Rattle.sleep_core.specs.Histories.{IsOfTask, guard_of, path_of, devices_of, tasks_of, freezer_of, autosleep_of, platform_of, syscore_of}
 use Rattle.sleep_core.proofs.Freezing.{freezer_moves}
 
 -- an entry at that time, of that maker and kind
@@ -24,7 +25,7 @@ pub record Stays (m : Machine) (past : List Entry) (e : Entry) : Type 0 where
   pub guard : guard_of past ≡ guard_of (e ∷ past)
   pub path : path_of past ≡ path_of (e ∷ past)
   pub devices : devices_of m past ≡ devices_of m (e ∷ past)
-  pub board : board_of m past ≡ board_of m (e ∷ past)
+  pub board : board_at m past ≡ board_at m (e ∷ past)
   pub freezer : freezer_of m past ≡ freezer_of m (e ∷ past)
   pub platform : platform_of m past ≡ platform_of m (e ∷ past)
   pub syscore : syscore_of m past ≡ syscore_of m (e ∷ past)

@@ -17,11 +17,12 @@ use Rattle.sleep_model.specs.Marks.{raised}
 use Rattle.sleep_model.specs.Positions.{Stays, first_position, positions, positions_after}
 use Rattle.async_board.proofs.Agreement.{board_next}
 use Rattle.async_board.specs.Boards.{board_after}
-use Rattle.sleep_core.specs.Histories.{IsOfDevice, board_of, path_of, tasks_of, freezer_of, autosleep_of, platform_of, syscore_of, exits}
+use Rattle.async_board.specs.AtPoints.{board_at}
+use Rattle.sleep_core.specs.Histories.{IsOfDevice, path_of, tasks_of, freezer_of, autosleep_of, platform_of, syscore_of, exits}
 
 -- such an entry moves its device, and each of these parts is as before
 pub record Passes (m : Machine) (past : List Entry) (e : Entry) : Type 0 where
-  pub board : board_after e.kind (board_of m past) ≡ board_of m (e ∷ past)
+  pub board : board_after e.kind (board_at m past) ≡ board_at m (e ∷ past)
   pub path : path_of past ≡ path_of (e ∷ past)
   pub tasks : tasks_of m past ≡ tasks_of m (e ∷ past)
   pub freezer : freezer_of m past ≡ freezer_of m (e ∷ past)

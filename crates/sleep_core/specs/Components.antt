@@ -6,14 +6,15 @@ use Rattle.sleep_model.specs.declared.entry.Kind.{Kind}
 use Rattle.sleep_model.specs.declared.machine.Machine.{Machine}
 use Rattle.sleep_model.specs.declared.word.EventNow.{EventNow}
 use Rattle.sleep_core.specs.declared.components.Components.{Components}
-use Rattle.sleep_core.specs.Histories.{Settles, guard_of, path_of, devices_of, board_of, tasks_of, freezer_of, autosleep_of, platform_of, syscore_of}
+use Rattle.async_board.specs.AtPoints.{board_at}
+use Rattle.sleep_core.specs.Histories.{Settles, guard_of, path_of, devices_of, tasks_of, freezer_of, autosleep_of, platform_of, syscore_of}
 
 -- each is what the definitions read from these entries
 pub record AreRead (m : Machine) (past : List Entry) (c : Components) : Type 0 where
   pub guard : c.guard ≡ guard_of past
   pub path : c.path ≡ path_of past
   pub devices : c.devices ≡ devices_of m past
-  pub board : c.board ≡ board_of m past
+  pub board : c.board ≡ board_at m past
   pub tasks : c.tasks ≡ tasks_of m past
   pub freezer : c.freezer ≡ freezer_of m past
   pub autosleep : c.autosleep ≡ autosleep_of past

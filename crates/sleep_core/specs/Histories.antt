@@ -1,6 +1,5 @@
 -- The history as contracts see it: what the definitions read from the journal, and when an entry may be appended.
 use Rattle.std.specs.Prelude.{◌≡◌, ◌≤◌, ◌<◌, ◌+◌, ◌-◌, ◌^◌, ℕ, Bool, true, false, List, [], ◌∷◌, length, map, Option, Some, None}
-use Rattle.phase_table.specs.declared.phase.Phase.TheVariants as phase
 use Rattle.sleep_model.specs.declared.entry.Entry.{Entry}
 use Rattle.sleep_model.specs.declared.entry.JournalEntry.{JournalEntry}
 use Rattle.sleep_model.specs.declared.entry.Actor.{Actor}
@@ -23,9 +22,9 @@ use Rattle.sleep_model.specs.Order.{links_added, links_after, links_at, links_se
 use Rattle.sleep_model.specs.Path.{attempts, attempts_after, maker}
 use Rattle.sleep_model.specs.Runtime.{is_async, statuses, disabled_by_direct, disabled_by_late}
 use Rattle.sleep_model.specs.Positions.{positions}
-use Rattle.sleep_model.specs.PhaseStates.{phase_states}
 use Rattle.sleep_model.specs.Table.{stage_of}
 use Rattle.attempt_laws.specs.Room.{enough}
+use Rattle.async_board.specs.AtPoints.{board_at}
 use Rattle.async_board.specs.Boards.{BoardState, board_after, first_board}
 use Rattle.platform_steps.specs.PlatformState.{PlatformState}
 use Rattle.autosleep_loop.specs.Autosleeps.{AutosleepState}
@@ -64,17 +63,6 @@ devices_of m past = record {
   statuses = statuses m.devices past;
   disabled_by_direct = disabled_by_direct past;
   disabled_by_late = disabled_by_late past;
-}
-
--- the state of each device
-abbrev pub board_of : Machine → List Entry → BoardState
-board_of m past = record {
-  parents = parents_of m.devices;
-  links = links_at m past;
-  asynchronous = map is_async m.devices;
-  suspend = phase_states (length m.devices) phase.Suspend past;
-  late = phase_states (length m.devices) phase.Late past;
-  noirq = phase_states (length m.devices) phase.Noirq past;
 }
 
 -- the position of each script
@@ -143,7 +131,7 @@ moved_board k board = board_after k board
 -- no device is prepared when an entry changes links, so that the board begins anew after it
 abbrev pub Settles : Machine → List Entry → Entry → Type 0
 Settles m past e =
-    Changes e.kind → first_board (parents_of m.devices) (links_after e.kind (links_at m past)) (map is_async m.devices) ≡ board_of m (e ∷ past)
+    Changes e.kind → first_board (parents_of m.devices) (links_after e.kind (links_at m past)) (map is_async m.devices) ≡ board_at m (e ∷ past)
 
 -- an entry of that kind is of a device, in a phase of devices (struct dev_pm_info)
 abbrev pub IsOfDevice : Kind → Type 0

@@ -64,7 +64,8 @@ impl<'m> History<'m> {
     ghost use Rattle.sleep_model.specs.Order.{parents_of};
     ghost use Rattle.sleep_state.specs.JournalRooms.{entries};
     ghost use Rattle.sleep_core.specs.Numbered.{IsCounted};
-    ghost use Rattle.sleep_core.specs.Histories.{Admits, Settles, IsOfDevice, IsOfNone, IsOfTask, after_entry, entry_now, after_made, room_for, EntryHasRoom, last_stamp, guard_of, path_of, devices_of, board_of, tasks_of, freezer_of, autosleep_of, platform_of, syscore_of};
+    ghost use Rattle.async_board.specs.AtPoints.{board_at};
+    ghost use Rattle.sleep_core.specs.Histories.{Admits, Settles, IsOfDevice, IsOfNone, IsOfTask, after_entry, entry_now, after_made, room_for, EntryHasRoom, last_stamp, guard_of, path_of, devices_of, tasks_of, freezer_of, autosleep_of, platform_of, syscore_of};
 
     /// The empty journal of a machine, whose links these are. `Mem` if there is no memory.
     pub fn new(alloc: Global, machine: &'m Machine, links: Links) -> Result<Self, Mem>
@@ -279,7 +280,7 @@ impl<'m> History<'m> {
 
     /// The state of each device.
     pub fn board(&self) -> &Board
-        ensures { result.now ≡ board_of self.now.machine (entries self.now.past) }
+        ensures { result.now ≡ board_at self.now.machine (entries self.now.past) }
     {
         &self.components.board
     }
