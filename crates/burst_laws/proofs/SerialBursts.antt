@@ -11,7 +11,7 @@ use Rattle.turn_lock.specs.Bookings.{AreBelow, empty, made_by, of_object, placed
 use Rattle.turn_lock.proofs.Booking.{made_by_new}
 use Rattle.turn_lock.proofs.Invariance.{there, within}
 use Rattle.run_laws.specs.Passes.{Noted}
-use Rattle.run_objects.specs.Objects.{SeatedCoreState, SeatedSourceState}
+use Rattle.run_objects.specs.Objects.{SeatedCoreState, SeatedSourceState, sources_of}
 use Rattle.run_world.specs.declared.object.WorldObject.{WorldObject}
 use Rattle.run_world.specs.Objects.{journal_of}
 use Rattle.run_world.specs.Roots.{notes_on}
@@ -20,7 +20,7 @@ use Rattle.run_world.specs.declared.task.Task.{Task}
 use Rattle.run_world.specs.Acts.{Does}
 use Rattle.run_world.specs.Bursts.{IsBurst}
 use Rattle.burst_laws.specs.Courses.{Begins, Course, Goes, IsAct, lists_of}
-use Rattle.burst_laws.specs.Serial.{BurstsAreSerial, IsSerial, plain_sources, burst_state_of}
+use Rattle.burst_laws.specs.Serial.{BurstsAreSerial, IsSerial, burst_state_of}
 use Rattle.burst_laws.proofs.SerialNotes.{Follows, ascends, ascends_low, behind, gained_follows, newest}
 use Rattle.burst_laws.proofs.SerialBooks.{same_number}
 use Rattle.burst_laws.proofs.SerialPlans.{Plan, flat, gains_of}
@@ -47,10 +47,10 @@ none_outside count i (m ∷ ms) h l =
 module _ (moment : ℕ) (machine machine_then : SeatedCoreState) (sources sources_then : List SeatedSourceState) (tasks tasks_then : List Task)
     (b : IsBurst moment machine sources tasks machine_then sources_then tasks_then) where
   abbrev lists : ℕ → List JournalEntry
-  lists = lists_of machine.core.past (plain_sources sources)
+  lists = lists_of machine.core.past (sources_of sources)
 
   abbrev final : ℕ → List JournalEntry
-  final = lists_of machine_then.core.past (plain_sources sources_then)
+  final = lists_of machine_then.core.past (sources_of sources_then)
 
   plans : HaveAllPlans (length sources) moment tasks b.passes tasks_then
   plans = have_all_plans (length sources) moment tasks b.passes tasks_then b.played

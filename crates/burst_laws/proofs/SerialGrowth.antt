@@ -5,13 +5,13 @@ use Rattle.std.proofs.lemmas.List.{length-map}
 use Rattle.sleep_model.specs.declared.entry.JournalEntry.{JournalEntry}
 use Rattle.turn_lock.specs.declared.view.Made.{Made}
 use Rattle.run_laws.specs.Passes.{Noted}
-use Rattle.run_objects.specs.Objects.{SeatedSourceState}
+use Rattle.run_objects.specs.Objects.{SeatedSourceState, sources_of}
 use Rattle.wakeup_source.specs.SourceStates.{SourceState}
 use Rattle.running_laws.specs.Running.{of_sources}
 use Rattle.running_laws.proofs.Rising.{entries_more}
 use Rattle.burst_laws.specs.Courses.{Begins, Course, Goes, Lands, BurstState, lists_of}
 use Rattle.burst_laws.specs.Preservation.{BurstsGrow}
-use Rattle.burst_laws.specs.Serial.{IsSerial, plain_sources, burst_state_of}
+use Rattle.burst_laws.specs.Serial.{IsSerial, burst_state_of}
 use Rattle.burst_laws.proofs.SerialBursts.{bursts_are_serial}
 
 lands_longer : (gains : List (Made Noted)) (old new : ℕ → List JournalEntry) → Lands gains old new → (i : ℕ) → length (old i) ≤ length (new i)
@@ -34,18 +34,18 @@ one_after journal sources s = let next : 1 + s ≡ suc s = omega arith in ap (li
 pub bursts_grow : BurstsGrow
 bursts_grow moment machine machine_then sources sources_then tasks tasks_then b count =
     let s : IsSerial moment machine sources tasks machine_then sources_then tasks_then = bursts_are_serial moment machine machine_then sources sources_then tasks tasks_then b in
-    let longer : (i : ℕ) → length (lists_of machine.core.past (plain_sources sources) i) ≤ length (lists_of machine_then.core.past (plain_sources sources_then) i) =
+    let longer : (i : ℕ) → length (lists_of machine.core.past (sources_of sources) i) ≤ length (lists_of machine_then.core.past (sources_of sources_then) i) =
     λ i. omega (arith, course_longer (length sources) moment (burst_state_of machine sources tasks) s.last s.course i, ap (λ (xs : List JournalEntry). length xs) (s.lists_are i)) in
-    let each : (k : ℕ) → length (of_sources (plain_sources sources) k) ≤ length (of_sources (plain_sources sources_then) k) =
+    let each : (k : ℕ) → length (of_sources (sources_of sources) k) ≤ length (of_sources (sources_of sources_then) k) =
     λ k. omega (
       arith,
       longer (1 + k),
-      ap (λ (xs : List JournalEntry). length xs) (one_after machine.core.past (plain_sources sources) k),
-      ap (λ (xs : List JournalEntry). length xs) (one_after machine_then.core.past (plain_sources sources_then) k),
+      ap (λ (xs : List JournalEntry). length xs) (one_after machine.core.past (sources_of sources) k),
+      ap (λ (xs : List JournalEntry). length xs) (one_after machine_then.core.past (sources_of sources_then) k),
     ) in
     omega (
       arith,
       longer 0,
-      entries_more (plain_sources sources) (plain_sources sources_then)
+      entries_more (sources_of sources) (sources_of sources_then)
           (omega (arith, count, length-map sources (λ (s : SeatedSourceState). s.source), length-map sources_then (λ (s : SeatedSourceState). s.source))) each,
     )

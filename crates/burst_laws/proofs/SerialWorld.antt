@@ -5,20 +5,19 @@ use lib.ListN.{get_elem?}
 use Rattle.sleep_model.specs.declared.entry.JournalEntry.{JournalEntry}
 use Rattle.sleep_model.specs.Merge.{of_source}
 use Rattle.running_laws.specs.Running.{of_sources}
-use Rattle.run_objects.specs.Objects.{SeatedCoreState, SeatedSourceState}
+use Rattle.run_objects.specs.Objects.{SeatedCoreState, SeatedSourceState, sources_of}
 use Rattle.run_world.specs.declared.object.WorldObject.{WorldObject}
 use Rattle.run_world.specs.declared.object.WorldObject.TheVariants as object
 use Rattle.run_world.specs.ObjectLists.{AreObjectsOf, AreThose, IsThat}
 use Rattle.run_world.specs.Objects.{journal_of}
 use Rattle.burst_laws.specs.Courses.{lists_of}
-use Rattle.burst_laws.specs.Serial.{plain_sources}
 
 that_is : (s : SeatedSourceState) (y : WorldObject) → IsThat s y → journal_of y ≡ map of_source s.source.past
 that_is s (object.Machine m) is = absurd is
 that_is s (object.Source t) is = ap (λ (x : SeatedSourceState). map of_source x.source.past) is
 
 those_are : (sources : List SeatedSourceState) (objects : List WorldObject) → AreThose sources objects → (s : ℕ) (u : WorldObject) → get_elem? objects s ≡ some u
-    → journal_of u ≡ of_sources (plain_sources sources) s
+    → journal_of u ≡ of_sources (sources_of sources) s
 those_are [] [] are s u h = absurd (cc)
 those_are (x ∷ sources) (y ∷ objects) are zero u h =
     let same : y ≡ u = cc in ap journal_of (sym same) ∙ that_is x y are.0
@@ -31,14 +30,14 @@ those_count (x ∷ sources) (y ∷ objects) are = ap suc (those_count sources ob
 those_count sources objects are = absurd are
 
 -- past the last source there is no list
-none_past : (sources : List SeatedSourceState) (s : ℕ) → length sources ≤ s → of_sources (plain_sources sources) s ≡ []
+none_past : (sources : List SeatedSourceState) (s : ℕ) → length sources ≤ s → of_sources (sources_of sources) s ≡ []
 none_past [] s l = refl
 none_past (x ∷ sources) zero l = absurd (omega arith)
 none_past (x ∷ sources) (suc s) l = none_past sources s (omega arith)
 
 module _ (moment : ℕ) (machine : SeatedCoreState) (sources : List SeatedSourceState) (objects : List WorldObject) (all : AreObjectsOf moment machine sources objects) where
   abbrev lists : ℕ → List JournalEntry
-  lists = lists_of machine.core.past (plain_sources sources)
+  lists = lists_of machine.core.past (sources_of sources)
 
   pub object_count : length objects ≡ 1 + length sources
   object_count = ap length all.are ∙ (let n : length all.rest ≡ length sources = those_count sources all.rest all.those in omega arith)

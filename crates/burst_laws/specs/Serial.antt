@@ -1,18 +1,13 @@
 -- A burst is serial.
-use Rattle.std.specs.Prelude.{◌≡◌, ℕ, List, length, map}
-use Rattle.run_objects.specs.Objects.{SeatedCoreState, SeatedSourceState}
-use Rattle.wakeup_source.specs.SourceStates.{SourceState}
+use Rattle.std.specs.Prelude.{◌≡◌, ℕ, List, length}
+use Rattle.run_objects.specs.Objects.{SeatedCoreState, SeatedSourceState, sources_of}
 use Rattle.run_world.specs.declared.task.Task.{Task}
 use Rattle.run_world.specs.Bursts.{IsBurst}
 use Rattle.burst_laws.specs.Courses.{Course, BurstState, lists_of}
 
--- the sources without their seats
-abbrev pub plain_sources : List SeatedSourceState → List SourceState
-plain_sources sources = map (λ s. s.source) sources
-
 -- the state of a burst with these
 abbrev pub burst_state_of : SeatedCoreState → List SeatedSourceState → List Task → BurstState
-burst_state_of machine sources tasks = record { lists = lists_of machine.core.past (plain_sources sources); tasks = tasks }
+burst_state_of machine sources tasks = record { lists = lists_of machine.core.past (sources_of sources); tasks = tasks }
 
 -- the burst's acts have an order in which each finds all lists as those before it left them, and at the end the lists and the tasks are
 -- those that came back
@@ -22,7 +17,7 @@ pub record IsSerial
   pub last : BurstState
   pub course : Course (length sources) moment (burst_state_of machine sources tasks) last
   pub tasks_are : last.tasks ≡ tasks_then
-  pub lists_are : (i : ℕ) → last.lists i ≡ lists_of machine_then.core.past (plain_sources sources_then) i
+  pub lists_are : (i : ℕ) → last.lists i ≡ lists_of machine_then.core.past (sources_of sources_then) i
 
 -- so is each burst
 abbrev pub BurstsAreSerial : Type 0

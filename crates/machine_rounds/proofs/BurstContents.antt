@@ -16,7 +16,7 @@ use Rattle.sleep_model.specs.declared.word.Stamp.{Stamp}
 use Rattle.event_word.specs.Seats.{AreAllSeats, WordToken, number_of}
 use Rattle.sleep_core.specs.Cores.{IsActor}
 use Rattle.wakeup_source.specs.SourceStates.{SourceState, unstamped_source, latest}
-use Rattle.run_objects.specs.Objects.{SourcesInvariant, SeatedSourceState, seats_of}
+use Rattle.run_objects.specs.Objects.{SourcesInvariant, SeatedSourceState, seats_of, sources_of}
 use Rattle.run_world.specs.ObjectLists.{AreTimely}
 use Rattle.running_laws.specs.Running.{AreSources, IsSourceOf, of_sources}
 use Rattle.running_laws.proofs.Lists.{source_at}
@@ -26,7 +26,6 @@ use Rattle.world_workers.specs.Tries.{IsTaskIn, turns_of}
 use Rattle.machine_rounds.specs.JobsOf.{AreAllJobs, JobsState, job_at}
 use Rattle.machine_rounds.specs.declared.run.Run.TheInside.{Inside}
 use Rattle.machine_rounds.specs.RunFields.{RunFieldsInvariant, state}
-use Rattle.machine_rounds.specs.RunFields as fields
 use Rattle.machine_rounds.specs.Runs.{RunState}
 use Rattle.machine_rounds.specs.TasksOf.{all_tasks}
 use Rattle.machine_rounds.proofs.SeatedSources.{index_mapped}
@@ -34,7 +33,7 @@ use Rattle.machine_rounds.proofs.FirstTasks.{IsTaskAt, OfDevice, OfScript, OfTim
 
 -- ---- what goes in
 
-pub timely_all : (at : ℕ) (xs : List SeatedSourceState) → ((s : ℕ) (none : SourceState) → s < length (fields.sources_of xs) → latest (unstamped_source (slice_index_or (fields.sources_of xs) s none).past) ≤ at) → AreTimely at xs
+pub timely_all : (at : ℕ) (xs : List SeatedSourceState) → ((s : ℕ) (none : SourceState) → s < length (sources_of xs) → latest (unstamped_source (slice_index_or (sources_of xs) s none).past) ≤ at) → AreTimely at xs
 timely_all at [] h = tt
 timely_all at (x ∷ xs) h = (h 0 x.source (omega arith), timely_all at xs (λ s none l. h (suc s) none (omega (arith, l))))
 
@@ -72,30 +71,30 @@ same_id : (id n : ℕ) (seat : WordToken) → number_of seat ≡ Some id → num
 same_id id n seat h g = let e : Some id ≡ Some n = sym h ∙ g in cc
 
 source_is : (base : ℕ) (xs : List SeatedSourceState) → SourcesInvariant xs → ((k : ℕ) (t : WordToken) → get_elem? (seats_of xs) k ≡ some t → number_of t ≡ Some (base + k))
-    → (s : ℕ) (none : SourceState) → s < length (fields.sources_of xs) → IsSourceOf (base + s) (slice_index_or (fields.sources_of xs) s none)
+    → (s : ℕ) (none : SourceState) → s < length (sources_of xs) → IsSourceOf (base + s) (slice_index_or (sources_of xs) s none)
 source_is base [] kept h s none l = absurd (omega arith)
 source_is base (x ∷ xs) kept h zero none l = record { number = same_id x.source.id (base + 0) x.seat kept.0.number (h 0 x.seat refl); settled = kept.0.settled; fresh = kept.0.fresh }
 source_is base (x ∷ xs) kept h (suc s) none l =
     let place : base + 1 + s ≡ base + suc s = omega arith in
-    subst (λ (n : ℕ). IsSourceOf n (slice_index_or (fields.sources_of xs) s none)) place
+    subst (λ (n : ℕ). IsSourceOf n (slice_index_or (sources_of xs) s none)) place
     (source_is (base + 1) xs kept.1 (λ k t e. h (suc k) t e ∙ ap (λ (n : ℕ). Some n) (omega arith)) s none (omega (arith, l)))
 
-pub sources_back : (m : Machine) (look : WordToken) (xs : List SeatedSourceState) → length xs ≡ length m.sources + 1 → AreAllSeats look (seats_of xs) → SourcesInvariant xs → AreSources m (fields.sources_of xs)
+pub sources_back : (m : Machine) (look : WordToken) (xs : List SeatedSourceState) → length xs ≡ length m.sources + 1 → AreAllSeats look (seats_of xs) → SourcesInvariant xs → AreSources m (sources_of xs)
 sources_back m look xs count all kept = record {
   count = length-map xs (λ (s : SeatedSourceState). s.source) ∙ count;
   each = λ s none l.
-      subst (λ (n : ℕ). IsSourceOf n (slice_index_or (fields.sources_of xs) s none)) (let is : 0 + s ≡ s = omega arith in is)
+      subst (λ (n : ℕ). IsSourceOf n (slice_index_or (sources_of xs) s none)) (let is : 0 + s ≡ s = omega arith in is)
       (source_is 0 xs kept (λ k t e. (all.each_is k t e).1 ∙ ap (λ (n : ℕ). Some n) (let is : k ≡ 0 + k = omega arith in is)) s none l);
 }
 
 -- ---- a full source
 
-pub fills : (m : Machine) (xs : List SeatedSourceState) (s : ℕ) (x : SeatedSourceState) → AreSources m (fields.sources_of xs) → s < length xs → x ≡ slice_index_or xs s x → most_entries < length x.source.past + 4
-    → (s ≤ length m.sources) × (most_entries < length (of_sources (fields.sources_of xs) s) + 4)
+pub fills : (m : Machine) (xs : List SeatedSourceState) (s : ℕ) (x : SeatedSourceState) → AreSources m (sources_of xs) → s < length xs → x ≡ slice_index_or xs s x → most_entries < length x.source.past + 4
+    → (s ≤ length m.sources) × (most_entries < length (of_sources (sources_of xs) s) + 4)
 fills m xs s x are l is more =
     let count : length xs ≡ length m.sources + 1 = sym (length-map xs (λ (s : SeatedSourceState). s.source)) ∙ are.count in
-    let there : of_sources (fields.sources_of xs) s ≡ map of_source x.source.past =
-    source_at (fields.sources_of xs) s x.source (omega (arith, l, length-map xs (λ (s : SeatedSourceState). s.source)))
+    let there : of_sources (sources_of xs) s ≡ map of_source x.source.past =
+    source_at (sources_of xs) s x.source (omega (arith, l, length-map xs (λ (s : SeatedSourceState). s.source)))
     ∙ ap (λ (y : SourceState). map of_source y.past) (index_mapped (λ (s : SeatedSourceState). s.source) xs s x ∙ ap (λ (y : SeatedSourceState). y.source) (sym is)) in
     (omega (arith, l, count), omega (arith, more, ap (λ (es : List JournalEntry). length es) there, length-map x.source.past of_source))
 

@@ -12,7 +12,7 @@ use Rattle.sleep_core.specs.Cores.{IsActor}
 use Rattle.sleep_script.specs.Jobs.{IsJobOf, JobState, later}
 use Rattle.wakeup_source.specs.SourceStates.{SourceState}
 use Rattle.run_laws.proofs.Acts.{actor_is}
-use Rattle.run_objects.specs.Objects.{SeatedCoreState, SeatedSourceState}
+use Rattle.run_objects.specs.Objects.{SeatedCoreState, SeatedSourceState, sources_of}
 use Rattle.running_laws.specs.Running.{AreJobs, AreSources, IsGoing, IsRunning, calls_made, entry_count}
 use Rattle.running_laws.proofs.Turns as turns
 use Rattle.run_world.specs.declared.task.Task.{Task}
@@ -21,7 +21,7 @@ use Rattle.run_world.specs.Acts.{actor_of, known_by}
 use Rattle.run_world.specs.Bursts.{IsBurst}
 use Rattle.burst_laws.specs.Courses.{GoesOnAt, IsTaskOf, has_task}
 use Rattle.burst_laws.specs.Preservation.{GoesOnWith}
-use Rattle.burst_laws.specs.Serial.{plain_sources, burst_state_of}
+use Rattle.burst_laws.specs.Serial.{burst_state_of}
 use Rattle.burst_laws.proofs.GoingBursts.{bursts_go_on}
 use Rattle.burst_laws.proofs.SerialGrowth.{bursts_grow}
 use Rattle.machine_rounds.specs.JobsOf.{AreAllJobs, JobsState, job_at}
@@ -104,9 +104,9 @@ module _ (m : Machine) (jobs : JobsState) (all : AreAllJobs m jobs) (named : (wh
 -- ---- a burst
 
 module _ (m : Machine) (jobs : JobsState) (floor : Stamp) (all : AreAllJobs m jobs) (machine machine_then : SeatedCoreState) (sources sources_then : List SeatedSourceState) (tasks_then : List Task) (moment : ℕ)
-    (r : IsRunning m machine.core.past (plain_sources sources) (job_at jobs) floor)
+    (r : IsRunning m machine.core.past (sources_of sources) (job_at jobs) floor)
     (b : IsBurst moment machine sources (all_tasks floor (length m.sources + 1) jobs) machine_then sources_then tasks_then)
-    (at : moment ≡ time_of (entries machine.core.past)) (are : AreSources m (plain_sources sources_then)) where
+    (at : moment ≡ time_of (entries machine.core.past)) (are : AreSources m (sources_of sources_then)) where
   abbrev these : List Task
   these = all_tasks floor (length m.sources + 1) jobs
 
@@ -114,15 +114,15 @@ module _ (m : Machine) (jobs : JobsState) (floor : Stamp) (all : AreAllJobs m jo
   journal = machine_then.core.past
 
   abbrev first : GoesOnAt m (burst_state_of machine sources these)
-  first = goes_on_first m machine.core.past (plain_sources sources) jobs floor all r
+  first = goes_on_first m machine.core.past (sources_of sources) jobs floor all r
 
-  after : GoesOnWith m (burst_state_of machine sources these) (burst_state_of machine_then sources_then tasks_then) first (plain_sources sources_then)
+  after : GoesOnWith m (burst_state_of machine sources these) (burst_state_of machine_then sources_then tasks_then) first (sources_of sources_then)
   after = bursts_go_on m moment machine machine_then sources sources_then these tasks_then b at are first
 
   abbrev on : GoesOnAt m (burst_state_of machine_then sources_then tasks_then)
   on = after.farther.on
 
-  going : IsGoing m journal (plain_sources sources_then) on.jobs on.floors
+  going : IsGoing m journal (sources_of sources_then) on.jobs on.floors
   going = subst (λ (xs : List SourceState). IsGoing m journal xs on.jobs on.floors) after.sources_are on.going
 
   -- ---- with the jobs that came back
@@ -135,13 +135,13 @@ module _ (m : Machine) (jobs : JobsState) (floor : Stamp) (all : AreAllJobs m jo
 
   job_is : (who : Actor) → IsActor m who → on.jobs who ≡ job_at back.back who
   job_is who a =
-      let there = task_there m jobs all (named m machine.core.past (plain_sources sources) jobs floor all r) tasks_then back who a in
+      let there = task_there m jobs all (named m machine.core.past (sources_of sources) jobs floor all r) tasks_then back who a in
       let of = each there.0 (task.Acts (job_at back.back who)) there.1 in
       ap on.jobs (sym there.2) ∙ of.1
 
-  jobs_are : AreJobs m journal (plain_sources sources_then) (job_at back.back)
+  jobs_are : AreJobs m journal (sources_of sources_then) (job_at back.back)
   jobs_are who a =
-      subst (λ (job : JobState). IsJobOf m who (entries journal) (calls_made m (plain_sources sources_then) who) job) (job_is who a) (going.jobs_are who a)
+      subst (λ (job : JobState). IsJobOf m who (entries journal) (calls_made m (sources_of sources_then) who) job) (job_is who a) (going.jobs_are who a)
 
   -- ---- with the greatest stamp
 
@@ -169,14 +169,14 @@ module _ (m : Machine) (jobs : JobsState) (floor : Stamp) (all : AreAllJobs m jo
       by true h = had_task who h
       by false h =
           let none : has_task these who ≡ false = sym (has_again who) ∙ h in
-          subst (λ (s : Stamp). IsBelow s top) (sym (after.farther.others who none ∙ (floors_first m machine.core.past (plain_sources sources) jobs floor all r who ∙ known_else floor these who none))) (floor_below floor tasks_then)
+          subst (λ (s : Stamp). IsBelow s top) (sym (after.farther.others who none ∙ (floors_first m machine.core.past (sources_of sources) jobs floor all r who ∙ known_else floor these who none))) (floor_below floor tasks_then)
 
   -- ---- with as many entries at least, and no tick above their number
 
   abbrev count : ℕ
-  count = entry_count journal (plain_sources sources_then)
+  count = entry_count journal (sources_of sources_then)
 
-  pub grown : entry_count machine.core.past (plain_sources sources) ≤ count
+  pub grown : entry_count machine.core.past (sources_of sources) ≤ count
   grown =
       bursts_grow moment machine machine_then sources sources_then these tasks_then b
       (omega (
@@ -197,9 +197,9 @@ module _ (m : Machine) (jobs : JobsState) (floor : Stamp) (all : AreAllJobs m jo
       (λ k t e. subst (λ (s : Stamp). s.tick ≤ count) (known t (each k t e)) (going.low.of_actors (actor_of t)))
 
   -- the run goes on
-  pub goes_on_after : IsRunning m journal (plain_sources sources_then) (job_at back.back) top
+  pub goes_on_after : IsRunning m journal (sources_of sources_then) (job_at back.back) top
   goes_on_after =
-      turns.raised m journal (plain_sources sources_then) (job_at back.back) on.floors (λ who. top) (λ who. (all_below who).tick) (λ who. (all_below who).pos) (λ who. top_low) (record {
+      turns.raised m journal (sources_of sources_then) (job_at back.back) on.floors (λ who. top) (λ who. (all_below who).tick) (λ who. (all_below who).pos) (λ who. top_low) (record {
         accepted = going.accepted;
         own = going.own;
         invariant = going.invariant;

@@ -11,7 +11,7 @@ use Rattle.wakeup_source.specs.declared.fault.SourceFault.{SourceFault}
 use Rattle.wakeup_source.specs.declared.fault.SourceFault.TheVariants as source
 use Rattle.wakeup_source.specs.SourceStates.{SourceState, latest}
 use Rattle.wakeup_source.specs.SourceStates as states
-use Rattle.run_objects.specs.Objects.{SeatedSourceState, seats_of}
+use Rattle.run_objects.specs.Objects.{SeatedSourceState, seats_of, sources_of}
 use Rattle.running_laws.specs.Running.{IsRunning, source_entry_count, histories, of_sources}
 use Rattle.running_laws.proofs.Asked.{timely}
 use Rattle.running_laws.proofs.Lists.{history_at, source_at}
@@ -20,7 +20,7 @@ use Rattle.world_workers.specs.declared.fault.RunFault.{RunFault}
 use Rattle.world_workers.specs.declared.fault.RunFault.TheVariants as fault
 use Rattle.machine_rounds.specs.JobsOf.{job_at}
 use Rattle.world_workers.specs.Refused.{run_fault}
-use Rattle.machine_rounds.specs.RunFields.{RunFieldsInvariant, sources_of, state}
+use Rattle.machine_rounds.specs.RunFields.{RunFieldsInvariant, state}
 use Rattle.machine_rounds.specs.Runs.{IsRefused}
 use Rattle.machine_rounds.proofs.SeatedSources.{put_back, seat_is, source_is, sources_set, more_set}
 

@@ -12,7 +12,7 @@ use Rattle.atomic_table.specs.Seated.{TableId}
 use Rattle.sleep_core.specs.Cores.{IsActor}
 use Rattle.sleep_script.specs.Jobs.{JobState}
 use Rattle.sleep_script.proofs.Following.{turns_few}
-use Rattle.run_objects.specs.Objects.{SourcesInvariant, SeatedCoreState, SeatedSourceState}
+use Rattle.run_objects.specs.Objects.{SourcesInvariant, SeatedCoreState, SeatedSourceState, sources_of}
 use Rattle.run_world.specs.ObjectLists.{AreTimely}
 use Rattle.running_laws.specs.Running.{AreSources, IsRunning}
 use Rattle.running_laws.proofs.Asked.{timely}
@@ -22,7 +22,6 @@ use Rattle.world_workers.specs.declared.contents.Burst.{Burst}
 use Rattle.world_workers.specs.Bursts.{AreReady, AreTasksIn, HaveTurns}
 use Rattle.machine_rounds.specs.BurstsOf.{IsRunInBurst, IsBack, entries_of}
 use Rattle.machine_rounds.specs.JobsOf.{AreAllJobs, JobsState, job_at}
-use Rattle.machine_rounds.specs.RunFields as fields
 use Rattle.machine_rounds.specs.TasksOf.{AreJobsOf, acts, highest, jobs_in, all_tasks, timers}
 use Rattle.machine_rounds.proofs.BurstContents.{are_in, sources_back, timely_all, turns_left}
 use Rattle.machine_rounds.proofs.Bursting.{all_back, back, goes_on_after, grown}
@@ -46,7 +45,7 @@ tasks_count floor n jobs =
 
 module _ (m : Machine) (table : TableId) (floor : Stamp) (core : SeatedCoreState) (sources : List SeatedSourceState) (tasks : List Task) (a : IsRunInBurst m table floor core sources tasks) where
   its_actor : (who : Actor) → IsActor m who → (job_at a.jobs who).who ≡ who
-  its_actor = named m core.core.past (fields.sources_of sources) a.jobs floor a.all_jobs a.running
+  its_actor = named m core.core.past (sources_of sources) a.jobs floor a.all_jobs a.running
 
   count : length sources ≡ length m.sources + 1
   count = sym (length-map sources (λ (s : SeatedSourceState). s.source)) ∙ a.running.sources_are.count
@@ -61,7 +60,7 @@ module _ (m : Machine) (table : TableId) (floor : Stamp) (core : SeatedCoreState
   }
 
   pub during_timely : AreTimely (time_of (entries core.core.past)) sources
-  during_timely = timely_all (time_of (entries core.core.past)) sources (timely m core.core.past (fields.sources_of sources) (job_at a.jobs) a.running)
+  during_timely = timely_all (time_of (entries core.core.past)) sources (timely m core.core.past (sources_of sources) (job_at a.jobs) a.running)
 
   pub during_turns : HaveTurns tasks
   during_turns =
@@ -87,7 +86,7 @@ module _ (m : Machine) (table : TableId) (floor : Stamp) (core : SeatedCoreState
     of_these : IsBurst (time_of (entries core.core.past)) core sources (all_tasks floor (length m.sources + 1) a.jobs) core_then sources_then tasks_then
     of_these = subst (λ (ts : List Task). IsBurst (time_of (entries core.core.past)) core sources ts core_then sources_then tasks_then) a.tasks_are b
 
-    sources_are : AreSources m (fields.sources_of sources_then)
+    sources_are : AreSources m (sources_of sources_then)
     sources_are = sources_back m core_then.seat sources_then ready.count ready.seats kept
 
     abbrev came : CameBack a.jobs tasks_then
@@ -141,7 +140,7 @@ module _ (m : Machine) (table : TableId) (floor : Stamp) (core : SeatedCoreState
     pub back_jobs : AreAllJobs m jobs
     back_jobs = subst (AreAllJobs m) same b.all_jobs
 
-    pub back_running : (top : Stamp) → top ≡ highest floor tasks → IsRunning m core.core.past (fields.sources_of sources) (job_at jobs) top
+    pub back_running : (top : Stamp) → top ≡ highest floor tasks → IsRunning m core.core.past (sources_of sources) (job_at jobs) top
     back_running top is =
-        subst (λ (s : Stamp). IsRunning m core.core.past (fields.sources_of sources) (job_at jobs) s) (sym is)
-        (subst (λ (j : JobsState). IsRunning m core.core.past (fields.sources_of sources) (job_at j) (highest floor tasks)) same b.running)
+        subst (λ (s : Stamp). IsRunning m core.core.past (sources_of sources) (job_at jobs) s) (sym is)
+        (subst (λ (j : JobsState). IsRunning m core.core.past (sources_of sources) (job_at j) (highest floor tasks)) same b.running)

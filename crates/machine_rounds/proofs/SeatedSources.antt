@@ -8,8 +8,7 @@ use Rattle.wakeup_source.specs.SourceStates.{SourceState, new_source}
 use Rattle.sleep_model.specs.declared.entry.SourceEntry.{SourceEntry}
 use Rattle.run_objects.specs.Closed.{histories_of}
 use Rattle.running_laws.specs.Running.{journal_histories}
-use Rattle.run_objects.specs.Objects.{AreUncalled, SeatedSourceState, seats_of}
-use Rattle.machine_rounds.specs.RunFields as fields
+use Rattle.run_objects.specs.Objects.{AreUncalled, SeatedSourceState, seats_of, sources_of}
 use Rattle.running_laws.specs.Running.{source_entry_count}
 
 -- ---- lists
@@ -49,10 +48,10 @@ put_back {A} (y ∷ ys) (suc i) x is = ap (λ (l : List A). y ∷ l) (put_back y
 
 -- ---- a source that is called
 
-pub sources_set : (xs : List SeatedSourceState) (i : ℕ) (x : SeatedSourceState) → fields.sources_of (slice_set xs i x) ≡ slice_set (fields.sources_of xs) i x.source
+pub sources_set : (xs : List SeatedSourceState) (i : ℕ) (x : SeatedSourceState) → sources_of (slice_set xs i x) ≡ slice_set (sources_of xs) i x.source
 sources_set xs i x = set_mapped (λ (s : SeatedSourceState). s.source) xs i x
 
-pub source_is : (xs : List SeatedSourceState) (i : ℕ) (x : SeatedSourceState) → x ≡ slice_index_or xs i x → x.source ≡ slice_index_or (fields.sources_of xs) i x.source
+pub source_is : (xs : List SeatedSourceState) (i : ℕ) (x : SeatedSourceState) → x ≡ slice_index_or xs i x → x.source ≡ slice_index_or (sources_of xs) i x.source
 source_is xs i x is = ap (λ (s : SeatedSourceState). s.source) is ∙ sym (index_mapped (λ (s : SeatedSourceState). s.source) xs i x)
 
 -- its seat is at the table
@@ -94,10 +93,10 @@ more_set (y ∷ ys) (suc i) x new l is more = omega (arith, more_set ys i x new 
 
 -- ---- at first
 
-pub uncalled_at : (xs : List SeatedSourceState) → AreUncalled xs → (s : ℕ) (none : SourceState) → s < length (fields.sources_of xs) → slice_index_or (fields.sources_of xs) s none ≡ new_source s
+pub uncalled_at : (xs : List SeatedSourceState) → AreUncalled xs → (s : ℕ) (none : SourceState) → s < length (sources_of xs) → slice_index_or (sources_of xs) s none ≡ new_source s
 uncalled_at xs new s none l = by xs s (omega (arith, l, length-map xs (λ (x : SeatedSourceState). x.source))) (λ x e. new s x e)
   where
-    by : (ys : List SeatedSourceState) (i : ℕ) → i < length ys → ((x : SeatedSourceState) → get_elem? ys i ≡ some x → x.source ≡ new_source s) → slice_index_or (fields.sources_of ys) i none ≡ new_source s
+    by : (ys : List SeatedSourceState) (i : ℕ) → i < length ys → ((x : SeatedSourceState) → get_elem? ys i ≡ some x → x.source ≡ new_source s) → slice_index_or (sources_of ys) i none ≡ new_source s
     by [] i l h = absurd (omega arith)
     by (y ∷ ys) zero l h = h y refl
     by (y ∷ ys) (suc i) l h = by ys i (omega (arith, l)) h
@@ -105,6 +104,6 @@ uncalled_at xs new s none l = by xs s (omega (arith, l, length-map xs (λ (x : S
 -- ---- at the end
 
 -- the histories of the sources with their seats are those of the sources
-pub histories_preserved : (xs : List SeatedSourceState) → histories_of xs ≡ journal_histories (fields.sources_of xs)
+pub histories_preserved : (xs : List SeatedSourceState) → histories_of xs ≡ journal_histories (sources_of xs)
 histories_preserved [] = refl
 histories_preserved (x ∷ xs) = ap (λ (hs : List (List SourceEntry)). reverse x.source.past ∷ hs) (histories_preserved xs)

@@ -12,7 +12,7 @@ use Rattle.event_word.specs.Seats.{AreAllSeats, source_count}
 use Rattle.sleep_core.specs.Cores.{CoreState, IsActor, core_after}
 use Rattle.sleep_core.specs.Histories.{last_stamp}
 use Rattle.sleep_script.proofs.Following.{turns_few}
-use Rattle.run_objects.specs.Objects.{SeatedCoreState, seats_of}
+use Rattle.run_objects.specs.Objects.{SeatedCoreState, seats_of, sources_of}
 use Rattle.sleep_laws.proofs.Ending.{and_right}
 use Rattle.merge_laws.proofs.Lists.{all_head}
 use Rattle.run_laws.specs.Called.{knows}
@@ -21,7 +21,6 @@ use Rattle.running_laws.proofs.Invariant.{all_known}
 use Rattle.machine_rounds.specs.declared.run.Run.TheInside.{Inside}
 use Rattle.machine_rounds.specs.JobsOf.{job_at}
 use Rattle.machine_rounds.specs.RunFields.{RunFieldsInvariant}
-use Rattle.machine_rounds.specs.RunFields as fields
 use Rattle.machine_rounds.proofs.SeatedSources.{seats_same}
 
 module _ (r : Inside) (k : RunFieldsInvariant r) where
@@ -29,8 +28,8 @@ module _ (r : Inside) (k : RunFieldsInvariant r) where
   pub looked_machine : (new : SeatedCoreState) → new.core ≡ r.seated.core → new.core.machine ≡ r.machine.now
   looked_machine new e = ap (λ (x : CoreState). x.machine) e ∙ k.machine_is
 
-  pub looked_running : (new : SeatedCoreState) → new.core ≡ r.seated.core → IsRunning r.machine.now new.core.past (fields.sources_of r.sources.items) (job_at r.jobs) r.floor
-  looked_running new e = subst (λ (x : CoreState). IsRunning r.machine.now x.past (fields.sources_of r.sources.items) (job_at r.jobs) r.floor) (sym e) k.running
+  pub looked_running : (new : SeatedCoreState) → new.core ≡ r.seated.core → IsRunning r.machine.now new.core.past (sources_of r.sources.items) (job_at r.jobs) r.floor
+  looked_running new e = subst (λ (x : CoreState). IsRunning r.machine.now x.past (sources_of r.sources.items) (job_at r.jobs) r.floor) (sym e) k.running
 
   -- all seats stay at the table
   pub looked_table : (new : SeatedCoreState) → new.seat.table_id ≡ r.seated.seat.table_id → new.seat.table_id ≡ r.table.cells.shared.table_id
@@ -55,7 +54,7 @@ module _ (r : Inside) (k : RunFieldsInvariant r) where
 
   -- no position of the journal is after the last stamp's
   pub last_low : (last_stamp r.seated.core.past).pos ≤ r.floor.pos
-  last_low = by r.seated.core.past (all_known r.machine.now r.seated.core.past (fields.sources_of r.sources.items) (job_at r.jobs) k.running).0
+  last_low = by r.seated.core.past (all_known r.machine.now r.seated.core.past (sources_of r.sources.items) (job_at r.jobs) k.running).0
     where
       by : (l : List JournalEntry) → list_all (λ e. knows r.floor (e ∷ [])) l ≡ true → (last_stamp l).pos ≤ r.floor.pos
       by [] h = omega arith

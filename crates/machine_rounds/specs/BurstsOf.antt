@@ -4,11 +4,10 @@ use Rattle.sleep_model.specs.declared.machine.Machine.{Machine}
 use Rattle.sleep_model.specs.declared.word.Stamp.{Stamp}
 use Rattle.atomic_table.specs.Seated.{TableId}
 use Rattle.event_word.specs.Seats.{AreAllSeats}
-use Rattle.run_objects.specs.Objects.{SeatedCoreState, SeatedSourceState, seats_of}
+use Rattle.run_objects.specs.Objects.{SeatedCoreState, SeatedSourceState, seats_of, sources_of}
 use Rattle.running_laws.specs.Running.{IsRunning, entry_count}
 use Rattle.run_world.specs.declared.task.Task.{Task}
 use Rattle.machine_rounds.specs.JobsOf.{AreAllJobs, JobsState, job_at}
-use Rattle.machine_rounds.specs.RunFields.{sources_of}
 use Rattle.machine_rounds.specs.TasksOf.{AreJobsOf, highest, jobs_in, all_tasks}
 
 -- how many entries a core and sources have

@@ -1,16 +1,11 @@
 -- What a run's fields are.
-use Rattle.std.specs.Prelude.{◌≡◌, List, map}
+use Rattle.std.specs.Prelude.{◌≡◌}
 use Rattle.event_word.specs.Seats.{AreAllSeats}
-use Rattle.wakeup_source.specs.SourceStates.{SourceState}
 use Rattle.running_laws.specs.Running.{IsRunning}
-use Rattle.run_objects.specs.Objects.{SeatedSourceState, seats_of}
+use Rattle.run_objects.specs.Objects.{seats_of, sources_of}
 use Rattle.machine_rounds.specs.declared.run.Run.TheInside.{Inside}
 use Rattle.machine_rounds.specs.JobsOf.{AreAllJobs, job_at}
 use Rattle.machine_rounds.specs.Runs.{RunState}
-
--- the sources, without their seats
-abbrev pub sources_of : List SeatedSourceState → List SourceState
-sources_of sources = map (λ s. s.source) sources
 
 -- a run as contracts see it
 abbrev pub state : Inside → RunState

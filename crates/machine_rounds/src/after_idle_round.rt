@@ -3,7 +3,7 @@
 ghost use Rattle.std.specs.Prelude.{◌≡◌, ◌≤◌, ◌<◌, ◌^◌, ◌++◌, true, length, IfOk, OnOk, All};
 ghost use Rattle.std.specs.List.{list_all};
 ghost use Rattle.sleep_model.specs.Fits.{fits_stats};
-ghost use Rattle.machine_rounds.specs.RunFields.{sources_of};
+ghost use Rattle.run_objects.specs.Objects.{sources_of};
 ghost use Rattle.machine_rounds.specs.Waits.{script_waits, all_stats};
 ghost use Rattle.wakeup_source.specs.SourceStates.{unstamped_source, latest};
 

@@ -39,6 +39,10 @@ pub record IsSeatedCore (s : SeatedCoreState) : Type 0 where
 abbrev pub viewed_source_of : SeatedSourceState → SourceView
 viewed_source_of s = viewed_source None (Some (made_of s.seat)) (Some (looked_of s.seat)) (floor_of s.seat) s.source
 
+-- the sources without their seats
+abbrev pub sources_of : List SeatedSourceState → List SourceState
+sources_of sources = map (λ s. s.source) sources
+
 -- the seats of sources
 abbrev pub seats_of : List SeatedSourceState → List WordToken
 seats_of sources = map (λ s. s.seat) sources

@@ -2,7 +2,7 @@
 use Rattle.std.proofs.Common.{◌≡◌, true, take}
 use Rattle.std.specs.List.{list_all}
 use Rattle.sleep_model.specs.Fits.{fits_stats}
-use Rattle.machine_rounds.specs.RunFields.{sources_of}
+use Rattle.run_objects.specs.Objects.{sources_of}
 use Rattle.machine_rounds.specs.Waits.{all_stats}
 use Rattle.machine_rounds.proofs.after_idle_round.stats_of.Given as goal
 

@@ -11,7 +11,7 @@ use Rattle.sleep_core.specs.Cores.{CoreState, IsActor}
 use Rattle.sleep_script.specs.Jobs.{after_call}
 use Rattle.wakeup_source.specs.declared.call_by.CallBy.{CallBy}
 use Rattle.wakeup_source.specs.SourceStates.{SourceState}
-use Rattle.run_objects.specs.Objects.{SeatedSourceState, viewed_source_of}
+use Rattle.run_objects.specs.Objects.{SeatedSourceState, viewed_source_of, sources_of}
 use Rattle.running_laws.specs.Running.{CallsNext, IsRunning, of_sources}
 use Rattle.running_laws.proofs.Asked.{call_is, call_left, call_may, call_there}
 use Rattle.running_laws.proofs.Calls.{IsCalledNow, running_call}
@@ -20,7 +20,7 @@ use Rattle.running_laws.proofs.Rising.{call_longer}
 use Rattle.machine_rounds.specs.declared.run.Run.TheInside.{Inside}
 use Rattle.world_workers.specs.declared.fault.RunFault.TheVariants as fault
 use Rattle.machine_rounds.specs.JobsOf.{AreAllJobs, JobsState, job_at, with_job}
-use Rattle.machine_rounds.specs.RunFields.{RunFieldsInvariant, sources_of, state}
+use Rattle.machine_rounds.specs.RunFields.{RunFieldsInvariant, state}
 use Rattle.machine_rounds.specs.Runs.{RunState, entries_made}
 use Rattle.machine_rounds.proofs.Calling.{at_table, more_entries, not_later, old_is, put_running, put_seats, refused, refused_put, wanted, within}
 use Rattle.machine_rounds.proofs.JobsChanged.{all_jobs_with, has_job, jobs_with}

@@ -12,14 +12,14 @@ use Rattle.sleep_state.specs.JournalRooms.{entries}
 use Rattle.sleep_core.specs.Cores.{CoreState}
 use Rattle.wakeup_source.specs.declared.call_by.CallBy.{CallBy}
 use Rattle.wakeup_source.specs.SourceStates.{SourceState, unstamped_source}
-use Rattle.run_objects.specs.Objects.{SeatedSourceState, viewed_source_of}
+use Rattle.run_objects.specs.Objects.{SeatedSourceState, viewed_source_of, sources_of}
 use Rattle.running_laws.specs.Running.{IsRunning, histories, of_sources}
 use Rattle.running_laws.proofs.Calls.{IsCalledNow, running_expire}
 use Rattle.running_laws.proofs.Rising.{call_longer}
 use Rattle.machine_rounds.specs.declared.run.Run.TheInside.{Inside}
 use Rattle.world_workers.specs.declared.fault.RunFault.TheVariants as fault
 use Rattle.machine_rounds.specs.JobsOf.{job_at}
-use Rattle.machine_rounds.specs.RunFields.{sources_of, state}
+use Rattle.machine_rounds.specs.RunFields.{state}
 use Rattle.machine_rounds.specs.Runs.{RunState, entries_made}
 use Rattle.machine_rounds.proofs.Calling.{at_table, history_is, more_entries, not_later, old_is, put_running, put_seats, refused, refused_put, wanted, within}
 use Rattle.machine_rounds.proofs.JobsChanged.{not_timer}

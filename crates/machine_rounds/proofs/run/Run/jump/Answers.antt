@@ -6,13 +6,12 @@ use Rattle.sleep_model.specs.Legal.{JumpStep}
 use Rattle.sleep_state.specs.JournalRooms.{entries}
 use Rattle.event_word.specs.Seats.{AreAllSeats, WordToken}
 use Rattle.sleep_core.specs.Cores.{CoreState, jump_entry}
-use Rattle.run_objects.specs.Objects.{seats_of}
+use Rattle.run_objects.specs.Objects.{seats_of, sources_of}
 use Rattle.running_laws.specs.Running.{IsRunning, histories}
 use Rattle.running_laws.proofs.Few.{next_small, tick_small}
 use Rattle.running_laws.proofs.Invariant.{last_known}
 use Rattle.running_laws.proofs.Turns.{running_jump}
 use Rattle.machine_rounds.specs.JobsOf.{job_at}
-use Rattle.machine_rounds.specs.RunFields.{sources_of}
 use Rattle.machine_rounds.specs.Runs.{IsLastLook, RunState}
 use Rattle.machine_rounds.proofs.Turning.{legal_after, looked_machine, looked_running}
 use Rattle.machine_rounds.proofs.run.Run.jump.Goals as goal

@@ -5,10 +5,9 @@ use Rattle.sleep_model.specs.declared.entry.JournalEntry.{JournalEntry}
 use Rattle.sleep_core.specs.Cores.{CoreState}
 use Rattle.running_laws.specs.Running.{IsRunning}
 use Rattle.running_laws.proofs.Firsts.{running_first}
-use Rattle.run_objects.specs.Objects.{SeatedSourceState}
+use Rattle.run_objects.specs.Objects.{SeatedSourceState, sources_of}
 use Rattle.sleep_script.specs.Jobs.{no_stamp}
 use Rattle.machine_rounds.specs.JobsOf.{AreAllJobs, JobsState, job_at}
-use Rattle.machine_rounds.specs.RunFields.{sources_of}
 use Rattle.machine_rounds.proofs.JobsChanged.{all_jobs_first, job_first}
 use Rattle.machine_rounds.proofs.SeatedSources.{uncalled_at}
 use Rattle.machine_rounds.proofs.run.Run.of_components.Goals as goal

@@ -4,10 +4,9 @@ use Rattle.std.proofs.lemmas.List.{length-map}
 use Rattle.sleep_model.specs.Numbers.{time_of}
 use Rattle.sleep_state.specs.JournalRooms.{entries}
 use Rattle.wakeup_source.specs.SourceStates.{SourceState, unstamped_source, latest}
-use Rattle.run_objects.specs.Objects.{SeatedSourceState}
+use Rattle.run_objects.specs.Objects.{SeatedSourceState, sources_of}
 use Rattle.running_laws.proofs.Asked.{timely}
 use Rattle.machine_rounds.specs.JobsOf.{job_at}
-use Rattle.machine_rounds.specs.RunFields.{sources_of}
 use Rattle.machine_rounds.specs.Runs.{RunState}
 use Rattle.machine_rounds.proofs.SeatedSources.{index_mapped}
 use Rattle.machine_rounds.proofs.run.Run.stats.Goals as goal

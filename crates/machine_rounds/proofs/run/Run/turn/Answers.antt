@@ -15,7 +15,8 @@ use Rattle.running_laws.specs.Running.{IsRunning, calls_made}
 use Rattle.running_laws.proofs.Turns.{running_turn}
 use Rattle.machine_rounds.specs.declared.run.Run.TheInside.{Inside}
 use Rattle.machine_rounds.specs.JobsOf.{AreAllJobs, JobsState, job_at, with_job}
-use Rattle.machine_rounds.specs.RunFields.{sources_of, state}
+use Rattle.run_objects.specs.Objects.{sources_of}
+use Rattle.machine_rounds.specs.RunFields.{state}
 use Rattle.machine_rounds.specs.Runs.{RunState}
 use Rattle.machine_rounds.proofs.JobsChanged.{all_jobs_with, jobs_with}
 use Rattle.machine_rounds.proofs.Turning.{few_turns, legal_after, looked_machine, looked_running, looked_seats, looked_table}

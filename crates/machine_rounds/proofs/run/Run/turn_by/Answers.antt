@@ -12,12 +12,12 @@ use Rattle.sleep_core.specs.declared.turns.CoreTurn.{CoreTurn}
 use Rattle.sleep_core.specs.Cores.{CoreState, IsActor, made_entry}
 use Rattle.sleep_core.specs.Turned.{AfterTurn}
 use Rattle.sleep_script.specs.Jobs.{after_turn}
-use Rattle.run_objects.specs.Objects.{seats_of}
+use Rattle.run_objects.specs.Objects.{seats_of, sources_of}
 use Rattle.running_laws.specs.Running.{IsRunning, calls_made}
 use Rattle.running_laws.proofs.Turns.{running_turn}
 use Rattle.machine_rounds.specs.declared.run.Run.TheInside.{Inside}
 use Rattle.machine_rounds.specs.JobsOf.{AreAllJobs, JobsState, job_at, with_job}
-use Rattle.machine_rounds.specs.RunFields.{sources_of, state}
+use Rattle.machine_rounds.specs.RunFields.{state}
 use Rattle.machine_rounds.specs.Runs.{IsLastLook, RunState}
 use Rattle.machine_rounds.proofs.JobsChanged.{all_jobs_with, jobs_with}
 use Rattle.machine_rounds.proofs.Turning.{few_turns, last_low, legal_after, looked_machine, looked_running}
