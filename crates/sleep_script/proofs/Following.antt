@@ -11,8 +11,9 @@ use Rattle.sleep_model.specs.declared.machine.Machine.{Machine}
 use Rattle.sleep_model.specs.declared.machine.SourceCall.{SourceCall}
 use Rattle.sleep_model.specs.declared.word.Stamp.{Stamp}
 use Rattle.sleep_model.specs.Calls.{calls_after_turn, ends_turn, one_more, note, report_calls, turns_ended, calls_of, calls_due}
+use Rattle.sleep_model.specs.Laws.{is_exit}
 use Rattle.sleep_model.specs.Path.{attempts, attempts_after, is_same}
-use Rattle.sleep_script.specs.Jobs.{JobState, first_job, is_exit, after_turn, after_call, raised, IsWanted, has_exited, IsJobOf}
+use Rattle.sleep_script.specs.Jobs.{JobState, first_job, after_turn, after_call, raised, IsWanted, has_exited, IsJobOf}
 
 -- ---- a job before its first entry
 

@@ -3,12 +3,12 @@ use Rattle.std.specs.Prelude.{◌≡◌, ◌≤◌, ℕ, ◌+◌, max, min, Bool
 use Rattle.sleep_model.specs.declared.entry.Actor.{Actor}
 use Rattle.sleep_model.specs.declared.entry.Entry.{Entry}
 use Rattle.sleep_model.specs.declared.entry.Kind.{Kind}
-use Rattle.sleep_model.specs.declared.entry.Kind.TheVariants as kind
 use Rattle.sleep_model.specs.declared.log.Want.{Want}
 use Rattle.sleep_model.specs.declared.log.Want.TheVariants as want
 use Rattle.sleep_model.specs.declared.machine.Machine.{Machine}
 use Rattle.sleep_model.specs.declared.word.Stamp.{Stamp}
 use Rattle.sleep_model.specs.Calls.{calls_of_turn, calls_after_turn, ends_turn, one_more, note, report_calls, turns_ended, calls_of, calls_due}
+use Rattle.sleep_model.specs.Laws.{is_exit}
 use Rattle.sleep_model.specs.Path.{is_same}
 
 -- ---- a job
@@ -38,11 +38,6 @@ first_job m who = record {
   exited = false;
   floor = no_stamp;
 }
-
--- a script's exit (do_exit)
-abbrev pub is_exit : Kind → Bool
-is_exit kind.Exit = true
-is_exit _ = false
 
 -- after a turn of its own steps, after which its actor may have calls to make (own)
 abbrev pub job_after_turn : JobState → JobState
