@@ -81,10 +81,27 @@ fn stays(position: ScriptPosition, op: Option<&Op>, time: u64) -> bool
     if position.exited {
         return true;
     }
-    match (op, position.until) {
-        (Some(Op::Sleep { .. }), Some(until)) => position.waits && time < until,
-        (Some(Op::SleepD { .. }), Some(until)) => position.waits && time < until,
-        _ => false,
+    let Some(op) = op else {
+        return false;
+    };
+    match op {
+        Op::Sleep { .. } | Op::SleepD { .. } => match position.until {
+            Some(until) => position.waits && time < until,
+            None => false,
+        },
+        Op::Read
+        | Op::Save { .. }
+        | Op::State { .. }
+        | Op::Autosleep { .. }
+        | Op::FreezePoint
+        | Op::Post { .. }
+        | Op::Wait { .. }
+        | Op::Runtime { .. }
+        | Op::Link { .. }
+        | Op::LinkState { .. }
+        | Op::Awake { .. }
+        | Op::Relax { .. }
+        | Op::Event { .. } => false,
     }
 }
 

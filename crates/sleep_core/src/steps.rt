@@ -66,11 +66,23 @@ pub(crate) fn is_line(kind: TaskKind) -> bool
 pub(crate) fn freezes_at(user: bool, begun: bool, op: Option<&Op>) -> bool
     ensures { result ≡ freezes_at user begun (option_copied op.entry) }
 {
+    let Some(op) = op else {
+        return false;
+    };
     match op {
-        None => false,
-        Some(Op::Wait { .. }) | Some(Op::FreezePoint) => true,
-        Some(Op::Sleep { .. }) => begun || user,
-        Some(Op::Autosleep { text }) => user && !begun && !is_autosleep_text(text.as_slice()),
-        Some(_) => user && !begun,
+        Op::Wait { .. } | Op::FreezePoint => true,
+        Op::Sleep { .. } => begun || user,
+        Op::Autosleep { text } => user && !begun && !is_autosleep_text(text.as_slice()),
+        Op::Read
+        | Op::Save { .. }
+        | Op::State { .. }
+        | Op::SleepD { .. }
+        | Op::Post { .. }
+        | Op::Runtime { .. }
+        | Op::Link { .. }
+        | Op::LinkState { .. }
+        | Op::Awake { .. }
+        | Op::Relax { .. }
+        | Op::Event { .. } => user && !begun,
     }
 }
