@@ -67,7 +67,7 @@ fn begin_or_skip(env: &DownEnv<'_>, p: Phase, device: u32) -> Kind
 }
 
 impl Down {
-    /// What the phase answers: a synchronous callback's error, else the last one.
+    /// What the phase answers: a synchronous callback's error, else `async_error`.
     fn answer(&self) -> Option<Errno>
         ensures { result ≡ or_else self.now.error self.now.async_error }
     {

@@ -118,7 +118,8 @@ failed_platform_down step = (row (stage.PlatformDo step)).failed
 abbrev pub failed_freeze : Group → Stage
 failed_freeze g = (row (stage.Freezes g)).failed
 
--- after a phase that failed: after a failed prepare or suspend the platform recovers first (suspend_devices_and_enter, Recover_platform)
+-- after a phase that failed: after prepare or suspend the platform recovers first, late and noirq resume what they suspended
+-- (suspend_devices_and_enter, Recover_platform)
 abbrev pub failed_phase : Phase → Stage
 failed_phase p = (row (stage.Downs p)).failed
 

@@ -30,6 +30,7 @@ pub struct Machine {
     pub sources: ListOf<Name>,
     /// The marks that scripts raise and wait for, in order of first use.
     pub marks: ListOf<Name>,
+    /// The scripts. The autosleep work, asynchronous devices and timers are actors too.
     pub actors: ListOf<Script>,
     pub answers: ListOf<Answer>,
 }

@@ -10,7 +10,7 @@ pub struct ScriptPosition {
     pub done: usize,
     /// How many turns of its steps are made: a step has one, and the setting of autosleep one more.
     pub turns: usize,
-    /// The step under way has said that it waits, or has begun.
+    /// The step under way has begun: it has said that it waits, or that it sleeps or sets autosleep.
     pub waits: bool,
     /// The count that the task's last answered read gave.
     pub last_read: Option<u32>,
