@@ -1,4 +1,4 @@
-//! The parts of the core that are suspended last: `syscore SUBJECTS`.
+//! The syscore operations: `syscore SUBJECTS`.
 
 use crate::asked::{ReplyWord, Words, cut, found};
 use crate::entry_replies::kind_reply;
@@ -24,7 +24,7 @@ const VERBS: [(&str, SyscoreCall); 4] = [
     ("next_started", SyscoreCall::NextStarted),
 ];
 
-/// The entry of the next part that is suspended.
+/// The entry of the next operation that is suspended.
 fn suspended(core: &mut Syscore, words: Words) -> CaseReply {
     if core.next().is_none() {
         return one(ReplyWord::Nothing);
@@ -32,7 +32,7 @@ fn suspended(core: &mut Syscore, words: Words) -> CaseReply {
     kind_reply(core.suspend_turn(words.error(0)))
 }
 
-/// The entry of the next part that is resumed.
+/// The entry of the next operation that is resumed.
 fn resumed(core: &mut Syscore) -> CaseReply {
     match core.resume_turn() {
         Some(kind) => kind_reply(kind),
@@ -40,7 +40,7 @@ fn resumed(core: &mut Syscore) -> CaseReply {
     }
 }
 
-/// The reply to a call on the core's parts.
+/// The reply to a call on the syscore operations.
 fn reply_of(core: &mut Syscore, verb: SyscoreCall, words: Words) -> CaseReply {
     match verb {
         SyscoreCall::Suspend => suspended(core, words),
@@ -56,7 +56,7 @@ fn note(core: &mut Syscore, text: &str) -> CaseReply {
 }
 
 impl CaseRunner for Syscore {
-    /// Answers a call on the core's parts, or notes an entry.
+    /// Answers a call on the syscore operations, or notes an entry.
     fn answer(&mut self, line: &str, out: &mut Out) {
         out.say(reply_to!(self, line, VERBS, reply_of, note));
     }

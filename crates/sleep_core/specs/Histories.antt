@@ -89,7 +89,7 @@ autosleep_of past = record { holder = holder past; on = is_on past; work = work 
 abbrev pub platform_of : Machine → List Entry → PlatformState
 platform_of m past = record { order = call_order m; notified_flags = notified_flags m past; cpus = m.cpus; off = cpus_off m.cpus past }
 
--- the core's parts
+-- the syscore operations
 abbrev pub syscore_of : Machine → List Entry → SyscoreState
 syscore_of m past = record { n = length m.syscore; flags = stopped (length m.syscore) past }
 

@@ -313,7 +313,7 @@ impl<'m> History<'m> {
         &self.components.platform
     }
 
-    /// The core's parts.
+    /// The syscore operations.
     pub fn syscore(&self) -> &Syscore
         ensures { result.now ≡ syscore_of self.now.machine (entries self.now.past) }
     {

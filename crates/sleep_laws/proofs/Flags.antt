@@ -186,7 +186,7 @@ none_notified m past e =
     cleared (notified_flags m past) (length m.notifiers) (notified_flags_length (length m.notifiers) past)
     (λ k l. not_true (is_so (notified_flags m past) k) (all_at (λ x. not (is_so (notified_flags m past) x)) (call_order m) k all (ranked_all 0 m.notifiers k (omega arith) (omega arith))))
 
--- if no part of the core is to be resumed, none is suspended
+-- if no syscore operation is to be resumed, none is suspended
 pub none_stopped : (m : Machine) (past : List Entry) → next_syscore_resumed m past ≡ None → stopped (length m.syscore) past ≡ replicate (length m.syscore) false
 none_stopped m past e =
     let flags : List Bool = stopped (length m.syscore) past in

@@ -1,4 +1,4 @@
--- What is down on the way to the entering: tasks, processors, interrupts and the core's parts, by stages.
+-- What is down on the way to the entering: tasks, processors, interrupts and syscore operations, by stages.
 use Rattle.std.proofs.Common.{◌≡◌, ◌∙◌, ℕ, zero, suc, Bool, true, false, not, ◌&&◌, ◌||◌, List, [], ◌∷◌, Option, Some, cond, length, refl, sym, ap, subst, slice_set}
 use Rattle.std.specs.List.{list_all}
 use Rattle.std.proofs.lemmas.Bool.{true≢false}
@@ -161,7 +161,7 @@ cpus_at (Some stage.StopsSyscore) = true
 cpus_at (Some stage.Enters) = true
 cpus_at _ = false
 
--- the core's parts are suspended at the entering
+-- the syscore operations are suspended at the entering
 abbrev pub parts_at : Option Stage → Bool
 parts_at (Some stage.Enters) = true
 parts_at _ = false

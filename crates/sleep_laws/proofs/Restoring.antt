@@ -54,7 +54,7 @@ CpusAt n (Some stage.StartsIrqs) flags = Unit {0}
 CpusAt n (Some stage.StartsCpus) flags = Unit {0}
 CpusAt n _ flags = flags ≡ replicate n false
 
--- no part of the core is suspended but from the suspending of parts to their resuming
+-- no syscore operation is suspended but from the suspending of them to their resuming
 abbrev pub PartsAt : ℕ → Option Stage → List Bool → Type 0
 PartsAt n (Some stage.StopsSyscore) flags = Unit {0}
 PartsAt n (Some stage.Enters) flags = Unit {0}

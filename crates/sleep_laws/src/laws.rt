@@ -23,7 +23,7 @@ pub fn suppliers_first()
 {}
 
 /// Once an attempt is over, entered or failed at whatever step, nothing is owed. No notifier, task, device,
-/// processor, interrupt, part of the core nor step of the platform is left as the attempt put it, and the
+/// processor, interrupt, syscore operation nor step of the platform is left as the attempt put it, and the
 /// machine is awake (`kernel/power/suspend.c`, `suspend_devices_and_enter`, `suspend_finish`).
 #[tactic(auto, using(crate::proofs::DeviceLaws::all_restored))]
 pub fn restored()
@@ -33,7 +33,7 @@ pub fn restored()
 /// Only what is owed is undone, so that each is made once. On the way up a device is scheduled only if it is
 /// down, begins only if it is down or was scheduled, and ends only inside its callback. It is completed only
 /// if it is prepared and, in each of the three pairs of phases, neither down nor on its way. A notifier is
-/// posted to only if it was notified. A processor, a part of the core, interrupts and a step of the platform
+/// posted to only if it was notified. A processor, a syscore operation, interrupts and a step of the platform
 /// are undone only if they were done. The machine wakes only if it sleeps (`drivers/base/power/main.c`,
 /// `dpm_resume`, `device_resume`, `device_complete`; `kernel/power/suspend.c`, `suspend_enter`,
 /// `suspend_finish`).
@@ -51,7 +51,7 @@ pub fn devices_are_taken_once()
 {}
 
 /// Nothing is done whose undo is owed already: the call of a notifier, a step of the platform, the stop of a
-/// processor, interrupts turned off, the suspend of a part of the core, the entering of sleep
+/// processor, interrupts turned off, the suspend of a syscore operation, the entering of sleep
 /// (`kernel/power/suspend.c`, `platform_suspend_begin`, `suspend_enter`; `kernel/cpu.c`,
 /// `freeze_secondary_cpus`; `drivers/base/syscore.c`, `syscore_suspend`).
 #[tactic(auto, using(crate::proofs::Once::not_owed_already))]
@@ -62,7 +62,7 @@ pub fn nothing_is_owed_twice()
 /// The machine enters sleep only if all is down that sleep wants down. Each device is down in suspend, in
 /// late and in noirq, or direct-complete. Each user task and each kernel thread, but who makes the attempt,
 /// is frozen or has exited. The platform's three steps are done, the other processors and interrupts are off,
-/// and each part of the core is suspended (`kernel/power/suspend.c`, `suspend_enter`;
+/// and each syscore operation is suspended (`kernel/power/suspend.c`, `suspend_enter`;
 /// `kernel/power/process.c`, `freeze_processes`, `freeze_kernel_threads`).
 #[tactic(auto, using(crate::proofs::DeviceLaws::all_down))]
 pub fn enters_only_with_all_down()

@@ -75,11 +75,11 @@ pub enum Stage {
     StopsIrqs,
     /// The core tests for a wakeup (`syscore_suspend`).
     ChecksWakeup,
-    /// The core's parts are suspended (`syscore_suspend`).
+    /// The syscore operations are suspended (`syscore_suspend`).
     StopsSyscore,
     /// The machine enters sleep, and wakes (`suspend_ops`, `enter`).
     Enters,
-    /// The core's parts are resumed (`syscore_resume`).
+    /// The syscore operations are resumed (`syscore_resume`).
     StartsSyscore,
     /// Interrupts are turned on (`arch_suspend_enable_irqs`).
     StartsIrqs,

@@ -1,4 +1,4 @@
--- The parts of the core, and which of them are suspended (drivers/base/syscore.c).
+-- The syscore operations, and which of them are suspended (drivers/base/syscore.c).
 use Rattle.std.specs.Prelude.{ℕ, Bool, not, List, Option, Some, None}
 use Rattle.std.specs.List.{range_with_len}
 use Rattle.std.specs.Option.{option_map}

@@ -1,4 +1,4 @@
-//! The parts of the core, which an attempt suspends backward and resumes forward (`drivers/base/syscore.c`).
+//! Syscore operations, which an attempt suspends backward and resumes forward (`drivers/base/syscore.c`).
 //! Its tests are in `part_cases`.
 //!
 //! Promises: The next core step, down and up; after an entry, which of them are owed their undo. By the

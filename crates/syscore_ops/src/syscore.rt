@@ -1,4 +1,4 @@
-//! The parts of the core with syscore operations, and which of them is suspended or resumed next.
+//! The syscore operations, and which of them is suspended or resumed next.
 ghost use Rattle.std.specs.Prelude.{◌≡◌, not, find};
 ghost use Rattle.std.specs.List.{range_with_len};
 ghost use Rattle.sleep_model.specs.Walk.{is_so, last_where};
@@ -9,7 +9,7 @@ use sleep_model::Kind;
 use std::alloc::Global;
 use std::marker::Model;
 
-/// The core's parts by number, in the order of the file, and which of them are suspended
+/// The syscore operations by number, in the order of the file, and which of them are suspended
 /// (`syscore_ops_list`).
 #[derive(Drop)]
 pub struct Syscore {
