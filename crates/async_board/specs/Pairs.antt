@@ -17,7 +17,7 @@ pub record AreUnprepared (l : Layout) (p : Pairs) : Type 0 where
   pub late : p.late.states.items ≡ replicate (length l.links.parents) state.Unprepared
   pub noirq : p.noirq.states.items ≡ replicate (length l.links.parents) state.Unprepared
 
--- each may begin anew over a layout whose links have changed right below this supplier alone
+-- each may begin anew over a layout whose links have changed only directly below this supplier
 pub record MayAllRestart (l : Layout) (supplier : ℕ) (p : Pairs) : Type 0 where
   pub suspend : MayRestart l supplier p.suspend
   pub late : MayRestart l supplier p.late

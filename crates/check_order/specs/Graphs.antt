@@ -64,7 +64,7 @@ pub record ArePlaced (n : ℕ) (links : List Link) (supplied consumed : List (Li
 abbrev pub no_link : Link
 no_link = record { supplier = 0; consumer = 0; active = false }
 
--- the link between these two has that index, where the oldest comes first
+-- the link between these two has that index, the oldest first
 pub record StandsAt (supplier consumer : ℕ) (links : List Link) (place : ℕ) : Type 0 where
   pub within : place < length links
   pub is : is_link supplier consumer (slice_index_or links place no_link) ≡ true

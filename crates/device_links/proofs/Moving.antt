@@ -29,7 +29,7 @@ among_more xs i y l =
     ap (λ ys. is_among ys y) (take_more xs i 0 l)
     ∙ (among_app (take i xs) (get_or xs i 0 ∷ []) y ∙ ap (λ b. is_among (take i xs) y || b) (or-false (get_or xs i 0 == y)))
 
--- at an index where one is, up to which the other is not
+-- at an index that holds one, up to which none holds the other
 pub first_at : (xs : List ℕ) (i one other : ℕ) → i < length xs → is_among (take i xs) other ≡ false → get_or xs i 0 ≡ one → (get_or xs i 0 == other) ≡ false → Precedes xs one other
 first_at xs i one other l h e n = record {
   place = i + 1;

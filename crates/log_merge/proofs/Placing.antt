@@ -59,7 +59,7 @@ not_true : (b : Bool) → not b ≡ true → b ≡ false
 not_true true h = sym h
 not_true false h = refl
 
--- where the next entry of the log is the journal's, the entries of sources stand after it
+-- if the next entry of the log is the journal's, the entries of sources come after it
 counts_on : (n : ℕ) (old next others : List JournalEntry) (result : Option JournalEntry) → is_journals_turn old others ≡ true → MatchOption result ((old ≡ []) × (next ≡ old)) (λ e. old ≡ e ∷ next)
     → with_counts n old others ≡ with_counts (n + 1) next others
 counts_on n old next [] result h m = refl
@@ -82,14 +82,14 @@ pub length_on : (n len : ℕ) (old next : List JournalEntry) (result : Option Jo
 length_on n len old next None m l h = absurd (omega (arith, l, h, ap (λ (l : List JournalEntry). length l) m.0))
 length_on n len old next (Some e) m l h = omega (arith, l, ap (λ (l : List JournalEntry). length l) m)
 
--- where no entry of the journal is left, all of the sources' are placed
+-- if no entry of the journal is left, all of the sources' are placed
 pub counted_all : (new all total : List OtherEntry) (n : ℕ) (journal left others : List JournalEntry) → length journal ≡ 0 → is_journals_turn journal left ≡ true
     → new ++ with_counts n journal left ≡ all ++ with_counts n journal others → all ++ with_counts n journal others ≡ total → new ≡ total
 counted_all new all total n [] [] others l h placed so = sym (append-nil new) ∙ placed ∙ so
 counted_all new all total n [] (x ∷ left) others l h placed so = absurd (true≢false (sym h))
 counted_all new all total n (e ∷ journal) left others l h placed so = absurd (omega (arith, l))
 
--- and so are they where none of them is left
+-- and so are they if none of them is left
 pub counted_over : (all total : List OtherEntry) (n : ℕ) (journal : List JournalEntry) (others : List (Bor SourceEntry)) (k : ℕ) → k ≡ length others
     → all ++ with_counts n journal (drop k (seen others)) ≡ total → all ≡ total
 counted_over all total n journal others k l so =
