@@ -39,7 +39,7 @@ use Rattle.end_laws.proofs.Waking.{events_first, time_forward}
 use Rattle.fit_laws.specs.Ranged.{is_ranged_entry}
 use Rattle.fit_laws.proofs.Fitted.{log_fits}
 use Rattle.wakeup_source.specs.SourceStates.{SourceState}
-use Rattle.machine_rounds.specs.declared.after_idle_round.RunEnd.{RunEnd}
+use Rattle.machine_rounds.specs.declared.after_idle_round.EndOfRun.{EndOfRun}
 use Rattle.world_workers.specs.declared.fault.RunFault.{RunFault}
 use Rattle.world_workers.specs.declared.fault.RunFault.TheVariants as fault
 use Rattle.running_laws.specs.Running.{entry_count, histories, journal_histories, of_sources}
@@ -62,13 +62,13 @@ same_then first second third h g = record {
 }
 
 -- what stretches came to, if no fewer entries were made before them
-pub stretched : (first second third : RunState) (n : ℕ) (came : Result (Option RunEnd) RunFault) → entries_made first ≤ entries_made second → AfterStretches n second third came → AfterStretches n first third came
+pub stretched : (first second third : RunState) (n : ℕ) (came : Result (Option EndOfRun) RunFault) → entries_made first ≤ entries_made second → AfterStretches n second third came → AfterStretches n first third came
 stretched first second third n (Ok None) more h = omega (arith, more, h)
 stretched first second third n (Ok (Some run_end)) more h = h
 stretched first second third n (Err fault) more h = h
 
 -- what comes after rounds, the last of which did nothing
-pub after_rounds : (first second third : RunState) (came : Result (Option RunEnd) RunFault) → entries_made first ≤ entries_made second → IsAfterIdleRound second third came → AfterStretches 1 first third came
+pub after_rounds : (first second third : RunState) (came : Result (Option EndOfRun) RunFault) → entries_made first ≤ entries_made second → IsAfterIdleRound second third came → AfterStretches 1 first third came
 after_rounds first second third (Ok None) more h = omega (arith, more, h)
 after_rounds first second third (Ok (Some run_end)) more h = h.1
 after_rounds first second third (Err fault) more h = h

@@ -30,8 +30,8 @@ use Rattle.running_laws.specs.Running.{IsRunning, calls_made, entry_count, histo
 use Rattle.end_laws.specs.Attempts.{attempts_end}
 use Rattle.end_laws.specs.Waking.{events_wake_first, time_goes_forward}
 use Rattle.run_objects.specs.Closed.{IsClosedTable}
-use Rattle.machine_rounds.specs.declared.after_idle_round.RunEnd.{RunEnd}
-use Rattle.machine_rounds.specs.declared.after_idle_round.RunEnd.TheVariants.{Finished, Stuck}
+use Rattle.machine_rounds.specs.declared.after_idle_round.EndOfRun.{EndOfRun}
+use Rattle.machine_rounds.specs.declared.after_idle_round.EndOfRun.TheVariants.{Finished, Stuck}
 use Rattle.world_workers.specs.declared.fault.RunFault.{RunFault}
 use Rattle.world_workers.specs.declared.fault.RunFault.TheVariants as fault
 
@@ -132,12 +132,12 @@ pub record IsQuiescent (run : RunState) : Type 0 where
       → calls_made run.machine run.sources who ≡ calls_due run.machine who (entries run.journal)
 
 -- a run is over: nothing is left to do, or nobody goes on, by a word that was looked at last
-abbrev pub IsAtEnd : RunState → RunEnd → Type 0
+abbrev pub IsAtEnd : RunState → EndOfRun → Type 0
 IsAtEnd run (Finished word) = IsLastLook run word × (is_over run word ≡ true)
 IsAtEnd run (Stuck word) = IsLastLook run word × IsHalted run word
 
 -- after a round that did nothing, somebody who can go on does, or time jumps; else the run is over
-abbrev pub IsAfterIdleRound : RunState → RunState → Result (Option RunEnd) RunFault → Type 0
+abbrev pub IsAfterIdleRound : RunState → RunState → Result (Option EndOfRun) RunFault → Type 0
 IsAfterIdleRound old new (Ok None) = entries_made old < entries_made new
 IsAfterIdleRound old new (Ok (Some run_end)) = MadeNothing old new × IsAtEnd new run_end
 IsAfterIdleRound old new (Err fault) = IsRefused new fault
@@ -149,7 +149,7 @@ AfterRounds old new (Ok false) = entries_made old ≤ entries_made new
 AfterRounds old new (Err fault) = IsRefused new fault
 
 -- after n stretches at least n entries more were made, or the run is over
-abbrev pub AfterStretches : ℕ → RunState → RunState → Result (Option RunEnd) RunFault → Type 0
+abbrev pub AfterStretches : ℕ → RunState → RunState → Result (Option EndOfRun) RunFault → Type 0
 AfterStretches n old new (Ok None) = entries_made old + n ≤ entries_made new
 AfterStretches n old new (Ok (Some run_end)) = IsAtEnd new run_end
 AfterStretches n old new (Err fault) = IsRefused new fault

@@ -21,7 +21,7 @@ use world_workers::RunFault;
 
 /// How a run is over, by the word that was looked at last.
 #[derive(Clone, Copy)]
-pub(crate) enum RunEnd {
+pub(crate) enum EndOfRun {
     /// Nothing is left to do.
     Finished(EventNow),
     /// Nobody goes on.
@@ -116,7 +116,7 @@ impl<'m> Run<'m> {
 
     /// After a round that did nothing: whoever can go on makes an entry by the word that is looked at; time
     /// jumps if nobody can; or the run is over. Answers how it is over, if it is.
-    pub(crate) fn after_idle_round<R: Wait>(&mut self, rt: &R) -> Result<Option<RunEnd>, RunFault>
+    pub(crate) fn after_idle_round<R: Wait>(&mut self, rt: &R) -> Result<Option<EndOfRun>, RunFault>
         ensures machine { self.new.machine ≡ self.old.machine }
         ensures after { IsAfterIdleRound self.old self.new result }
     {
@@ -125,14 +125,14 @@ impl<'m> Run<'m> {
             return Ok(None);
         }
         if self.is_whole() {
-            return Ok(Some(RunEnd::Finished(word)));
+            return Ok(Some(EndOfRun::Finished(word)));
         }
         match self.next_time() {
             Some(to) => {
                 self.jump(word, to)?;
                 Ok(None)
             }
-            None => Ok(Some(RunEnd::Stuck(word))),
+            None => Ok(Some(EndOfRun::Stuck(word))),
         }
     }
 
@@ -150,16 +150,16 @@ impl<'m> Run<'m> {
     }
 
     /// How a run that is over ended.
-    fn end(&self, alloc: Global, run_end: RunEnd) -> Result<LogEnd, AllocError>
+    fn end(&self, alloc: Global, run_end: EndOfRun) -> Result<LogEnd, AllocError>
         requires { IsAtEnd self.now run_end }
         ensures { IfOk result (λ end. EndsSo self.now end) }
     {
         match run_end {
-            RunEnd::Stuck(word) => {
+            EndOfRun::Stuck(word) => {
                 let those = self.waiting(alloc, word)?;
                 Ok(LogEnd::Stuck(ListOf::of_vec(those)))
             }
-            RunEnd::Finished(_) => Ok(LogEnd::Finished),
+            EndOfRun::Finished(_) => Ok(LogEnd::Finished),
         }
     }
 
@@ -173,7 +173,7 @@ impl<'m> Run<'m> {
     }
 
     /// How a run that is over ended, and the statistics of all sources then.
-    fn ending(&self, alloc: Global, run_end: RunEnd) -> Result<(LogEnd, Vec<Stats>), AllocError>
+    fn ending(&self, alloc: Global, run_end: EndOfRun) -> Result<(LogEnd, Vec<Stats>), AllocError>
         requires { IsAtEnd self.now run_end }
         ensures end { IfOk result (λ e. EndsSo self.now e.0) }
         ensures stats { IfOk result (λ e. e.1.items ≡ all_stats self.now.sources (time_of (entries self.now.journal))) }
@@ -213,7 +213,7 @@ impl<'m> Run<'m> {
     }
 
     /// The log of a run that is over.
-    pub(crate) fn into_log(self, alloc: Global, run_end: RunEnd) -> Result<ApartLog, Mem>
+    pub(crate) fn into_log(self, alloc: Global, run_end: EndOfRun) -> Result<ApartLog, Mem>
         requires { IsAtEnd self run_end }
         ensures { IfOk result (λ log. IsRun self.entry.machine log) }
     {

@@ -5,7 +5,7 @@
 ghost use Rattle.std.specs.Prelude.{◌≡◌, ◌≤◌, IfOk};
 ghost use Rattle.world_workers.specs.declared.fault.RunFault.TheVariants as fault;
 
-use crate::after_idle_round::RunEnd;
+use crate::after_idle_round::EndOfRun;
 use crate::jobs::Jobs;
 use crate::pace::Pace;
 use crate::run::Run;
@@ -50,7 +50,7 @@ struct RunInBurst<'m> {
 #[derive(Drop)]
 struct Advance<'m> {
     run: Run<'m>,
-    outcome: Result<Option<RunEnd>, RunFault>,
+    outcome: Result<Option<EndOfRun>, RunFault>,
 }
 
 /// A run after a burst.
@@ -282,7 +282,7 @@ impl<'m> Run<'m> {
     }
 
     /// Makes that many stretches of the caller's own rounds. Answers how the run is over, if it is.
-    fn alone<R: Wait>(&mut self, rt: &R, stretches: u32) -> Result<Option<RunEnd>, RunFault>
+    fn alone<R: Wait>(&mut self, rt: &R, stretches: u32) -> Result<Option<EndOfRun>, RunFault>
         ensures machine { self.new.machine ≡ self.old.machine }
         ensures after { AfterStretches stretches self.old self.new result }
     {

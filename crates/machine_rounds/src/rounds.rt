@@ -1,6 +1,6 @@
 //! Rounds over the actors, and what comes after them.
 
-use crate::after_idle_round::RunEnd;
+use crate::after_idle_round::EndOfRun;
 use crate::run::{Run, TurnOutcome};
 use sleep_model::{Actor, Want, Why};
 use std::sync::Wait;
@@ -225,7 +225,11 @@ impl<'m> Run<'m> {
 
     /// A stretch: rounds, and if the last one made no entry what comes then, an entry or the end of the run.
     /// How the run is over, if it is.
-    pub(crate) fn stretch<R: Wait>(&mut self, rt: &R, most: u64) -> Result<Option<RunEnd>, RunFault>
+    pub(crate) fn stretch<R: Wait>(
+        &mut self,
+        rt: &R,
+        most: u64,
+    ) -> Result<Option<EndOfRun>, RunFault>
         ensures machine { self.new.machine ≡ self.old.machine }
         ensures after { AfterStretches 1 self.old self.new result }
     {
