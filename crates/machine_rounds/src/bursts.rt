@@ -196,7 +196,7 @@ impl<'m> Run<'m> {
     }
 
     /// The parts that go into a burst, and what stays. `Mem` if there is no memory.
-    fn leave(self, alloc: Global) -> Result<(RunInBurst<'m>, BurstContents<'m>), Mem>
+    fn take_apart(self, alloc: Global) -> Result<(RunInBurst<'m>, BurstContents<'m>), Mem>
         requires { length self.journal + 1000 < 2 ^ 63 }
         ensures machine { IfOk result (λ contents. contents.0.machine.now ≡ self.entry.machine) }
         ensures during { IfOk result (λ contents. IsRunInBurst contents.0.machine.now contents.0.table.cells.shared.table_id contents.0.floor
@@ -246,7 +246,7 @@ impl<'m> Run<'m> {
         if !self.is_short() {
             return Err(drop_for_mem(self));
         }
-        let (during, contents) = self.leave(alloc)?;
+        let (during, contents) = self.take_apart(alloc)?;
         during.run_on(rt, alloc, contents, workers, gate)
     }
 

@@ -1,10 +1,10 @@
--- Proof that `Run::leave` meets its contract.
+-- Proof that `Run::take_apart` meets its contract.
 use Rattle.std.proofs.Common.{◌≡◌, ◌+◌, ◌∙◌, ℕ, length, sym, ap, arith}
 use Rattle.std.proofs.lemmas.List.{length-map}
 use Rattle.run_objects.specs.Objects.{SeatedSourceState}
 use Rattle.machine_rounds.specs.Runs.{RunState, entries_made}
 use Rattle.machine_rounds.specs.TasksOf.{all_tasks}
-use Rattle.machine_rounds.proofs.run.Run.leave.Goals as goal
+use Rattle.machine_rounds.proofs.run.Run.take_apart.Goals as goal
 
 pub returns-clause-during : goal.returns-clause-during
 returns-clause-during c =
