@@ -4,7 +4,7 @@ ghost use Rattle.std.specs.Prelude.{◌≡◌, ◌≤◌, ◌<◌, ◌+◌, ◌^
 ghost use Rattle.sleep_model.specs.declared.machine.Machine.{Machine};
 ghost use Rattle.atomic_table.specs.Seated.{TableId};
 ghost use Rattle.world_workers.specs.Bursts.{HaveTurns};
-ghost use Rattle.world_workers.specs.Workers.{AreFresh, AreOneMore, AreContents, AreWorkersOf};
+ghost use Rattle.world_workers.specs.Workers.{AreFresh, AreContents, AreWorkersOf};
 
 use crate::fault::{RunFault, graver};
 use crate::worker::Worker;
@@ -35,9 +35,7 @@ pub(crate) fn workers_of<'m>(
             unreachable!()
         };
         let worker = Worker::new(pass, task, place as u32, moment);
-        let Ok(()) = workers.push(worker) else {
-            return Err(drop_for_mem((workers, left)));
-        };
+        workers.push_reserved(worker);
     }
     Ok(workers)
 }
@@ -65,28 +63,18 @@ pub(crate) struct Brought<'m> {
 }
 
 impl<'m> Brought<'m> {
-    ghost use Rattle.std.specs.Prelude.{[], ◌∷◌, ◌++◌, Some, IsSome, OnOk};
+    ghost use Rattle.std.specs.Prelude.{[], vec_len, vec_capacity};
 
     /// None, with room for those of so many workers.
     fn new(alloc: Global, workers: usize) -> Result<Self, Mem>
-        ensures { IfOk result (λ brought. (brought.passes.items ≡ []) × (brought.tasks.items ≡ [])) }
+        ensures none { IfOk result (λ brought. (brought.passes.items ≡ []) × (brought.tasks.items ≡ [])) }
+        ensures passes { IfOk result (λ brought. vec_len brought.passes + workers ≤ vec_capacity brought.passes) }
+        ensures tasks { IfOk result (λ brought. vec_len brought.tasks + workers ≤ vec_capacity brought.tasks) }
     {
         Ok(Brought {
             passes: Vec::with_capacity(alloc, workers)?,
             tasks: Vec::with_capacity(alloc, workers)?,
         })
-    }
-
-    /// Those of one worker more.
-    fn push(&mut self, worker: Worker<'m>) -> Result<(), Mem>
-        requires { IsSome worker.pass }
-        ensures passes { OnOk result (AreOneMore worker.entry.pass self.old.passes.items self.new.passes.items) }
-        ensures tasks { OnOk result (self.new.tasks.items ≡ self.old.tasks.items ++ worker.entry.task ∷ []) }
-    {
-        let (pass, task) = worker.into_components();
-        self.passes.push(pass)?;
-        self.tasks.push(task)?;
-        Ok(())
     }
 }
 
@@ -99,9 +87,9 @@ pub(crate) fn taken_apart<'m>(alloc: Global, workers: Vec<Worker<'m>>) -> Result
         return Err(drop_for_mem(workers));
     };
     for worker in workers {
-        let Ok(()) = brought.push(worker) else {
-            return Err(drop_for_mem(brought));
-        };
+        let (pass, task) = worker.into_components();
+        brought.passes.push_reserved(pass);
+        brought.tasks.push_reserved(task);
     }
     Ok(brought)
 }

@@ -1,4 +1,4 @@
--- Proof that `workers_of` meets its contract, that its loop keeps its invariant, and that its casts stay in range.
+-- Proof that `workers_of` meets its contract, that its loop keeps its invariant, that its casts stay in range, and that there is room.
 use Rattle.std.proofs.Common.{◌≡◌, ◌∙◌, ◌<◌, List, [], ◌∷◌, ◌++◌, length, sym, ap, subst, arith, append_assoc}
 use Rattle.turn_lock.specs.declared.table.Pass.{Pass}
 use Rattle.run_laws.specs.Passes.{Noted}
@@ -24,6 +24,9 @@ overflow_cast-place c =
     c.in-Some.task c.next.new.self.rest.items c.in-Some.ensures.steps.0 in
     omega (arith, less, c.requires.few, c.len-place.ensures, l.workers.ok.0)
 
+pub push_reserved-requires : goal.push_reserved-requires
+push_reserved-requires c = let is = c.loop-task.invariant in omega (arith, is.6, c.in-Some.ensures.steps.1)
+
 pub loop-task-preserved : goal.loop-task-preserved
 loop-task-preserved c =
     let l = c.loop-task in
@@ -34,13 +37,14 @@ loop-task-preserved c =
       (
         is.0.0 ++ c.in-Some-next.pass ∷ [],
         is.0.1 ∙ ap (λ (k : List (Pass WorldObject Noted)). is.0.0 ++ k) left_is ∙ sym (append_assoc is.0.0 (c.in-Some-next.pass ∷ []) c.next-in-loop-task.new.self.rest.items),
-        rw (c.in-Ok-push.ensures.items) (contents_more l.workers.items is.0.0 l.yielded c.new-worker.result c.in-Some-next.pass c.in-Some.task is.0.2 c.new-worker.ensures.pass c.new-worker.ensures.task.0),
+        rw (c.push_reserved.ensures.items) (contents_more l.workers.items is.0.0 l.yielded c.new-worker.result c.in-Some-next.pass c.in-Some.task is.0.2 c.new-worker.ensures.pass c.new-worker.ensures.task.0),
       ),
-      rw (c.in-Ok-push.ensures.items) (fresh_more c.args.moment l.workers.items c.new-worker.result is.1 c.new-worker.ensures.task.1 c.new-worker.ensures.task.2),
+      rw (c.push_reserved.ensures.items) (fresh_more c.args.moment l.workers.items c.new-worker.result is.1 c.new-worker.ensures.task.1 c.new-worker.ensures.task.2),
       (let n = ap (λ (k : List (Pass WorldObject Noted)). length k) left_is in omega (arith, n, is.2, c.in-Some-next.ensures.cases.1)),
       is.3 ∙ ap (λ (k : List Task). l.yielded ++ k) rest_is ∙ sym (append_assoc l.yielded (c.in-Some.task ∷ []) c.next.new.self.rest.items),
       (let n = ap (λ (k : List Task). length k) rest_is in omega (arith, n, is.4, c.in-Some.ensures.steps.1)),
       turns.1,
+      omega (arith, is.6, c.in-Some.ensures.steps.1, c.push_reserved.ensures.len, c.push_reserved.ensures.capacity),
     )
 
 pub returns-clause-contents : goal.returns-clause-contents

@@ -1,5 +1,5 @@
 -- The invariant of the loop of `workers_of`.
-use Rattle.std.proofs.Common.{◌≡◌, ◌++◌, List, length}
+use Rattle.std.proofs.Common.{◌≡◌, ◌≤◌, ◌+◌, ◌++◌, List, length, vec_len, vec_capacity}
 use Rattle.turn_lock.specs.declared.table.Pass.{Pass}
 use Rattle.run_laws.specs.Passes.{Noted}
 use Rattle.run_world.specs.declared.object.WorldObject.{WorldObject}
@@ -15,3 +15,4 @@ invariant-loop-task l =
     × (l.fn.tasks.items ≡ l.yielded ++ l.task-iterator.rest.items)
     × (l.task-iterator.rest.len ≡ length l.task-iterator.rest.items)
     × HaveTurns l.task-iterator.rest.items
+    × (vec_len l.workers + l.task-iterator.rest.len ≤ vec_capacity l.workers)
