@@ -51,9 +51,11 @@ fn sources_of(alloc: Global, objects: Vec<WorldObject<'_>>) -> Result<Vec<Seated
     ensures those { IfOk result (λ sources. AreThose sources.items objects.entry.items) }
     ensures kept { IfOk result (λ sources. SourcesInvariant sources.items) }
 {
-    let mut sources = Vec::with_capacity(alloc, objects.len())?;
+    let Ok(mut sources) = Vec::with_capacity(alloc, objects.len()) else {
+        return Err(drop_for_mem(objects));
+    };
     for object in objects {
-        sources.push(source_of(object))?;
+        sources.push_reserved(source_of(object));
     }
     Ok(sources)
 }
