@@ -145,7 +145,9 @@ pub fn make_burst<'m, R: Threads + Sync + Wait, G: Gate + Sync>(
     ensures actors { IfOk result (λ made. map actor_of made.contents.tasks.items ≡ map actor_of contents.entry.tasks.items) }
 {
     let moment = contents.core.core().time();
-    let (locks, mut workers) = open_burst(alloc, contents, moment)?;
+    let Ok((locks, mut workers)) = open_burst(alloc, contents, moment) else {
+        return Err(Mem);
+    };
     let did = run_workers(rt, plan, &locks.cells, workers.as_mut_slice(), moment);
     close_burst(alloc, locks, workers, did)
 }

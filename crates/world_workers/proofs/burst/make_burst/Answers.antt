@@ -20,10 +20,10 @@ run_workers-did-requires-clause-goes g c κs within =
     let table = plan.table.now.cells.shared.table_id in
     let contents = c.args.contents in
     let b : Began = record { machine = plan.machine.now; table = table; moment = c.time-moment.result; core = contents.core; sources = contents.sources.items; tasks = contents.tasks.items } in
-    let own = c.in_ok-locks.locks.own in
-    let locks = c.in_ok-locks.locks.cells.shared.table_id in
-    let workers = c.in_ok-locks.workers in
-    let opened : IsOpened b own locks workers.items = c.in_ok-locks.ensures.opened plan.machine.now table c.requires.ready in
+    let own = c.in-Ok.locks.own in
+    let locks = c.in-Ok.locks.cells.shared.table_id in
+    let workers = c.in-Ok.workers in
+    let opened : IsOpened b own locks workers.items = c.in-Ok.ensures.opened plan.machine.now table c.requires.ready in
     subst (λ (l : List Worker). AreWorkersOf plan.machine.now table locks c.time-moment.result l) (sym c.as_mut_slice.ensures.value) (start b own locks workers.items opened)
 
 pub run_workers-did-requires-clause-fresh : goal.run_workers-did-requires-clause-fresh
@@ -32,10 +32,10 @@ run_workers-did-requires-clause-fresh g c κs within =
     let table = plan.table.now.cells.shared.table_id in
     let contents = c.args.contents in
     let b : Began = record { machine = plan.machine.now; table = table; moment = c.time-moment.result; core = contents.core; sources = contents.sources.items; tasks = contents.tasks.items } in
-    let own = c.in_ok-locks.locks.own in
-    let locks = c.in_ok-locks.locks.cells.shared.table_id in
-    let workers = c.in_ok-locks.workers in
-    let opened : IsOpened b own locks workers.items = c.in_ok-locks.ensures.opened plan.machine.now table c.requires.ready in
+    let own = c.in-Ok.locks.own in
+    let locks = c.in-Ok.locks.cells.shared.table_id in
+    let workers = c.in-Ok.workers in
+    let opened : IsOpened b own locks workers.items = c.in-Ok.ensures.opened plan.machine.now table c.requires.ready in
     subst (λ (l : List Worker). AreFresh c.time-moment.result l) (sym c.as_mut_slice.ensures.value) opened.fresh
 
 pub run_workers-did-requires-clause-short : goal.run_workers-did-requires-clause-short
@@ -44,10 +44,10 @@ run_workers-did-requires-clause-short g c κs within =
     let table = plan.table.now.cells.shared.table_id in
     let contents = c.args.contents in
     let b : Began = record { machine = plan.machine.now; table = table; moment = c.time-moment.result; core = contents.core; sources = contents.sources.items; tasks = contents.tasks.items } in
-    let own = c.in_ok-locks.locks.own in
-    let locks = c.in_ok-locks.locks.cells.shared.table_id in
-    let workers = c.in_ok-locks.workers in
-    let opened : IsOpened b own locks workers.items = c.in_ok-locks.ensures.opened plan.machine.now table c.requires.ready in
+    let own = c.in-Ok.locks.own in
+    let locks = c.in-Ok.locks.cells.shared.table_id in
+    let workers = c.in-Ok.workers in
+    let opened : IsOpened b own locks workers.items = c.in-Ok.ensures.opened plan.machine.now table c.requires.ready in
     let n = contents_count workers.items opened.passes contents.tasks.items opened.contents in
     let same : length c.as_mut_slice.result.now ≡ length workers.items = ap (λ (l : List Worker). length l) c.as_mut_slice.ensures.value in
     omega (arith, n.0, same, c.requires.few.0)
@@ -58,10 +58,10 @@ close_burst-requires g c =
     let table = plan.table.now.cells.shared.table_id in
     let contents = c.args.contents in
     let b : Began = record { machine = plan.machine.now; table = table; moment = c.time-moment.result; core = contents.core; sources = contents.sources.items; tasks = contents.tasks.items } in
-    let own = c.in_ok-locks.locks.own in
-    let locks = c.in_ok-locks.locks.cells.shared.table_id in
-    let workers = c.in_ok-locks.workers in
-    let opened : IsOpened b own locks workers.items = c.in_ok-locks.ensures.opened plan.machine.now table c.requires.ready in
+    let own = c.in-Ok.locks.own in
+    let locks = c.in-Ok.locks.cells.shared.table_id in
+    let workers = c.in-Ok.workers in
+    let opened : IsOpened b own locks workers.items = c.in-Ok.ensures.opened plan.machine.now table c.requires.ready in
     let new = c.run_workers-did.new.workers in
     let all : List Worker = take workers.len (new ++ drop (length new) workers.items) in
     let ran : HasRun b own locks all =
@@ -75,10 +75,10 @@ returns-clause-burst g c =
     let table = plan.table.now.cells.shared.table_id in
     let contents = c.args.contents in
     let b : Began = record { machine = plan.machine.now; table = table; moment = c.time-moment.result; core = contents.core; sources = contents.sources.items; tasks = contents.tasks.items } in
-    let own = c.in_ok-locks.locks.own in
-    let locks = c.in_ok-locks.locks.cells.shared.table_id in
-    let workers = c.in_ok-locks.workers in
-    let opened : IsOpened b own locks workers.items = c.in_ok-locks.ensures.opened plan.machine.now table c.requires.ready in
+    let own = c.in-Ok.locks.own in
+    let locks = c.in-Ok.locks.cells.shared.table_id in
+    let workers = c.in-Ok.workers in
+    let opened : IsOpened b own locks workers.items = c.in-Ok.ensures.opened plan.machine.now table c.requires.ready in
     let new = c.run_workers-did.new.workers in
     let all : List Worker = take workers.len (new ++ drop (length new) workers.items) in
     let ran : HasRun b own locks all =
@@ -96,10 +96,10 @@ returns-clause-ready g c =
     let table = plan.table.now.cells.shared.table_id in
     let contents = c.args.contents in
     let b : Began = record { machine = plan.machine.now; table = table; moment = c.time-moment.result; core = contents.core; sources = contents.sources.items; tasks = contents.tasks.items } in
-    let own = c.in_ok-locks.locks.own in
-    let locks = c.in_ok-locks.locks.cells.shared.table_id in
-    let workers = c.in_ok-locks.workers in
-    let opened : IsOpened b own locks workers.items = c.in_ok-locks.ensures.opened plan.machine.now table c.requires.ready in
+    let own = c.in-Ok.locks.own in
+    let locks = c.in-Ok.locks.cells.shared.table_id in
+    let workers = c.in-Ok.workers in
+    let opened : IsOpened b own locks workers.items = c.in-Ok.ensures.opened plan.machine.now table c.requires.ready in
     let new = c.run_workers-did.new.workers in
     let all : List Worker = take workers.len (new ++ drop (length new) workers.items) in
     let ran : HasRun b own locks all =
@@ -116,10 +116,10 @@ returns-clause-actors g c =
     let table = plan.table.now.cells.shared.table_id in
     let contents = c.args.contents in
     let b : Began = record { machine = plan.machine.now; table = table; moment = c.time-moment.result; core = contents.core; sources = contents.sources.items; tasks = contents.tasks.items } in
-    let own = c.in_ok-locks.locks.own in
-    let locks = c.in_ok-locks.locks.cells.shared.table_id in
-    let workers = c.in_ok-locks.workers in
-    let opened : IsOpened b own locks workers.items = c.in_ok-locks.ensures.opened plan.machine.now table c.requires.ready in
+    let own = c.in-Ok.locks.own in
+    let locks = c.in-Ok.locks.cells.shared.table_id in
+    let workers = c.in-Ok.workers in
+    let opened : IsOpened b own locks workers.items = c.in-Ok.ensures.opened plan.machine.now table c.requires.ready in
     let new = c.run_workers-did.new.workers in
     let all : List Worker = take workers.len (new ++ drop (length new) workers.items) in
     let ran : HasRun b own locks all =
