@@ -89,7 +89,7 @@ fn after_phase(phase: Phase, text: &[u8]) -> Option<(Phase, &[u8])>
 }
 
 /// Which of the phases that resume devices with a name that begins so.
-#[inline]
+#[inline(always)]
 fn resume_first(text: &[u8]) -> Option<(Phase, &[u8])>
     ensures { IfSome result (λ r. text.now ≡ phase_name r.0 ++ space ++ r.1.now) }
 {
@@ -101,7 +101,7 @@ fn resume_first(text: &[u8]) -> Option<(Phase, &[u8])>
 
 /// A phase of devices at the beginning of a text, and what follows its space. None if the text begins
 /// otherwise.
-#[inline]
+#[inline(always)]
 pub fn phase_first(text: &[u8]) -> Option<(Phase, &[u8])>
     ensures { IfSome result (λ r. text.now ≡ phase_name r.0 ++ space ++ r.1.now) }
 {

@@ -17,7 +17,7 @@ use sleep_base::cut;
 use sleep_model::{Kind, SkipCause};
 
 /// What follows the name of that device and that byte. None if the text begins otherwise.
-#[inline]
+#[inline(always)]
 fn after_device<'a>(
     machine_names: &MachineNames,
     device: u32,

@@ -15,7 +15,7 @@ use sleep_base::cut;
 use sleep_model::Kind;
 
 /// What follows the name of that source and that byte. None if the text begins otherwise.
-#[inline]
+#[inline(always)]
 fn after_source<'a>(
     machine_names: &MachineNames,
     source: u32,
@@ -35,6 +35,7 @@ fn after_source<'a>(
 }
 
 /// The source whose name and that byte a text begins with, by that name.
+#[inline(never)]
 fn source_named<'a>(
     machine_names: &MachineNames,
     text: &'a [u8],
@@ -51,6 +52,7 @@ fn source_named<'a>(
 
 /// The source whose name and that byte a text begins with, and what follows them: mostly the source that the
 /// line before names. None if the text begins otherwise.
+#[inline(always)]
 fn source_first<'a>(
     machine_names: &MachineNames,
     last: &LastNamed,
