@@ -15,11 +15,12 @@ use Rattle.sleep_model.specs.declared.progress.PhaseState.TheVariants as state
 use Rattle.sleep_model.specs.declared.progress.Work.{Work}
 use Rattle.sleep_model.specs.declared.word.EventNow.{EventNow}
 use Rattle.sleep_model.specs.Autosleep.{work_after, work_step}
+use Rattle.sleep_model.specs.Marks.{marks_after}
 use Rattle.sleep_model.specs.Devices.{callback_after, is_device, own_error_after, phase_failed_after}
 use Rattle.sleep_model.specs.Runtime.{disabled_by_late_after}
 use Rattle.sleep_model.specs.Positions.{PositionEffect, Stays, first_position, position_after, position_at, position_effect, positions_after}
 use Rattle.sleep_model.specs.PhaseStates.{ended_by, skipped_for, phase_state_after, state_at, phase_states_after}
-use Rattle.check_account.specs.Accounts.{AttemptState, TaskState, attempt_after, is_of_device, tasks_after}
+use Rattle.check_account.specs.Accounts.{AttemptState, DeviceState, TaskState, attempt_after, devices_after, is_of_device, is_of_task, tasks_after}
 use Rattle.check_account.specs.PairStates.{may_move}
 
 put_same : {A : Type 0} (xs : List A) (i : ℕ) (other : A) → slice_set xs i (slice_index_or xs i other) ≡ xs
@@ -89,6 +90,55 @@ tasks_stay_at scripts time now who _ a h = absurd (cc)
 -- an entry of a device leaves the tasks as they were
 pub tasks_stay : (scripts : List Script) (e : Entry) (a : TaskState) → is_of_device e.kind ≡ true → a ≡ tasks_after scripts e a
 tasks_stay scripts e a h = tasks_stay_at scripts e.time e.now e.actor e.kind a h
+
+-- ---- an entry of a task
+
+attempt_unmoved_at : (time : ℕ) (now : EventNow) (who : Actor) (k : Kind) (a : AttemptState) → is_of_task k ≡ true →
+    a ≡ attempt_after (record { time = time; now = now; actor = who; kind = k }) a
+attempt_unmoved_at time now who (kind.Sleep until) a h = refl
+attempt_unmoved_at time now who (kind.SleepD until) a h = refl
+attempt_unmoved_at time now who kind.Slept a h = refl
+attempt_unmoved_at time now who kind.Pass a h = refl
+attempt_unmoved_at time now who (kind.Post mark) a h = refl
+attempt_unmoved_at time now who (kind.Got mark) a h = refl
+attempt_unmoved_at time now who _ a h = absurd (cc)
+
+-- an entry of a task leaves the open attempt as it was
+pub attempt_unmoved : (e : Entry) (a : AttemptState) → is_of_task e.kind ≡ true → a ≡ attempt_after e a
+attempt_unmoved e a h = attempt_unmoved_at e.time e.now e.actor e.kind a h
+
+-- an entry of a task leaves the devices as they were
+pub devices_unmoved : (k : Kind) (d : DeviceState) → is_of_task k ≡ true → d ≡ devices_after k d
+devices_unmoved (kind.Sleep until) d h = refl
+devices_unmoved (kind.SleepD until) d h = refl
+devices_unmoved kind.Slept d h = refl
+devices_unmoved kind.Pass d h = refl
+devices_unmoved (kind.Post mark) d h = refl
+devices_unmoved (kind.Got mark) d h = refl
+devices_unmoved _ d h = absurd (cc)
+
+tasks_moved_at : (scripts : List Script) (time : ℕ) (now : EventNow) (who : Actor) (k : Kind) (a : TaskState) → is_of_task k ≡ true →
+    record a {
+      positions = positions_after who (position_effect k) a.positions;
+      raised = marks_after k a.raised;
+      work = work_after who k a.work;
+    } ≡ tasks_after scripts (record { time = time; now = now; actor = who; kind = k }) a
+tasks_moved_at scripts time now who (kind.Sleep until) a h = refl
+tasks_moved_at scripts time now who (kind.SleepD until) a h = refl
+tasks_moved_at scripts time now who kind.Slept a h = refl
+tasks_moved_at scripts time now who kind.Pass a h = refl
+tasks_moved_at scripts time now who (kind.Post mark) a h = refl
+tasks_moved_at scripts time now who (kind.Got mark) a h = refl
+tasks_moved_at scripts time now who _ a h = absurd (cc)
+
+-- an entry of a task moves only three fields of the tasks
+pub tasks_moved : (scripts : List Script) (e : Entry) (a : TaskState) → is_of_task e.kind ≡ true →
+    record a {
+      positions = positions_after e.actor (position_effect e.kind) a.positions;
+      raised = marks_after e.kind a.raised;
+      work = work_after e.actor e.kind a.work;
+    } ≡ tasks_after scripts e a
+tasks_moved scripts e a h = tasks_moved_at scripts e.time e.now e.actor e.kind a h
 
 -- ---- the open attempt
 

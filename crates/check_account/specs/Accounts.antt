@@ -115,6 +115,16 @@ is_of_device (kind.Begin p d) = true
 is_of_device (kind.End p d r) = true
 is_of_device _ = false
 
+-- an entry of a task that sleeps, passes a freeze point, or raises or takes a mark: it is of no attempt and no device (own)
+abbrev pub is_of_task : Kind → Bool
+is_of_task (kind.Sleep until) = true
+is_of_task (kind.SleepD until) = true
+is_of_task kind.Slept = true
+is_of_task kind.Pass = true
+is_of_task (kind.Post mark) = true
+is_of_task (kind.Got mark) = true
+is_of_task _ = false
+
 -- that step of the platform is owed its undo (platform_resume_end, platform_resume_finish, platform_resume_noirq)
 abbrev pub owes_by : AttemptState → PlatDo → Bool
 owes_by a down.Begin = a.begun

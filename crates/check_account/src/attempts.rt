@@ -10,7 +10,7 @@ use crate::errors::{
     callback_after, disabled_by_direct_after, disabled_by_late_after, irqs_off_after, is_device,
     owes_platform_after, own_error_after, phase_failed_after,
 };
-use crate::phase_states::is_of_device;
+use crate::phase_states::{is_of_device, is_of_task};
 use crate::stage::stage_after;
 use sleep_base::{Errno, Mem};
 use sleep_model::{Actor, Callback, Entry, EventNow, PlatDo, Sleep, Stage, pos};
@@ -143,15 +143,18 @@ impl AttemptAccount {
     }
 
     /// Passes one more entry of the journal. `Mem` if a counter has no room.
+    #[tactic(auto, using(crate::proofs::Unmoved::attempt_unmoved))]
     pub fn pass(&mut self, e: Entry) -> Result<(), Mem>
         ensures { OnOk result (self.new ≡ attempt_after e self.old) }
     {
+        if is_of_task(e.kind) {
+            return Ok(());
+        }
         if is_of_device(e.kind) {
             self.pass_device(e);
-            Ok(())
-        } else {
-            self.pass_any(e)
+            return Ok(());
         }
+        self.pass_any(e)
     }
 
     /// The time of the last jump, in ms; 0 before any.

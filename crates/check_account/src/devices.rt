@@ -4,7 +4,7 @@ use crate::flags::{
     first_statuses, move_asks, move_cpus, move_notified, move_statuses, move_stopped,
 };
 use crate::pair_states::PairStates;
-use crate::phase_states::device_of;
+use crate::phase_states::{device_of, is_of_task};
 use device_rows::Flags;
 use phase_table::Phase;
 use sleep_base::{Mem, drop_for_mem};
@@ -76,9 +76,13 @@ impl DeviceAccount {
     }
 
     /// Passes one more entry of the journal.
+    #[tactic(auto, using(crate::proofs::Unmoved::devices_unmoved))]
     pub fn pass(&mut self, kind: Kind)
         ensures { self.new ≡ devices_after kind self.old }
     {
+        if is_of_task(kind) {
+            return;
+        }
         self.pairs.pass(kind, device_of(kind));
         move_asks(&mut self.asks_direct, kind);
         move_statuses(&mut self.statuses, kind);

@@ -4,7 +4,7 @@ ghost use Rattle.std.specs.Prelude.{◌≡◌, ◌||◌, Some, IfOk, replicate};
 ghost use Rattle.phase_table.specs.Phases.{is_phase, mirror};
 ghost use Rattle.sleep_model.specs.PhaseStates.{prepared_by, ended_by, skipped_for, by_phase, phase_state_after, device_of, phase_states_after};
 ghost use Rattle.sleep_model.specs.declared.progress.PhaseState.TheVariants as state;
-ghost use Rattle.check_account.specs.Accounts.{is_of_device};
+ghost use Rattle.check_account.specs.Accounts.{is_of_device, is_of_task};
 ghost use Rattle.check_account.specs.PairStates.{may_move};
 
 use phase_table::Phase;
@@ -113,6 +113,18 @@ pub(crate) fn is_of_device(kind: Kind) -> bool
             | Kind::Schedule(..)
             | Kind::Begin(..)
             | Kind::End(..)
+    )
+}
+
+/// Whether an entry is one of a task that sleeps, passes a freeze point, or raises or takes a mark: of no
+/// attempt and no device.
+#[inline(always)]
+pub(crate) fn is_of_task(kind: Kind) -> bool
+    ensures { result ≡ is_of_task kind }
+{
+    matches!(
+        kind,
+        Kind::Sleep(_) | Kind::SleepD(_) | Kind::Slept | Kind::Pass | Kind::Post(_) | Kind::Got(_)
     )
 }
 

@@ -2,7 +2,7 @@
 
 use crate::autosleep::{holder_after, on_after, queued_after, runs_after, work_after};
 use crate::freezings::{move_freezings, none_asked, unasked};
-use crate::phase_states::is_of_device;
+use crate::phase_states::{is_of_device, is_of_task};
 use crate::positions::{first_position, move_marks, move_position};
 use sleep_base::Mem;
 use sleep_model::{Actor, Entry, Freezing, Machine, Script, ScriptPosition, Work};
@@ -65,7 +65,7 @@ impl TaskAccount {
 
     /// Passes one more entry of the journal, among the tasks of these scripts. `Mem` if a counter has no
     /// room.
-    #[tactic(auto, using(crate::proofs::Unmoved::tasks_stay))]
+    #[tactic(auto, using(crate::proofs::Unmoved::tasks_stay, crate::proofs::Unmoved::tasks_moved))]
     pub fn pass(&mut self, scripts: &[Script], e: Entry) -> Result<(), Mem>
         requires all { length self.old.freezings ≡ length scripts.now }
         requires few { length scripts.now < 2 ^ 32 }
@@ -75,12 +75,15 @@ impl TaskAccount {
         if is_of_device(e.kind) {
             return Ok(());
         }
-        self.runs = runs_after(e.kind, self.runs)?;
         move_position(&mut self.positions, e.actor, e.kind)?;
         move_marks(&mut self.raised, e.kind)?;
+        self.work = work_after(e.actor, e.kind, self.work);
+        if is_of_task(e.kind) {
+            return Ok(());
+        }
+        self.runs = runs_after(e.kind, self.runs)?;
         move_freezings(&mut self.freezings, scripts, e.actor, e.kind);
         self.queued = queued_after(e.kind, self.on, self.queued);
-        self.work = work_after(e.actor, e.kind, self.work);
         self.holder = holder_after(e.kind, e.actor, self.holder);
         self.on = on_after(e.kind, self.on);
         Ok(())

@@ -1,5 +1,5 @@
 -- The first index of a key is that of the first answer of its thing and attempt.
-use Rattle.std.proofs.Common.{◌≡◌, ◌∙◌, ℕ, zero, suc, ◌==◌, Bool, true, false, ◌&&◌, cond, if◌then◌else◌, List, [], ◌∷◌, map, slice_get, Option, Some, None, refl, sym, ap, arith, position}
+use Rattle.std.proofs.Common.{◌≡◌, ◌∙◌, ℕ, zero, suc, ◌==◌, Bool, true, false, ◌&&◌, cond, if◌then◌else◌, List, [], ◌∷◌, length, map, slice_get, Option, Some, None, refl, sym, ap, arith, position}
 use Rattle.std.specs.Prelude.{option_and_then, option_map}
 use Rattle.std.proofs.lemmas.Bool.Decides.{nat_tests}
 use Rattle.key_index.proofs.Placing.{position_cons}
@@ -63,3 +63,8 @@ found w n [] = refl
 found w n (a ∷ rest) =
     ap (option_and_then (slice_get (a ∷ rest))) (position_cons (eq-value.it (key_for w n)) (answer_key a) (map answer_key rest) ∙ ap (λ b. cond b (Some 0) (option_map suc (position (eq-value.it (key_for w n)) (map answer_key rest)))) (key_eq w a.what n a.attempt))
     ∙ by_test a rest (is_thing a.what w && is_for a.attempt n) (position (eq-value.it (key_for w n)) (map answer_key rest)) (answer_for w n rest) (found w n rest)
+
+-- a machine without answers gives none
+pub none_given : (w : What) (n : Option ℕ) (answers : List Answer) → length answers ≡ 0 → None ≡ answer_for w n answers
+none_given w n [] h = refl
+none_given w n (a ∷ rest) h = absurd (omega (arith, h))

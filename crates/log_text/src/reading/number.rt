@@ -1,7 +1,7 @@
 //! Decimal numbers of 64 and of 32 bits, read.
 ghost use Rattle.std.specs.Prelude.{◌≡◌, IfSome, true};
 ghost use Rattle.sleep_model.specs.Fits.{is_word32, is_word64};
-ghost use Rattle.log_text.specs.Cutting.{digit_after, word32, word64};
+ghost use Rattle.log_text.specs.Cutting.{digit_after, short, word32, word64};
 
 /// The number with one digit more. None if the byte is no digit, or if the number leaves 64 bits.
 fn with_digit(number: u64, byte: u8) -> Option<u64>
@@ -29,15 +29,59 @@ pub fn word64(text: &[u8]) -> Option<u64>
     Some(number)
 }
 
-/// The same of 32 bits.
-pub fn word32(text: &[u8]) -> Option<u32>
-    ensures number { result ≡ word32 text.now }
+/// The number, if it has 32 bits.
+#[inline(always)]
+pub fn short(number: u64) -> Option<u32>
+    ensures number { result ≡ short number }
+    ensures same { IfSome result (λ n. n ≡ number) }
     ensures fits { IfSome result (λ n. is_word32 n ≡ true) }
 {
-    let number = word64(text)?;
     if number <= u64::from(u32::MAX) {
         Some(number as u32)
     } else {
         None
     }
+}
+
+/// The same of 32 bits.
+pub fn word32(text: &[u8]) -> Option<u32>
+    ensures number { result ≡ word32 text.now }
+    ensures fits { IfSome result (λ n. is_word32 n ≡ true) }
+{
+    short(word64(text)?)
+}
+
+/// A number, which its type keeps in 64 bits.
+#[inline(always)]
+fn long(number: u64) -> u64
+    ensures same { result ≡ number }
+    ensures fits { is_word64 result ≡ true }
+{
+    number
+}
+
+/// What the digits that a text begins with spell, and what follows the byte after them. The caller compares
+/// the number's text: one that leaves 64 bits, or has no digit, is some other number here.
+#[inline]
+pub fn digits_first(text: &[u8]) -> Option<(u64, &[u8])>
+    ensures { IfSome result (λ r. is_word64 r.0 ≡ true) }
+{
+    let mut number = 0_u64;
+    for i in 0..text.len() {
+        let digit = text[i].wrapping_sub(b'0');
+        if digit > 9 {
+            return Some((long(number), &text[i + 1..]));
+        }
+        number = number.wrapping_mul(10).wrapping_add(u64::from(digit));
+    }
+    None
+}
+
+/// The same, if the number has 32 bits.
+#[inline]
+pub fn digits32_first(text: &[u8]) -> Option<(u32, &[u8])>
+    ensures { IfSome result (λ r. is_word32 r.0 ≡ true) }
+{
+    let (number, rest) = digits_first(text)?;
+    Some((short(number)?, rest))
 }

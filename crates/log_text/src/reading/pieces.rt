@@ -1,9 +1,12 @@
 //! Pieces at the beginning of a text.
 
-ghost use Rattle.std.specs.Prelude.{◌≡◌, ◌++◌, ◌∷◌, IfSome};
+ghost use Rattle.std.specs.Prelude.{◌≡◌, ◌++◌, ◌∷◌, IfSome, decimal, true};
 ghost use Rattle.phase_table.specs.Phases.{phase_name};
+ghost use Rattle.sleep_model.specs.Fits.{is_word32, is_word64};
 ghost use Rattle.sleep_model.specs.Text.{newline, space};
 
+use crate::reading::number::{digits_first, short};
+use crate::spelling::digits::put_decimal;
 use sleep_model::Phase;
 
 /// What follows a piece at the beginning of a text. None if the text begins otherwise.
@@ -45,6 +48,37 @@ pub fn after_last_word<'a>(text: &'a [u8], word: &str) -> Option<&'a [u8]>
     after_byte(after_piece(text, word.as_bytes())?, b'\n')
 }
 
+/// What follows that number, in its one spelling, and that byte. None if the text begins otherwise.
+#[tactic(auto, using(crate::proofs::Decimals::decimal_short))]
+fn after_number(text: &[u8], number: u64, end: u8) -> Option<&[u8]>
+    ensures { IfSome result (λ rest. text.now ≡ decimal number ++ end ∷ rest.now) }
+{
+    let mut room = [0_u8; 20];
+    let len = put_decimal(&mut room, 0, number);
+    after_byte(after_piece(text, &room[..len])?, end)
+}
+
+/// The number of 64 bits that a text begins with in its one spelling, and what follows it and that byte. None
+/// if the text begins otherwise.
+pub fn number_first(text: &[u8], end: u8) -> Option<(u64, &[u8])>
+    ensures text { IfSome result (λ r. text.now ≡ decimal r.0 ++ end ∷ r.1.now) }
+    ensures fits { IfSome result (λ r. is_word64 r.0 ≡ true) }
+{
+    let (number, _) = digits_first(text)?;
+    let rest = after_number(text, number, end)?;
+    Some((number, rest))
+}
+
+/// The same of 32 bits.
+#[inline]
+pub fn number32_first(text: &[u8], end: u8) -> Option<(u32, &[u8])>
+    ensures text { IfSome result (λ r. text.now ≡ decimal r.0 ++ end ∷ r.1.now) }
+    ensures fits { IfSome result (λ r. is_word32 r.0 ≡ true) }
+{
+    let (number, rest) = number_first(text, end)?;
+    Some((short(number)?, rest))
+}
+
 /// The phase, and what follows its name and a space. None if the text begins otherwise.
 #[inline(always)]
 fn after_phase(phase: Phase, text: &[u8]) -> Option<(Phase, &[u8])>
@@ -55,7 +89,7 @@ fn after_phase(phase: Phase, text: &[u8]) -> Option<(Phase, &[u8])>
 }
 
 /// Which of the phases that resume devices with a name that begins so.
-#[inline]
+#[inline(always)]
 fn resume_first(text: &[u8]) -> Option<(Phase, &[u8])>
     ensures { IfSome result (λ r. text.now ≡ phase_name r.0 ++ space ++ r.1.now) }
 {
@@ -67,7 +101,7 @@ fn resume_first(text: &[u8]) -> Option<(Phase, &[u8])>
 
 /// A phase of devices at the beginning of a text, and what follows its space. None if the text begins
 /// otherwise.
-#[inline]
+#[inline(always)]
 pub fn phase_first(text: &[u8]) -> Option<(Phase, &[u8])>
     ensures { IfSome result (λ r. text.now ≡ phase_name r.0 ++ space ++ r.1.now) }
 {

@@ -1,22 +1,23 @@
-//! Lines of devices and of time, of which most logs have most, read piece by piece, each compared with its
-//! one spelling.
+//! Lines of devices, of sleeping and of time, of which most logs have most, read piece by piece, each
+//! compared with its one spelling.
 
 ghost use Rattle.std.specs.Prelude.{◌≡◌, ◌++◌, ◌∷◌, IfSome, length, nat_lt, true};
-ghost use Rattle.sleep_model.specs.Fits.{fits_actor, fits_kind};
+ghost use Rattle.sleep_model.specs.Fits.{fits_kind};
 ghost use Rattle.sleep_model.specs.Text.{body, device as device_of, newline};
-ghost use Rattle.log_text.specs.Front.{maker_text};
 
-use crate::reading::cut::first_word;
-use crate::reading::entries::actor_in;
+use crate::reading::last_named::LastNamed;
 use crate::reading::machine_names::MachineNames;
-use crate::reading::pieces::{after_byte, after_last_word, after_piece, after_word, phase_first};
-use crate::spelling::fixed::{AUTO, NO_ERROR, TIME};
+use crate::reading::pieces::{
+    after_byte, after_last_word, after_piece, after_word, number_first, phase_first,
+};
+use crate::reading::quick_sources::source_kind_first;
+use crate::spelling::fixed::NO_ERROR;
 use crate::spelling::verb::Verb;
 use sleep_base::cut;
-use sleep_model::{Actor, Kind, SkipCause};
+use sleep_model::{Kind, SkipCause};
 
 /// What follows the name of that device and that byte. None if the text begins otherwise.
-#[inline]
+#[inline(always)]
 fn after_device<'a>(
     machine_names: &MachineNames,
     device: u32,
@@ -50,29 +51,45 @@ fn device_named<'a>(
     Some((device, rest))
 }
 
-/// The device whose name and that byte a text begins with, and what follows them: mostly the device that
-/// the line before names, or the next one. None if the text begins otherwise.
-fn device_first<'a>(
+/// The same, mostly one beside the device that the line before names.
+#[inline(never)]
+fn other_device_first<'a>(
     machine_names: &MachineNames,
-    last: u32,
+    last: &LastNamed,
     text: &'a [u8],
     end: u8,
 ) -> Option<(u32, &'a [u8])>
     ensures text { IfSome result (λ r. text.now ≡ device_of machine_names.now r.0 ++ end ∷ r.1.now) }
     ensures fits { IfSome result (λ r. nat_lt r.0 (length machine_names.now.devices) ≡ true) }
 {
-    if let Some(rest) = after_device(machine_names, last, text, end) {
-        return Some((last, rest));
-    }
-    let next = last.wrapping_add(1);
+    let next = last.next_device;
     if let Some(rest) = after_device(machine_names, next, text, end) {
         return Some((next, rest));
     }
-    let former = last.wrapping_sub(1);
+    let former = last.former_device;
     if let Some(rest) = after_device(machine_names, former, text, end) {
         return Some((former, rest));
     }
     device_named(machine_names, text, end)
+}
+
+/// The device whose name and that byte a text begins with, and what follows them: mostly the device that the
+/// line before names. None if the text begins otherwise.
+#[inline(always)]
+fn device_first<'a>(
+    machine_names: &MachineNames,
+    last: &LastNamed,
+    text: &'a [u8],
+    end: u8,
+) -> Option<(u32, &'a [u8])>
+    ensures text { IfSome result (λ r. text.now ≡ device_of machine_names.now r.0 ++ end ∷ r.1.now) }
+    ensures fits { IfSome result (λ r. nat_lt r.0 (length machine_names.now.devices) ≡ true) }
+{
+    let same = last.device;
+    if let Some(rest) = after_device(machine_names, same, text, end) {
+        return Some((same, rest));
+    }
+    other_device_first(machine_names, last, text, end)
 }
 
 /// A callback that begins.
@@ -80,7 +97,7 @@ fn device_first<'a>(
 #[tactic(auto, using(std::proofs::Common::append_assoc))]
 fn begin_first<'a>(
     machine_names: &MachineNames,
-    last: u32,
+    last: &LastNamed,
     text: &'a [u8],
 ) -> Option<(Kind, &'a [u8])>
     ensures text { IfSome result (λ r. text.now ≡ body machine_names.now r.0 ++ newline ++ r.1.now) }
@@ -96,7 +113,7 @@ fn begin_first<'a>(
 #[tactic(auto, using(std::proofs::Common::append_assoc))]
 fn end_first<'a>(
     machine_names: &MachineNames,
-    last: u32,
+    last: &LastNamed,
     text: &'a [u8],
 ) -> Option<(Kind, &'a [u8])>
     ensures text { IfSome result (λ r. text.now ≡ body machine_names.now r.0 ++ newline ++ r.1.now) }
@@ -112,7 +129,7 @@ fn end_first<'a>(
 #[tactic(auto, using(std::proofs::Common::append_assoc, crate::proofs::Pieces::answered_zero))]
 fn prepare_first<'a>(
     machine_names: &MachineNames,
-    last: u32,
+    last: &LastNamed,
     text: &'a [u8],
 ) -> Option<(Kind, &'a [u8])>
     ensures text { IfSome result (λ r. text.now ≡ body machine_names.now r.0 ++ newline ++ r.1.now) }
@@ -128,7 +145,7 @@ fn prepare_first<'a>(
 #[tactic(auto, using(std::proofs::Common::append_assoc))]
 fn complete_first<'a>(
     machine_names: &MachineNames,
-    last: u32,
+    last: &LastNamed,
     text: &'a [u8],
 ) -> Option<(Kind, &'a [u8])>
     ensures text { IfSome result (λ r. text.now ≡ body machine_names.now r.0 ++ newline ++ r.1.now) }
@@ -143,7 +160,7 @@ fn complete_first<'a>(
 #[tactic(auto, using(std::proofs::Common::append_assoc))]
 fn schedule_first<'a>(
     machine_names: &MachineNames,
-    last: u32,
+    last: &LastNamed,
     text: &'a [u8],
 ) -> Option<(Kind, &'a [u8])>
     ensures text { IfSome result (λ r. text.now ≡ body machine_names.now r.0 ++ newline ++ r.1.now) }
@@ -158,7 +175,7 @@ fn schedule_first<'a>(
 #[tactic(auto, using(std::proofs::Common::append_assoc))]
 fn skip_first<'a>(
     machine_names: &MachineNames,
-    last: u32,
+    last: &LastNamed,
     text: &'a [u8],
 ) -> Option<(Kind, &'a [u8])>
     ensures text { IfSome result (λ r. text.now ≡ body machine_names.now r.0 ++ newline ++ r.1.now) }
@@ -201,30 +218,51 @@ fn slept_first<'a>(machine_names: &MachineNames, text: &'a [u8]) -> Option<(Kind
     Some((Kind::Slept, rest))
 }
 
-/// A sleep ends, or a device is scheduled or passed over.
-fn slept_or_device<'a>(
+/// A sleep begins, up to a moment.
+#[tactic(auto, using(std::proofs::Common::append_assoc))]
+fn sleep_first<'a>(machine_names: &MachineNames, text: &'a [u8]) -> Option<(Kind, &'a [u8])>
+    ensures text { IfSome result (λ r. text.now ≡ body machine_names.now r.0 ++ newline ++ r.1.now) }
+    ensures fits { IfSome result (λ r. fits_kind machine_names.now r.0 ≡ true) }
+{
+    let text = after_word(text, Verb::Sleep.word())?;
+    let (until, rest) = number_first(text, b'\n')?;
+    Some((Kind::Sleep(until), rest))
+}
+
+/// A sleep begins or ends.
+fn sleep_or_slept<'a>(machine_names: &MachineNames, text: &'a [u8]) -> Option<(Kind, &'a [u8])>
+    ensures text { IfSome result (λ r. text.now ≡ body machine_names.now r.0 ++ newline ++ r.1.now) }
+    ensures fits { IfSome result (λ r. fits_kind machine_names.now r.0 ≡ true) }
+{
+    match slept_first(machine_names, text) {
+        None => sleep_first(machine_names, text),
+        found => found,
+    }
+}
+
+/// What a text begins with of a device or of sleeping, if its first byte is an `s`.
+fn kind_with_s<'a>(
     machine_names: &MachineNames,
-    last: u32,
+    last: &LastNamed,
     text: &'a [u8],
 ) -> Option<(Kind, &'a [u8])>
     ensures text { IfSome result (λ r. text.now ≡ body machine_names.now r.0 ++ newline ++ r.1.now) }
     ensures fits { IfSome result (λ r. fits_kind machine_names.now r.0 ≡ true) }
 {
-    match slept_first(machine_names, text) {
-        None => match schedule_first(machine_names, last, text) {
-            None => skip_first(machine_names, last, text),
-            found => found,
-        },
-        found => found,
+    match text.get(1) {
+        Some(b'l') => sleep_or_slept(machine_names, text),
+        Some(b'c') => schedule_first(machine_names, last, text),
+        Some(b'k') => skip_first(machine_names, last, text),
+        _ => None,
     }
 }
 
-/// What a text begins with of a device, of a phase of devices or of time, and what follows its line.
-/// None also for what few lines have, as an error.
+/// What a text begins with of a device, of a phase of devices, of sleeping or of time, and what follows its
+/// line. None also for what few lines have, as an error.
 #[inline]
-pub fn kind_first<'a>(
+fn device_kind_first<'a>(
     machine_names: &MachineNames,
-    last: u32,
+    last: &LastNamed,
     text: &'a [u8],
 ) -> Option<(Kind, &'a [u8])>
     ensures text { IfSome result (λ r. text.now ≡ body machine_names.now r.0 ++ newline ++ r.1.now) }
@@ -236,67 +274,26 @@ pub fn kind_first<'a>(
         Some(b'e') => end_first(machine_names, last, text),
         Some(b'p') => prepare_first(machine_names, last, text),
         Some(b'c') => complete_first(machine_names, last, text),
-        Some(b's') => slept_or_device(machine_names, last, text),
+        Some(b's') => kind_with_s(machine_names, last, text),
         Some(b'd') => done_first(machine_names, text),
         Some(b'j') => jump_first(machine_names, text),
         _ => None,
     }
 }
 
-/// What follows that actor and a space. None also for an actor whose text is not ready.
+/// What most lines say at the beginning of a text: something of a device, of sleeping or time, or of a
+/// source.
 #[inline]
-fn after_actor<'a>(machine_names: &MachineNames, who: Actor, text: &'a [u8]) -> Option<&'a [u8]>
-    ensures { IfSome result (λ rest. text.now ≡ maker_text machine_names.now who ++ rest.now) }
-{
-    if let Some(maker) = machine_names.names().maker(who) {
-        return after_piece(text, maker.as_bytes());
-    }
-    match who {
-        Actor::Auto => after_word(text, AUTO),
-        Actor::Time => after_word(text, TIME),
-        _ => None,
-    }
-}
-
-/// Whether an actor is the machine's.
-fn is_there(machine_names: &MachineNames, who: Actor) -> bool
-    ensures { result ≡ fits_actor machine_names.now who }
-{
-    let machine = machine_names.machine();
-    match who {
-        Actor::Script(script) => (script as usize) < machine.actors.len(),
-        Actor::Dev(device) => (device as usize) < machine.devices.len(),
-        Actor::Timer(source) => source as usize <= machine.sources.len(),
-        Actor::Auto | Actor::Time => true,
-    }
-}
-
-/// Who makes an entry, by the name.
-fn actor_named<'a>(machine_names: &MachineNames, text: &'a [u8]) -> Option<(Actor, &'a [u8])>
-    ensures text { IfSome result (λ r. text.now ≡ maker_text machine_names.now r.0 ++ r.1.now) }
-    ensures fits { IfSome result (λ r. fits_actor machine_names.now r.0 ≡ true) }
-{
-    let (name, _) = first_word(text);
-    let who = actor_in(machine_names, name)?;
-    let rest = after_actor(machine_names, who, text)?;
-    Some((who, rest))
-}
-
-/// Who makes an entry, and what follows the actor and a space: mostly who made the entry before. None if
-/// the text begins otherwise, and for some actors that seldom make one.
-#[inline]
-pub fn actor_first<'a>(
+pub fn kind_first<'a>(
     machine_names: &MachineNames,
-    last: Actor,
+    last: &LastNamed,
     text: &'a [u8],
-) -> Option<(Actor, &'a [u8])>
-    ensures text { IfSome result (λ r. text.now ≡ maker_text machine_names.now r.0 ++ r.1.now) }
-    ensures fits { IfSome result (λ r. fits_actor machine_names.now r.0 ≡ true) }
+) -> Option<(Kind, &'a [u8])>
+    ensures text { IfSome result (λ r. text.now ≡ body machine_names.now r.0 ++ newline ++ r.1.now) }
+    ensures fits { IfSome result (λ r. fits_kind machine_names.now r.0 ≡ true) }
 {
-    if is_there(machine_names, last) {
-        if let Some(rest) = after_actor(machine_names, last, text) {
-            return Some((last, rest));
-        }
+    match device_kind_first(machine_names, last, text) {
+        None => source_kind_first(machine_names, last, text),
+        found => found,
     }
-    actor_named(machine_names, text)
 }

@@ -10,19 +10,20 @@ ghost use Rattle.log_text.specs.Cutting.{without_last};
 ghost use Rattle.log_text.specs.Grammar.{lines, IsBadEntry, IsBadSource, IsEntryLine, IsSourceLine, IsStuckLine};
 ghost use Rattle.log_text.specs.Named.{AreNamed};
 
-use crate::reading::cut::first_word;
 use crate::reading::ends::{stats_in, waiting_in};
-use crate::reading::entries::{entry_in, now_in};
+use crate::reading::entries::entry_in;
 use crate::reading::kinds::kind_in;
+use crate::reading::last_named::{DeviceOrder, LastNamed};
 use crate::reading::lines::first_line;
 use crate::reading::machine_names::MachineNames;
-use crate::reading::number::word64;
+use crate::reading::number::{digits_first, digits32_first};
 use crate::reading::pieces::after_piece;
-use crate::reading::quick::{actor_first, kind_first};
+use crate::reading::quick::kind_first;
+use crate::reading::quick_actors::actor_first;
 use crate::spelling::front::LineFront;
 use crate::writing::writer::{LineWriter, put_entry, put_entry_text, put_source, put_waiting};
 use sleep_base::Mem;
-use sleep_model::{Actor, Entry, Kind, Stats, Waiting};
+use sleep_model::{Entry, EventNow, Kind, Stats, Waiting};
 use std::alloc::Global;
 
 /// All but the last byte.
@@ -32,18 +33,13 @@ fn without_last(text: &[u8]) -> &[u8]
     &text[..text.len().saturating_sub(1)]
 }
 
-/// The device that an entry of a phase names, for others that of those before.
+/// The word that a text begins with. The caller compares its text.
 #[inline]
-fn device_of(kind: Kind, before: u32) -> u32 {
-    match kind {
-        Kind::Prepare { device, .. }
-        | Kind::Complete(device)
-        | Kind::Schedule(_, device)
-        | Kind::Begin(_, device)
-        | Kind::End(_, device, _)
-        | Kind::Skip(_, device, _) => device,
-        _ => before,
-    }
+fn word_first(text: &[u8]) -> Option<EventNow> {
+    let (inpr, rest) = digits32_first(text)?;
+    let (count, rest) = digits32_first(rest)?;
+    let (hard, _) = digits32_first(rest)?;
+    Some(EventNow { inpr, count, hard })
 }
 
 /// Reads lines of a machine's log, each for itself.
@@ -51,21 +47,21 @@ fn device_of(kind: Kind, before: u32) -> u32 {
 pub struct LineReader {
     spelled: LineWriter,
     front: LineFront,
-    // Who made the last entry that was read, and the last device that one named.
-    actor: Actor,
-    device: u32,
+    last: LastNamed,
+    order: DeviceOrder,
 }
 
 impl LineReader {
-    /// A reader of lines.
-    pub fn new(alloc: Global) -> Result<Self, Mem> {
+    /// A reader of lines. `Mem` if there is no memory for it.
+    pub fn new(alloc: Global, machine_names: &MachineNames) -> Result<Self, Mem> {
+        let order = DeviceOrder::new(alloc, machine_names.machine().devices.len())?;
         let front = LineFront::start();
         let spelled = LineWriter::with_room(alloc, 0)?;
         Ok(LineReader {
             spelled,
             front,
-            actor: Actor::Auto,
-            device: 0,
+            last: LastNamed::first(),
+            order,
         })
     }
 
@@ -109,10 +105,8 @@ impl LineReader {
         if let Some(rest) = after_piece(text, self.front.text().as_bytes()) {
             return Some(rest);
         }
-        let (time, rest) = first_word(text);
-        let (now, _) = first_word(rest);
-        let time = word64(time)?;
-        let now = now_in(now)?;
+        let (time, rest) = digits_first(text)?;
+        let now = word_first(rest)?;
         self.front.move_to(time, now);
         after_piece(text, self.front.text().as_bytes())
     }
@@ -132,6 +126,7 @@ impl LineReader {
     }
 
     /// What a text begins with, to the end of its line, and what follows it. None if it is nothing.
+    #[inline(never)]
     #[tactic(auto, using(crate::proofs::Readable::same_bytes))]
     fn other_first<'a>(
         &mut self,
@@ -160,6 +155,7 @@ impl LineReader {
 
     /// What a text begins with, to the end of its line, and what follows it: mostly something of a
     /// device.
+    #[inline(always)]
     fn first_of_text<'a>(
         &mut self,
         machine_names: &MachineNames,
@@ -168,16 +164,18 @@ impl LineReader {
         ensures text { IfOk result (λ o. IfSome o (λ r. text.now ≡ body machine_names.now r.0 ++ newline ++ r.1.now)) }
         ensures fits { IfOk result (λ o. IfSome o (λ r. fits_kind machine_names.now r.0 ≡ true)) }
     {
-        match kind_first(machine_names, self.device, text) {
+        let last = self.last;
+        match kind_first(machine_names, &last, text) {
             None => self.other_first(machine_names, text),
             Some((kind, rest)) => {
-                self.device = device_of(kind, self.device);
+                self.last = self.order.with_kind(last, kind);
                 Ok(Some((kind, rest)))
             }
         }
     }
 
     /// The entry of a text's first line after its front, and what follows the line.
+    #[inline(always)]
     #[tactic(auto, using(crate::proofs::NextEntry::entry_injective))]
     fn made_first<'a>(
         &mut self,
@@ -189,10 +187,11 @@ impl LineReader {
         ensures fits { IfOk result (λ o. IfSome o (λ r. fits_entry machine_names.now r.0 ≡ true)) }
     {
         let (time, now) = (self.front.time(), self.front.word());
-        let Some((actor, entry_text)) = actor_first(machine_names, self.actor, text) else {
+        let last = self.last;
+        let Some((actor, entry_text)) = actor_first(machine_names, &last, text) else {
             return Ok(None);
         };
-        self.actor = actor;
+        self.last = self.order.with_actor(last, actor);
         match self.first_of_text(machine_names, entry_text)? {
             None => Ok(None),
             Some((kind, rest)) => Ok(Some((
@@ -209,6 +208,7 @@ impl LineReader {
 
     /// The entry of a text's first line, and what follows the line, read at one go. None also for some
     /// lines that few logs have.
+    #[inline(always)]
     fn entry_first<'a>(
         &mut self,
         machine_names: &MachineNames,
@@ -227,6 +227,7 @@ impl LineReader {
     }
 
     /// The same by the whole line, also for lines that few logs have. None if it is no entry's.
+    #[inline(never)]
     #[tactic(auto, using(crate::proofs::NextEntry::no_entry_next))]
     fn entry_of_line<'a>(
         &mut self,
@@ -247,6 +248,7 @@ impl LineReader {
     }
 
     /// The entry of a text's first line, and what follows the line. None if it is no entry's.
+    #[inline(always)]
     pub fn next_entry<'a>(
         &mut self,
         machine_names: &MachineNames,
