@@ -1,3 +1,4 @@
+pub mod Digits
 pub mod Looks
 pub mod MembersNamed
 pub mod Ranges
