@@ -227,6 +227,13 @@ fits_actors d h =
     all_both FitsScript is_actor_form own_name fits_script (list_in (codes "actors") d)
     (each_item (codes "actors") is_actor_form d forms.1.1.1.1.1.0) (each_item (codes "actors") own_name d spelled.1.1.1.1.1.0)
 
+-- and its answers have room
+pub fits_answers : (d : Data) → broken_form d ≡ None → All FitsAnswer (list_in (codes "answers") d)
+unfolding broken_form
+fits_answers d h =
+    let forms : EachList d (item_forms (is_second d)) = each_list d (item_forms (is_second d)) (keeps_all form_rules d h).1.1.1.0 in
+    all_of FitsAnswer is_answer_form fits_answer (list_in (codes "answers") d) (each_item (codes "answers") is_answer_form d forms.1.1.1.1.1.1.0)
+
 -- a file that breaks no rule has room
 pub fits_file : (d : Data) → first_broken d ≡ None → FitsFile d
 fits_file d h =
@@ -253,5 +260,4 @@ fits_file d h =
       sources = all_passed IsShort text_of spells_name short_text (list_in (codes "sources") d) (each_item (codes "sources") spells_name d spelled.1.1.1.1.0);
       marks = all_of IsShort is_name short_spelled (whole_marks d) (first_pass is_name [] marks refl (all_marks (is_second d) actors scripts));
       few_marks = omega (arith, all, first, steps);
-      answers = all_of FitsAnswer is_answer_form fits_answer (list_in (codes "answers") d) (each_item (codes "answers") is_answer_form d forms.1.1.1.1.1.1.0);
     }

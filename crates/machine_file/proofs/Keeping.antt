@@ -50,7 +50,7 @@ each_pass test other h n (a ∷ actors) e =
     ∙ each_pass test other h (suc n) actors both.1
 
 -- where each operation of each script passes, there is no first one that does not
-none_in_script : (p : Data → Bool) (os : List Data) → list_all p os ≡ true → first_not p os ≡ None
+pub none_in_script : (p : Data → Bool) (os : List Data) → list_all p os ≡ true → first_not p os ≡ None
 none_in_script p [] e = refl
 none_in_script p (o ∷ os) e =
     let both = and_parts (p o) (list_all p os) e in
@@ -105,7 +105,7 @@ operations_valid file e =
 
 -- ---- each rule, and all of them
 
-both_tests : (p q : Data → Bool) (os : List Data) → list_all p os ≡ true → list_all q os ≡ true → list_all (λ o. p o && q o) os ≡ true
+pub both_tests : (p q : Data → Bool) (os : List Data) → list_all p os ≡ true → list_all q os ≡ true → list_all (λ o. p o && q o) os ≡ true
 both_tests p q [] e f = refl
 both_tests p q (o ∷ os) e f =
     let one = and_parts (p o) (list_all p os) e in

@@ -5,6 +5,7 @@ pub mod Placing
 pub mod Pairing
 mod Registering
 mod Keeping
+mod KeptAnswers
 pub mod Answered
 pub mod Cycling
 pub mod Freshly

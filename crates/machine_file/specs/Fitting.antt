@@ -48,4 +48,3 @@ pub record FitsFile (d : Data) : Type 0 where
   pub sources : All IsShort (sources_named d)
   pub marks : All IsShort (whole_marks d)
   pub few_marks : length (whole_marks d) ≤ 200000
-  pub answers : All FitsAnswer (list_in (codes "answers") d)

@@ -17,7 +17,7 @@ ghost use Rattle.machine_file.specs.Rules.{has_version};
 ghost use Rattle.machine_file.specs.Operations.{unformed_operation, sourceless_operation, deviceless_operation};
 ghost use Rattle.machine_file.specs.Answering.{sourceless_report, thingless_answer};
 ghost use Rattle.machine_file.specs.Places.{unless};
-ghost use Rattle.machine_file.specs.Groups.{form_rules, end_rules, thing_rules, operation_rules, answer_rules};
+ghost use Rattle.machine_file.specs.Groups.{form_rules, end_rules, thing_rules, operation_rules, reply_rules, last_rules};
 ghost use Rattle.machine_file.specs.Knows.{Knows};
 ghost use Rattle.machine_file.specs.Seen.{AreEnds, AreNumbersOf};
 ghost use Rattle.machine_file.specs.Broken.{place_of, broken_view};
@@ -149,7 +149,7 @@ fn deviceless_operation(tree: &Value<'_>, known: &Known<'_>) -> Option<Place>
     first_operation(OperationTest::Device, known, tree)
 }
 
-pub(crate) fn sourceless_report(tree: &Value<'_>, known: &Known<'_>) -> Option<Place>
+fn sourceless_report(tree: &Value<'_>, known: &Known<'_>) -> Option<Place>
     requires { Knows known.now (view tree.now) }
     ensures { place_of result ≡ sourceless_report (view tree.now) }
 {
@@ -185,19 +185,23 @@ pub(crate) fn operation_broken(tree: &Value<'_>, known: &Known<'_>) -> Option<Br
     form.or(maker).or(source).or(device)
 }
 
-/// The first rule of answers, or of how much may happen, that is broken.
-pub(crate) fn answer_broken(
-    alloc: Global,
-    tree: &Value<'_>,
-    known: &Known<'_>,
-) -> Result<Option<Broken>, Mem>
+/// The first rule of the sources of reports, and of answers, that is broken.
+pub(crate) fn reply_broken(tree: &Value<'_>, known: &Known<'_>) -> Option<Broken>
     requires { Knows known.now (view tree.now) }
-    ensures { IfOk result (λ b. option_map broken_view b ≡ first_of answer_rules (view tree.now)) }
+    ensures { option_map broken_view result ≡ first_of reply_rules (view tree.now) }
 {
-    let again = breaks(23, repeated_answer(alloc, tree)?);
+    let source = breaks(18, sourceless_report(tree, known));
     let thing = breaks(20, thingless_answer(tree, known));
     let ret = breaks(21, first_answer(AnswerTest::Ret, known, tree));
     let reports = breaks(22, first_answer(AnswerTest::Reports, known, tree));
+    source.or(thing).or(ret).or(reports)
+}
+
+/// The first rule of answers that come again, or of how much may happen, that is broken.
+pub(crate) fn last_broken(alloc: Global, tree: &Value<'_>) -> Result<Option<Broken>, Mem>
+    ensures { IfOk result (λ b. option_map broken_view b ≡ first_of last_rules (view tree.now)) }
+{
+    let again = breaks(23, repeated_answer(alloc, tree)?);
     let much = breaks(24, too_much(tree));
-    Ok(thing.or(ret).or(reports).or(again).or(much))
+    Ok(again.or(much))
 }
