@@ -7,14 +7,16 @@ pub(crate) mod limits;
 pub(crate) mod operations;
 pub(crate) mod pairs;
 
-ghost use Rattle.std.specs.Prelude.{◌≡◌, option_map, codes, IfOk};
+ghost use Rattle.std.specs.Prelude.{◌≡◌, ◌≤◌, None, length, nat_lt, option_map, codes, IfOk};
 ghost use Rattle.borrowed_json.specs.View.{view};
 ghost use Rattle.machine_file.specs.Whole.{broken_at, first_of};
 ghost use Rattle.borrowed_json.specs.Look.{has_only};
 ghost use Rattle.std.specs.Option.{option_or};
 ghost use Rattle.machine_file.specs.Members.{file_members};
 ghost use Rattle.machine_file.specs.Rules.{has_version};
-ghost use Rattle.machine_file.specs.Operations.{unformed_operation, sourceless_operation, deviceless_operation};
+ghost use Rattle.machine_file.specs.Limits.{too_much};
+ghost use Rattle.machine_file.specs.Operations.{unformed_operation, sourceless_operation, deviceless_operation, whole_scripts};
+ghost use Rattle.machine_file.specs.ValidFiles.{broken_form};
 ghost use Rattle.machine_file.specs.Answering.{sourceless_report, thingless_answer};
 ghost use Rattle.machine_file.specs.Places.{unless};
 ghost use Rattle.machine_file.specs.Groups.{form_rules, end_rules, thing_rules, operation_rules, reply_rules, last_rules};
@@ -26,12 +28,13 @@ use crate::names::known::{Known, repeated, repeated_callback, repeated_source};
 use crate::rules::answers::{AnswerTest, first_answer, repeated_answer};
 use crate::rules::form::unformed_member;
 use crate::rules::items::{is_second, misspelled_item, unformed_item};
-use crate::rules::limits::{too_many, too_much};
+use crate::rules::limits::{MOST_STEPS, too_many, too_much};
 use crate::rules::operations::{OperationTest, first_operation};
 use crate::rules::pairs::{EndNumbers, LinkEnds, loose_link, repeated_link};
 use crate::value::place::{Member, Place};
 use borrowed_json::{Value, has_number, has_only};
 use sleep_base::Mem;
+use sleep_model::Script;
 use std::alloc::Global;
 
 // The members of a machine file.
@@ -197,11 +200,44 @@ pub(crate) fn reply_broken(tree: &Value<'_>, known: &Known<'_>) -> Option<Broken
     source.or(thing).or(ret).or(reports)
 }
 
-/// The first rule of answers that come again, or of how much may happen, that is broken.
-pub(crate) fn last_broken(alloc: Global, tree: &Value<'_>) -> Result<Option<Broken>, Mem>
+/// Whether more marks are named than a machine makes steps.
+fn names_many_marks(known: &Known<'_>) -> bool
+    ensures { result ≡ nat_lt 200000 (length known.now.marks) }
+{
+    known.marks.keys().len() as u64 > MOST_STEPS
+}
+
+/// The place at which too much may happen in a file with these scripts. Each mark is named by a step, so there
+/// are too many steps if there are too many marks.
+fn too_much_with(tree: &Value<'_>, known: &Known<'_>, scripts: &[Script]) -> Option<Place>
+    requires form { broken_form (view tree.now) ≡ None }
+    requires operations { unformed_operation (view tree.now) ≡ None }
+    requires knows { Knows known.now (view tree.now) }
+    requires scripts { length known.now.marks ≤ 200000 → scripts.now ≡ whole_scripts (view tree.now) }
+    ensures { place_of result ≡ too_much (view tree.now) }
+{
+    if names_many_marks(known) {
+        Some(Place::Member(Member::Actors))
+    } else {
+        too_much(tree, scripts)
+    }
+}
+
+/// The first rule of answers that come again, or of how much may happen, that is broken in a file with these
+/// scripts.
+pub(crate) fn last_broken(
+    alloc: Global,
+    tree: &Value<'_>,
+    known: &Known<'_>,
+    scripts: &[Script],
+) -> Result<Option<Broken>, Mem>
+    requires form { broken_form (view tree.now) ≡ None }
+    requires operations { unformed_operation (view tree.now) ≡ None }
+    requires knows { Knows known.now (view tree.now) }
+    requires scripts { length known.now.marks ≤ 200000 → scripts.now ≡ whole_scripts (view tree.now) }
     ensures { IfOk result (λ b. option_map broken_view b ≡ first_of last_rules (view tree.now)) }
 {
     let again = breaks(23, repeated_answer(alloc, tree)?);
-    let much = breaks(24, too_much(tree));
+    let much = breaks(24, too_much_with(tree, known, scripts));
     Ok(again.or(much))
 }

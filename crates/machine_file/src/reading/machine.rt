@@ -12,7 +12,7 @@ ghost use Rattle.machine_file.specs.ValidFiles.{IsSound, SpellsBehaviour, first_
 ghost use Rattle.machine_file.specs.Seen.{AreEnds, AreNumbersOf};
 ghost use Rattle.machine_file.specs.Broken.{broken_view};
 ghost use Rattle.machine_file.specs.Whole.{first_of};
-ghost use Rattle.machine_file.specs.Groups.{reply_rules};
+ghost use Rattle.machine_file.specs.Groups.{last_rules, reply_rules};
 ghost use Rattle.machine_file.specs.Knows.{SpellsScripts};
 
 use crate::fault::Stop;
@@ -149,6 +149,34 @@ fn behaviour_in(
     }
 }
 
+/// These scripts and answers of a file, of which each keeps the rules on one operation or answer, or the first
+/// of the last rules that is broken.
+fn unless_last_broken(
+    alloc: Global,
+    tree: &Value<'_>,
+    known: &Known<'_>,
+    behaviour: Behaviour,
+) -> Result<Result<Behaviour, Broken>, Mem>
+    requires form { broken_form (view tree.now) ≡ None }
+    requires knows { Knows known.now (view tree.now) }
+    requires spelled { SpellsBehaviour (view tree.now) known.now behaviour }
+    requires unbroken { broken_behaviour (view tree.now) ≡ None }
+    ensures spelled { IfOk result (λ r. IfOk r (SpellsBehaviour (view tree.now) known.now)) }
+    ensures unbroken { IfOk result (λ r. IfOk r (λ _. first_of last_rules (view tree.now) ≡ None)) }
+    ensures broken { IfOk result (λ r. IfErr r (λ b. first_of last_rules (view tree.now) ≡ Some (broken_view b))) }
+{
+    let Ok(last) = last_broken(alloc, tree, known, &behaviour.scripts) else {
+        return Err(drop_for_mem(behaviour));
+    };
+    match last {
+        Some(broken) => {
+            drop(behaviour);
+            Ok(Err(broken))
+        }
+        None => Ok(Ok(behaviour)),
+    }
+}
+
 /// The scripts and the answers of a file, or the first rule after those on links that is broken.
 #[tactic(auto, unfolding(crate::specs::ValidFiles::broken_rest))]
 fn rest_in(
@@ -165,15 +193,8 @@ fn rest_in(
     if let Some(broken) = thing_broken(alloc, tree, known)? {
         return Ok(Err(broken));
     }
-    let last = last_broken(alloc, tree)?;
     match behaviour_in(alloc, tree, known)? {
-        Ok(behaviour) => match last {
-            Some(broken) => {
-                drop(behaviour);
-                Ok(Err(broken))
-            }
-            None => Ok(Ok(behaviour)),
-        },
+        Ok(behaviour) => unless_last_broken(alloc, tree, known, behaviour),
         Err(broken) => Ok(Err(broken)),
     }
 }
