@@ -19,7 +19,7 @@ use Rattle.machine_file.specs.Rules.{is_second}
 use Rattle.sleep_model.specs.NameBytes.{is_name}
 use Rattle.machine_file.specs.Operations.{is_formed, marks_of, first_occurrences, unformed_operation, whole_marks}
 use Rattle.machine_file.specs.Limits.{times_of, repeat_of, times_if, script_steps, all_steps, most_attempts, are_links_few, are_reports_few, too_much}
-use Rattle.machine_file.specs.Places.{unless}
+use Rattle.machine_file.specs.Places.{first_item, unless}
 use Rattle.machine_file.specs.Whole.{rules, first_broken}
 use Rattle.machine_file.specs.Fitting.{IsShort, HasShortName, FitsAt, FitsNotifier, FitsScript, HasPlainRet, FitsAnswer, FitsFile}
 use Rattle.machine_file.specs.Groups.{form_rules}
@@ -212,14 +212,11 @@ fits_answer a e =
 device_name : (d : Data) → names_of_device d ≡ true → HasShortName d
 device_name d e = record { name = short_name d (and_parts (must_have (codes "name") spells_name d) (may_have (codes "parent") spells_name d) e).0 }
 
--- the devices of a file that keeps the rules on form have short names
-pub fits_devices : (d : Data) → broken_form d ≡ None → All HasShortName (list_in (codes "devices") d)
-unfolding broken_form
-fits_devices d h =
-    let spelled : EachList d item_names = each_list d item_names (keeps_all form_rules d h).1.1.1.1.1.0 in
-    all_of HasShortName names_of_device device_name (list_in (codes "devices") d) (each_item (codes "devices") names_of_device d spelled.0)
+-- devices whose names are spelled as names are have short names
+pub short_devices : (d : Data) → first_item (codes "devices") names_of_device d ≡ None → All HasShortName (list_in (codes "devices") d)
+short_devices d e = all_of HasShortName names_of_device device_name (list_in (codes "devices") d) (each_item (codes "devices") names_of_device d e)
 
--- so have its actors
+-- the actors of a file that keeps the rules on form have room
 pub fits_actors : (d : Data) → broken_form d ≡ None → All FitsScript (list_in (codes "actors") d)
 unfolding broken_form
 fits_actors d h =

@@ -80,7 +80,7 @@ pub record FewItems (d : Data) : Type 0 where
   pub notifiers : length (list_in (codes "notifiers") d) ≤ 32
   pub sources : length (list_in (codes "sources") d) ≤ 255
 
-few_items : (d : Data) → too_many d ≡ None → FewItems d
+pub few_items : (d : Data) → too_many d ≡ None → FewItems d
 few_items d e =
     let fits = λ (r : Named ℕ). nat_le (length (list_in r.name d)) r.is in
     let one = valid_row fits (row (codes "devices") 1000) (drop 1 most_items) e in

@@ -51,7 +51,7 @@ answers_kept k file answers h e =
 
 -- ---- all of them, and each rule
 
-weaker : (p q : Data → Bool) → ((a : Data) → p a ≡ true → q a ≡ true) → (ds : List Data) → list_all p ds ≡ true → list_all q ds ≡ true
+pub weaker : (p q : Data → Bool) → ((a : Data) → p a ≡ true → q a ≡ true) → (ds : List Data) → list_all p ds ≡ true → list_all q ds ≡ true
 weaker p q h [] e = refl
 weaker p q h (d ∷ ds) e = let both = and_parts (p d) (list_all p ds) e in and_from (q d) (list_all q ds) (h d both.0) (weaker p q h ds both.1)
 

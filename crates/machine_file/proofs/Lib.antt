@@ -6,6 +6,7 @@ pub mod Pairing
 mod Registering
 mod Keeping
 mod KeptAnswers
+mod KeptLinks
 pub mod Answered
 pub mod Cycling
 pub mod Freshly

@@ -15,6 +15,11 @@ pub record IsShort (name : List ℕ) : Type 0 where
 pub record HasShortName (d : Data) : Type 0 where
   pub name : IsShort (name_of d)
 
+-- few devices, with such names
+pub record HasDevices (d : Data) : Type 0 where
+  pub few : length (list_in (codes "devices") d) ≤ 1000
+  pub short : All HasShortName (list_in (codes "devices") d)
+
 -- the whole number at a member, if there is one, has 32 bits
 pub record FitsAt (name : List ℕ) (d : Data) : Type 0 where
   pub below : IfSome (number_at name d) (λ n. n < 4294967296)

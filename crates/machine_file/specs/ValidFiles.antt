@@ -1,5 +1,5 @@
 -- The rules of a file by groups, and a file that keeps them.
-use Rattle.std.specs.Prelude.{◌≡◌, Option, None, reverse}
+use Rattle.std.specs.Prelude.{◌≡◌, Bool, Option, None, is_none, reverse}
 use Rattle.std.specs.Option.{option_or, option_map}
 use Rattle.serde_json.specs.Data.{Data}
 use Rattle.sleep_model.specs.Order.{parents_of}
@@ -10,11 +10,16 @@ use Rattle.machine_file.specs.Answering.{whole_answers}
 use Rattle.machine_file.specs.Devices.{whole_devices, whole_links, cyclic_link}
 use Rattle.machine_file.specs.Whole.{Broken, first_of, broken_at}
 use Rattle.machine_file.specs.Groups.{form_rules, device_rules, end_rules, thing_rules, operation_rules, answer_rules, last_rules}
+use Rattle.machine_file.specs.Kept.{head_rules}
 use Rattle.machine_file.specs.Knows.{Knows, AreFew, SpellsScripts}
 
 -- the first rule on form that is broken
 unfoldable pub broken_form : Data → Option Broken
 broken_form d = first_of form_rules d
+
+-- the first of them that is broken, but for links
+unfoldable pub broken_head : Data → Option Broken
+broken_head d = first_of head_rules d
 
 -- the first rule on devices that is broken
 unfoldable pub broken_devices : Data → Option Broken
@@ -39,6 +44,10 @@ broken_rest d = option_or (option_or (first_of thing_rules d) (broken_behaviour 
 -- the first rule that is broken
 abbrev pub first_in_order : Data → Option Broken
 first_in_order d = option_or (broken_form d) (option_or (broken_devices d) (option_or (broken_ends d) (option_or (broken_cycle d) (broken_rest d))))
+
+-- no rule is broken
+abbrev pub keeps_rules : Data → Bool
+keeps_rules d = is_none (first_in_order d)
 
 -- no rule is broken, the names are known and few, the links are added, and the scripts and the answers are read
 pub record IsSound (file : Data) (k : Known) (p : Parts) : Type 0 where

@@ -1,6 +1,7 @@
 //! The rules of a machine file, in the order in which a broken one is named.
 pub(crate) mod answers;
 pub(crate) mod cycles;
+pub(crate) mod first;
 pub(crate) mod form;
 pub(crate) mod items;
 pub(crate) mod limits;
@@ -20,6 +21,7 @@ ghost use Rattle.machine_file.specs.ValidFiles.{broken_form};
 ghost use Rattle.machine_file.specs.Answering.{sourceless_report, thingless_answer};
 ghost use Rattle.machine_file.specs.Places.{unless};
 ghost use Rattle.machine_file.specs.Groups.{form_rules, end_rules, thing_rules, operation_rules, reply_rules, last_rules};
+ghost use Rattle.machine_file.specs.Kept.{head_rules};
 ghost use Rattle.machine_file.specs.Knows.{Knows};
 ghost use Rattle.machine_file.specs.Seen.{AreEnds, AreNumbersOf};
 ghost use Rattle.machine_file.specs.Broken.{place_of, broken_view};
@@ -27,7 +29,9 @@ ghost use Rattle.machine_file.specs.Broken.{place_of, broken_view};
 use crate::names::known::{Known, repeated, repeated_callback, repeated_source};
 use crate::rules::answers::{AnswerTest, first_answer, repeated_answer};
 use crate::rules::form::unformed_member;
-use crate::rules::items::{is_second, misspelled_item, unformed_item};
+use crate::rules::items::{
+    is_second, misspelled_item, other_misspelled, other_unformed, unformed_item,
+};
 use crate::rules::limits::{MOST_STEPS, too_many, too_much};
 use crate::rules::operations::{OperationTest, first_operation};
 use crate::rules::pairs::{EndNumbers, LinkEnds, loose_link, repeated_link};
@@ -99,6 +103,18 @@ pub(crate) fn form_broken(tree: &Value<'_>) -> Option<Broken>
         .or(breaks(5, unformed_item(tree)))
         .or(breaks(6, too_many(tree)))
         .or(breaks(7, misspelled_item(tree)))
+}
+
+/// The first of them that is broken, but for links.
+pub(crate) fn head_broken(tree: &Value<'_>) -> Option<Broken>
+    ensures { option_map broken_view result ≡ first_of head_rules (view tree.now) }
+{
+    breaks(2, top(tree))
+        .or(breaks(3, version(tree)))
+        .or(breaks(4, unformed_member(tree)))
+        .or(breaks(5, other_unformed(tree)))
+        .or(breaks(6, too_many(tree)))
+        .or(breaks(7, other_misspelled(tree)))
 }
 
 /// The first rule of the ends of links that is broken.

@@ -179,7 +179,7 @@ fn unless_last_broken(
 
 /// The scripts and the answers of a file, or the first rule after those on links that is broken.
 #[tactic(auto, unfolding(crate::specs::ValidFiles::broken_rest))]
-fn rest_in(
+pub(crate) fn rest_in(
     alloc: Global,
     tree: &Value<'_>,
     known: &Known<'_>,

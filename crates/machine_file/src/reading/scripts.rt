@@ -80,7 +80,7 @@ pub(crate) fn thing_at(value: &Value<'_>, name: &str, names: &KeyIndex<&str>) ->
 }
 
 /// What stands at a member, which has to be given.
-fn member_of<'v, 'a>(value: &'v Value<'a>, name: &str) -> Result<&'v Value<'a>, Stop>
+pub(crate) fn member_of<'v, 'a>(value: &'v Value<'a>, name: &str) -> Result<&'v Value<'a>, Stop>
     ensures ok { IfOk result (λ v. get name.now (view value.now) ≡ Some (view v.now)) }
     ensures err { IfErr result (λ e. (get name.now (view value.now) ≡ None) × (e ≡ stop.Broken)) }
 {
