@@ -1,4 +1,5 @@
 -- The lemmas of this crate.
+pub mod Digits
 pub mod Looks
 pub mod MembersNamed
 pub mod Ranges

@@ -1,6 +1,7 @@
 //! The numbers of a text: which ones there are, and that all are in range.
 
-ghost use Rattle.std.specs.Prelude.{◌≡◌, ◌==◌, ◌<◌, IsTrue, false, length, option_map, slice_index, true};
+ghost use Rattle.std.specs.Prelude.{◌≡◌, ◌==◌, ◌<◌, IfSome, IsTrue, Some, false, length, option_map, slice_index, true};
+ghost use Rattle.serde_json.specs.Data.{unsigned};
 ghost use Rattle.serde_json.specs.Read.{float_of, number_from, number_of};
 ghost use Rattle.serde_json.specs.View.{number_view};
 ghost use Rattle.json.specs.Value.{items_view, members_view, value_view};
@@ -10,8 +11,42 @@ use fast_float::Numeral;
 use json::Value;
 use serde_json::Number;
 
-/// The number that a number's text says. None if no float is that large.
+/// The number that a number's text says. None if no float is that large. Most are digits, and need no search
+/// for their parts.
 pub(crate) fn number_of(text: &str) -> Option<Number>
+    ensures { option_map number_view result ≡ number_of text.now }
+{
+    match digits_in(text.as_bytes()) {
+        Some(number) => Some(Number::from(number)),
+        None => number_of_parts(text),
+    }
+}
+
+/// Up to this number, one more digit fits 64 bits.
+const LARGE: u64 = 1_000_000_000_000_000_000;
+
+/// The number of a text of digits. None for any other text, and for a number that may not fit 64 bits.
+fn digits_in(bytes: &[u8]) -> Option<u64>
+    ensures { IfSome result (λ n. number_of bytes.now ≡ Some (unsigned n)) }
+{
+    if bytes.is_empty() {
+        return None;
+    }
+    let mut number: u64 = 0;
+    for byte in bytes {
+        if !byte.is_ascii_digit() {
+            return None;
+        }
+        if number > LARGE {
+            return None;
+        }
+        number = number * 10 + u64::from(*byte - b'0');
+    }
+    Some(number)
+}
+
+/// The number of any number's text, by its parts.
+fn number_of_parts(text: &str) -> Option<Number>
     ensures { option_map number_view result ≡ number_of text.now }
 {
     let bytes = text.as_bytes();

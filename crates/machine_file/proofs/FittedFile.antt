@@ -1,7 +1,8 @@
 -- That a file that breaks no rule has room in a machine.
-use Rattle.std.proofs.Common.{◌≡◌, ◌≤◌, ◌+◌, ◌*◌, ◌∙◌, ◌&&◌, ◌||◌, ◌==◌, ◌++◌, ◌⊎◌, inl, inr, ℕ, suc, Bool, true, false, if◌then◌else◌, sum_by, List, [], ◌∷◌, length, map, flat_map, codes, option_and_then, IfSome, Option, Some, None, refl, arith, length-append}
+use Rattle.std.proofs.Common.{◌≡◌, ◌<◌, ◌≤◌, ◌+◌, ◌*◌, ◌∙◌, ◌&&◌, ◌||◌, ◌==◌, ◌++◌, ◌⊎◌, inl, inr, ℕ, suc, Bool, true, false, if◌then◌else◌, nat_le, sum_by, List, [], ◌∷◌, length, map, flat_map, codes, option_and_then, IfSome, Option, Some, None, refl, ap, arith, length-append}
 use Rattle.std.specs.List.{All, list_all, cons_option}
-use Rattle.std.proofs.lemmas.Bool.{and_parts, and_from, or_cases, eqb-true}
+use Rattle.std.specs.Option.{option_or}
+use Rattle.std.proofs.lemmas.Bool.{and_parts, and_from, or_cases, eqb-true, lt-leb}
 use Rattle.std.proofs.lemmas.List.Elements.{All-nil, All-cons}
 use Rattle.std.proofs.lemmas.List.Folds.{list_all-append}
 use Rattle.std.proofs.lemmas.List.Sums.{sum_by-cons}
@@ -16,8 +17,9 @@ use Rattle.machine_file.specs.Form.{Named, is_time, is_notifier_form, is_actor_f
 use Rattle.machine_file.specs.Names.{spells_name, names_of_device, own_name, item_names, is_among_names}
 use Rattle.machine_file.specs.Rules.{is_second}
 use Rattle.sleep_model.specs.NameBytes.{is_name}
-use Rattle.machine_file.specs.Operations.{is_formed, marks_of, first_occurrences, whole_marks}
-use Rattle.machine_file.specs.Limits.{times_of, repeat_of, times_if, script_steps}
+use Rattle.machine_file.specs.Operations.{is_formed, marks_of, first_occurrences, unformed_operation, whole_marks}
+use Rattle.machine_file.specs.Limits.{times_of, repeat_of, times_if, script_steps, all_steps, most_attempts, are_links_few, are_reports_few, too_much}
+use Rattle.machine_file.specs.Places.{first_item, unless}
 use Rattle.machine_file.specs.Whole.{rules, first_broken}
 use Rattle.machine_file.specs.Fitting.{IsShort, HasShortName, FitsAt, FitsNotifier, FitsScript, HasPlainRet, FitsAnswer, FitsFile}
 use Rattle.machine_file.specs.Groups.{form_rules}
@@ -210,14 +212,11 @@ fits_answer a e =
 device_name : (d : Data) → names_of_device d ≡ true → HasShortName d
 device_name d e = record { name = short_name d (and_parts (must_have (codes "name") spells_name d) (may_have (codes "parent") spells_name d) e).0 }
 
--- the devices of a file that keeps the rules on form have short names
-pub fits_devices : (d : Data) → broken_form d ≡ None → All HasShortName (list_in (codes "devices") d)
-unfolding broken_form
-fits_devices d h =
-    let spelled : EachList d item_names = each_list d item_names (keeps_all form_rules d h).1.1.1.1.1.0 in
-    all_of HasShortName names_of_device device_name (list_in (codes "devices") d) (each_item (codes "devices") names_of_device d spelled.0)
+-- devices whose names are spelled as names are have short names
+pub short_devices : (d : Data) → first_item (codes "devices") names_of_device d ≡ None → All HasShortName (list_in (codes "devices") d)
+short_devices d e = all_of HasShortName names_of_device device_name (list_in (codes "devices") d) (each_item (codes "devices") names_of_device d e)
 
--- so have its actors
+-- the actors of a file that keeps the rules on form have room
 pub fits_actors : (d : Data) → broken_form d ≡ None → All FitsScript (list_in (codes "actors") d)
 unfolding broken_form
 fits_actors d h =
@@ -226,6 +225,28 @@ fits_actors d h =
     let spelled : EachList d item_names = each_list d item_names r.1.1.1.1.1.0 in
     all_both FitsScript is_actor_form own_name fits_script (list_in (codes "actors") d)
     (each_item (codes "actors") is_actor_form d forms.1.1.1.1.1.0) (each_item (codes "actors") own_name d spelled.1.1.1.1.1.0)
+
+-- and its answers have room
+pub fits_answers : (d : Data) → broken_form d ≡ None → All FitsAnswer (list_in (codes "answers") d)
+unfolding broken_form
+fits_answers d h =
+    let forms : EachList d (item_forms (is_second d)) = each_list d (item_forms (is_second d)) (keeps_all form_rules d h).1.1.1.0 in
+    all_of FitsAnswer is_answer_form fits_answer (list_in (codes "answers") d) (each_item (codes "answers") is_answer_form d forms.1.1.1.1.1.1.0)
+
+-- each mark is named by a step, so more marks than a machine makes steps are too much
+pub marks_over : (d : Data) → broken_form d ≡ None → unformed_operation d ≡ None → 200000 < length (whole_marks d) → too_much d ≡ Some (codes "actors")
+unfolding broken_form
+marks_over d h formed over =
+    let forms : EachList d (item_forms (is_second d)) = each_list d (item_forms (is_second d)) (keeps_all form_rules d h).1.1.1.0 in
+    let actors = list_in (codes "actors") d in
+    let actor_forms = each_item (codes "actors") is_actor_form d forms.1.1.1.1.1.0 in
+    let scripts : list_all (is_formed_script (is_second d)) actors ≡ true = each_operation (is_formed (is_second d)) 0 actors formed in
+    let marks = flat_map (λ a. marks_of (list_in (codes "script") a)) actors in
+    let all : length marks ≤ sum_by (script_steps (λ o. true)) actors = all_few (is_second d) actors actor_forms scripts in
+    let first : length (first_occurrences [] marks) ≤ 0 + length marks = first_few [] marks in
+    let many : 200000 < all_steps (λ o. true) d = omega (arith, all, first, over) in
+    ap (λ (b : Bool). option_or (unless (b && nat_le (most_attempts d * (length (list_in (codes "devices") d) + 50)) 100000 && are_links_few d) (codes "actors")) (unless (are_reports_few d) (codes "answers")))
+    (lt-leb (all_steps (λ o. true) d) 200000 many)
 
 -- a file that breaks no rule has room
 pub fits_file : (d : Data) → first_broken d ≡ None → FitsFile d
@@ -253,5 +274,4 @@ fits_file d h =
       sources = all_passed IsShort text_of spells_name short_text (list_in (codes "sources") d) (each_item (codes "sources") spells_name d spelled.1.1.1.1.0);
       marks = all_of IsShort is_name short_spelled (whole_marks d) (first_pass is_name [] marks refl (all_marks (is_second d) actors scripts));
       few_marks = omega (arith, all, first, steps);
-      answers = all_of FitsAnswer is_answer_form fits_answer (list_in (codes "answers") d) (each_item (codes "answers") is_answer_form d forms.1.1.1.1.1.1.0);
     }

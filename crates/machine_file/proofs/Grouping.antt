@@ -3,12 +3,12 @@ use Rattle.std.proofs.Common.{◌≡◌, ◌≤◌, ◌∙◌, ℕ, Bor, Bool, t
 use Rattle.std.specs.Option.{option_or, option_map}
 use Rattle.serde_json.specs.Data.{Data}
 use Rattle.machine_file.specs.Whole.{Rule, rule, first_of, first_broken, broken_at}
-use Rattle.machine_file.specs.Groups.{form_rules, device_rules, end_rules, thing_rules, operation_rules, answer_rules}
+use Rattle.machine_file.specs.Groups.{form_rules, device_rules, end_rules, thing_rules, operation_rules, answer_rules, last_rules}
 use Rattle.borrowed_json.specs.Look.{list_in, text_of, has_only}
 use Rattle.machine_file.specs.Members.{file_members}
 use Rattle.machine_file.specs.Devices.{cyclic_link, closes_no_cycle, orphan, loose_link, repeated_link}
 use Rattle.machine_file.specs.Joined.{AreJoined}
-use Rattle.machine_file.specs.ValidFiles.{broken_form, broken_devices, broken_ends, broken_cycle, broken_rest, first_in_order}
+use Rattle.machine_file.specs.ValidFiles.{broken_form, broken_devices, broken_ends, broken_cycle, broken_behaviour, broken_rest, first_in_order}
 use Rattle.machine_file.specs.declared.names.known.Known.{Known}
 use Rattle.machine_file.specs.Knows.{Knows, AreFew, names, texts}
 use Rattle.machine_file.specs.Form.{Named, row, first_row, unformed_member, unformed_item}
@@ -32,14 +32,15 @@ split (r ∷ xs) ys d =
 
 -- the order of the groups is that of the rules
 pub in_order : (d : Data) → first_in_order d ≡ first_broken d
-unfolding broken_form broken_devices broken_ends broken_cycle broken_rest
+unfolding broken_form broken_devices broken_ends broken_cycle broken_behaviour broken_rest
 in_order d =
-    sym (split form_rules (device_rules ++ (end_rules ++ (rule 12 cyclic_link ∷ [] ++ (thing_rules ++ (operation_rules ++ answer_rules))))) d
-    ∙ ap (option_or (first_of form_rules d)) (split device_rules (end_rules ++ (rule 12 cyclic_link ∷ [] ++ (thing_rules ++ (operation_rules ++ answer_rules)))) d
-    ∙ ap (option_or (first_of device_rules d)) (split end_rules (rule 12 cyclic_link ∷ [] ++ (thing_rules ++ (operation_rules ++ answer_rules))) d
+    sym (split form_rules (device_rules ++ (end_rules ++ (rule 12 cyclic_link ∷ [] ++ (thing_rules ++ (operation_rules ++ (answer_rules ++ last_rules)))))) d
+    ∙ ap (option_or (first_of form_rules d)) (split device_rules (end_rules ++ (rule 12 cyclic_link ∷ [] ++ (thing_rules ++ (operation_rules ++ (answer_rules ++ last_rules))))) d
+    ∙ ap (option_or (first_of device_rules d)) (split end_rules (rule 12 cyclic_link ∷ [] ++ (thing_rules ++ (operation_rules ++ (answer_rules ++ last_rules)))) d
     ∙ ap (option_or (first_of end_rules d)) (ap (option_or (option_map (broken_at 12) (cyclic_link d)))
-    (split thing_rules (operation_rules ++ answer_rules) d ∙ ap (option_or (first_of thing_rules d)) (split operation_rules answer_rules d)
-    ∙ sym (or_group (first_of thing_rules d) (first_of operation_rules d) (first_of answer_rules d)))))))
+    (split thing_rules (operation_rules ++ (answer_rules ++ last_rules)) d ∙ ap (option_or (first_of thing_rules d)) (split operation_rules (answer_rules ++ last_rules) d
+    ∙ ap (option_or (first_of operation_rules d)) (split answer_rules last_rules d) ∙ sym (or_group (first_of operation_rules d) (first_of answer_rules d) (first_of last_rules d)))
+    ∙ sym (or_group (first_of thing_rules d) (option_or (first_of operation_rules d) (first_of answer_rules d)) (first_of last_rules d)))))))
 
 pub or_none : {A : Type 0} (a b : Option A) → option_or a b ≡ None → (a ≡ None) × (b ≡ None)
 or_none None b e = (refl, e)
@@ -79,7 +80,7 @@ pub record FewItems (d : Data) : Type 0 where
   pub notifiers : length (list_in (codes "notifiers") d) ≤ 32
   pub sources : length (list_in (codes "sources") d) ≤ 255
 
-few_items : (d : Data) → too_many d ≡ None → FewItems d
+pub few_items : (d : Data) → too_many d ≡ None → FewItems d
 few_items d e =
     let fits = λ (r : Named ℕ). nat_le (length (list_in r.name d)) r.is in
     let one = valid_row fits (row (codes "devices") 1000) (drop 1 most_items) e in

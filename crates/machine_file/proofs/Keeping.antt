@@ -14,7 +14,7 @@ use Rattle.machine_file.specs.declared.names.known.Known.{Known as Names}
 use Rattle.machine_file.specs.Groups.{operation_rules}
 use Rattle.machine_file.specs.Names.{is_among_names, devices_named, sources_named}
 use Rattle.machine_file.specs.Operations.{Known, Operation, known_of, whole_script, whole_scripts, changes_links, fits_row, row_of, is_formed, is_allowed, names_source, names_device, names_device_at, unformed_operation, forbidden_operation, sourceless_operation, deviceless_operation, has_count, has_short_text, is_state_form, has_length, has_mark, has_ends_named, has_source, thing_at}
-use Rattle.machine_file.specs.OperationRows.{operation_of_word, is_valid_for, is_valid_script, row_test, word_test, names_thing}
+use Rattle.machine_file.specs.OperationRows.{operation_of_word, is_valid_for, is_valid_script, row_test, word_test, must_name}
 use Rattle.machine_file.specs.Places.{first_not, first_operation, first_operation_of, operation_place}
 use Rattle.machine_file.specs.Rules.{is_second}
 use Rattle.machine_file.specs.Whole.{broken_at, first_of}
@@ -50,7 +50,7 @@ each_pass test other h n (a ∷ actors) e =
     ∙ each_pass test other h (suc n) actors both.1
 
 -- where each operation of each script passes, there is no first one that does not
-none_in_script : (p : Data → Bool) (os : List Data) → list_all p os ≡ true → first_not p os ≡ None
+pub none_in_script : (p : Data → Bool) (os : List Data) → list_all p os ≡ true → first_not p os ≡ None
 none_in_script p [] e = refl
 none_in_script p (o ∷ os) e =
     let both = and_parts (p o) (list_all p os) e in
@@ -105,7 +105,7 @@ operations_valid file e =
 
 -- ---- each rule, and all of them
 
-both_tests : (p q : Data → Bool) (os : List Data) → list_all p os ≡ true → list_all q os ≡ true → list_all (λ o. p o && q o) os ≡ true
+pub both_tests : (p q : Data → Bool) (os : List Data) → list_all p os ≡ true → list_all q os ≡ true → list_all (λ o. p o && q o) os ≡ true
 both_tests p q [] e f = refl
 both_tests p q (o ∷ os) e f =
     let one = and_parts (p o) (list_all p os) e in
@@ -297,7 +297,7 @@ read_scripts k file actors h e = ap (λ (n : Known). map (whole_script n) actors
 
 -- the number of a thing that is one of these
 pub thing_named : (member : List ℕ) (names : List (List ℕ)) (o : Data) (s : List ℕ) (n : ℕ) → must_have member is_string o ≡ true → word_at member o ≡ Some s
-    → Some n ≡ position (bytes_eq s) names → (names_thing member names o ≡ true) × (n ≡ thing_at member names o)
+    → Some n ≡ position (bytes_eq s) names → (must_name member names o ≡ true) × (n ≡ thing_at member names o)
 thing_named member names o s n given is found = (
   and_from (must_have member is_string o) (is_none_or (is_among_names names) (word_at member o)) given
       (ap (is_none_or (is_among_names names)) is ∙ (sym (some_position (bytes_eq s) names) ∙ ap is_some (sym found))),
@@ -305,7 +305,7 @@ thing_named member names o s n given is found = (
 )
 
 -- one that is none of them
-pub thing_unnamed : (member : List ℕ) (names : List (List ℕ)) (o : Data) (s : List ℕ) → word_at member o ≡ Some s → None ≡ position (bytes_eq s) names → names_thing member names o ≡ false
+pub thing_unnamed : (member : List ℕ) (names : List (List ℕ)) (o : Data) (s : List ℕ) → word_at member o ≡ Some s → None ≡ position (bytes_eq s) names → must_name member names o ≡ false
 thing_unnamed member names o s is none =
     ap (λ b. must_have member is_string o && b) (ap (is_none_or (is_among_names names)) is ∙ (sym (some_position (bytes_eq s) names) ∙ ap is_some (sym none)))
     ∙ no_and (must_have member is_string o)

@@ -5,6 +5,8 @@ pub mod Placing
 pub mod Pairing
 mod Registering
 mod Keeping
+mod KeptAnswers
+mod KeptLinks
 pub mod Answered
 pub mod Cycling
 pub mod Freshly

@@ -449,11 +449,11 @@ count_times p zero xs = sym (zero-mul (count_by p xs))
 count_times p (suc n) xs =
     sum_by-append (λ y. cond (p y) 1 0) (times_over n xs) xs ∙ ap (λ k. k + count_by p xs) (count_times p n xs) ∙ sym (suc-mul n (count_by p xs))
 
-sum_map : {X Y : Type 0} (f : Y → ℕ) (g : X → Y) (xs : List X) → sum_by f (map g xs) ≡ sum_by (λ x. f (g x)) xs
+pub sum_map : {X Y : Type 0} (f : Y → ℕ) (g : X → Y) (xs : List X) → sum_by f (map g xs) ≡ sum_by (λ x. f (g x)) xs
 sum_map f g [] = refl
 sum_map f g (x ∷ xs) = sum_by-cons f (g x) (map g xs) ∙ ap (λ n. f (g x) + n) (sum_map f g xs) ∙ sym (sum_by-cons (λ y. f (g y)) x xs)
 
-sum_same : {X : Type 0} (f g : X → ℕ) (xs : List X) → ((x : X) → f x ≡ g x) → sum_by f xs ≡ sum_by g xs
+pub sum_same : {X : Type 0} (f g : X → ℕ) (xs : List X) → ((x : X) → f x ≡ g x) → sum_by f xs ≡ sum_by g xs
 sum_same f g [] e = refl
 sum_same f g (x ∷ xs) e = sum_by-cons f x xs ∙ ap (λ n. n + sum_by f xs) (e x) ∙ ap (λ n. g x + n) (sum_same f g xs e) ∙ sym (sum_by-cons g x xs)
 
@@ -541,19 +541,19 @@ and_true true = refl
 and_true false = refl
 
 -- a write to the state is one in the file
-state_in_file : (known : Known) (o : Data) → is_state (whole_op known o) ≡ is_state_step o
+pub state_in_file : (known : Known) (o : Data) → is_state (whole_op known o) ≡ is_state_step o
 state_in_file known o =
     found_as is_state (codes "state") (λ word. has_text (codes "op") word o) (spelled_op known o) (member_apart (get (codes "op") o)) refl
     (refl, (refl, (refl, (refl, (refl, (refl, (refl, (refl, (refl, (refl, (refl, (refl, (refl, (refl, (refl, tt))))))))))))))) ∙ and_true (has_text (codes "op") (codes "state") o)
 
 -- a write to autosleep is one in the file
-autosleep_in_file : (known : Known) (o : Data) → is_autosleep (whole_op known o) ≡ has_text (codes "op") (codes "autosleep") o
+pub autosleep_in_file : (known : Known) (o : Data) → is_autosleep (whole_op known o) ≡ has_text (codes "op") (codes "autosleep") o
 autosleep_in_file known o =
     found_as is_autosleep (codes "autosleep") (λ word. has_text (codes "op") word o) (spelled_op known o) (member_apart (get (codes "op") o)) refl
     (refl, (refl, (refl, (refl, (refl, (refl, (refl, (refl, (refl, (refl, (refl, (refl, (refl, (refl, (refl, tt))))))))))))))) ∙ and_true (has_text (codes "op") (codes "autosleep") o)
 
 -- a step that adds a link is one in the file
-link_in_file : (known : Known) (o : Data) → is_link_step (whole_op known o) ≡ adds_link o
+pub link_in_file : (known : Known) (o : Data) → is_link_step (whole_op known o) ≡ adds_link o
 link_in_file known o =
     found_as is_link_step (codes "link") (λ word. has_text (codes "op") word o) (spelled_op known o) (member_apart (get (codes "op") o)) refl
     (refl, (refl, (refl, (refl, (refl, (refl, (refl, (refl, (refl, (refl, (refl, (refl, (refl, (refl, (refl, tt))))))))))))))) ∙ and_true (has_text (codes "op") (codes "link") o)

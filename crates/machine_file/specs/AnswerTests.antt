@@ -31,6 +31,10 @@ answer_test test.Ret k a = may_have (codes "ret") (is_ret_allowed a) a
 answer_test test.Reports k a = may_report a
 answer_test test.Sources k a = list_all (names_source (texts k.sources)) (list_in (codes "reports") a)
 
+-- an answer keeps each rule on one answer, by the names that are known
+abbrev pub is_valid_answer : Known → Data → Bool
+is_valid_answer k a = answer_test test.Thing k a && answer_test test.Ret k a && answer_test test.Reports k a && answer_test test.Sources k a
+
 -- the thing that an answer is of, by the names that are known
 abbrev pub thing_seen : Known → Data → What
 thing_seen k a =

@@ -15,6 +15,11 @@ pub record IsShort (name : List ℕ) : Type 0 where
 pub record HasShortName (d : Data) : Type 0 where
   pub name : IsShort (name_of d)
 
+-- few devices, with such names
+pub record HasDevices (d : Data) : Type 0 where
+  pub few : length (list_in (codes "devices") d) ≤ 1000
+  pub short : All HasShortName (list_in (codes "devices") d)
+
 -- the whole number at a member, if there is one, has 32 bits
 pub record FitsAt (name : List ℕ) (d : Data) : Type 0 where
   pub below : IfSome (number_at name d) (λ n. n < 4294967296)
@@ -48,4 +53,3 @@ pub record FitsFile (d : Data) : Type 0 where
   pub sources : All IsShort (sources_named d)
   pub marks : All IsShort (whole_marks d)
   pub few_marks : length (whole_marks d) ≤ 200000
-  pub answers : All FitsAnswer (list_in (codes "answers") d)

@@ -41,6 +41,14 @@ abbrev pub operation_rules : List Rule
 operation_rules =
     rule 16 unformed_operation ∷ rule 17 forbidden_operation ∷ rule 18 (λ d. option_or (sourceless_operation d) (sourceless_report d)) ∷ rule 19 deviceless_operation ∷ []
 
--- the rules on answers, and on how much may happen
+-- the rules on what answers are of, and on what they are
 abbrev pub answer_rules : List Rule
-answer_rules = rule 20 thingless_answer ∷ rule 21 forbidden_ret ∷ rule 22 forbidden_reports ∷ rule 23 repeated_answer ∷ rule 24 too_much ∷ []
+answer_rules = rule 20 thingless_answer ∷ rule 21 forbidden_ret ∷ rule 22 forbidden_reports ∷ []
+
+-- these, after that on the sources of reports
+abbrev pub reply_rules : List Rule
+reply_rules = rule 18 sourceless_report ∷ answer_rules
+
+-- the rules on answers that come again, and on how much may happen
+abbrev pub last_rules : List Rule
+last_rules = rule 23 repeated_answer ∷ rule 24 too_much ∷ []

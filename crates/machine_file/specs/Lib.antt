@@ -23,6 +23,7 @@ pub mod Counted
 pub mod Fresh
 pub mod Joined
 pub mod Groups
+pub mod Kept
 pub mod ValidFiles
 pub mod Marks
 pub mod Fitting

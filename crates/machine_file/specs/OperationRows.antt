@@ -71,12 +71,12 @@ op_spelled word.Relax names o = Relax (thing_at (codes "source") names.sources o
 op_spelled word.Event names o = Event (thing_at (codes "source") names.sources o) (ms_of o) (says (codes "hard") o)
 
 -- a thing that is named at a member, which has to be given, is of these
-abbrev pub names_thing : List ℕ → List (List ℕ) → Data → Bool
-names_thing member names o = must_have member is_string o && is_none_or (is_among_names names) (word_at member o)
+abbrev pub must_name : List ℕ → List (List ℕ) → Data → Bool
+must_name member names o = must_have member is_string o && is_none_or (is_among_names names) (word_at member o)
 
 -- both ends of a link are devices
 abbrev pub names_ends : List (List ℕ) → Data → Bool
-names_ends devices o = names_thing (codes "supplier") devices o && names_thing (codes "consumer") devices o
+names_ends devices o = must_name (codes "supplier") devices o && must_name (codes "consumer") devices o
 
 -- an operation with that word has its form, and the things that it names are known
 abbrev pub row_test : Word → Names → Data → Bool
@@ -89,12 +89,12 @@ row_test word.SleepD names o = has_length o
 row_test word.FreezePoint names o = true
 row_test word.Post names o = has_mark o
 row_test word.Wait names o = has_mark o
-row_test word.Runtime names o = names_thing (codes "device") names.devices o && must_have (codes "to") (is_one_of statuses) o
+row_test word.Runtime names o = must_name (codes "device") names.devices o && must_have (codes "to") (is_one_of statuses) o
 row_test word.Link names o = names_ends names.devices o
 row_test word.LinkState names o = names_ends names.devices o && must_have (codes "to") (is_one_of link_states) o
-row_test word.Awake names o = names_thing (codes "source") names.sources o
-row_test word.Relax names o = names_thing (codes "source") names.sources o
-row_test word.Event names o = names_thing (codes "source") names.sources o && may_have (codes "ms") (is_time 0) o && may_have (codes "hard") is_truth o
+row_test word.Awake names o = must_name (codes "source") names.sources o
+row_test word.Relax names o = must_name (codes "source") names.sources o
+row_test word.Event names o = must_name (codes "source") names.sources o && may_have (codes "ms") (is_time 0) o && may_have (codes "hard") is_truth o
 
 -- a kind of task may make an operation with that word, which keeps each rule on one operation
 abbrev pub word_test : Bool → List ℕ → Word → Names → Data → Bool

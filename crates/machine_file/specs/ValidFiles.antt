@@ -1,18 +1,25 @@
 -- The rules of a file by groups, and a file that keeps them.
-use Rattle.std.specs.Prelude.{◌≡◌, Option, None, reverse}
+use Rattle.std.specs.Prelude.{◌≡◌, Bool, Option, None, is_none, reverse}
 use Rattle.std.specs.Option.{option_or, option_map}
 use Rattle.serde_json.specs.Data.{Data}
 use Rattle.sleep_model.specs.Order.{parents_of}
 use Rattle.machine_file.specs.declared.names.known.Known.{Known}
+use Rattle.machine_file.specs.declared.reading.machine.Behaviour.{Behaviour}
 use Rattle.machine_file.specs.declared.reading.machine.Parts.{Parts}
+use Rattle.machine_file.specs.Answering.{whole_answers}
 use Rattle.machine_file.specs.Devices.{whole_devices, whole_links, cyclic_link}
 use Rattle.machine_file.specs.Whole.{Broken, first_of, broken_at}
-use Rattle.machine_file.specs.Groups.{form_rules, device_rules, end_rules, thing_rules, operation_rules, answer_rules}
+use Rattle.machine_file.specs.Groups.{form_rules, device_rules, end_rules, thing_rules, operation_rules, answer_rules, last_rules}
+use Rattle.machine_file.specs.Kept.{head_rules}
 use Rattle.machine_file.specs.Knows.{Knows, AreFew, SpellsScripts}
 
 -- the first rule on form that is broken
 unfoldable pub broken_form : Data → Option Broken
 broken_form d = first_of form_rules d
+
+-- the first of them that is broken, but for links
+unfoldable pub broken_head : Data → Option Broken
+broken_head d = first_of head_rules d
 
 -- the first rule on devices that is broken
 unfoldable pub broken_devices : Data → Option Broken
@@ -26,19 +33,33 @@ broken_ends d = first_of end_rules d
 unfoldable pub broken_cycle : Data → Option Broken
 broken_cycle d = option_map (broken_at 12) (cyclic_link d)
 
--- the first rule after it that is broken
+-- the first rule on operations and answers that is broken
+unfoldable pub broken_behaviour : Data → Option Broken
+broken_behaviour d = option_or (first_of operation_rules d) (first_of answer_rules d)
+
+-- the first rule after that on cycles that is broken
 unfoldable pub broken_rest : Data → Option Broken
-broken_rest d = option_or (option_or (first_of thing_rules d) (first_of operation_rules d)) (first_of answer_rules d)
+broken_rest d = option_or (option_or (first_of thing_rules d) (broken_behaviour d)) (first_of last_rules d)
 
 -- the first rule that is broken
 abbrev pub first_in_order : Data → Option Broken
 first_in_order d = option_or (broken_form d) (option_or (broken_devices d) (option_or (broken_ends d) (option_or (broken_cycle d) (broken_rest d))))
 
--- no rule is broken, the names are known and few, the links are added, and the scripts are read
+-- no rule is broken
+abbrev pub keeps_rules : Data → Bool
+keeps_rules d = is_none (first_in_order d)
+
+-- no rule is broken, the names are known and few, the links are added, and the scripts and the answers are read
 pub record IsSound (file : Data) (k : Known) (p : Parts) : Type 0 where
   pub unbroken : first_in_order file ≡ None
   pub knows : Knows k file
   pub few : AreFew k
   pub links : p.linking.links.items ≡ whole_links file
   pub added : p.linking.added.links ≡ record { parents = parents_of (whole_devices file); links = reverse (whole_links file) }
-  pub scripts : SpellsScripts file k p.scripts
+  pub scripts : SpellsScripts file k p.behaviour.scripts
+  pub answers : p.behaviour.answers.items ≡ whole_answers file
+
+-- these are the scripts of the file, and its answers
+pub record SpellsBehaviour (file : Data) (k : Known) (b : Behaviour) : Type 0 where
+  pub scripts : SpellsScripts file k b.scripts
+  pub answers : b.answers.items ≡ whole_answers file

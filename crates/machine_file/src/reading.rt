@@ -1,29 +1,27 @@
 //! A machine file is read, or refused by the first rule that it breaks.
+pub(crate) mod links;
 pub(crate) mod machine;
+pub(crate) mod once;
 pub(crate) mod replies;
 pub(crate) mod scripts;
 pub(crate) mod texts;
 pub(crate) mod things;
 pub(crate) mod whole;
 
-ghost use Rattle.std.specs.Prelude.{◌≡◌, ◌++◌, codes, Some, None, IfOk, IfErr, string_bytes};
+ghost use Rattle.std.specs.Prelude.{◌≡◌, ◌++◌, codes, false, Some, None, IfOk, IfErr, string_bytes};
 ghost use Rattle.borrowed_json.specs.View.{view};
 ghost use Rattle.sleep_model.specs.Accepted.{IsAccepted};
 ghost use Rattle.machine_file.specs.Whole.{machine_in};
-ghost use Rattle.machine_file.specs.ValidFiles.{broken_devices, broken_form};
-ghost use Rattle.machine_file.specs.Devices.{whole_devices};
-ghost use Rattle.machine_file.specs.Knows.{Knows};
+ghost use Rattle.machine_file.specs.ValidFiles.{keeps_rules};
 ghost use Rattle.machine_file.specs.Reading.{links_among, Reads};
 ghost use Rattle.machine_file.specs.Refusing.{Names, Refuses, RefusesValue};
 ghost use Rattle.machine_file.specs.Places.{item_place};
 ghost use Rattle.machine_file.specs.Broken.{broken_view, place_text};
 
-use crate::fault::MachineFault;
-use crate::names::devices::{NamedDevices, devices_in};
-use crate::names::known::{Known, known_in};
-use crate::reading::machine::{first_of_form, parts_in};
-use crate::reading::whole::read_of;
+use crate::fault::{MachineFault, Stop};
+use crate::reading::once::machine_in;
 use crate::rules::Broken;
+use crate::rules::first::first_broken;
 use crate::value::place::Place;
 use crate::value::tree::tree_of;
 use borrowed_json::{Scratch, Value};
@@ -64,62 +62,29 @@ pub fn read_machine(alloc: Global, bytes: &[u8]) -> Result<ReadMachine, MachineF
     }
 }
 
+/// Reads the tree once. The first broken rule is searched for only if the reading stops.
 fn read_tree(alloc: Global, tree: &Value<'_>) -> Result<ReadMachine, MachineFault>
     ensures ok { IfOk result (Reads (view tree.now)) }
     ensures err { IfErr result (RefusesValue (view tree.now)) }
 {
-    match first_of_form(tree) {
-        Some(broken) => Err(fault_of(alloc, broken)),
-        None => read_formed(alloc, tree),
+    match machine_in(alloc, tree) {
+        Ok(read) => Ok(read),
+        Err(Stop::Broken) => Err(refusal_of(alloc, tree)),
+        Err(Stop::Mem) => Err(MachineFault::Mem),
     }
 }
 
-/// Reads a file that keeps the rules on form: its devices are registered in turn, which decides the rules on
-/// their names and parents.
-fn read_formed(alloc: Global, tree: &Value<'_>) -> Result<ReadMachine, MachineFault>
-    requires { broken_form (view tree.now) ≡ None }
-    ensures ok { IfOk result (Reads (view tree.now)) }
-    ensures err { IfErr result (RefusesValue (view tree.now)) }
+/// Why a file that breaks a rule is refused.
+fn refusal_of(alloc: Global, tree: &Value<'_>) -> MachineFault
+    requires { keeps_rules (view tree.now) ≡ false }
+    ensures { RefusesValue (view tree.now) result }
 {
-    match devices_in(alloc, tree)? {
-        Ok(devices) => read_registered(alloc, tree, devices),
-        Err(broken) => Err(fault_of(alloc, broken)),
-    }
-}
-
-/// Reads a file with these devices. Only it owns the names of its things, and drops them at one exit.
-fn read_registered(
-    alloc: Global,
-    tree: &Value<'_>,
-    devices: NamedDevices,
-) -> Result<ReadMachine, MachineFault>
-    requires form { broken_form (view tree.now) ≡ None }
-    requires unbroken { broken_devices (view tree.now) ≡ None }
-    requires devices { devices ≡ whole_devices (view tree.now) }
-    ensures ok { IfOk result (Reads (view tree.now)) }
-    ensures err { IfErr result (RefusesValue (view tree.now)) }
-{
-    let known = known_in(alloc, tree, devices)?;
-    let read = read_known(alloc, tree, &known);
-    drop(known);
-    read
-}
-
-/// Reads it by the names of its things.
-fn read_known(
-    alloc: Global,
-    tree: &Value<'_>,
-    known: &Known<'_>,
-) -> Result<ReadMachine, MachineFault>
-    requires form { broken_form (view tree.now) ≡ None }
-    requires devices { broken_devices (view tree.now) ≡ None }
-    requires knows { Knows known.now (view tree.now) }
-    ensures ok { IfOk result (Reads (view tree.now)) }
-    ensures err { IfErr result (RefusesValue (view tree.now)) }
-{
-    match parts_in(alloc, tree, known)? {
-        Ok(parts) => Ok(read_of(alloc, tree, known, parts)?),
-        Err(broken) => Err(fault_of(alloc, broken)),
+    let Ok(broken) = first_broken(alloc, tree) else {
+        return MachineFault::Mem;
+    };
+    match broken {
+        Some(broken) => fault_of(alloc, broken),
+        None => unreachable!(),
     }
 }
 

@@ -1,23 +1,27 @@
 //! The rules of a machine file, in the order in which a broken one is named.
 pub(crate) mod answers;
 pub(crate) mod cycles;
+pub(crate) mod first;
 pub(crate) mod form;
 pub(crate) mod items;
 pub(crate) mod limits;
 pub(crate) mod operations;
 pub(crate) mod pairs;
 
-ghost use Rattle.std.specs.Prelude.{◌≡◌, option_map, codes, IfOk};
+ghost use Rattle.std.specs.Prelude.{◌≡◌, ◌≤◌, None, length, nat_lt, option_map, codes, IfOk};
 ghost use Rattle.borrowed_json.specs.View.{view};
 ghost use Rattle.machine_file.specs.Whole.{broken_at, first_of};
 ghost use Rattle.borrowed_json.specs.Look.{has_only};
 ghost use Rattle.std.specs.Option.{option_or};
 ghost use Rattle.machine_file.specs.Members.{file_members};
 ghost use Rattle.machine_file.specs.Rules.{has_version};
-ghost use Rattle.machine_file.specs.Operations.{unformed_operation, sourceless_operation, deviceless_operation};
+ghost use Rattle.machine_file.specs.Limits.{too_much};
+ghost use Rattle.machine_file.specs.Operations.{unformed_operation, sourceless_operation, deviceless_operation, whole_scripts};
+ghost use Rattle.machine_file.specs.ValidFiles.{broken_form};
 ghost use Rattle.machine_file.specs.Answering.{sourceless_report, thingless_answer};
 ghost use Rattle.machine_file.specs.Places.{unless};
-ghost use Rattle.machine_file.specs.Groups.{form_rules, end_rules, thing_rules, operation_rules, answer_rules};
+ghost use Rattle.machine_file.specs.Groups.{form_rules, end_rules, thing_rules, operation_rules, reply_rules, last_rules};
+ghost use Rattle.machine_file.specs.Kept.{head_rules};
 ghost use Rattle.machine_file.specs.Knows.{Knows};
 ghost use Rattle.machine_file.specs.Seen.{AreEnds, AreNumbersOf};
 ghost use Rattle.machine_file.specs.Broken.{place_of, broken_view};
@@ -25,13 +29,16 @@ ghost use Rattle.machine_file.specs.Broken.{place_of, broken_view};
 use crate::names::known::{Known, repeated, repeated_callback, repeated_source};
 use crate::rules::answers::{AnswerTest, first_answer, repeated_answer};
 use crate::rules::form::unformed_member;
-use crate::rules::items::{is_second, misspelled_item, unformed_item};
-use crate::rules::limits::{too_many, too_much};
+use crate::rules::items::{
+    is_second, misspelled_item, other_misspelled, other_unformed, unformed_item,
+};
+use crate::rules::limits::{MOST_STEPS, too_many, too_much};
 use crate::rules::operations::{OperationTest, first_operation};
 use crate::rules::pairs::{EndNumbers, LinkEnds, loose_link, repeated_link};
 use crate::value::place::{Member, Place};
 use borrowed_json::{Value, has_number, has_only};
 use sleep_base::Mem;
+use sleep_model::Script;
 use std::alloc::Global;
 
 // The members of a machine file.
@@ -98,6 +105,18 @@ pub(crate) fn form_broken(tree: &Value<'_>) -> Option<Broken>
         .or(breaks(7, misspelled_item(tree)))
 }
 
+/// The first of them that is broken, but for links.
+pub(crate) fn head_broken(tree: &Value<'_>) -> Option<Broken>
+    ensures { option_map broken_view result ≡ first_of head_rules (view tree.now) }
+{
+    breaks(2, top(tree))
+        .or(breaks(3, version(tree)))
+        .or(breaks(4, unformed_member(tree)))
+        .or(breaks(5, other_unformed(tree)))
+        .or(breaks(6, too_many(tree)))
+        .or(breaks(7, other_misspelled(tree)))
+}
+
 /// The first rule of the ends of links that is broken.
 pub(crate) fn end_broken(
     alloc: Global,
@@ -149,7 +168,7 @@ fn deviceless_operation(tree: &Value<'_>, known: &Known<'_>) -> Option<Place>
     first_operation(OperationTest::Device, known, tree)
 }
 
-pub(crate) fn sourceless_report(tree: &Value<'_>, known: &Known<'_>) -> Option<Place>
+fn sourceless_report(tree: &Value<'_>, known: &Known<'_>) -> Option<Place>
     requires { Knows known.now (view tree.now) }
     ensures { place_of result ≡ sourceless_report (view tree.now) }
 {
@@ -185,19 +204,56 @@ pub(crate) fn operation_broken(tree: &Value<'_>, known: &Known<'_>) -> Option<Br
     form.or(maker).or(source).or(device)
 }
 
-/// The first rule of answers, or of how much may happen, that is broken.
-pub(crate) fn answer_broken(
-    alloc: Global,
-    tree: &Value<'_>,
-    known: &Known<'_>,
-) -> Result<Option<Broken>, Mem>
+/// The first rule of the sources of reports, and of answers, that is broken.
+pub(crate) fn reply_broken(tree: &Value<'_>, known: &Known<'_>) -> Option<Broken>
     requires { Knows known.now (view tree.now) }
-    ensures { IfOk result (λ b. option_map broken_view b ≡ first_of answer_rules (view tree.now)) }
+    ensures { option_map broken_view result ≡ first_of reply_rules (view tree.now) }
 {
-    let again = breaks(23, repeated_answer(alloc, tree)?);
+    let source = breaks(18, sourceless_report(tree, known));
     let thing = breaks(20, thingless_answer(tree, known));
     let ret = breaks(21, first_answer(AnswerTest::Ret, known, tree));
     let reports = breaks(22, first_answer(AnswerTest::Reports, known, tree));
-    let much = breaks(24, too_much(tree));
-    Ok(thing.or(ret).or(reports).or(again).or(much))
+    source.or(thing).or(ret).or(reports)
+}
+
+/// Whether more marks are named than a machine makes steps.
+fn names_many_marks(known: &Known<'_>) -> bool
+    ensures { result ≡ nat_lt 200000 (length known.now.marks) }
+{
+    known.marks.keys().len() as u64 > MOST_STEPS
+}
+
+/// The place at which too much may happen in a file with these scripts. Each mark is named by a step, so there
+/// are too many steps if there are too many marks.
+fn too_much_with(tree: &Value<'_>, known: &Known<'_>, scripts: &[Script]) -> Option<Place>
+    requires form { broken_form (view tree.now) ≡ None }
+    requires operations { unformed_operation (view tree.now) ≡ None }
+    requires knows { Knows known.now (view tree.now) }
+    requires scripts { length known.now.marks ≤ 200000 → scripts.now ≡ whole_scripts (view tree.now) }
+    ensures { place_of result ≡ too_much (view tree.now) }
+{
+    if names_many_marks(known) {
+        Some(Place::Member(Member::Actors))
+    } else {
+        too_much(tree, scripts)
+    }
+}
+
+/// The first rule of answers that come again, or of how much may happen, that is broken in a file with these
+/// scripts.
+pub(crate) fn last_broken(
+    alloc: Global,
+    tree: &Value<'_>,
+    known: &Known<'_>,
+    scripts: &[Script],
+) -> Result<Option<Broken>, Mem>
+    requires form { broken_form (view tree.now) ≡ None }
+    requires operations { unformed_operation (view tree.now) ≡ None }
+    requires knows { Knows known.now (view tree.now) }
+    requires scripts { length known.now.marks ≤ 200000 → scripts.now ≡ whole_scripts (view tree.now) }
+    ensures { IfOk result (λ b. option_map broken_view b ≡ first_of last_rules (view tree.now)) }
+{
+    let again = breaks(23, repeated_answer(alloc, tree)?);
+    let much = breaks(24, too_much_with(tree, known, scripts));
+    Ok(again.or(much))
 }

@@ -4,8 +4,8 @@ ghost use Rattle.std.specs.Prelude.{◌≡◌, ◌≤◌, [], All, None, Some, m
 ghost use Rattle.borrowed_json.specs.View.{view};
 ghost use Rattle.machine_file.specs.Broken.{broken_view};
 ghost use Rattle.machine_file.specs.Devices.{whole_devices};
-ghost use Rattle.machine_file.specs.Fitting.{HasShortName};
-ghost use Rattle.machine_file.specs.ValidFiles.{broken_devices, broken_form};
+ghost use Rattle.machine_file.specs.Fitting.{HasDevices, HasShortName};
+ghost use Rattle.machine_file.specs.ValidFiles.{broken_devices};
 ghost use Rattle.machine_file.specs.Knows.{names};
 ghost use Rattle.borrowed_json.specs.Look.{text_at, list_in};
 ghost use Rattle.machine_file.specs.Names.{is_among_names};
@@ -182,7 +182,7 @@ pub(crate) fn devices_in(
     alloc: Global,
     tree: &Value<'_>,
 ) -> Result<Result<NamedDevices, Broken>, Mem>
-    requires { broken_form (view tree.now) ≡ None }
+    requires { HasDevices (view tree.now) }
     ensures broken { IfOk result (λ r. IfErr r (λ b. broken_devices (view tree.now) ≡ Some (broken_view b))) }
     ensures unbroken { IfOk result (λ r. IfOk r (λ _. broken_devices (view tree.now) ≡ None)) }
     ensures devices { IfOk result (λ r. IfOk r (λ d. d ≡ whole_devices (view tree.now))) }

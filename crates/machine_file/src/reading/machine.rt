@@ -1,4 +1,4 @@
-//! The rules of a machine file in their order, and its links and scripts if it breaks none.
+//! The rules of a machine file in their order, and its links, scripts and answers if it breaks none.
 
 ghost use Rattle.std.specs.Prelude.{◌≡◌, [], option_map, codes, Some, None, IfOk, IfErr};
 ghost use Rattle.std.specs.Option.{option_or};
@@ -7,27 +7,28 @@ ghost use Rattle.borrowed_json.specs.Look.{list_in};
 ghost use Rattle.machine_file.specs.Places.{first_not_after};
 ghost use Rattle.machine_file.specs.Devices.{closes_no_cycle};
 ghost use Rattle.machine_file.specs.Knows.{Knows};
-ghost use Rattle.machine_file.specs.ValidFiles.{IsSound, first_in_order, broken_form, broken_devices, broken_ends, broken_cycle, broken_rest};
+ghost use Rattle.machine_file.specs.Answering.{whole_answers};
+ghost use Rattle.machine_file.specs.ValidFiles.{IsSound, SpellsBehaviour, first_in_order, broken_form, broken_devices, broken_ends, broken_cycle, broken_behaviour, broken_rest};
 ghost use Rattle.machine_file.specs.Seen.{AreEnds, AreNumbersOf};
 ghost use Rattle.machine_file.specs.Broken.{broken_view};
 ghost use Rattle.machine_file.specs.Whole.{first_of};
-ghost use Rattle.machine_file.specs.Groups.{operation_rules};
+ghost use Rattle.machine_file.specs.Groups.{last_rules, reply_rules};
 ghost use Rattle.machine_file.specs.Knows.{SpellsScripts};
 
 use crate::fault::Stop;
 use crate::names::known::Known;
+use crate::reading::replies::answers_in;
 use crate::reading::scripts::scripts_in;
 use crate::rules::cycles::{Linking, linking_of};
 use crate::rules::items::is_second;
 use crate::rules::pairs::{EndNumbers, LinkEnds, ends_in, numbers_in};
 use crate::rules::{
-    Broken, answer_broken, end_broken, form_broken, operation_broken, sourceless_report,
-    thing_broken,
+    Broken, end_broken, form_broken, last_broken, operation_broken, reply_broken, thing_broken,
 };
 use crate::value::place::{Member, Place, items};
 use borrowed_json::Value;
 use sleep_base::{Mem, drop_for_mem};
-use sleep_model::Script;
+use sleep_model::{Answer, Script};
 use std::alloc::Global;
 
 /// The first rule on form that is broken.
@@ -67,26 +68,79 @@ fn first_cycle(cycle: Option<usize>, _tree: &Value<'_>) -> Option<Broken>
     }
 }
 
-/// The scripts of a file, or the first rule on operations that is broken. It is searched for only if one is.
-fn operations_in(
+/// What the actors of a machine and its callbacks do.
+#[derive(Drop)]
+pub(crate) struct Behaviour {
+    pub(crate) scripts: Vec<Script>,
+    pub(crate) answers: Vec<Answer>,
+}
+
+/// The answers of a file, or the first rule on them and their reports that is broken. It is searched for only
+/// if one is.
+fn answers_of_file(
     alloc: Global,
     tree: &Value<'_>,
     known: &Known<'_>,
-) -> Result<Result<Vec<Script>, Broken>, Mem>
+) -> Result<Result<Vec<Answer>, Broken>, Mem>
     requires form { broken_form (view tree.now) ≡ None }
     requires knows { Knows known.now (view tree.now) }
-    ensures spelled { IfOk result (λ r. IfOk r (SpellsScripts (view tree.now) known.now)) }
-    ensures unbroken { IfOk result (λ r. IfOk r (λ _. first_of operation_rules (view tree.now) ≡ None)) }
-    ensures broken { IfOk result (λ r. IfErr r (λ b. first_of operation_rules (view tree.now) ≡ Some (broken_view b))) }
+    ensures spelled { IfOk result (λ r. IfOk r (λ v. v.items ≡ whole_answers (view tree.now))) }
+    ensures unbroken { IfOk result (λ r. IfOk r (λ _. first_of reply_rules (view tree.now) ≡ None)) }
+    ensures broken { IfOk result (λ r. IfErr r (λ b. first_of reply_rules (view tree.now) ≡ Some (broken_view b))) }
+{
+    match answers_in(alloc, items(tree, Member::Answers), known) {
+        Ok(answers) => Ok(Ok(answers)),
+        Err(Stop::Broken) => match reply_broken(tree, known) {
+            Some(broken) => Ok(Err(broken)),
+            None => unreachable!(),
+        },
+        Err(Stop::Mem) => Err(Mem),
+    }
+}
+
+/// These scripts, of which each keeps the rules on operations, and the answers of their file, or the first
+/// rule on answers that is broken.
+fn with_answers(
+    alloc: Global,
+    tree: &Value<'_>,
+    known: &Known<'_>,
+    scripts: Vec<Script>,
+) -> Result<Result<Behaviour, Broken>, Mem>
+    requires form { broken_form (view tree.now) ≡ None }
+    requires knows { Knows known.now (view tree.now) }
+    requires scripts { SpellsScripts (view tree.now) known.now scripts }
+    requires operations { broken_behaviour (view tree.now) ≡ first_of reply_rules (view tree.now) }
+    ensures spelled { IfOk result (λ r. IfOk r (SpellsBehaviour (view tree.now) known.now)) }
+    ensures unbroken { IfOk result (λ r. IfOk r (λ _. broken_behaviour (view tree.now) ≡ None)) }
+    ensures broken { IfOk result (λ r. IfErr r (λ b. broken_behaviour (view tree.now) ≡ Some (broken_view b))) }
+{
+    let Ok(answers) = answers_of_file(alloc, tree, known) else {
+        return Err(drop_for_mem(scripts));
+    };
+    match answers {
+        Ok(answers) => Ok(Ok(Behaviour { scripts, answers })),
+        Err(broken) => {
+            drop(scripts);
+            Ok(Err(broken))
+        }
+    }
+}
+
+/// The scripts and the answers of a file, or the first rule on operations and answers that is broken. It is
+/// searched for only if one is.
+fn behaviour_in(
+    alloc: Global,
+    tree: &Value<'_>,
+    known: &Known<'_>,
+) -> Result<Result<Behaviour, Broken>, Mem>
+    requires form { broken_form (view tree.now) ≡ None }
+    requires knows { Knows known.now (view tree.now) }
+    ensures spelled { IfOk result (λ r. IfOk r (SpellsBehaviour (view tree.now) known.now)) }
+    ensures unbroken { IfOk result (λ r. IfOk r (λ _. broken_behaviour (view tree.now) ≡ None)) }
+    ensures broken { IfOk result (λ r. IfErr r (λ b. broken_behaviour (view tree.now) ≡ Some (broken_view b))) }
 {
     match scripts_in(alloc, is_second(tree), items(tree, Member::Actors), known) {
-        Ok(scripts) => match sourceless_report(tree, known) {
-            Some(place) => {
-                drop(scripts);
-                Ok(Err(Broken { rule: 18, place }))
-            }
-            None => Ok(Ok(scripts)),
-        },
+        Ok(scripts) => with_answers(alloc, tree, known, scripts),
         Err(Stop::Broken) => match operation_broken(tree, known) {
             Some(broken) => Ok(Err(broken)),
             None => unreachable!(),
@@ -95,46 +149,67 @@ fn operations_in(
     }
 }
 
-/// The scripts of a file, or the first rule after those on links that is broken.
-#[tactic(auto, unfolding(crate::specs::ValidFiles::broken_rest))]
-fn rest_in(
+/// These scripts and answers of a file, of which each keeps the rules on one operation or answer, or the first
+/// of the last rules that is broken.
+fn unless_last_broken(
     alloc: Global,
     tree: &Value<'_>,
     known: &Known<'_>,
-) -> Result<Result<Vec<Script>, Broken>, Mem>
+    behaviour: Behaviour,
+) -> Result<Result<Behaviour, Broken>, Mem>
     requires form { broken_form (view tree.now) ≡ None }
     requires knows { Knows known.now (view tree.now) }
-    ensures spelled { IfOk result (λ r. IfOk r (SpellsScripts (view tree.now) known.now)) }
+    requires spelled { SpellsBehaviour (view tree.now) known.now behaviour }
+    requires unbroken { broken_behaviour (view tree.now) ≡ None }
+    ensures spelled { IfOk result (λ r. IfOk r (SpellsBehaviour (view tree.now) known.now)) }
+    ensures unbroken { IfOk result (λ r. IfOk r (λ _. first_of last_rules (view tree.now) ≡ None)) }
+    ensures broken { IfOk result (λ r. IfErr r (λ b. first_of last_rules (view tree.now) ≡ Some (broken_view b))) }
+{
+    let Ok(last) = last_broken(alloc, tree, known, &behaviour.scripts) else {
+        return Err(drop_for_mem(behaviour));
+    };
+    match last {
+        Some(broken) => {
+            drop(behaviour);
+            Ok(Err(broken))
+        }
+        None => Ok(Ok(behaviour)),
+    }
+}
+
+/// The scripts and the answers of a file, or the first rule after those on links that is broken.
+#[tactic(auto, unfolding(crate::specs::ValidFiles::broken_rest))]
+pub(crate) fn rest_in(
+    alloc: Global,
+    tree: &Value<'_>,
+    known: &Known<'_>,
+) -> Result<Result<Behaviour, Broken>, Mem>
+    requires form { broken_form (view tree.now) ≡ None }
+    requires knows { Knows known.now (view tree.now) }
+    ensures spelled { IfOk result (λ r. IfOk r (SpellsBehaviour (view tree.now) known.now)) }
     ensures unbroken { IfOk result (λ r. IfOk r (λ _. broken_rest (view tree.now) ≡ None)) }
     ensures broken { IfOk result (λ r. IfErr r (λ b. broken_rest (view tree.now) ≡ Some (broken_view b))) }
 {
     if let Some(broken) = thing_broken(alloc, tree, known)? {
         return Ok(Err(broken));
     }
-    let answer = answer_broken(alloc, tree, known)?;
-    match operations_in(alloc, tree, known)? {
-        Ok(scripts) => match answer {
-            Some(broken) => {
-                drop(scripts);
-                Ok(Err(broken))
-            }
-            None => Ok(Ok(scripts)),
-        },
+    match behaviour_in(alloc, tree, known)? {
+        Ok(behaviour) => unless_last_broken(alloc, tree, known, behaviour),
         Err(broken) => Ok(Err(broken)),
     }
 }
 
-/// The scripts of a file, or the first rule after those on the ends of links that is broken.
-fn scripts_after(
+/// The scripts and the answers of a file, or the first rule after those on the ends of links that is broken.
+fn behaviour_after(
     alloc: Global,
     tree: &Value<'_>,
     known: &Known<'_>,
     cycle: Option<usize>,
-) -> Result<Result<Vec<Script>, Broken>, Mem>
+) -> Result<Result<Behaviour, Broken>, Mem>
     requires form { broken_form (view tree.now) ≡ None }
     requires knows { Knows known.now (view tree.now) }
     requires cycle { cycle ≡ first_not_after (closes_no_cycle (view tree.now)) [] 0 (list_in (codes "links") (view tree.now)) }
-    ensures spelled { IfOk result (λ r. IfOk r (SpellsScripts (view tree.now) known.now)) }
+    ensures spelled { IfOk result (λ r. IfOk r (SpellsBehaviour (view tree.now) known.now)) }
     ensures unbroken { IfOk result (λ r. IfOk r (λ _. option_or (broken_cycle (view tree.now)) (broken_rest (view tree.now)) ≡ None)) }
     ensures broken { IfOk result (λ r. IfErr r (λ b. option_or (broken_cycle (view tree.now)) (broken_rest (view tree.now)) ≡ Some (broken_view b))) }
 {
@@ -144,14 +219,14 @@ fn scripts_after(
     }
 }
 
-/// The links of a file that breaks no rule, and its scripts.
+/// The links of a file that breaks no rule, its scripts and its answers.
 #[derive(Drop)]
 pub(crate) struct Parts {
     pub(crate) linking: Linking,
-    pub(crate) scripts: Vec<Script>,
+    pub(crate) behaviour: Behaviour,
 }
 
-/// The links and the scripts of a file, or the first rule after those on devices that is broken.
+/// The links, the scripts and the answers of a file, or the first rule after those on devices that is broken.
 pub(crate) fn parts_in(
     alloc: Global,
     tree: &Value<'_>,
@@ -190,8 +265,8 @@ fn ends_of_links(
     }
 }
 
-/// The links between these places and the scripts, or the first rule after those on the ends of links that is
-/// broken.
+/// The links between these places, the scripts and the answers, or the first rule after those on the ends of
+/// links that is broken.
 fn parts_by(
     alloc: Global,
     tree: &Value<'_>,
@@ -207,11 +282,11 @@ fn parts_by(
     ensures broken { IfOk result (λ r. IfErr r (λ b. first_in_order (view tree.now) ≡ Some (broken_view b))) }
 {
     let linking = linking_of(alloc, tree, known, places)?;
-    let Ok(scripts) = scripts_after(alloc, tree, known, linking.added.cycle) else {
+    let Ok(behaviour) = behaviour_after(alloc, tree, known, linking.added.cycle) else {
         return Err(drop_for_mem(linking));
     };
-    match scripts {
-        Ok(scripts) => Ok(Ok(Parts { linking, scripts })),
+    match behaviour {
+        Ok(behaviour) => Ok(Ok(Parts { linking, behaviour })),
         Err(broken) => {
             drop(linking);
             Ok(Err(broken))

@@ -1,21 +1,24 @@
-//! The answers that a file spells.
+//! The answers that a file spells: each is tested and read at once.
 
-ghost use Rattle.std.specs.Prelude.{◌≡◌, ◌≤◌, All, map, length, codes, unwrap_or, find, pos, neg_ℤ, IfOk};
+ghost use Rattle.std.specs.Prelude.{◌≡◌, ◌≤◌, All, map, length, codes, true, unwrap_or, find, pos, neg_ℤ, IfErr, IfOk};
+ghost use Rattle.std.specs.List.{list_all};
 ghost use Rattle.borrowed_json.specs.View.{view};
 ghost use Rattle.borrowed_json.specs.Look.{has_text, number_at};
 ghost use Rattle.machine_file.specs.Answering.{answering_phases, platform_steps, phase_of, step_of, ret_of, call_of, whole_report};
-ghost use Rattle.machine_file.specs.AnswerTests.{thing_seen, answer_made};
+ghost use Rattle.machine_file.specs.AnswerTests.{thing_seen, answer_made, is_valid_answer};
 ghost use Rattle.phase_table.specs.Phases.{phase_name};
 ghost use Rattle.sleep_model.specs.Text.{down_word};
 ghost use Rattle.sleep_base.specs.Errno.{name_of, number_of};
 ghost use Rattle.sleep_model.specs.Answers.{errors};
 ghost use Rattle.machine_file.specs.Fitting.{FitsAt, HasPlainRet, FitsAnswer};
 ghost use Rattle.machine_file.specs.Knows.{texts, AreFew};
+ghost use Rattle.machine_file.specs.Stopping.{StopsUnless};
 
+use crate::fault::Stop;
 use crate::names::devices::device_named;
 use crate::names::known::Known;
 use crate::reading::scripts::{ms_of, says, small_at, thing_at};
-use crate::rules::answers::is_of_device;
+use crate::rules::answers::{is_of_device, is_valid_answer};
 use crate::value::words::{AWAKE, NOTIFIER, RELAX, SYSCORE, error_in, phase_in, step_in};
 use borrowed_json::{Value, get, has_text, list_in, number_at};
 use key_index::KeyIndex;
@@ -153,11 +156,16 @@ fn reports_of(
 }
 
 /// The answer that a value spells.
-fn answer_of(alloc: Global, answer: &Value<'_>, known: &Known<'_>) -> Result<Answer, Mem>
+fn answer_in(alloc: Global, answer: &Value<'_>, known: &Known<'_>) -> Result<Answer, Stop>
     requires few { AreFew known.now }
     requires fits { FitsAnswer (view answer.now) }
-    ensures { IfOk result (λ a. a ≡ answer_made known.now (view answer.now)) }
+    ensures valid { IfOk result (λ _. is_valid_answer known.now (view answer.now) ≡ true) }
+    ensures spells { IfOk result (λ a. a ≡ answer_made known.now (view answer.now)) }
+    ensures err { IfErr result (StopsUnless (is_valid_answer known.now (view answer.now))) }
 {
+    if !is_valid_answer(answer, known) {
+        return Err(Stop::Broken);
+    }
     let reports = reports_of(alloc, list_in(answer, "reports"), &known.sources)?;
     Ok(Answer {
         what: thing_of(answer, known),
@@ -168,18 +176,20 @@ fn answer_of(alloc: Global, answer: &Value<'_>, known: &Known<'_>) -> Result<Ans
 }
 
 /// The answers that these values spell.
-pub(crate) fn answers_of(
+pub(crate) fn answers_in(
     alloc: Global,
     answers: &[Value<'_>],
     known: &Known<'_>,
-) -> Result<Vec<Answer>, Mem>
+) -> Result<Vec<Answer>, Stop>
     requires few { AreFew known.now }
     requires fit { All FitsAnswer (map view answers.now) }
-    ensures { IfOk result (λ v. v.items ≡ map (answer_made known.now) (map view answers.now)) }
+    ensures valid { IfOk result (λ _. list_all (is_valid_answer known.now) (map view answers.now) ≡ true) }
+    ensures spells { IfOk result (λ v. v.items ≡ map (answer_made known.now) (map view answers.now)) }
+    ensures err { IfErr result (StopsUnless (list_all (is_valid_answer known.now) (map view answers.now))) }
 {
     let mut all = Vec::with_capacity(alloc, answers.len())?;
     for answer in answers {
-        all.push(answer_of(alloc, answer, known)?)?;
+        all.push(answer_in(alloc, answer, known)?)?;
     }
     Ok(all)
 }

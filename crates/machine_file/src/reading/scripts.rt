@@ -11,7 +11,7 @@ ghost use Rattle.machine_file.specs.WordLists.{task_kinds};
 ghost use Rattle.machine_file.specs.Operations.{has_length, has_mark, has_short_text, is_state_form, kind_of, ms_of, row_of, says, thing_at, whole_script, whole_step};
 ghost use Rattle.machine_file.specs.declared.fault.Stop.TheVariants as stop;
 ghost use Rattle.machine_file.specs.declared.rules.operations.Word.TheVariants as word;
-ghost use Rattle.machine_file.specs.OperationRows.{is_valid_for, is_valid_script, names_ends, names_thing, op_spelled, operation_of_word, row_test, word_test};
+ghost use Rattle.machine_file.specs.OperationRows.{is_valid_for, is_valid_script, names_ends, must_name, op_spelled, operation_of_word, row_test, word_test};
 ghost use Rattle.machine_file.specs.Fitting.{FitsAt, FitsScript};
 ghost use Rattle.machine_file.specs.Spelled.{index_among};
 ghost use Rattle.machine_file.specs.Stopping.{StopsUnless};
@@ -80,7 +80,7 @@ pub(crate) fn thing_at(value: &Value<'_>, name: &str, names: &KeyIndex<&str>) ->
 }
 
 /// What stands at a member, which has to be given.
-fn member_of<'v, 'a>(value: &'v Value<'a>, name: &str) -> Result<&'v Value<'a>, Stop>
+pub(crate) fn member_of<'v, 'a>(value: &'v Value<'a>, name: &str) -> Result<&'v Value<'a>, Stop>
     ensures ok { IfOk result (λ v. get name.now (view value.now) ≡ Some (view v.now)) }
     ensures err { IfErr result (λ e. (get name.now (view value.now) ≡ None) × (e ≡ stop.Broken)) }
 {
@@ -164,8 +164,8 @@ fn named_in<'v>(value: &Value<'v>, name: &str) -> Result<&'v str, Stop>
 /// The number of the thing that has to be named at a member.
 fn thing_in(value: &Value<'_>, member: &str, names: &KeyIndex<&str>) -> Result<u32, Stop>
     requires { length names.now ≤ 200000 }
-    ensures ok { IfOk result (λ n. (names_thing member.now (texts names.now) (view value.now) ≡ true) × (n ≡ thing_at member.now (texts names.now) (view value.now))) }
-    ensures err { IfErr result (StopsUnless (names_thing member.now (texts names.now) (view value.now))) }
+    ensures ok { IfOk result (λ n. (must_name member.now (texts names.now) (view value.now) ≡ true) × (n ≡ thing_at member.now (texts names.now) (view value.now))) }
+    ensures err { IfErr result (StopsUnless (must_name member.now (texts names.now) (view value.now))) }
 {
     let name = named_in(value, member)?;
     match index_of_name(names, name) {
@@ -176,8 +176,8 @@ fn thing_in(value: &Value<'_>, member: &str, names: &KeyIndex<&str>) -> Result<u
 
 /// The number of the device that has to be named at a member.
 fn device_in(value: &Value<'_>, member: &str, devices: &NamedDevices) -> Result<u32, Stop>
-    ensures ok { IfOk result (λ n. (names_thing member.now (names devices.now) (view value.now) ≡ true) × (n ≡ thing_at member.now (names devices.now) (view value.now))) }
-    ensures err { IfErr result (StopsUnless (names_thing member.now (names devices.now) (view value.now))) }
+    ensures ok { IfOk result (λ n. (must_name member.now (names devices.now) (view value.now) ≡ true) × (n ≡ thing_at member.now (names devices.now) (view value.now))) }
+    ensures err { IfErr result (StopsUnless (must_name member.now (names devices.now) (view value.now))) }
 {
     let name = named_in(value, member)?;
     match devices.find(name) {

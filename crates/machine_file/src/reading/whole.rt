@@ -15,8 +15,7 @@ ghost use Rattle.machine_file.specs.Reading.{Reads};
 
 use crate::ReadMachine;
 use crate::names::known::Known;
-use crate::reading::machine::Parts;
-use crate::reading::replies::answers_of;
+use crate::reading::machine::{Behaviour, Parts};
 use crate::reading::scripts::small_or;
 use crate::reading::texts::names_of_texts;
 use crate::reading::things::notifiers_of;
@@ -62,16 +61,6 @@ fn marks_of(alloc: Global, _tree: &Value<'_>, known: &Known<'_>) -> Result<Vec<N
     Ok(names)
 }
 
-fn answers_in(alloc: Global, tree: &Value<'_>, known: &Known<'_>) -> Result<Vec<Answer>, Mem>
-    requires knows { Knows known.now (view tree.now) }
-    requires few { AreFew known.now }
-    requires fits { FitsFile (view tree.now) }
-    ensures { IfOk result (λ v. v.items ≡ whole_answers (view tree.now)) }
-{
-    let answers = answers_of(alloc, items(tree, Member::Answers), known)?;
-    Ok(answers)
-}
-
 /// Devices, syscore callbacks and notifiers.
 type Things = (Vec<Device>, Vec<Name>, Vec<Notifier>);
 
@@ -112,29 +101,28 @@ fn named_in(
     Ok((sources, marks))
 }
 
-/// A file's machine, with these links and scripts.
+/// A file's machine, with these links, scripts and answers.
 fn machine_of(
     alloc: Global,
     tree: &Value<'_>,
     known: &Known<'_>,
     links: Vec<Link>,
     actors: Vec<Script>,
+    answers: Vec<Answer>,
 ) -> Result<Machine, Mem>
     requires knows { Knows known.now (view tree.now) }
     requires few { AreFew known.now }
     requires links { links.items ≡ whole_links (view tree.now) }
     requires scripts { actors.items ≡ whole_scripts (view tree.now) }
+    requires answers { answers.items ≡ whole_answers (view tree.now) }
     requires fits { FitsFile (view tree.now) }
     ensures { IfOk result (λ m. m ≡ whole_machine (view tree.now)) }
 {
     let Ok(things) = things_in(alloc, tree, known) else {
-        return Err(drop_for_mem((links, actors)));
+        return Err(drop_for_mem((links, actors, answers)));
     };
     let Ok(named) = named_in(alloc, tree, known) else {
-        return Err(drop_for_mem((links, actors, things)));
-    };
-    let Ok(answers) = answers_in(alloc, tree, known) else {
-        return Err(drop_for_mem((links, actors, things, named)));
+        return Err(drop_for_mem((links, actors, answers, things)));
     };
     let (devices, syscore, notifiers) = things;
     let (sources, marks) = named;
@@ -163,13 +151,14 @@ pub(crate) fn read_of(
     requires { IsSound (view tree.now) known.now parts }
     ensures { IfOk result (λ r. Reads (view tree.now) r) }
 {
-    let Parts { linking, scripts } = parts;
+    let Parts { linking, behaviour } = parts;
+    let Behaviour { scripts, answers } = behaviour;
     let Linking { links, added } = linking;
     let Added {
         links: tied,
         cycle: _,
     } = added;
-    let Ok(machine) = machine_of(alloc, tree, known, links, scripts) else {
+    let Ok(machine) = machine_of(alloc, tree, known, links, scripts, answers) else {
         return Err(drop_for_mem(tied));
     };
     Ok(ReadMachine {

@@ -12,7 +12,7 @@ ghost use Rattle.machine_file.specs.Answering.{platform_steps, common_errors, is
 ghost use Rattle.machine_file.specs.Knows.{texts};
 ghost use Rattle.machine_file.specs.Rules.{name_of as own_name};
 ghost use Rattle.sleep_base.specs.Errno.{name_of};
-ghost use Rattle.machine_file.specs.AnswerTests.{answer_test, kind_names};
+ghost use Rattle.machine_file.specs.AnswerTests.{answer_test, is_valid_answer, kind_names};
 ghost use Rattle.machine_file.specs.Seen.{answer_seen, answer_written, same_answer};
 ghost use Rattle.machine_file.specs.Broken.{place_of};
 
@@ -170,6 +170,16 @@ fn passes(test: AnswerTest, known: &Known<'_>, answer: &Value<'_>) -> bool
         AnswerTest::Reports => may_report(answer),
         AnswerTest::Sources => has_sources(answer, known),
     }
+}
+
+/// Whether an answer keeps each rule on one answer.
+pub(crate) fn is_valid_answer(answer: &Value<'_>, known: &Known<'_>) -> bool
+    ensures { result ≡ is_valid_answer known.now (view answer.now) }
+{
+    passes(AnswerTest::Thing, known, answer)
+        && passes(AnswerTest::Ret, known, answer)
+        && passes(AnswerTest::Reports, known, answer)
+        && passes(AnswerTest::Sources, known, answer)
 }
 
 fn first_not(test: AnswerTest, known: &Known<'_>, answers: &[Value<'_>]) -> Option<usize>

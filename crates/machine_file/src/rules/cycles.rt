@@ -126,8 +126,27 @@ pub(crate) fn linking_of(
     ensures added { IfOk result (λ l. l.added.cycle ≡ None → l.added.links ≡
         record { parents = parents_of (whole_devices (view tree.now)); links = reverse (whole_links (view tree.now)) }) }
 {
-    let parents = parents_of(alloc, known.devices.all())?;
     let links = links_in(alloc, tree, places)?;
+    linking_with(alloc, tree, known, links)
+}
+
+/// Adds these links of a file.
+pub(crate) fn linking_with(
+    alloc: Global,
+    _tree: &Value<'_>,
+    known: &Known<'_>,
+    links: Vec<Link>,
+) -> Result<Linking, Mem>
+    requires knows { Knows known.now (view _tree.now) }
+    requires links { links.items ≡ whole_links (view _tree.now) }
+    requires joined { AreJoined (view _tree.now) }
+    ensures links { IfOk result (λ l. l.links.items ≡ whole_links (view _tree.now)) }
+    ensures cycle { IfOk result (λ l. l.added.cycle ≡
+        first_not_after (closes_no_cycle (view _tree.now)) [] 0 (list_in (codes "links") (view _tree.now))) }
+    ensures added { IfOk result (λ l. l.added.cycle ≡ None → l.added.links ≡
+        record { parents = parents_of (whole_devices (view _tree.now)); links = reverse (whole_links (view _tree.now)) }) }
+{
+    let parents = parents_of(alloc, known.devices.all())?;
     let added = add_links(alloc, &parents, &links)?;
     Ok(Linking { links, added })
 }

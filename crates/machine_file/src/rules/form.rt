@@ -87,7 +87,7 @@ pub(crate) fn is_device_form(value: &Value<'_>) -> bool
 }
 
 /// Whether a link has none but its members: with a state in a file of version 2.
-fn has_link_members(value: &Value<'_>, second: bool) -> bool
+pub(crate) fn has_link_members(value: &Value<'_>, second: bool) -> bool
     ensures { result ≡ has_only (link_members second) (view value.now) }
 {
     if second {

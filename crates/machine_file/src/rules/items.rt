@@ -3,7 +3,8 @@
 ghost use Rattle.std.specs.Prelude.{◌≡◌, not, position, length, nat_le, codes};
 ghost use Rattle.borrowed_json.specs.View.{view};
 ghost use Rattle.machine_file.specs.Places.{first_not, first_item};
-ghost use Rattle.machine_file.specs.Form.{is_link_form, unformed_item};
+ghost use Rattle.machine_file.specs.Form.{first_in_lists, is_link_form, unformed_item};
+ghost use Rattle.machine_file.specs.Kept.{other_forms, other_names};
 ghost use Rattle.machine_file.specs.Names.{spells_name, names_of_device, names_of_link, own_name, misspelled_item};
 ghost use Rattle.borrowed_json.specs.Look.{must_have, may_have, list_in};
 ghost use Rattle.machine_file.specs.Rules.{is_second};
@@ -126,6 +127,30 @@ pub(crate) fn unformed_item(tree: &Value<'_>) -> Option<Place>
         .or(first_item(tree, Member::Sources, ItemTest::Text))
         .or(first_item(tree, Member::Actors, ItemTest::ActorForm))
         .or(first_item(tree, Member::Answers, ItemTest::AnswerForm))
+}
+
+/// The first item, but of links, that has not its form.
+pub(crate) fn other_unformed(tree: &Value<'_>) -> Option<Place>
+    ensures { place_of result ≡ first_in_lists other_forms (view tree.now) }
+{
+    first_item(tree, Member::Devices, ItemTest::DeviceForm)
+        .or(first_item(tree, Member::Syscore, ItemTest::Text))
+        .or(first_item(tree, Member::Notifiers, ItemTest::NotifierForm))
+        .or(first_item(tree, Member::Sources, ItemTest::Text))
+        .or(first_item(tree, Member::Actors, ItemTest::ActorForm))
+        .or(first_item(tree, Member::Answers, ItemTest::AnswerForm))
+}
+
+/// The first item, but of links, with a name that is misspelled.
+pub(crate) fn other_misspelled(tree: &Value<'_>) -> Option<Place>
+    ensures { place_of result ≡ first_in_lists other_names (view tree.now) }
+{
+    first_item(tree, Member::Devices, ItemTest::DeviceNames)
+        .or(first_item(tree, Member::Syscore, ItemTest::NameText))
+        .or(first_item(tree, Member::Notifiers, ItemTest::OwnName))
+        .or(first_item(tree, Member::Sources, ItemTest::NameText))
+        .or(first_item(tree, Member::Actors, ItemTest::OwnName))
+        .or(first_item(tree, Member::Answers, ItemTest::OwnName))
 }
 
 /// The first item with a name that is misspelled.

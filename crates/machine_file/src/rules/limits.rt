@@ -4,12 +4,15 @@ ghost use Rattle.std.specs.Prelude.{◌≡◌, ◌+◌, ◌*◌, ◌||◌, lengt
 ghost use Rattle.std.specs.List.{list_any};
 ghost use Rattle.borrowed_json.specs.View.{view};
 ghost use Rattle.borrowed_json.specs.Look.{list_in, number_at, has_text};
-ghost use Rattle.machine_file.specs.Limits.{too_many, too_much, times_of, repeat_of, has_autosleep, autosleep_attempts, most_attempts, are_links_few, are_steps_few, are_reports_few};
-ghost use Rattle.machine_file.specs.Counted.{with_operation, steps_of_script, repeated_steps, steps_of_actor, joined_steps, steps_of_actors};
+ghost use Rattle.sleep_model.specs.Places.{is_state, is_autosleep, is_link_step};
+ghost use Rattle.machine_file.specs.Limits.{too_many, too_much, has_autosleep, autosleep_attempts, most_attempts, are_links_few, are_steps_few, are_reports_few};
+ghost use Rattle.machine_file.specs.Counted.{with_step, steps_once, repeated_steps, steps_of_script, joined_steps, steps_of_scripts, steps_of_actors};
+ghost use Rattle.machine_file.specs.Operations.{whole_scripts};
 ghost use Rattle.machine_file.specs.Broken.{member_name, place_of};
 
 use crate::value::place::{Member, Place, items};
-use borrowed_json::{Value, is_same, list_in, number_at, text_at};
+use borrowed_json::{Value, list_in, number_at};
+use sleep_model::{Op, Script, Step};
 
 /// How many steps there are, each number of at most the cap.
 #[derive(Clone, Copy)]
@@ -112,18 +115,6 @@ fn capped_product(one: u64, other: u64) -> u64
     one.saturating_mul(other).min(CAP)
 }
 
-fn times_of(operation: &Value<'_>) -> u64
-    ensures { result ≡ times_of (view operation.now) }
-{
-    number_at(operation, "times").unwrap_or(1)
-}
-
-fn repeat_of(actor: &Value<'_>) -> u64
-    ensures { result ≡ repeat_of (view actor.now) }
-{
-    number_at(actor, "repeat").unwrap_or(1)
-}
-
 /// What counts if it is asked for, and 0 else.
 fn times_if(counted: bool, times: u64) -> u64
     ensures { result ≡ (if counted then times else 0) }
@@ -131,27 +122,46 @@ fn times_if(counted: bool, times: u64) -> u64
     if counted { times } else { 0 }
 }
 
-/// The steps and an operation of that word more, which is made so often.
-fn with_operation(steps: Steps, word: &str, times: u64) -> Steps
-    ensures { result ≡ with_operation steps word.now times }
+fn is_state(op: &Op) -> bool
+    ensures { result ≡ is_state op.now }
 {
-    let state = times_if(is_same(word, "state"), times);
-    let link = times_if(is_same(word, "link"), times);
+    matches!(op, Op::State { .. })
+}
+
+fn is_autosleep(op: &Op) -> bool
+    ensures { result ≡ is_autosleep op.now }
+{
+    matches!(op, Op::Autosleep { .. })
+}
+
+fn is_link_step(op: &Op) -> bool
+    ensures { result ≡ is_link_step op.now }
+{
+    matches!(op, Op::Link { .. })
+}
+
+/// The steps and a step more.
+fn with_step(steps: Steps, step: &Step) -> Steps
+    ensures { result ≡ with_step steps step.now }
+{
+    let times = u64::from(step.times);
+    let state = times_if(is_state(&step.op), times);
+    let link = times_if(is_link_step(&step.op), times);
     Steps {
         all: capped_sum(steps.all, times),
         state: capped_sum(steps.state, state),
         link: capped_sum(steps.link, link),
-        autosleep: steps.autosleep || is_same(word, "autosleep"),
+        autosleep: steps.autosleep || is_autosleep(&step.op),
     }
 }
 
 /// The steps of a script that is made once.
-fn script_steps(script: &[Value<'_>]) -> Steps
-    ensures { result ≡ steps_of_script (map view script.now) }
+fn steps_once(script: &[Step]) -> Steps
+    ensures { result ≡ steps_once script.now }
 {
     let mut steps = NO_STEPS;
-    for operation in script {
-        steps = with_operation(steps, text_at(operation, "op"), times_of(operation));
+    for step in script {
+        steps = with_step(steps, step);
     }
     steps
 }
@@ -168,10 +178,13 @@ fn repeated(repeat: u64, steps: Steps) -> Steps
     }
 }
 
-fn actor_steps(actor: &Value<'_>) -> Steps
-    ensures { result ≡ steps_of_actor (view actor.now) }
+fn script_steps(script: &Script) -> Steps
+    ensures { result ≡ steps_of_script script.now }
 {
-    repeated(repeat_of(actor), script_steps(list_in(actor, "script")))
+    repeated(
+        u64::from(script.repeat),
+        steps_once(script.steps.as_slice()),
+    )
 }
 
 /// The steps of both.
@@ -187,20 +200,22 @@ fn joined(one: Steps, other: Steps) -> Steps
 }
 
 /// The steps of all scripts.
-fn all_steps(actors: &[Value<'_>]) -> Steps
-    ensures { result ≡ steps_of_actors (map view actors.now) }
+fn all_steps(scripts: &[Script]) -> Steps
+    ensures { result ≡ steps_of_scripts scripts.now }
 {
     let mut sum = NO_STEPS;
-    for actor in actors {
-        sum = joined(sum, actor_steps(actor));
+    for script in scripts {
+        sum = joined(sum, script_steps(script));
     }
     sum
 }
 
-fn steps_of_file(tree: &Value<'_>) -> Steps
-    ensures { result ≡ steps_of_actors (list_in (codes "actors") (view tree.now)) }
+/// The steps of a file, by the scripts that were read of it.
+fn steps_of_file(_tree: &Value<'_>, scripts: &[Script]) -> Steps
+    requires { scripts.now ≡ whole_scripts (view _tree.now) }
+    ensures { result ≡ steps_of_actors (list_in (codes "actors") (view _tree.now)) }
 {
-    all_steps(items(tree, Member::Actors))
+    all_steps(scripts)
 }
 
 fn autosleep_attempts(tree: &Value<'_>, automatic: bool) -> u64
@@ -230,10 +245,11 @@ fn are_links_few(tree: &Value<'_>, steps: Steps) -> bool
     capped_sum(written, steps.link) <= MOST_LINKS
 }
 
-fn are_steps_few(tree: &Value<'_>) -> bool
+fn are_steps_few(tree: &Value<'_>, scripts: &[Script]) -> bool
+    requires { scripts.now ≡ whole_scripts (view tree.now) }
     ensures { result ≡ are_steps_few (view tree.now) }
 {
-    let steps = steps_of_file(tree);
+    let steps = steps_of_file(tree, scripts);
     let devices = items(tree, Member::Devices).len() as u64;
     let turns = capped_product(most_attempts(tree, steps), devices.saturating_add(50));
     steps.all <= MOST_STEPS && turns <= MOST_TURNS && are_links_few(tree, steps)
@@ -255,11 +271,12 @@ fn are_reports_few(tree: &Value<'_>) -> bool
     reports_of(items(tree, Member::Answers)) <= MOST_REPORTS
 }
 
-/// The place at which too much may happen.
-pub(crate) fn too_much(tree: &Value<'_>) -> Option<Place>
+/// The place at which too much may happen in a file with these scripts.
+pub(crate) fn too_much(tree: &Value<'_>, scripts: &[Script]) -> Option<Place>
+    requires { scripts.now ≡ whole_scripts (view tree.now) }
     ensures { place_of result ≡ too_much (view tree.now) }
 {
-    if !are_steps_few(tree) {
+    if !are_steps_few(tree, scripts) {
         return Some(Place::Member(Member::Actors));
     }
     if !are_reports_few(tree) {

@@ -6,22 +6,19 @@ use Rattle.serde_json.specs.Data.{Data}
 use Rattle.borrowed_json.specs.View.{view}
 use Rattle.machine_file.specs.Fitting.{HasShortName}
 use Rattle.machine_file.specs.Registered.{AreRegistered}
-use Rattle.machine_file.proofs.FittedFile.{fits_devices}
-use Rattle.machine_file.proofs.Grouping.{few_in}
 use Rattle.machine_file.proofs.Registering.{none_broken}
 use Rattle.machine_file.proofs.names.devices.devices_in.Goals as goal
 
 pub register_all-requires : goal.register_all-requires
 register_all-requires c =
-    let file = view c.args.tree.now in
     record {
       empty = c.new-devices.ensures;
       few =
           let n = length-map c.items.result.now view in
           let m = ap (length {A = Data}) c.items.ensures in
-          let f = (few_in file c.requires).devices in
+          let f = c.requires.few in
           omega arith;
-      short = subst (All HasShortName) (sym c.items.ensures) (fits_devices file c.requires);
+      short = subst (All HasShortName) (sym c.items.ensures) c.requires.short;
     }
 
 pub returns-in-Ok-clause-unbroken : goal.returns-in-Ok-clause-unbroken

@@ -3,5 +3,5 @@ use Rattle.std.proofs.Common.{arith}
 use Rattle.std.proofs.lemmas.Grind.{common_steps}
 use Rattle.machine_file.proofs.rules.limits.all_steps.Goals as goal
 
-pub loop-actor-preserved : goal.loop-actor-preserved
-loop-actor-preserved c = grind (arith, common_steps)
+pub loop-script-preserved : goal.loop-script-preserved
+loop-script-preserved c = grind (arith, common_steps)

@@ -1,8 +1,7 @@
 -- The invariant of the loop of `all_steps`.
-use Rattle.std.proofs.Common.{◌≡◌, map, take}
-use Rattle.borrowed_json.specs.View.{view}
-use Rattle.machine_file.specs.Counted.{steps_of_actors}
+use Rattle.std.proofs.Common.{◌≡◌, take}
+use Rattle.machine_file.specs.Counted.{steps_of_scripts}
 use Rattle.machine_file.proofs.rules.limits.all_steps.Given as goal
 
-abbrev pub invariant-loop-actor : goal.invariant-loop-actor
-invariant-loop-actor l = l.sum ≡ steps_of_actors (map view (take l.actor-index l.actors))
+abbrev pub invariant-loop-script : goal.invariant-loop-script
+invariant-loop-script l = l.sum ≡ steps_of_scripts (take l.script-index l.scripts)

@@ -1,7 +1,11 @@
--- Proof that the loop of `script_steps` keeps its invariant.
-use Rattle.std.proofs.Common.{arith}
-use Rattle.std.proofs.lemmas.Grind.{common_steps}
+-- Proof that `script_steps` meets its contract.
+use Rattle.std.proofs.Common.{◌∙◌, ℕ, ap}
+use Rattle.machine_file.specs.Counted.{repeated_steps, steps_once}
+use Rattle.machine_file.proofs.Counting.{of_script}
 use Rattle.machine_file.proofs.rules.limits.script_steps.Goals as goal
 
-pub loop-operation-preserved : goal.loop-operation-preserved
-loop-operation-preserved c = grind (arith, common_steps)
+pub returns : goal.returns
+returns c =
+    let script = c.args.script.now in
+    c.repeated.ensures ∙ ap (λ (n : ℕ). repeated_steps n c.steps_once.result) c.from.ensures ∙ ap (repeated_steps script.repeat) (c.steps_once.ensures ∙ ap steps_once c.as_slice.ensures)
+    ∙ of_script script

@@ -1,4 +1,4 @@
--- Proof that `linking_of` meets its contract, and that it meets what `add_links` requires.
+-- Proof that `linking_with` meets its contract, and that it meets what `add_links` requires.
 use Rattle.std.proofs.Common.{◌≡◌, ◌∙◌, [], List, ℕ, Option, reverse, sym, ap, subst}
 use Rattle.borrowed_json.specs.View.{view}
 use Rattle.sleep_model.specs.declared.machine.Link.{Link}
@@ -8,16 +8,16 @@ use Rattle.machine_file.specs.Devices.{whole_devices, whole_links}
 use Rattle.machine_file.specs.Fresh.{AreFresh, closes_nothing}
 use Rattle.machine_file.specs.Places.{first_not_after}
 use Rattle.machine_file.proofs.Freshly.{file_after, file_fresh, cycle_seen}
-use Rattle.machine_file.proofs.rules.cycles.linking_of.Goals as goal
+use Rattle.machine_file.proofs.rules.cycles.linking_with.Goals as goal
 
 abbrev as_linked : List (Option ℕ) → List Link → Linked
 as_linked ps ls = record { parents = ps; links = reverse ls }
 
 pub add_links-requires : goal.add_links-requires
 add_links-requires c =
-    let file = view c.args.tree.now in
+    let file = view c.args._tree.now in
     let ps : c.deref.result.now ≡ parents_of (whole_devices file) = c.deref.ensures.value ∙ c.in_ok-parents.ensures ∙ ap parents_of (c.all.ensures ∙ c.requires.knows.registered) in
-    let ls : c.deref-2.result.now ≡ whole_links file = c.deref-2.ensures.value ∙ c.in_ok-links.ensures in
+    let ls : c.deref-2.result.now ≡ whole_links file = c.deref-2.ensures.value ∙ c.requires.links in
     record {
       after = subst (EachAfterParent 0) (sym ps) (file_after file c.requires.joined);
       fresh = subst (λ (qs : List (Option ℕ)). AreFresh qs c.deref-2.result.now) (sym ps)
@@ -26,11 +26,11 @@ add_links-requires c =
 
 pub returns : goal.returns
 returns c =
-    let file = view c.args.tree.now in
+    let file = view c.args._tree.now in
     let ps : c.deref.result.now ≡ parents_of (whole_devices file) = c.deref.ensures.value ∙ c.in_ok-parents.ensures ∙ ap parents_of (c.all.ensures ∙ c.requires.knows.registered) in
-    let ls : c.deref-2.result.now ≡ whole_links file = c.deref-2.ensures.value ∙ c.in_ok-links.ensures in
+    let ls : c.deref-2.result.now ≡ whole_links file = c.deref-2.ensures.value ∙ c.requires.links in
     record {
-      links = c.in_ok-links.ensures;
+      links = c.requires.links;
       cycle =
           c.in_ok-added.ensures.cycle ∙ ap (λ (qs : List (Option ℕ)). first_not_after (closes_nothing qs) [] 0 c.deref-2.result.now) ps
           ∙ ap (first_not_after (closes_nothing (parents_of (whole_devices file))) [] 0) ls ∙ cycle_seen file;

@@ -1,0 +1,20 @@
+-- Proof that the loop of `links_in` keeps its invariant, and why it stops.
+use Rattle.std.proofs.Common.{arith}
+use Rattle.std.proofs.lemmas.Grind.{common_steps}
+use Rattle.std.proofs.lemmas.Result.{err_from_is_err_and}
+use Rattle.machine_file.specs.Kept.{is_valid_link}
+use Rattle.machine_file.specs.Knows.{names}
+use Rattle.machine_file.proofs.Each.{all_passed, stops_all}
+use Rattle.machine_file.proofs.reading.links.links_in.Goals as goal
+
+pub loop-link-preserved : goal.loop-link-preserved
+loop-link-preserved c = (
+  all_passed (is_valid_link c.args.second (names c.args.devices.now)) c.args.links.now c.loop-link.link-index c.link-item.result (omega arith) c.link-item.is
+      c.loop-link.invariant.0 c.in_ok-link_in.ensures.valid,
+  grind (arith, common_steps),
+)
+
+pub returns-in_err-link_in-clause-err : goal.returns-in_err-link_in-clause-err
+returns-in_err-link_in-clause-err c =
+    let p = err_from_is_err_and c.from_residual-in_err-link_in.result c.from_residual-in_err-link_in.ensures.1 in
+    rw (p.1, p.2) (stops_all (is_valid_link c.args.second (names c.args.devices.now)) c.args.links.now c.loop-link.link-index c.link-item.result (omega arith) c.link-item.is _ c.in_err-link_in.ensures.err)

@@ -1,0 +1,71 @@
+//! The first rule that a file breaks, searched for rule by rule.
+
+ghost use Rattle.std.specs.Prelude.{◌≡◌, None, option_map, IfOk};
+ghost use Rattle.borrowed_json.specs.View.{view};
+ghost use Rattle.machine_file.specs.Broken.{broken_view};
+ghost use Rattle.machine_file.specs.Devices.{whole_devices};
+ghost use Rattle.machine_file.specs.Knows.{Knows};
+ghost use Rattle.machine_file.specs.ValidFiles.{broken_devices, broken_form, first_in_order};
+
+use crate::names::devices::{NamedDevices, devices_in};
+use crate::names::known::{Known, known_in};
+use crate::reading::machine::{first_of_form, parts_in};
+use crate::rules::Broken;
+use borrowed_json::Value;
+use sleep_base::Mem;
+use std::alloc::Global;
+
+/// The first rule that a file breaks.
+pub(crate) fn first_broken(alloc: Global, tree: &Value<'_>) -> Result<Option<Broken>, Mem>
+    ensures { IfOk result (λ b. option_map broken_view b ≡ first_in_order (view tree.now)) }
+{
+    match first_of_form(tree) {
+        Some(broken) => Ok(Some(broken)),
+        None => first_formed(alloc, tree),
+    }
+}
+
+/// The first rule that a file breaks which keeps the rules on form.
+fn first_formed(alloc: Global, tree: &Value<'_>) -> Result<Option<Broken>, Mem>
+    requires { broken_form (view tree.now) ≡ None }
+    ensures { IfOk result (λ b. option_map broken_view b ≡ first_in_order (view tree.now)) }
+{
+    match devices_in(alloc, tree)? {
+        Ok(devices) => first_registered(alloc, tree, devices),
+        Err(broken) => Ok(Some(broken)),
+    }
+}
+
+/// The first rule that a file with these devices breaks. Only it owns the names of its things, and drops them
+/// at one exit.
+fn first_registered(
+    alloc: Global,
+    tree: &Value<'_>,
+    devices: NamedDevices,
+) -> Result<Option<Broken>, Mem>
+    requires form { broken_form (view tree.now) ≡ None }
+    requires unbroken { broken_devices (view tree.now) ≡ None }
+    requires devices { devices ≡ whole_devices (view tree.now) }
+    ensures { IfOk result (λ b. option_map broken_view b ≡ first_in_order (view tree.now)) }
+{
+    let known = known_in(alloc, tree, devices)?;
+    let broken = first_known(alloc, tree, &known);
+    drop(known);
+    broken
+}
+
+/// The first rule that a file with these names breaks.
+fn first_known(alloc: Global, tree: &Value<'_>, known: &Known<'_>) -> Result<Option<Broken>, Mem>
+    requires form { broken_form (view tree.now) ≡ None }
+    requires devices { broken_devices (view tree.now) ≡ None }
+    requires knows { Knows known.now (view tree.now) }
+    ensures { IfOk result (λ b. option_map broken_view b ≡ first_in_order (view tree.now)) }
+{
+    match parts_in(alloc, tree, known)? {
+        Ok(parts) => {
+            drop(parts);
+            Ok(None)
+        }
+        Err(broken) => Ok(Some(broken)),
+    }
+}
