@@ -151,7 +151,7 @@ impl TaskAccount {
     }
 
     /// Whether autosleep is on (`pm_autosleep_state`).
-    pub fn is_on(&self) -> bool
+    pub fn autosleep_is_on(&self) -> bool
         ensures { result ≡ self.now.on }
     {
         self.on

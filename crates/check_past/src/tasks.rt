@@ -146,7 +146,7 @@ impl<'m> Passed<'m> {
     pub fn autosleep_is_on(&self) -> bool
         ensures { result ≡ is_on (journal_of self.now) }
     {
-        self.past_state.journal.tasks.is_on()
+        self.past_state.journal.tasks.autosleep_is_on()
     }
 
     /// The state of the autosleep work (`try_to_suspend`).
