@@ -80,13 +80,19 @@ fn waiting_for<'a>(core: &'a Core<'_>, phase: Phase, device: u32) -> &'a [u32] {
     }
 }
 
+/// Wakes a device, if it is scheduled in that phase and waits for none.
+#[inline(always)]
+fn wake_if_ready(core: &Core<'_>, waiters: &mut Waiters, phase: Phase, device: u32) {
+    if core.is_ready(phase, device) {
+        waiters.wake_device(device);
+    }
+}
+
 /// Wakes those of these devices that are scheduled in that phase and wait for none.
 #[inline(never)]
 fn wake_ready(core: &Core<'_>, waiters: &mut Waiters, phase: Phase, devices: &[u32]) {
     for device in devices {
-        if core.is_ready(phase, *device) {
-            waiters.wake_device(*device);
-        }
+        wake_if_ready(core, waiters, phase, *device);
     }
 }
 
@@ -251,6 +257,14 @@ impl<'m> Run<'m> {
         }
     }
 
+    /// Wakes a device that was scheduled in that phase, unless it waits for another.
+    #[inline(never)]
+    fn wake_scheduled(&mut self, phase: Phase, device: u32)
+        ensures { self.new ≡ self.old }
+    {
+        wake_if_ready(self.seated.core(), &mut self.waiters, phase, device);
+    }
+
     /// A script that has begun to sleep is not asked again before its sleep ends.
     #[inline(never)]
     fn sleeps_until(&mut self, who: Actor, until: u64)
@@ -267,9 +281,7 @@ impl<'m> Run<'m> {
         ensures { self.new ≡ self.old }
     {
         match kind {
-            Kind::Schedule(phase, device) => {
-                wake_ready(self.seated.core(), &mut self.waiters, phase, &[device]);
-            }
+            Kind::Schedule(phase, device) => self.wake_scheduled(phase, device),
             Kind::End(phase, device, _) | Kind::Skip(phase, device, _) => {
                 self.wake_after_end(phase, device);
             }

@@ -22,6 +22,7 @@ impl<'m> Core<'m> {
     }
 
     /// The work outside its own attempts.
+    #[inline(never)]
     pub(crate) fn auto_due(&self, now: EventNow) -> Due
         ensures { result ≡ auto_due self.now.machine (entries self.now.past) now (sleeps_now (entries self.now.past))
             (is_over self.now.machine (entries self.now.past)) }

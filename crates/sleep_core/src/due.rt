@@ -11,7 +11,7 @@ use sleep_model::{Actor, Due, EventNow, Stage};
 
 impl<'m> Core<'m> {
     /// What is due of an actor that makes no attempt.
-    #[inline(never)]
+    #[inline(always)]
     fn own_due(&self, who: Actor, now: EventNow) -> Due
         requires { IsActor self.now.machine who }
         ensures { result ≡ own_due self.now.machine (entries self.now.past) who now }

@@ -217,6 +217,7 @@ impl<'m> History<'m> {
 
     /// Makes room for an entry: one of the open attempt's own has its room reserved, another needs one more.
     /// After an error nothing has changed.
+    #[inline(always)]
     pub fn make_room(&mut self, own: bool, kind: Kind) -> Result<(), AllocError>
         ensures ok { OnOk result (EntryHasRoom own kind self.old self.new) }
         ensures err { OnErr result ((own ≡ false) × (self.new ≡ self.old)) }

@@ -182,6 +182,7 @@ impl<'m> Core<'m> {
     /// Whether an asynchronous device was scheduled in a phase, has not begun, and waits for no other. On the
     /// way down it would wait for those right below it (`dpm_wait_for_subordinate`), on the way up for those
     /// right above it (`dpm_wait_for_superior`).
+    #[inline(always)]
     pub fn is_ready(&self, phase: Phase, device: u32) -> bool
         ensures { result ≡ is_ready_on (board_at self.now.machine (entries self.now.past)) phase device }
     {

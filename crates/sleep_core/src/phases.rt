@@ -14,11 +14,25 @@ use sleep_base::Errno;
 use sleep_model::{AsyncWork, Due, EventNow, Kind, Phase, What, Why};
 
 impl<'m> Core<'m> {
-    /// What the machine answers for a device in that phase of the open attempt.
-    fn device_error(&self, p: Phase, device: u32) -> Option<Errno>
+    /// The error that the machine's answers have for a device in that phase of the open attempt.
+    #[inline(never)]
+    fn answered_error(&self, p: Phase, device: u32) -> Option<Errno>
         ensures { result ≡ device_error self.now.machine (entries self.now.past) p device }
     {
         self.answered(What::Device(device, p))
+    }
+
+    /// What the machine answers for a device in that phase of the open attempt. Most machines answer nothing at
+    /// all.
+    #[inline(always)]
+    fn device_error(&self, p: Phase, device: u32) -> Option<Errno>
+        ensures { result ≡ device_error self.now.machine (entries self.now.past) p device }
+    {
+        if self.machine().answers.len() > 0 {
+            self.answered_error(p, device)
+        } else {
+            None
+        }
     }
 
     /// The walk of a phase on the way down, inside no callback.
@@ -137,6 +151,7 @@ impl<'m> Core<'m> {
     }
 
     /// An asynchronous device, by the state of its work.
+    #[inline(never)]
     pub(crate) fn device_due(&self, now: EventNow, device: u32) -> Due
         ensures { result ≡ device_due self.now.machine (entries self.now.past) now device
             (async_work self.now.machine (entries self.now.past) device) }

@@ -126,8 +126,10 @@ impl<'m> Core<'m> {
         }
     }
 
-    /// A script at its own steps.
-    pub(crate) fn script_due(&self, script: u32, now: EventNow) -> Due
+    /// A script at its own steps, whatever it does. It stays out of line, so that a sleep pays for none of the
+    /// other operations.
+    #[inline(never)]
+    fn any_script_due(&self, script: u32, now: EventNow) -> Due
         requires { script < length self.now.machine.actors }
         ensures { result ≡ script_due self.now.machine (entries self.now.past) now script }
     {
@@ -138,5 +140,26 @@ impl<'m> Core<'m> {
         let freezing = self.history.freezer().freezing(script);
         let op = self.plan(script).operation(position.done);
         self.task_due(now, freezing, self.kind_of(script), position, op)
+    }
+
+    /// A script at its own steps. Most operations are sleeps: one that no freeze is about, while the machine is
+    /// awake, is answered here.
+    #[inline(never)]
+    pub(crate) fn script_due(&self, script: u32, now: EventNow) -> Due
+        requires { script < length self.now.machine.actors }
+        ensures { result ≡ script_due self.now.machine (entries self.now.past) now script }
+    {
+        let position = self.history.tasks().position(script);
+        if position.exited {
+            return Due::Nothing;
+        }
+        let freezing = self.history.freezer().freezing(script);
+        let op = self.plan(script).operation(position.done);
+        match (op, freezing.frozen, freezing.asked, self.is_asleep()) {
+            (Some(Op::Sleep { ms }), false, false, false) => {
+                steps::sleep_due(*ms, position, self.time_ms())
+            }
+            _ => self.any_script_due(script, now),
+        }
     }
 }
