@@ -39,7 +39,7 @@ fn stats_of(alloc: Global, sources: &[SeatedSource], at: u64) -> Result<Vec<Stat
     for source in sources {
         let one = source.source().stats(at);
         stats_are_ranged(one);
-        stats.push(one)?;
+        stats.push_reserved(one);
     }
     Ok(stats)
 }

@@ -57,7 +57,7 @@ fn jobs_among<'m>(alloc: Global, tasks: Vec<Task<'m>>) -> Result<Vec<ActorJob<'m
     let mut jobs = Vec::with_capacity(alloc, tasks.len())?;
     for task in tasks {
         if let Task::Acts(job) = task {
-            jobs.push(job)?;
+            jobs.push_reserved(job);
         }
     }
     Ok(jobs)
