@@ -195,8 +195,11 @@ impl<'m> Run<'m> {
             table,
             sources,
             seated,
+            jobs,
+            waiters,
             ..
         } = self;
+        drop((jobs, waiters));
         let kept = close_table(alloc, table, sources, seated)?;
         Ok(kept)
     }
