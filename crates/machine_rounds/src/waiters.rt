@@ -6,6 +6,32 @@ use sleep_base::Mem;
 use sleep_model::{Actor, Device, DeviceFlags, Why};
 use std::alloc::Global;
 
+/// Scripts that wait for something else than a mark.
+#[derive(Drop)]
+struct ScriptWaiters {
+    /// Scripts that read the count, and wait until no event is in progress.
+    readers: Asks,
+    /// Scripts that wait for a wakeup, for the machine to wake, or as makers of an attempt for tasks.
+    for_word: Asks,
+    for_lock: Asks,
+    /// Scripts that sleep.
+    asleep: Asks,
+    frozen: Asks,
+}
+
+/// Scripts that wait for marks.
+#[derive(Drop)]
+struct MarkWaiters {
+    /// Scripts that wait for a mark.
+    all: Asks,
+    /// Those of them that wait for each mark, among some that do no longer.
+    by_mark: Vec<Asks>,
+    /// The mark that each script waited for last.
+    mark_of: Vec<u32>,
+    /// Scripts that were called for that mark, and whose tries are to come.
+    called: Asks,
+}
+
 /// Who may have something to do, and so is asked in a round: scripts, the autosleep work, asynchronous
 /// devices, timers. Whoever waits is woken, and so asked again, once something may have ended the wait: an
 /// entry, a step of the event word, a jump of time. None of this is part of what is promised: whoever was
@@ -13,34 +39,21 @@ use std::alloc::Global;
 #[derive(Drop)]
 pub(crate) struct Waiters {
     scripts: Asks,
-    /// Scripts that read the count, and wait until no event is in progress.
-    readers: Asks,
-    /// Scripts that wait for a wakeup, for the machine to wake, or as makers of an attempt for tasks.
-    for_word: Asks,
+    devices: Asks,
+    /// The asynchronous devices.
+    asynchronous: Asks,
+    /// The scripts that wait for something else than a mark.
+    waiting: ScriptWaiters,
+    marks: MarkWaiters,
     /// The device that the maker of an attempt waits for.
     awaited: Option<u32>,
     /// The maker that waits for it, if it is a script.
     maker: Option<u32>,
-    /// Scripts that wait for a mark.
-    for_mark: Asks,
-    /// Those of them that wait for each mark, among some that do no longer.
-    by_mark: Vec<Asks>,
-    /// The mark that each script waited for last.
-    mark_of: Vec<u32>,
-    /// Scripts that were called for that mark, and whose tries are to come.
-    called: Asks,
-    for_lock: Asks,
-    /// The one of them that was woken last, and whose try is to come.
+    /// The script that was woken last of those that wait for the lock, and whose try is to come.
     next_for_lock: Option<u32>,
-    /// Scripts that sleep.
-    asleep: Asks,
-    frozen: Asks,
     auto: bool,
     /// The work has nothing to do until it is queued.
     unqueued: bool,
-    devices: Asks,
-    /// The asynchronous devices.
-    asynchronous: Asks,
     timers: bool,
 }
 
@@ -66,6 +79,42 @@ fn none_by_mark(alloc: Global, scripts: usize, marks: usize) -> Result<Vec<Asks>
     Ok(by_mark)
 }
 
+/// All of the first scripts.
+fn all_scripts(alloc: Global, scripts: usize) -> Result<Asks, Mem>
+    requires { scripts < 2 ^ 32 }
+{
+    let mut all = Asks::new(alloc, scripts)?;
+    for script in 0..scripts {
+        all.insert(script as u32);
+    }
+    Ok(all)
+}
+
+impl ScriptWaiters {
+    /// No script waits.
+    fn new(alloc: Global, scripts: usize) -> Result<Self, Mem> {
+        Ok(ScriptWaiters {
+            readers: Asks::new(alloc, scripts)?,
+            for_word: Asks::new(alloc, scripts)?,
+            for_lock: Asks::new(alloc, scripts)?,
+            asleep: Asks::new(alloc, scripts)?,
+            frozen: Asks::new(alloc, scripts)?,
+        })
+    }
+}
+
+impl MarkWaiters {
+    /// No script waits for a mark.
+    fn new(alloc: Global, scripts: usize, marks: usize) -> Result<Self, Mem> {
+        Ok(MarkWaiters {
+            all: Asks::new(alloc, scripts)?,
+            by_mark: none_by_mark(alloc, scripts, marks)?,
+            mark_of: vec![in alloc; 0; scripts]?,
+            called: Asks::new(alloc, scripts)?,
+        })
+    }
+}
+
 impl Waiters {
     /// Nobody waits: each script is to be asked, and the work.
     pub(crate) fn new(
@@ -77,28 +126,17 @@ impl Waiters {
         requires scripts { scripts < 2 ^ 32 }
         requires devices { length devices.now < 2 ^ 32 }
     {
-        let mut all = Asks::new(alloc, scripts)?;
-        for script in 0..scripts {
-            all.insert(script as u32);
-        }
         Ok(Waiters {
-            scripts: all,
-            readers: Asks::new(alloc, scripts)?,
-            for_word: Asks::new(alloc, scripts)?,
-            awaited: None,
-            maker: None,
-            for_mark: Asks::new(alloc, scripts)?,
-            by_mark: none_by_mark(alloc, scripts, marks)?,
-            mark_of: vec![in alloc; 0; scripts]?,
-            called: Asks::new(alloc, scripts)?,
-            for_lock: Asks::new(alloc, scripts)?,
-            next_for_lock: None,
-            asleep: Asks::new(alloc, scripts)?,
-            frozen: Asks::new(alloc, scripts)?,
-            auto: true,
-            unqueued: false,
+            scripts: all_scripts(alloc, scripts)?,
             devices: Asks::new(alloc, devices.len())?,
             asynchronous: asynchronous_of(alloc, devices)?,
+            waiting: ScriptWaiters::new(alloc, scripts)?,
+            marks: MarkWaiters::new(alloc, scripts, marks)?,
+            awaited: None,
+            maker: None,
+            next_for_lock: None,
+            auto: true,
+            unqueued: false,
             timers: false,
         })
     }
@@ -171,25 +209,25 @@ impl Waiters {
         self.scripts.remove(script);
         match why {
             Why::Mark(mark) => self.waits_for_mark(script, mark),
-            Why::InProgress => self.readers.insert(script),
-            Why::LockHeld => self.for_lock.insert(script),
-            Why::Until(_) => self.asleep.insert(script),
-            Why::Frozen => self.frozen.insert(script),
+            Why::InProgress => self.waiting.readers.insert(script),
+            Why::LockHeld => self.waiting.for_lock.insert(script),
+            Why::Until(_) => self.waiting.asleep.insert(script),
+            Why::Frozen => self.waiting.frozen.insert(script),
             Why::Device(device) => {
                 self.awaited = Some(device);
                 self.maker = Some(script);
             }
-            _ => self.for_word.insert(script),
+            _ => self.waiting.for_word.insert(script),
         }
     }
 
     /// The script waits for that mark.
     fn waits_for_mark(&mut self, script: u32, mark: u32) {
-        self.for_mark.insert(script);
-        if let Some(waiting) = self.by_mark.get_mut(mark as usize) {
+        self.marks.all.insert(script);
+        if let Some(waiting) = self.marks.by_mark.get_mut(mark as usize) {
             waiting.insert(script);
         }
-        if let Some(last) = self.mark_of.get_mut(script as usize) {
+        if let Some(last) = self.marks.mark_of.get_mut(script as usize) {
             *last = mark;
         }
     }
@@ -215,7 +253,7 @@ impl Waiters {
     pub(crate) fn sleeps(&mut self, who: Actor) {
         if let Actor::Script(script) = who {
             self.scripts.remove(script);
-            self.asleep.insert(script);
+            self.waiting.asleep.insert(script);
         }
     }
 
@@ -261,19 +299,19 @@ impl Waiters {
     /// Wakes those that wait for the word, which made a step, or for a task, which has come further.
     #[inline(never)]
     pub(crate) fn wake_for_word(&mut self) {
-        self.scripts.take(&mut self.for_word);
+        self.scripts.take(&mut self.waiting.for_word);
         self.wake_auto();
     }
 
     /// Whether a reader of the count waits.
     #[inline(always)]
     pub(crate) fn has_readers(&self) -> bool {
-        !self.readers.is_empty()
+        !self.waiting.readers.is_empty()
     }
 
     /// Wakes the readers of the count, since no event is in progress.
     pub(crate) fn wake_readers(&mut self) {
-        self.scripts.take(&mut self.readers);
+        self.scripts.take(&mut self.waiting.readers);
     }
 
     /// That mark was raised by an actor, or left as it is by one that was called for it: calls the next of
@@ -294,8 +332,8 @@ impl Waiters {
     fn call_from(&mut self, from: u32, mark: u32, many: u32) -> bool {
         match self.next_for_mark(from, mark, many) {
             Some(script) => {
-                self.for_mark.remove(script);
-                self.called.insert(script);
+                self.marks.all.remove(script);
+                self.marks.called.insert(script);
                 self.scripts.insert(script);
                 true
             }
@@ -305,11 +343,13 @@ impl Waiters {
 
     /// The first from a number on that waits for that mark. Who waits for it no longer leaves its list.
     fn next_for_mark(&mut self, from: u32, mark: u32, many: u32) -> Option<u32> {
-        let waiting = self.by_mark.get_mut(mark as usize)?;
+        let waiting = self.marks.by_mark.get_mut(mark as usize)?;
         for _ in 0..many {
             let script = waiting.next(from, many)?;
             waiting.remove(script);
-            if self.for_mark.has(script) && self.mark_of.get(script as usize) == Some(&mark) {
+            if self.marks.all.has(script)
+                && self.marks.mark_of.get(script as usize) == Some(&mark)
+            {
                 return Some(script);
             }
         }
@@ -320,9 +360,10 @@ impl Waiters {
     #[inline(always)]
     pub(crate) fn take_call(&mut self, who: Actor) -> Option<u32> {
         match who {
-            Actor::Script(script) if !self.called.is_empty() && self.called.has(script) => {
-                self.called.remove(script);
-                self.mark_of.get(script as usize).copied()
+            Actor::Script(script)
+                if !self.marks.called.is_empty() && self.marks.called.has(script) => {
+                self.marks.called.remove(script);
+                self.marks.mark_of.get(script as usize).copied()
             }
             _ => None,
         }
@@ -350,9 +391,9 @@ impl Waiters {
 
     /// Wakes the first from a number on that waits for the lock.
     fn wake_next_for_lock(&mut self, from: u32, many: u32) {
-        self.next_for_lock = self.for_lock.next(from, many);
+        self.next_for_lock = self.waiting.for_lock.next(from, many);
         if let Some(script) = self.next_for_lock {
-            self.for_lock.remove(script);
+            self.waiting.for_lock.remove(script);
             self.scripts.insert(script);
         }
     }
@@ -381,8 +422,8 @@ impl Waiters {
     pub(crate) fn wake_but_sleepers(&mut self) {
         self.wake_for_word();
         self.wake_readers();
-        self.scripts.take(&mut self.for_mark);
-        self.scripts.take(&mut self.for_lock);
+        self.scripts.take(&mut self.marks.all);
+        self.scripts.take(&mut self.waiting.for_lock);
         self.next_for_lock = None;
         self.wake_any_maker();
     }
@@ -391,13 +432,13 @@ impl Waiters {
     #[inline(never)]
     pub(crate) fn wake_scripts(&mut self) {
         self.wake_but_sleepers();
-        self.scripts.take(&mut self.asleep);
-        self.scripts.take(&mut self.frozen);
+        self.scripts.take(&mut self.waiting.asleep);
+        self.scripts.take(&mut self.waiting.frozen);
     }
 
     /// Wakes a script whose sleep has come to its end.
     pub(crate) fn wake_sleeper(&mut self, script: u32) {
-        self.asleep.remove(script);
+        self.waiting.asleep.remove(script);
         self.scripts.insert(script);
     }
 
