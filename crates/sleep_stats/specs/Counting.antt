@@ -54,6 +54,15 @@ failed_dev (kind.Prepare d r) = failed_in phase.Prepare d (error_of_number r)
 failed_dev (kind.End p d r) = failed_in p d r
 failed_dev _ = None
 
+-- an entry may count: the end of an attempt or of a freeze, a phase or a callback that ends with an error, or a prepare (own)
+abbrev pub may_count : Kind → Bool
+may_count (kind.Over n r) = true
+may_count (kind.Froze g end) = true
+may_count (kind.Done p (Some r)) = true
+may_count (kind.End p d (Some r)) = true
+may_count (kind.Prepare d r) = true
+may_count _ = false
+
 -- ---- what is counted
 
 -- the last two devices after one fails, if one does (dpm_save_failed_dev)

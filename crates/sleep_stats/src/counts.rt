@@ -2,7 +2,7 @@
 
 ghost use Rattle.std.specs.Prelude.{◌≡◌, ◌<◌, ◌^◌, length};
 ghost use Rattle.sleep_model.specs.Places.{one_if};
-ghost use Rattle.sleep_stats.specs.Counting.{AreAtMost, attempt_error, callback_fails, counts_after, counts_of, devs_after, errnos_after, failed_dev, failed_in, freeze_fails, no_counts, phase_fails, succeeds};
+ghost use Rattle.sleep_stats.specs.Counting.{AreAtMost, attempt_error, callback_fails, counts_after, counts_of, devs_after, errnos_after, failed_dev, failed_in, freeze_fails, may_count, no_counts, phase_fails, succeeds};
 
 use sleep_base::Errno;
 use sleep_model::{FrozeEnd, Kind, Log, Phase};
@@ -129,6 +129,22 @@ fn failed_dev(kind: Kind) -> Option<LastDev>
     }
 }
 
+/// Whether an entry may count: the end of an attempt or of a freeze, a phase or a callback that ends with an
+/// error, or a prepare.
+#[inline(always)]
+fn may_count(kind: Kind) -> bool
+    ensures { result ≡ may_count kind }
+{
+    matches!(
+        kind,
+        Kind::Over { .. }
+            | Kind::Froze(..)
+            | Kind::Done(_, Some(_))
+            | Kind::End(_, _, Some(_))
+            | Kind::Prepare { .. }
+    )
+}
+
 impl LastDevs {
     /// Takes one more, if there is one, and keeps the newest before it.
     fn note(&mut self, failed: Option<LastDev>)
@@ -181,7 +197,21 @@ impl Counts {
     }
 
     /// Counts an entry.
+    #[inline(always)]
+    #[tactic(auto, using(crate::proofs::Uncounted::uncounted))]
     fn note(&mut self, kind: Kind)
+        requires { AreAtMost 4294967294 self.old }
+        ensures { self.new ≡ counts_after kind self.old }
+    {
+        // Most entries count nothing.
+        if may_count(kind) {
+            self.note_counted(kind);
+        }
+    }
+
+    /// The same, also if the entry counts.
+    #[inline(never)]
+    fn note_counted(&mut self, kind: Kind)
         requires { AreAtMost 4294967294 self.old }
         ensures { self.new ≡ counts_after kind self.old }
     {
