@@ -42,6 +42,18 @@ all_next test vs i v within is =
     and_true true = refl
     and_true false = refl
 
+-- what is spelled of the items up to the one that a loop is at
+module _ {A : Type 0} (f : Data → A) where
+  pub one_more : (vs : List Value) (i : ℕ) (v : Value) → i < length vs → v ≡ get_or vs i v → (old new : List A) (x : A)
+      → old ≡ map f (map view (take i vs)) → x ≡ f (view v) → new ≡ old ++ x ∷ [] → new ≡ map f (map view (take (i + 1) vs))
+  one_more vs i v within is old new x before here after =
+      let next : i + 1 ≡ suc i = omega arith in
+      after ∙ ap (λ (xs : List A). xs ++ x ∷ []) before ∙ ap (λ (y : A). map f (map view (take i vs)) ++ y ∷ []) here
+      ∙ sym (ap (λ (n : ℕ). map f (map view (take n vs))) next
+      ∙ ap (λ (xs : List Value). map f (map view xs)) (take-suc vs i v within ∙ ap (λ (y : Value). take i vs ++ y ∷ []) (sym is))
+      ∙ ap (map f) (map-append view (take i vs) (v ∷ []))
+      ∙ map-append f (map view (take i vs)) (view v ∷ []))
+
 pub all_passed : (test : Data → Bool) (vs : List Value) (i : ℕ) (v : Value) → i < length vs → v ≡ get_or vs i v
     → list_all test (map view (take i vs)) ≡ true → test (view v) ≡ true → list_all test (map view (take (i + 1) vs)) ≡ true
 all_passed test vs i v within is before here = all_next test vs i v within is ∙ and_from (list_all test (map view (take i vs))) (test (view v)) before here
