@@ -27,7 +27,7 @@ impl<'m> Core<'m> {
         ensures { result ≡ if_left (λ x. kind.NotifyPrepare x (answered self.now.machine (entries self.now.past) (what.Notifier x)))
             (next_notified self.now.machine (entries self.now.past)) }
     {
-        match self.history.platform().next_notified() {
+        match self.next_notified() {
             None => Due::Nothing,
             Some(x) => Due::Makes(Kind::NotifyPrepare(x, self.answered(What::Notifier(x)))),
         }
@@ -105,7 +105,7 @@ impl<'m> Core<'m> {
         ensures { result ≡ if_left (λ x. kind.SyscoreSuspend x (answered self.now.machine (entries self.now.past) (what.Syscore x)))
             (next_syscore_suspended self.now.machine (entries self.now.past)) }
     {
-        match self.history.syscore().next() {
+        match self.next_syscore_suspended() {
             None => Due::Nothing,
             Some(x) => Due::Makes(Kind::SyscoreSuspend(x, self.answered(What::Syscore(x)))),
         }

@@ -46,6 +46,7 @@ impl<'m> Core<'m> {
     ghost use Rattle.sleep_model.specs.Lock.{holder, is_on};
     ghost use Rattle.sleep_model.specs.Marks.{mark_at, raised};
     ghost use Rattle.sleep_core.specs.Steps.{IsKindOf};
+    ghost use Rattle.sleep_model.specs.Notifiers.{next_notified, next_syscore_suspended};
     ghost use Rattle.sleep_model.specs.Table.{stage_of};
     ghost use Rattle.task_freezer.specs.Freezers.{IsLeft, round_of};
     ghost use Rattle.sleep_core.specs.Stages.{FitsPhase};
@@ -197,6 +198,20 @@ impl<'m> Core<'m> {
     {
         let _core = &self.history;
         self.machine().alarm_ms
+    }
+
+    /// The notifier that hears next of the attempt.
+    pub(crate) fn next_notified(&self) -> Option<u32>
+        ensures { result ≡ next_notified self.now.machine (entries self.now.past) }
+    {
+        self.history.platform().next_notified()
+    }
+
+    /// The core's part that is suspended next.
+    pub(crate) fn next_syscore_suspended(&self) -> Option<u32>
+        ensures { result ≡ next_syscore_suspended self.now.machine (entries self.now.past) }
+    {
+        self.history.syscore().next()
     }
 
     /// Whether somebody holds the autosleep lock.
