@@ -39,9 +39,10 @@ struct RunInBurst<'m> {
     /// The event word. The core and each source have a seat at it: the right to look at it, and for a source
     /// to step it.
     table: EventTable,
-    /// The last stamp that anybody made before the burst. A stamp is the position of the word that an entry
-    /// saw, and a tick: no time, but a number that rises along each list and actor. Each entry that a task
-    /// makes has a later tick.
+    /// The last stamp that anybody made before the burst. A stamp is the position of the event word that an
+    /// entry saw, and a tick. A tick is no time, but a number: it rises from entry to entry in the journal,
+    /// in each source's history, and over one actor's entries. Each entry that a task makes has a later tick
+    /// than the floor.
     floor: Stamp,
     waiters: Waiters,
 }
@@ -188,7 +189,8 @@ impl<'m> Run<'m> {
     ghost use Rattle.machine_rounds.specs.Runs.{AfterStretches, Fails, IsRefused, IsRun, entries_made};
 
     /// Whether the journal is so short that no job's count of turns overflows in a burst. Each turn that a
-    /// job has counted made an entry of the journal; a burst adds 1,000 at most (`MOST_TURNS`).
+    /// job has counted made an entry of the journal, since calls on sources are counted apart. A burst adds
+    /// 1,000 at most (`MOST_TURNS`).
     fn is_short(&self) -> bool
         ensures { OnTrue result (length self.now.journal + 1000 < 2 ^ 63) }
     {
