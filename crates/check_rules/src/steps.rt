@@ -259,7 +259,8 @@ pub fn keeps_steps(past: &Passed<'_>, now: EventNow, who: Actor, kind: Kind) -> 
         Actor::Script(i) => is_script_step(past, i, kind),
         Actor::Auto => is_work_step(past, now, past.work(), kind),
         Actor::Dev(d) => Ok(is_device_step(d, async_work(past, d), kind)),
-        // A timer only makes calls on its source, and time only jumps: `entries.rt` looks at both.
+        // A timer only makes calls on its source, and time only jumps: `entries.rt` looks at both. No other
+        // entry is theirs.
         Actor::Timer(_) | Actor::Time => Ok(false),
     }
 }
