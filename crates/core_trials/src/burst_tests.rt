@@ -14,14 +14,14 @@ use machine_file::{ReadMachine, read_machine};
 use machine_plans::MachinePlans;
 use run_objects::{SeatedCore, seated_sources};
 use run_world::{OpenGate, Task};
-use sleep_base::Mem;
+use sleep_base::{Mem, drop_for_mem};
 use sleep_core::Core;
 use sleep_model::Machine;
 use sleep_script::{ActorJob, TimerJob};
 use std::alloc::Global;
 use std::sync::Wait;
 use std::thread::Threads;
-use world_workers::{BurstContents, BurstPlan, make_burst};
+use world_workers::{Burst, BurstContents, BurstPlan, make_burst};
 
 /// A task that puts the machine to sleep.
 const ATTEMPT: &str =
@@ -80,14 +80,30 @@ fn first_contents<'m>(
     ensures timely { IfOk result (λ made. AreTimely (time_of (entries made.1.core.core.past)) made.1.sources.items) }
     ensures tasks { IfOk result (λ made. made.1.tasks.items ≡ tasks.entry.items) }
 {
-    let (table, sources, look) = seated_sources(alloc, plans.machine().sources.len() as u32 + 1)?;
-    let core = SeatedCore::new(Core::new(alloc, plans, links)?, look);
+    let count = plans.machine().sources.len() as u32 + 1;
+    let Ok((table, sources, look)) = seated_sources(alloc, count) else {
+        return Err(drop_for_mem((links, tasks)));
+    };
+    let Ok(core) = Core::new(alloc, plans, links) else {
+        return Err(drop_for_mem((table, sources, look, tasks)));
+    };
+    let core = SeatedCore::new(core, look);
     let contents = BurstContents {
         core,
         sources,
         tasks,
     };
     Ok((table, contents))
+}
+
+/// How many turns did something in a burst, which is let go.
+fn did_in(made: Result<Burst<'_>, Mem>) -> Result<u64, Mem> {
+    let Ok(burst) = made else {
+        return Err(Mem);
+    };
+    let did = burst.did;
+    drop(burst);
+    Ok(did)
 }
 
 /// How many turns of two workers did something in a machine's first burst.
@@ -111,7 +127,9 @@ fn first_burst<'m, R: Threads + Sync + Wait>(
         machine: plans.machine(),
         workers: 2,
     };
-    Ok(make_burst(rt, alloc, &plan, contents)?.did)
+    let did = did_in(make_burst(rt, alloc, &plan, contents));
+    drop(table);
+    did
 }
 
 /// How many turns did something in the first burst over the plans of a machine of one script and at most one
@@ -127,10 +145,14 @@ fn burst_over<R: Threads + Sync + Wait>(
     requires one { length plans.now.actors ≡ 1 }
 {
     if plans.machine().sources.len() == 1 {
-        let tasks = more_tasks(alloc, plans)?;
+        let Ok(tasks) = more_tasks(alloc, plans) else {
+            return Err(drop_for_mem(links));
+        };
         return first_burst(rt, alloc, plans, links, tasks);
     }
-    let tasks = few_tasks(alloc, plans)?;
+    let Ok(tasks) = few_tasks(alloc, plans) else {
+        return Err(drop_for_mem(links));
+    };
     first_burst(rt, alloc, plans, links, tasks)
 }
 
@@ -145,9 +167,11 @@ fn burst_of<R: Threads + Sync + Wait>(
     requires links { links ≡ record { parents = parents_of machine.now.devices; links = reverse machine.now.links } }
 {
     if machine.actors.len() != 1 {
-        return Err(Mem);
+        return Err(drop_for_mem(links));
     }
-    let plans = MachinePlans::new(alloc, machine)?;
+    let Ok(plans) = MachinePlans::new(alloc, machine) else {
+        return Err(drop_for_mem(links));
+    };
     let did = burst_over(rt, alloc, &plans, links);
     drop(plans);
     did

@@ -5,4 +5,4 @@ use Rattle.core_trials.proofs.Firsts.{uncalled_timely}
 use Rattle.core_trials.proofs.burst_tests.first_contents.Goals as goal
 
 pub returns-clause-timely : goal.returns-clause-timely
-returns-clause-timely c = uncalled_timely (time_of (entries c.new-core.result.core.past)) c.in_ok-table.sources.items c.in_ok-table.ensures.sources
+returns-clause-timely c = uncalled_timely (time_of (entries c.new-core.result.core.past)) c.in-Ok.sources.items c.in-Ok.ensures.sources
