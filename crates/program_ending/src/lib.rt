@@ -5,8 +5,9 @@
 //! tests are those of the whole program, `row_trials`.
 //!
 //! Promises: An ending's status, and its text piece by piece. An input is read whole, within its limit, or
-//! the ending says why not. A text is written whole, or up to the first write that fails. By the clauses of
-//! `Ending::status`, `head`, `number`, `colon`, `name`, `tail`; `read_input`, `write_run_text`, `say`.
+//! the ending says why not. A text is written whole, or up to the first write that fails. A number is put
+//! after its word. By the clauses of `Ending::status`, `head`, `number`, `colon`, `name`, `tail`;
+//! `read_input`, `write_run_text`, `say`; `put_count`.
 //!
 //! Begin reading in `src/ending.rt`, `src/refusal.rt`, `src/input.rt`, `src/run_text.rt`;
 //! `specs/Endings.antt`, `specs/Streams.antt`, `specs/CommandEndings.antt`.
