@@ -1,7 +1,7 @@
 -- What comes of an actor's try in a round.
 use Rattle.std.specs.Prelude.{◌<◌, Result, Ok, Err}
-use Rattle.machine_rounds.specs.declared.run.TurnOutcome.{TurnOutcome}
-use Rattle.machine_rounds.specs.declared.run.TurnOutcome.TheVariants.{Made}
+use Rattle.world_workers.specs.declared.outcome.TurnOutcome.{TurnOutcome}
+use Rattle.world_workers.specs.declared.outcome.TurnOutcome.TheVariants.{Made}
 use Rattle.world_workers.specs.declared.fault.RunFault.{RunFault}
 use Rattle.machine_rounds.specs.Runs.{RunState, IsRefused, MadeNothing, entries_made}
 

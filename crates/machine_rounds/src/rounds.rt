@@ -1,10 +1,10 @@
 //! Rounds over the actors, and what comes after them.
 
 use crate::after_idle_round::EndOfRun;
-use crate::run::{Run, TurnOutcome};
+use crate::run::Run;
 use sleep_model::{Actor, Want, Why};
 use std::sync::Wait;
-use world_workers::RunFault;
+use world_workers::{RunFault, TurnOutcome};
 
 impl<'m> Run<'m> {
     ghost use Rattle.std.specs.Prelude.{◌≡◌, ◌≤◌, ◌<◌, length, IfSome};
@@ -35,7 +35,7 @@ impl<'m> Run<'m> {
         ensures { self.new ≡ self.old }
     {
         let scripts = self.machine.actors.len() as u32;
-        let is_held = matches!(tried, TurnOutcome::Waits(Why::LockHeld));
+        let is_held = matches!(tried, TurnOutcome::Waits(Some(Why::LockHeld)));
         self.waiters.had_lock_turn(who, is_held, scripts);
     }
 
@@ -78,10 +78,11 @@ impl<'m> Run<'m> {
         }
         match tried {
             TurnOutcome::Made => Ok(true),
-            TurnOutcome::Waits(why) => {
+            TurnOutcome::Waits(Some(why)) => {
                 self.waiters.waits(who, why);
                 Ok(false)
             }
+            TurnOutcome::Waits(None) => Ok(false),
             TurnOutcome::Exited => {
                 self.waiters.is_exited(who);
                 Ok(false)

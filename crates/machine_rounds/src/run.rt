@@ -12,23 +12,12 @@ use machine_plans::MachinePlans;
 use run_objects::{SeatedCore, SeatedSource, seated_sources};
 use sleep_base::{Mem, drop_for_mem};
 use sleep_core::{Core, CoreTurn};
-use sleep_model::{Actor, EventNow, Kind, Machine, Phase, SourceCall, Stamp, Why};
+use sleep_model::{Actor, EventNow, Kind, Machine, Phase, SourceCall, Stamp};
 use std::alloc::Global;
 use std::marker::Model;
 use std::sync::Wait;
 use wakeup_source::CallBy;
-use world_workers::RunFault;
-
-/// What came of an actor's try.
-#[derive(Clone, Copy)]
-pub(crate) enum TurnOutcome {
-    /// It made entries.
-    Made,
-    /// It waits, for that.
-    Waits(Why),
-    /// It has nothing to do any more.
-    Exited,
-}
+use world_workers::{RunFault, TurnOutcome};
 
 /// A run of a machine, as far as it has come.
 #[derive(Drop)]
@@ -329,7 +318,7 @@ impl<'m> Run<'m> {
                 self.wake_after(who, kind);
                 Ok(TurnOutcome::Made)
             }
-            CoreTurn::NotYet(why) => Ok(TurnOutcome::Waits(why)),
+            CoreTurn::NotYet(why) => Ok(TurnOutcome::Waits(Some(why))),
             CoreTurn::Done => Ok(TurnOutcome::Exited),
         }
     }

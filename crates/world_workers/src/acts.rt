@@ -9,21 +9,23 @@ ghost use Rattle.run_world.specs.declared.task.Task.TheVariants as variant;
 ghost use Rattle.world_workers.specs.Tries.{GoesIn, HasActed, IsRangedTurn, told_source, timer_after_call, told_core, turns_of};
 
 use crate::fault::RunFault;
+use crate::outcome::TurnOutcome;
 use fit_laws::{calls_are_ranged, kinds_are_ranged};
 use run_world::{Gate, Reply, Task, World, WorldPass};
 use sleep_core::{CoreFault, CoreTurn};
 use sleep_model::{Actor, DeviceFlags, Machine, SourceCall, Stamp, Want};
-use sleep_pool::Turn;
 use sleep_script::{ActorJob, TimerJob};
 use std::sync::Wait;
 use wakeup_source::{CallBy, SourceFault};
 
-/// What came of a try of a task, with the pass: what the pool hears of it, or why the task comes to no end of
-/// its own.
-pub type Tried<'m> = Reply<'m, Result<Turn, RunFault>>;
+/// What came of a try of a task, with the pass, or why the task comes to no end of its own.
+pub type Tried<'m> = Reply<'m, Result<TurnOutcome, RunFault>>;
 
 /// Reports to a job what its turn of the machine came to.
-fn pass_turn(job: &mut ActorJob<'_>, answer: Result<CoreTurn, CoreFault>) -> Result<Turn, RunFault>
+fn pass_turn(
+    job: &mut ActorJob<'_>,
+    answer: Result<CoreTurn, CoreFault>,
+) -> Result<TurnOutcome, RunFault>
     requires made { job.old.pending ≡ [] }
     requires few { job.old.turns < 2 ^ 63 }
     ensures shown { job.new ≡ told_core answer job.old }
@@ -39,19 +41,22 @@ fn pass_turn(job: &mut ActorJob<'_>, answer: Result<CoreTurn, CoreFault>) -> Res
         ) => {
             kinds_are_ranged(kind);
             job.told_core(stamp, kind, attempt);
-            Ok(Turn::Did)
+            Ok(TurnOutcome::Made)
         }
-        Ok(CoreTurn::NotYet(_)) => Ok(Turn::NotYet),
-        Ok(CoreTurn::Done) => Ok(Turn::Done),
+        Ok(CoreTurn::NotYet(why)) => Ok(TurnOutcome::Waits(Some(why))),
+        Ok(CoreTurn::Done) => Ok(TurnOutcome::Exited),
         Err(CoreFault::Mem) => Err(RunFault::Mem),
     }
 }
 
-/// What the pool hears of a call on that source.
-fn turn_of_call(source: u32, answer: Result<Option<Stamp>, SourceFault>) -> Result<Turn, RunFault> {
+/// What came of a call on that source.
+fn outcome_of_call(
+    source: u32,
+    answer: Result<Option<Stamp>, SourceFault>,
+) -> Result<TurnOutcome, RunFault> {
     match answer {
-        Ok(Some(_)) => Ok(Turn::Did),
-        Ok(None) => Ok(Turn::NotYet),
+        Ok(Some(_)) => Ok(TurnOutcome::Made),
+        Ok(None) => Ok(TurnOutcome::Waits(None)),
         Err(fault) => Err(RunFault::of_call(fault, source)),
     }
 }
@@ -105,7 +110,7 @@ fn turn<'m, R: Wait, G: Gate>(
     if is_synchronous(world.machine, who) {
         return Reply {
             pass,
-            answer: Ok(Turn::NotYet),
+            answer: Ok(TurnOutcome::Waits(None)),
         };
     }
     let reply = world.core_turn(pass, who, job.calls(), job.floor(), world.moment);
@@ -134,7 +139,7 @@ fn call<'m, R: Wait, G: Gate>(
     if source as usize > world.machine.sources.len() || job.calls() == u32::MAX {
         return Reply {
             pass,
-            answer: Ok(Turn::NotYet),
+            answer: Ok(TurnOutcome::Waits(None)),
         };
     }
     calls_are_ranged(source, call);
@@ -147,7 +152,7 @@ fn call<'m, R: Wait, G: Gate>(
     pass_call(job, reported.answer);
     Reply {
         pass: reported.pass,
-        answer: turn_of_call(source, reported.answer),
+        answer: outcome_of_call(source, reported.answer),
     }
 }
 
@@ -175,7 +180,7 @@ fn expire<'m, R: Wait, G: Gate>(
     pass_expiry(timer, reported.answer);
     Reply {
         pass: reported.pass,
-        answer: turn_of_call(source, reported.answer),
+        answer: outcome_of_call(source, reported.answer),
     }
 }
 
@@ -197,7 +202,7 @@ fn act_job<'m, R: Wait, G: Gate>(
         Want::Source(source, wanted) => call(world, pass, job, source, wanted),
         Want::Nothing => Reply {
             pass,
-            answer: Ok(Turn::Done),
+            answer: Ok(TurnOutcome::Exited),
         },
     }
 }

@@ -5,15 +5,18 @@ ghost use Rattle.world_workers.specs.Workers.{IsWorkerOf, WorkerWentOn, turns_le
 
 use crate::acts::act;
 use crate::fault::RunFault;
+use crate::outcome::TurnOutcome;
 use crate::worker::Worker;
 use run_world::{Gate, Reply, World, WorldPass};
 use sleep_pool::{Job as Work, Turn};
 use std::sync::Wait;
 
 /// What the pool hears of a try.
-fn turn_of(answer: Result<Turn, RunFault>) -> Turn {
+fn turn_of(answer: Result<TurnOutcome, RunFault>) -> Turn {
     match answer {
-        Ok(turn) => turn,
+        Ok(TurnOutcome::Made) => Turn::Did,
+        Ok(TurnOutcome::Waits(_)) => Turn::NotYet,
+        Ok(TurnOutcome::Exited) => Turn::Done,
         Err(_) => Turn::Stop,
     }
 }
