@@ -5,7 +5,7 @@ use Rattle.sleep_model.specs.declared.entry.Entry.{Entry}
 use Rattle.sleep_model.specs.declared.entry.Kind.TheVariants as kind
 use Rattle.sleep_model.specs.declared.machine.Machine.{Machine}
 use Rattle.sleep_model.specs.Text.{actor_text, body, device, entry_line, newline, space}
-use Rattle.log_text.specs.Front.{front_text, maker_text}
+use Rattle.log_words.specs.Front.{front_text, maker_text}
 
 joined_line : (front who gap entry_text end verb phase name behind : List ℕ) → entry_text ++ end ≡ verb ++ phase ++ name ++ behind →
     front ++ (who ++ gap) ++ verb ++ phase ++ name ++ behind ≡ front ++ who ++ gap ++ entry_text ++ end

@@ -31,7 +31,7 @@ use Rattle.log_text.specs.Named.{AreNamed, device_names, notifier_names, script_
 use Rattle.log_text.specs.Cutting.{word, rest, word32}
 use Rattle.log_text.specs.Reading.{kind_in, device_in, source_in, mark_in, notifier_in, syscore_in, script_in, read_kind, save_kind, runtime_kind, link_kind, link_state_kind, link_state_to, event_kind, prepare_kind, schedule_kind, begin_kind, end_kind, skip_kind, attempt_kind, over_kind, notify_kind, failed_in, failed_end, froze_in, froze_kind, kind_by, task_by, platform_kind, syscore_down}
 use Rattle.log_text.specs.Words.{answer_in, cause_in, phase_in, group_in}
-use Rattle.log_text.specs.declared.spelling.verb.Verb.TheVariants as verb
+use Rattle.log_words.specs.declared.verb.Verb.TheVariants as verb
 use Rattle.log_text.proofs.Cuts.{is_without, before_at, after_at, decimal_no_space, name_without}
 use Rattle.log_text.proofs.NumbersBack.{word32_back, word64_back, below32}
 use Rattle.log_text.proofs.Finds.{place_back, bytes_of}

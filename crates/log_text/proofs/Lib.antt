@@ -1,6 +1,5 @@
 -- The lemmas of this crate, by file.
 pub mod Sources
-pub mod Decimals
 pub mod SameNames
 pub mod Cuts
 pub mod NumbersBack
@@ -20,9 +19,7 @@ pub mod NextEntry
 pub mod OneLog
 pub mod NoBadLine
 pub mod ReadBack
-pub mod Buffering
 pub mod DeviceLines
-pub mod Lengths
 pub mod Passed
 pub mod Lists
 pub mod Pieces

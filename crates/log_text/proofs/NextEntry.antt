@@ -5,7 +5,7 @@ use Rattle.sleep_model.specs.declared.entry.Entry.{Entry}
 use Rattle.sleep_model.specs.declared.machine.Machine.{Machine}
 use Rattle.sleep_model.specs.Fits.{fits_entry}
 use Rattle.sleep_model.specs.Text.{body, entry_line, newline, source_names}
-use Rattle.log_text.specs.Front.{front_text, maker_text}
+use Rattle.log_words.specs.Front.{front_text, maker_text}
 use Rattle.log_text.specs.Grammar.{lines, IsBadEntry, IsBadSource, IsEntryLine}
 use Rattle.log_text.specs.Named.{AreNamed}
 use Rattle.log_text.proofs.Loops.{entry_ends, entry_passed}

@@ -1,8 +1,8 @@
 -- A verb that is none of a group's is read as the verbs after that group are.
 use Rattle.std.proofs.Common.{◌≡◌, ◌≢◌, ℕ, List, None, refl}
 use Rattle.sleep_model.specs.declared.machine.Machine.{Machine}
-use Rattle.log_text.specs.declared.spelling.verb.Verb.{Verb}
-use Rattle.log_text.specs.declared.spelling.verb.Verb.TheVariants as verb
+use Rattle.log_words.specs.declared.verb.Verb.{Verb}
+use Rattle.log_words.specs.declared.verb.Verb.TheVariants as verb
 use Rattle.log_text.specs.Reading.{kind_by, task_by, auto_by, source_by, attempt_by}
 
 pub no_device : (m : Machine) (v : Verb) (t : List ℕ) → v ≢ verb.Begin → v ≢ verb.End → v ≢ verb.Prepare → v ≢ verb.Complete → v ≢ verb.Schedule → v ≢ verb.Skip → v ≢ verb.Done → task_by m v t ≡ kind_by m v t

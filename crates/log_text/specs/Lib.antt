@@ -2,12 +2,10 @@
 pub mod MachineNames
 pub mod Cutting
 pub mod Faults
-pub mod Front
 pub mod Grammar
 pub mod Named
 pub mod Passing
 pub mod Reading
 pub mod Referred
 pub mod Ready
-pub mod Verbs
 pub mod Words

@@ -18,13 +18,13 @@ use Rattle.sleep_model.specs.declared.log.Why.TheVariants as why
 use Rattle.sleep_model.specs.declared.machine.Machine.{Machine}
 use Rattle.sleep_model.specs.declared.machine.PlatUndo.TheVariants as up
 use Rattle.sleep_model.specs.Text.{hard_word, link_word, runtime_word, source_names, up_word}
-use Rattle.log_text.specs.declared.spelling.verb.Verb.{Verb}
-use Rattle.log_text.specs.declared.spelling.verb.Verb.TheVariants as verb
+use Rattle.log_words.specs.declared.verb.Verb.{Verb}
+use Rattle.log_words.specs.declared.verb.Verb.TheVariants as verb
 use Rattle.log_text.specs.Named.{device_names, notifier_names, script_names}
 use Rattle.sleep_base.specs.Cutting.{before, after_first}
 use Rattle.log_text.specs.Cutting.{word, rest, word32, word64, index_in}
 use Rattle.log_text.specs.Words.{errno_in, answer_in, prepare_in, phase_in, cause_in, group_in, thaw_in, state_in, down_in}
-use Rattle.log_text.specs.Verbs.{verb_of}
+use Rattle.log_words.specs.Verbs.{verb_of}
 
 -- ---- names
 

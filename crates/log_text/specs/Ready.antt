@@ -4,7 +4,7 @@ use Rattle.std.specs.Option.{ForSome}
 use Rattle.sleep_model.specs.declared.entry.Actor.TheVariants as actor
 use Rattle.sleep_model.specs.declared.machine.Machine.{Machine}
 use Rattle.sleep_model.specs.Text.{source_names}
-use Rattle.log_text.specs.Front.{maker_text}
+use Rattle.log_words.specs.Front.{maker_text}
 use Rattle.log_text.specs.Named.{device_names, notifier_names, script_names}
 
 -- each list has the names of a kind of thing, or the makers of entries that the devices, the scripts or the sources' timers are

@@ -14,7 +14,6 @@
 mod fault;
 mod laws;
 mod reading;
-mod spelling;
 mod writing;
 
 pub use fault::LogFault;

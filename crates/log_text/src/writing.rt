@@ -1,10 +1,10 @@
 //! From a log to its text.
 
 pub(crate) mod body;
-pub(crate) mod device_words;
 pub(crate) mod gathered;
 pub(crate) mod line;
 pub(crate) mod log;
+pub(crate) mod put;
 pub(crate) mod ready;
 pub(crate) mod referred;
 pub(crate) mod stream;

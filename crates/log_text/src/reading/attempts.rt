@@ -9,7 +9,7 @@ use crate::reading::cut::{first_word, is};
 use crate::reading::machine_names::MachineNames;
 use crate::reading::meaning::{answer_in, down_in, group_in};
 use crate::reading::number::word32;
-use crate::spelling::fixed::{CHECK, NO_ERROR, OFF, ON, POST, RESUME, TIMEOUT};
+use log_words::{CHECK, NO_ERROR, OFF, ON, POST, RESUME, TIMEOUT};
 use sleep_model::{FrozeEnd, Kind, PlatUndo};
 
 /// What follows `attempt`.

@@ -6,7 +6,7 @@ ghost use Rattle.log_text.specs.Reading.{times_in, stats_in, why_in, waiting_in}
 use crate::reading::cut::{first_word, is};
 use crate::reading::machine_names::MachineNames;
 use crate::reading::number::{word32, word64};
-use crate::spelling::verb::Verb;
+use log_words::Verb;
 use sleep_base::cut;
 use sleep_model::{Actor, Stats, Waiting, Why};
 

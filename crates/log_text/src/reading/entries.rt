@@ -7,7 +7,7 @@ use crate::reading::cut::{first_word, is};
 use crate::reading::kinds::kind_in;
 use crate::reading::machine_names::MachineNames;
 use crate::reading::number::{word32, word64};
-use crate::spelling::fixed::{AUTO, DEVICE, TIME, TIMER};
+use log_words::{AUTO, DEVICE, TIME, TIMER};
 use sleep_base::cut;
 use sleep_model::{Actor, Entry, EventNow};
 

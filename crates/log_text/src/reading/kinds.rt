@@ -15,8 +15,7 @@ use crate::reading::steps::{
     autosleep_kind, event_kind, link_kind, link_state_kind, read_kind, runtime_kind, save_kind,
     state_kind,
 };
-use crate::spelling::fixed::{EVENT, ON};
-use crate::spelling::verb::Verb;
+use log_words::{EVENT, ON, Verb};
 use sleep_base::Errno;
 use sleep_model::Kind;
 

@@ -4,7 +4,7 @@ ghost use Rattle.sleep_model.specs.Fits.{is_answer};
 ghost use Rattle.log_text.specs.Words.{errno_in, answer_in, error_number, prepare_in, phase_in, cause_in, group_in, thaw_in, state_in, down_in};
 
 use crate::reading::cut::is;
-use crate::spelling::fixed::NO_ERROR;
+use log_words::NO_ERROR;
 use sleep_base::Errno;
 use sleep_model::{Group, Phase, PlatDo, SkipCause, State, Thaw, state_word};
 

@@ -6,7 +6,7 @@ ghost use Rattle.sleep_model.specs.Fits.{is_word32, is_word64};
 ghost use Rattle.sleep_model.specs.Text.{newline, space};
 
 use crate::reading::number::{digits_first, short};
-use crate::spelling::digits::put_decimal;
+use log_words::put_decimal;
 use sleep_model::Phase;
 
 /// What follows a piece at the beginning of a text. None if the text begins otherwise.
@@ -49,7 +49,7 @@ pub fn after_last_word<'a>(text: &'a [u8], word: &str) -> Option<&'a [u8]>
 }
 
 /// What follows that number, in its one spelling, and that byte. None if the text begins otherwise.
-#[tactic(auto, using(crate::proofs::Decimals::decimal_short))]
+#[tactic(auto, using(log_words::proofs::Decimals::decimal_short))]
 fn after_number(text: &[u8], number: u64, end: u8) -> Option<&[u8]>
     ensures { IfSome result (λ rest. text.now ≡ decimal number ++ end ∷ rest.now) }
 {

@@ -11,8 +11,7 @@ use crate::reading::pieces::{
     after_byte, after_last_word, after_piece, after_word, number_first, phase_first,
 };
 use crate::reading::quick_sources::source_kind_first;
-use crate::spelling::fixed::NO_ERROR;
-use crate::spelling::verb::Verb;
+use log_words::{NO_ERROR, Verb};
 use sleep_base::cut;
 use sleep_model::{Kind, SkipCause};
 

@@ -2,7 +2,7 @@
 
 ghost use Rattle.std.specs.Prelude.{◌≡◌, ◌++◌, IfSome, true};
 ghost use Rattle.sleep_model.specs.Fits.{fits_actor};
-ghost use Rattle.log_text.specs.Front.{maker_text};
+ghost use Rattle.log_words.specs.Front.{maker_text};
 
 use crate::reading::cut::first_word;
 use crate::reading::entries::actor_in;

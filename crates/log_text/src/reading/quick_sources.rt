@@ -9,8 +9,7 @@ use crate::reading::machine_names::MachineNames;
 use crate::reading::pieces::{
     after_byte, after_last_word, after_piece, after_word, number32_first,
 };
-use crate::spelling::fixed::{HARD, SOFT};
-use crate::spelling::verb::Verb;
+use log_words::{HARD, SOFT, Verb};
 use sleep_base::cut;
 use sleep_model::Kind;
 

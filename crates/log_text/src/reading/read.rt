@@ -14,7 +14,7 @@ use crate::reading::cut::is;
 use crate::reading::lines::{first_line, next_number};
 use crate::reading::machine_names::MachineNames;
 use crate::reading::reader::LineReader;
-use crate::spelling::fixed::FINISHED;
+use log_words::FINISHED;
 use sleep_base::{Mem, drop_for_mem};
 use sleep_model::{AUTOSLEEP, EntryList, ListOf, Log, LogEnd, Machine, Stats, Waiting};
 use std::alloc::Global;

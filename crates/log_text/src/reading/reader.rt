@@ -5,7 +5,7 @@ ghost use Rattle.std.specs.Prelude.{◌≡◌, ◌≢◌, ◌++◌, [], ℕ, tru
 ghost use Rattle.std.specs.Str.{bytes_eq};
 ghost use Rattle.sleep_model.specs.Text.{body, entry_line, newline, source_line, source_names, waiting_line};
 ghost use Rattle.sleep_model.specs.Fits.{fits_entry, fits_kind, fits_stats, fits_script, fits_cause};
-ghost use Rattle.log_text.specs.Front.{front_text};
+ghost use Rattle.log_words.specs.Front.{front_text};
 ghost use Rattle.log_text.specs.Cutting.{without_last};
 ghost use Rattle.log_text.specs.Grammar.{lines, IsBadEntry, IsBadSource, IsEntryLine, IsSourceLine, IsStuckLine};
 ghost use Rattle.log_text.specs.Named.{AreNamed};
@@ -20,8 +20,8 @@ use crate::reading::number::{digits_first, digits32_first};
 use crate::reading::pieces::after_piece;
 use crate::reading::quick::kind_first;
 use crate::reading::quick_actors::actor_first;
-use crate::spelling::front::LineFront;
 use crate::writing::writer::{LineWriter, put_entry, put_entry_text, put_source, put_waiting};
+use log_words::LineFront;
 use sleep_base::Mem;
 use sleep_model::{Entry, EventNow, Kind, Stats, Waiting};
 use std::alloc::Global;

@@ -9,7 +9,7 @@ use crate::reading::cut::{first_word, is};
 use crate::reading::machine_names::MachineNames;
 use crate::reading::meaning::{answer_in, errno_in, state_in};
 use crate::reading::number::word32;
-use crate::spelling::fixed::{DONE, HARD, OK, UNSAVED, WAIT};
+use log_words::{DONE, HARD, OK, UNSAVED, WAIT};
 use sleep_base::Errno;
 use sleep_model::{Kind, link_word, runtime_word};
 

@@ -4,14 +4,12 @@ ghost use Rattle.log_text.specs.Words.{is_negative};
 ghost use Rattle.sleep_model.specs.declared.entry.Kind.TheVariants as kind;
 ghost use Rattle.sleep_model.specs.Text.{answer_text, body, device, link_word, space, step_body, auto_body, source_body, phase_body, attempt_body, platform_body, froze_text, prepare_text};
 
-use crate::spelling::buffer::ByteBuffer;
-use crate::spelling::fixed::{
-    ALARM, ALL, BUSY, CHECK, DONE, EVENT, GUARDED, HARD, NO_ERROR, OFF, OK, ON, PLAIN, POST,
-    PREPARE, RESUME, SET, SOFT, SUSPEND, TIMEOUT, UNSAVED, WAIT, WAKEUP,
-};
-use crate::spelling::spelled::{Spelled, put, put_words};
-use crate::spelling::verb::Verb;
+use crate::writing::put::{put, put_words};
 use crate::writing::ready::ReadyNames;
+use log_words::{
+    ALARM, ALL, BUSY, ByteBuffer, CHECK, DONE, EVENT, GUARDED, HARD, NO_ERROR, OFF, OK, ON, PLAIN,
+    POST, PREPARE, RESUME, SET, SOFT, SUSPEND, Spelled, TIMEOUT, UNSAVED, Verb, WAIT, WAKEUP,
+};
 use sleep_base::Errno;
 use sleep_model::{FrozeEnd, Group, Kind, Thaw, link_word, runtime_word};
 
@@ -176,7 +174,7 @@ fn put_phase(out: &mut ByteBuffer, names: &ReadyNames, kind: Kind)
 }
 
 /// The name of the error that a number below 0 means; of one that callbacks do not know, EINVAL.
-#[tactic(auto, using(crate::proofs::WordsInjective::failed_injective, crate::proofs::Lengths::error_short))]
+#[tactic(auto, using(crate::proofs::WordsInjective::failed_injective, log_words::proofs::Lengths::error_short))]
 fn failed_prepare(r: i32) -> &'static str
     requires { is_negative r ≡ true }
     ensures text { result.now ≡ prepare_text r }

@@ -1,19 +1,15 @@
 //! The lines of entries, of sources and of stuck scripts, written.
 ghost use Rattle.std.specs.Prelude.{◌≡◌, ◌+◌, ◌≤◌, ◌++◌, codes, decimal, length, slice_get};
-ghost use Rattle.log_text.specs.Front.{front_text, maker_text};
+ghost use Rattle.log_words.specs.Front.{front_text, maker_text};
 ghost use Rattle.sleep_model.specs.Text.{body, hard_word, newline, space, script_text, waiting_text, entry_line, source_line, counts_text, times_text, waiting_line};
 
-use crate::spelling::buffer::ByteBuffer;
-use crate::spelling::fixed::{AUTO, DEVICE, TIME, TIMER};
-use crate::spelling::front::LineFront;
-use crate::spelling::piece::Piece;
-use crate::spelling::short::ShortText;
-use crate::spelling::spelled::{Spelled, put};
-use crate::spelling::verb::Verb;
-use crate::spelling::words::script_word;
 use crate::writing::body::put_body;
-use crate::writing::device_words::device_words;
+use crate::writing::put::put;
 use crate::writing::ready::ReadyNames;
+use log_words::{
+    AUTO, ByteBuffer, DEVICE, LineFront, Piece, ShortText, Spelled, TIME, TIMER, Verb,
+    device_words, script_word,
+};
 use sleep_model::{Actor, Entry, Kind, Stats, Waiting, Why};
 
 /// Writes who makes an entry, with the space after it.

@@ -4,12 +4,11 @@ ghost use Rattle.std.specs.Prelude.{◌≡◌, ◌≤◌, ◌++◌, [], ℕ, IfO
 ghost use Rattle.std.specs.Option.{ForSome};
 ghost use Rattle.sleep_model.specs.declared.entry.Actor.TheVariants as actor;
 ghost use Rattle.sleep_model.specs.Text.{device_name, name_in, script_text, source_names, space};
-ghost use Rattle.log_text.specs.Front.{maker_text};
+ghost use Rattle.log_words.specs.Front.{maker_text};
 ghost use Rattle.log_text.specs.Named.{device_names, notifier_names, script_names};
 
 use crate::reading::names::{ByKind, OfNames, names_of_sources};
-use crate::spelling::short::ShortText;
-use crate::spelling::words::script_word;
+use log_words::{ShortText, script_word};
 use sleep_base::{Mem, drop_for_mem};
 use sleep_model::{Actor, Device, Machine, Name, Script};
 use std::alloc::Global;
@@ -47,7 +46,7 @@ impl<'a> Model for ReadyNames<'a> {
 impl<'a> ReadyNames<'a> {
     ghost use Rattle.std.specs.Prelude.{◌≡◌, IfOk, IfSome};
     ghost use Rattle.sleep_model.specs.Text.{device, mark, notifier, source, syscore, task};
-    ghost use Rattle.log_text.specs.Front.{maker_text};
+    ghost use Rattle.log_words.specs.Front.{maker_text};
 
     /// The machine with its names. `Mem` if there is no memory for them.
     pub fn new(alloc: Global, machine: &'a Machine) -> Result<Self, Mem>

@@ -4,9 +4,9 @@ ghost use Rattle.std.specs.Prelude.{◌≡◌, ◌++◌, OnOk, IfOk, flat_map};
 ghost use Rattle.sleep_model.specs.Text.{entry_line};
 ghost use Rattle.log_text.specs.Referred.{referred};
 
-use crate::spelling::front::LineFront;
 use crate::writing::ready::ReadyNames;
 use crate::writing::writer::{LineWriter, put_entry};
+use log_words::LineFront;
 use sleep_base::Mem;
 use sleep_model::{Machine, SourceEntry};
 use std::alloc::Global;

@@ -5,12 +5,11 @@ ghost use Rattle.sleep_base.specs.Whole.{WriteAll};
 ghost use Rattle.sleep_model.specs.Text.{entry_line, end_text, source_lines, source_names};
 ghost use Rattle.log_text.specs.Passing.{Passes};
 
-use crate::spelling::buffer::ByteBuffer;
-use crate::spelling::front::LineFront;
 use crate::writing::line::spell_entry;
 use crate::writing::log::{put_end, put_sources};
 use crate::writing::ready::ReadyNames;
 use crate::writing::writer::{LINE, LineWriter};
+use log_words::{ByteBuffer, LineFront};
 use sleep_base::{ByteSink, Failed, Mem, write_all};
 use sleep_model::{EntryList, Log, Machine};
 use std::alloc::Global;

@@ -2,13 +2,11 @@
 ghost use Rattle.std.specs.Prelude.{◌≡◌, ◌+◌, ◌≤◌, ◌++◌, [], OnOk, codes, length};
 ghost use Rattle.sleep_model.specs.Text.{body, entry_line, newline, source_line, waiting_line};
 
-use crate::spelling::buffer::ByteBuffer;
-use crate::spelling::fixed::FINISHED;
-use crate::spelling::front::LineFront;
-use crate::spelling::spelled::{Spelled, put};
 use crate::writing::body::put_body;
 use crate::writing::line::{spell_entry, spell_source, spell_waiting};
+use crate::writing::put::put;
 use crate::writing::ready::{LONGEST, ReadyNames};
+use log_words::{ByteBuffer, FINISHED, LineFront, Spelled};
 use sleep_base::Mem;
 use sleep_model::{Entry, Kind, Stats, Waiting};
 use std::alloc::Global;

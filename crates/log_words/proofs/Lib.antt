@@ -1,0 +1,4 @@
+-- The lemmas of this crate, by file.
+pub mod Decimals
+pub mod Buffering
+pub mod Lengths
