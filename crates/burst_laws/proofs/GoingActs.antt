@@ -23,7 +23,7 @@ use Rattle.sleep_script.proofs.Following.{wanted_source}
 use Rattle.wakeup_source.specs.declared.call_by.CallBy.{CallBy}
 use Rattle.wakeup_source.specs.SourceStates.{SourceState}
 use Rattle.fit_laws.specs.Ranged.{is_ranged}
-use Rattle.merge_laws.proofs.Calling.{same_actor}
+use Rattle.run_laws.proofs.Calling.{same_actor}
 use Rattle.turn_lock.specs.declared.view.Made.{Made}
 use Rattle.run_laws.specs.Passes.{Noted}
 use Rattle.run_world.specs.Outcomes.{IsReport, IsTurn}

@@ -24,10 +24,10 @@ use Rattle.sleep_laws.proofs.Ending.{or_right_false}
 use Rattle.sleep_laws.proofs.LockHolding.{moved}
 use Rattle.sleep_laws.proofs.Made.{Made, StepMade, TaskMade, WorkMade, DeviceMade, EntryMade, ByMaker, ByTask, ByWork, ByDevice, ByTime}
 use Rattle.sleep_laws.proofs.MakingOwn.{entry_made}
-use Rattle.source_laws.proofs.Attempting.{attempts_is}
-use Rattle.source_laws.proofs.Trying.{is_over, maker_is, moved_free}
-use Rattle.attempt_laws.specs.Room.{enough, is_attempt, needed}
-use Rattle.attempt_laws.proofs.Needing.{attempt_needs_few, device_entry_spends, none_needed_outside, others_need_nothing, own_entry_spends}
+use Rattle.room_laws.proofs.Attempting.{attempts_is}
+use Rattle.room_laws.proofs.Trying.{is_over, maker_is, moved_free}
+use Rattle.room_laws.specs.AttemptRoom.{enough, is_attempt, needed}
+use Rattle.room_laws.proofs.Needing.{attempt_needs_few, device_entry_spends, none_needed_outside, others_need_nothing, own_entry_spends}
 use Rattle.end_laws.specs.Attempts.{AttemptsAreShort, AttemptsEnd, attempts_end, ends_among, ends_after, is_end_of, is_own, own_entry_count_after, own_entry_count}
 use Rattle.end_laws.proofs.Waking.{both, journal_rest}
 

@@ -22,11 +22,11 @@ use Rattle.sleep_model.specs.Sources.{history, is_of, most_entries}
 use Rattle.sleep_laws.proofs.Ending.{and_left, and_right, or_right_false}
 use Rattle.sleep_laws.proofs.Few.{few_entries, place_taken, places, places_rise}
 use Rattle.sleep_laws.proofs.LockHolding.{entry_of}
-use Rattle.source_laws.proofs.Attempting.{attempts_is, attempts_within}
-use Rattle.source_laws.proofs.Fitting.{histories_keep}
-use Rattle.source_laws.proofs.Running.{runs_within}
-use Rattle.attempt_laws.specs.Room.{enough, is_attempt, needed}
-use Rattle.attempt_laws.proofs.Needing.{attempt_needs_few, device_entry_spends, none_needed_outside, others_need_nothing, own_entry_spends}
+use Rattle.room_laws.proofs.Attempting.{attempts_is, attempts_within}
+use Rattle.room_laws.proofs.SourcesFit.{histories_keep}
+use Rattle.room_laws.proofs.Running.{runs_within}
+use Rattle.room_laws.specs.AttemptRoom.{enough, is_attempt, needed}
+use Rattle.room_laws.proofs.Needing.{attempt_needs_few, device_entry_spends, none_needed_outside, others_need_nothing, own_entry_spends}
 use Rattle.end_laws.specs.Attempts.{is_own}
 use Rattle.end_laws.specs.Bounds.{AllLogsAreBounded, JournalsAreBounded, LogsAreBounded, but_jumps, most_of_journal, most_of_sources, one_but_jump}
 use Rattle.end_laws.proofs.Attempts.{or_left_false}

@@ -19,9 +19,9 @@ use Rattle.sleep_model.specs.Positions.{PositionEffect, Waits, Sets, Sleeps, Rea
 use Rattle.sleep_laws.proofs.Made.{StepMade, TaskMade, EntryMade, ByMaker, ByTask, ByWork, ByDevice, ByTime, position_of}
 use Rattle.sleep_laws.proofs.MakingOwn.{entry_made}
 use Rattle.std.proofs.lemmas.Option.{slice_get_within}
-use Rattle.source_laws.proofs.Summing.{total}
+use Rattle.room_laws.proofs.Summing.{total}
 use Rattle.fit_laws.proofs.Sitting.{positions_len}
-use Rattle.attempt_laws.specs.Room.{is_attempt}
+use Rattle.room_laws.specs.AttemptRoom.{is_attempt}
 use Rattle.end_laws.specs.Attempts.{is_own}
 use Rattle.end_laws.specs.Bounds.{but_jumps, one_but_jump}
 

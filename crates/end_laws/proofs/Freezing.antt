@@ -29,11 +29,11 @@ use Rattle.sleep_model.specs.Legal.{JournalPart}
 use Rattle.sleep_model.specs.Path.{attempts}
 use Rattle.sleep_model.specs.Places.{one_if}
 use Rattle.sleep_model.specs.Table.{stage_after}
-use Rattle.attempt_laws.specs.Room.{one_unless}
+use Rattle.room_laws.specs.AttemptRoom.{one_unless}
 use Rattle.sleep_laws.proofs.LockHolding.{Outside, IsMaker, StageInvariant, at_stage, entry_of}
 use Rattle.sleep_laws.proofs.Made.{Made, Comes, StepMade, TaskMade, WorkMade, DeviceMade, EntryMade, AtOnce, PastNotifiers, PastCpus, PastParts, PastPartsUp, PastCpusUp, PastPosts, ByMaker, ByTask, ByWork, ByDevice, ByTime}
 use Rattle.sleep_laws.proofs.MakingOwn.{entry_made}
-use Rattle.source_laws.proofs.Summing.{total}
+use Rattle.room_laws.proofs.Summing.{total}
 use Rattle.end_laws.proofs.Counting.{froze, is_frozen}
 
 -- ---- freezes

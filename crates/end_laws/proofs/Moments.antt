@@ -44,9 +44,9 @@ use Rattle.sleep_laws.proofs.Ending.{and_left, and_right, first_made, not_true}
 use Rattle.sleep_laws.proofs.LockHolding.{at_stage}
 use Rattle.sleep_laws.proofs.Made.{position_of}
 use Rattle.sleep_laws.proofs.Telling.{none≢some, some≢none}
-use Rattle.source_laws.proofs.Limiting.{script_tries}
-use Rattle.source_laws.proofs.Running.{work_tries}
-use Rattle.source_laws.proofs.Trying.{is_attempting, passes, steps_if, steps_in}
+use Rattle.room_laws.proofs.Limiting.{script_tries}
+use Rattle.room_laws.proofs.Running.{work_tries}
+use Rattle.room_laws.proofs.Trying.{is_attempting, passes, steps_if, steps_in}
 use Rattle.fit_laws.proofs.Sitting.{op_at}
 use Rattle.end_laws.specs.Moments.{JumpsWake, LiesAhead, NextMomentsLieAhead, jump_to}
 use Rattle.end_laws.proofs.Dozing.{IsDozing, IsSleep, dozer}

@@ -17,9 +17,9 @@ use Rattle.sleep_model.specs.Path.{is_actor, is_same, maker}
 use Rattle.sleep_model.specs.Places.{one_if}
 use Rattle.sleep_laws.proofs.Made.{WorkMade, EntryMade, ByMaker, ByTask, ByWork, ByDevice, ByTime}
 use Rattle.sleep_laws.proofs.MakingOwn.{entry_made}
-use Rattle.source_laws.proofs.Running.{runs_more, work_other, work_own}
-use Rattle.source_laws.proofs.Trying.{Trial, ByMaking, ByTrying, ByWorking, ByOther, is_over, trial}
-use Rattle.attempt_laws.specs.Room.{is_attempt}
+use Rattle.room_laws.proofs.Running.{runs_more, work_other, work_own}
+use Rattle.room_laws.proofs.Trying.{Trial, ByMaking, ByTrying, ByWorking, ByOther, is_over, trial}
+use Rattle.room_laws.specs.AttemptRoom.{is_attempt}
 use Rattle.end_laws.specs.Attempts.{is_own}
 use Rattle.end_laws.proofs.Counting.{is_spent, is_worked, one_or, or_first, worked}
 

@@ -11,7 +11,7 @@ use Rattle.sleep_model.specs.Calls.{one_more}
 use Rattle.sleep_model.specs.Devices.{is_device}
 use Rattle.sleep_model.specs.Legal.{IsFinishedLog, IsLegalLog, IsStuckLog, JournalPart}
 use Rattle.sleep_model.specs.Path.{is_actor, maker}
-use Rattle.attempt_laws.specs.Room.{enough, is_attempt}
+use Rattle.room_laws.specs.AttemptRoom.{enough, is_attempt}
 
 -- ---- attempts end
 

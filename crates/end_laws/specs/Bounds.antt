@@ -8,7 +8,7 @@ use Rattle.sleep_model.specs.Accepted.{IsAccepted}
 use Rattle.sleep_model.specs.Legal.{IsLegal, JournalPart}
 use Rattle.sleep_model.specs.Places.{all_operations, most_attempts, places}
 use Rattle.sleep_model.specs.Sources.{most_entries}
-use Rattle.attempt_laws.specs.Room.{enough}
+use Rattle.room_laws.specs.AttemptRoom.{enough}
 
 -- one more, unless it is a jump of time
 abbrev pub one_but_jump : Kind → ℕ → ℕ

@@ -13,15 +13,15 @@ use Rattle.sleep_model.specs.Merge.{actors_of, all_entries, entries_of, in_order
 use Rattle.sleep_model.specs.EntryClasses.{class_of}
 use Rattle.sleep_model.specs.Path.{is_same}
 use Rattle.sleep_model.specs.Sources.{is_of}
-use Rattle.merge_laws.specs.Apart.{AreActorSteps, IsSource, calls_after, is_inside, is_journals, own_entries, past_of, source_past}
-use Rattle.merge_laws.specs.Fitting.{FitApart}
-use Rattle.merge_laws.specs.Merging.{AreLegalApart}
-use Rattle.merge_laws.specs.Owned.{IsOwnList}
-use Rattle.merge_laws.proofs.Calling.{filter_twice}
-use Rattle.merge_laws.proofs.Lists.{all_head, all_order, all_tail, filter_order, order_rising}
-use Rattle.merge_laws.proofs.Picks.{history_among, history_rises, journals_of_all}
-use Rattle.merge_laws.proofs.Placing.{number_is}
-use Rattle.merge_laws.proofs.Sourced.{entries_there}
+use Rattle.run_laws.specs.Apart.{AreActorSteps, IsSource, calls_after, is_inside, is_journals, own_entries, past_of, source_past}
+use Rattle.run_laws.specs.Fitting.{FitApart}
+use Rattle.run_laws.specs.Merging.{AreLegalApart}
+use Rattle.run_laws.specs.Owned.{IsOwnList}
+use Rattle.run_laws.proofs.Calling.{filter_twice}
+use Rattle.run_laws.proofs.Lists.{all_head, all_order, all_tail, filter_order, order_rising}
+use Rattle.run_laws.proofs.Picks.{history_among, history_rises, journals_of_all}
+use Rattle.run_laws.proofs.Placing.{number_is}
+use Rattle.run_laws.proofs.Sourced.{entries_there}
 use Rattle.law_trials.specs.MergeTests.{Below, FitTested, LegalTested, OfEach, TestsShowPremises}
 
 -- ---- sources

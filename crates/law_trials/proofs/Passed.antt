@@ -2,7 +2,7 @@
 use Rattle.std.proofs.Common.{◌≡◌, ◌<◌, ℕ, zero, suc, true, refl, arith}
 use Rattle.std.specs.List.{list_all}
 use Rattle.sleep_model.specs.Path.{is_same}
-use Rattle.merge_laws.proofs.Placing.{number_is}
+use Rattle.run_laws.proofs.Placing.{number_is}
 use Rattle.run_laws.specs.Passes.{HaveMakers, made_by_passes}
 use Rattle.law_trials.specs.Passing.{lines, two_passes}
 

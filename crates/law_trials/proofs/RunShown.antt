@@ -3,8 +3,8 @@ use Rattle.std.proofs.Common.{◌≡◌, ◌||◌, not, Bool, true, false, List,
 use Rattle.std.specs.List.{list_all}
 use Rattle.sleep_model.specs.declared.entry.JournalEntry.{JournalEntry}
 use Rattle.sleep_model.specs.declared.machine.Machine.{Machine}
-use Rattle.merge_laws.specs.Fitting.{jumps}
-use Rattle.merge_laws.proofs.Lists.{all_head, all_tail}
+use Rattle.run_laws.specs.Fitting.{jumps}
+use Rattle.run_laws.proofs.Lists.{all_head, all_tail}
 use Rattle.run_laws.specs.Invariant.{AllOf, EachJump, IsGrowth, IsInTime, is_above}
 use Rattle.run_laws.proofs.Invariant.{all_grown, grows, invariant_begins}
 use Rattle.law_trials.specs.RunTests.{InJournal, IsTimed, MayJump, Tested, TestsShowInvariant, made_of}

@@ -2,7 +2,7 @@
 use Rattle.std.proofs.Common.{◌≡◌, ◌<◌, ℕ, zero, suc, List, [], ◌∷◌, inl, inr, refl, slice_index_or, arith}
 use Rattle.sleep_model.specs.declared.word.WordKind.TheVariants as step
 use Rattle.event_word.specs.Histories.{AreClosed, SourceStep, steps_of}
-use Rattle.merge_laws.specs.Apart.{source_past}
+use Rattle.run_laws.specs.Apart.{source_past}
 use Rattle.run_laws.specs.ClosedOver.{IsClosedOver}
 use Rattle.wakeup_source.specs.Shown as told
 use Rattle.law_trials.specs.BrokenRuns.{asleep, begun, looks, made_start}

@@ -4,8 +4,8 @@ use Rattle.std.specs.List.{list_all}
 use Rattle.sleep_model.specs.declared.entry.JournalEntry.{JournalEntry}
 use Rattle.sleep_model.specs.declared.entry.SourceEntry.{SourceEntry}
 use Rattle.sleep_model.specs.Merge.{all_entries, is_chained}
-use Rattle.merge_laws.specs.Apart.{word_steps}
-use Rattle.merge_laws.specs.Fitting.{are_counted, are_raised, has_time, is_look, jumps, no_steps, is_ordered}
+use Rattle.run_laws.specs.Apart.{word_steps}
+use Rattle.run_laws.specs.Fitting.{are_counted, are_raised, has_time, is_look, jumps, no_steps, is_ordered}
 use Rattle.law_trials.specs.Merging.{all_ticked, histories_among, journal_among}
 use Rattle.law_trials.specs.Timers.{event_expires_machine, event_expires_entries}
 

@@ -9,9 +9,9 @@ use Rattle.sleep_model.specs.Legal.{JournalPart}
 use Rattle.sleep_model.specs.Merge.{actors_of, all_entries, is_chained, of_source, rises}
 use Rattle.sleep_model.specs.Path.{is_same}
 use Rattle.sleep_model.specs.Sources.{most_entries}
-use Rattle.merge_laws.specs.Apart.{AreJumps, AreActorSteps, IsSource, are_of, calls_after, is_inside, is_journals, own_entries, past_of, source_past, word_steps}
-use Rattle.merge_laws.specs.Fitting.{FitApart, are_counted, are_raised, has_time, is_look, jumps, no_steps, is_ordered}
-use Rattle.merge_laws.specs.Merging.{AreLegalApart}
+use Rattle.run_laws.specs.Apart.{AreJumps, AreActorSteps, IsSource, are_of, calls_after, is_inside, is_journals, own_entries, past_of, source_past, word_steps}
+use Rattle.run_laws.specs.Fitting.{FitApart, are_counted, are_raised, has_time, is_look, jumps, no_steps, is_ordered}
+use Rattle.run_laws.specs.Merging.{AreLegalApart}
 
 -- so for each number below n
 abbrev pub Below : (ℕ → Type 0) → ℕ → Type 0

@@ -8,8 +8,8 @@ use Rattle.sleep_model.specs.Legal.{JournalPart, JumpStep, is_there}
 use Rattle.sleep_model.specs.Numbers.{time_of}
 use Rattle.sleep_model.specs.EntryClasses.{class_of}
 use Rattle.log_merge.specs.Remainders.{unstamped}
-use Rattle.merge_laws.specs.Apart.{is_journals}
-use Rattle.merge_laws.specs.Fitting.{jumps}
+use Rattle.run_laws.specs.Apart.{is_journals}
+use Rattle.run_laws.specs.Fitting.{jumps}
 use Rattle.run_laws.specs.Acts.{IsNext, Made, MayHave, with_entry}
 use Rattle.run_laws.specs.Invariant.{RunInvariant, IsNewestOfOwn, follows, is_above, nothing}
 use Rattle.law_trials.specs.Merging.{all_ticked}

@@ -19,7 +19,6 @@ pub mod NextEntry
 pub mod OneLog
 pub mod NoBadLine
 pub mod ReadBack
-pub mod DeviceLines
 pub mod Passed
 pub mod Lists
 pub mod Pieces

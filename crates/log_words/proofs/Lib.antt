@@ -2,3 +2,4 @@
 pub mod Decimals
 pub mod Buffering
 pub mod Lengths
+pub mod DeviceLines

@@ -10,7 +10,7 @@ use Rattle.sleep_model.specs.Path.{is_same}
 use Rattle.sleep_core.specs.Cores.{IsActor}
 use Rattle.sleep_script.specs.Jobs.{JobState, first_timer, later, raised, raised_timer}
 use Rattle.wakeup_source.specs.SourceStates.{SourceState}
-use Rattle.merge_laws.proofs.Calling.{same_actor}
+use Rattle.run_laws.proofs.Calling.{same_actor}
 use Rattle.run_laws.proofs.Acts.{actor_is}
 use Rattle.running_laws.specs.Running.{AreJobs, IsGoing, IsRunning, entry_count}
 use Rattle.running_laws.proofs.Turns as turns

@@ -14,7 +14,7 @@ use Rattle.sleep_core.specs.Histories.{last_stamp}
 use Rattle.sleep_script.proofs.Following.{turns_few}
 use Rattle.run_objects.specs.Objects.{SeatedCoreState, seats_of, sources_of}
 use Rattle.sleep_laws.proofs.Ending.{and_right}
-use Rattle.merge_laws.proofs.Lists.{all_head}
+use Rattle.run_laws.proofs.Lists.{all_head}
 use Rattle.run_laws.specs.Called.{knows}
 use Rattle.running_laws.specs.Running.{IsRunning}
 use Rattle.running_laws.proofs.Invariant.{all_known}

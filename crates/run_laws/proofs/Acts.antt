@@ -11,10 +11,10 @@ use Rattle.sleep_model.specs.EntryClasses.{EntryClass, OfJournal, Notes, Moves, 
 use Rattle.sleep_model.specs.Path.{is_same}
 use Rattle.sleep_model.specs.Sources.{SourceStep, history, is_of}
 use Rattle.log_merge.specs.Remainders.{unstamped}
-use Rattle.merge_laws.specs.Apart.{ActorStep, AreActorSteps, IsCall, IsSource, calls_after, history_after, is_inside, is_journals, own_of}
-use Rattle.merge_laws.proofs.Calling.{calls_earlier, calls_in, calls_top, history_earlier, history_top, same_calling}
-use Rattle.merge_laws.proofs.Lists.{filter_map_through}
-use Rattle.merge_laws.proofs.Placing.{number_is}
+use Rattle.run_laws.specs.Apart.{ActorStep, AreActorSteps, IsCall, IsSource, calls_after, history_after, is_inside, is_journals, own_of}
+use Rattle.run_laws.proofs.Calling.{calls_earlier, calls_in, calls_top, history_earlier, history_top, same_calling}
+use Rattle.run_laws.proofs.Lists.{filter_map_through}
+use Rattle.run_laws.proofs.Placing.{number_is}
 use Rattle.run_laws.specs.Acts.{ActsAreSteps, AreSteps, IsKnown, IsNext, Made, MayHave, put_if, with_entry}
 
 pub actor_is : (a b : Actor) → is_same a b ≡ true → a ≡ b

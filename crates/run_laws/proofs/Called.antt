@@ -22,7 +22,7 @@ use Rattle.sleep_model.specs.Sources.{IsNext as Next, SourceStep, steps_after_fi
 use Rattle.sleep_model.specs.Word.{position}
 use Rattle.log_merge.proofs.Reading.{both}
 use Rattle.log_merge.specs.Remainders.{unstamped}
-use Rattle.merge_laws.proofs.Calling.{same_actor}
+use Rattle.run_laws.proofs.Calling.{same_actor}
 use Rattle.wakeup_source.specs.declared.call_by.CallBy.{CallBy}
 use Rattle.wakeup_source.specs.Called.{SourceView, Steps, after_note, after_step}
 use Rattle.wakeup_source.specs.SourceStates.{RiseUpTo, SourceState, note_entry, note_tick, step_entry, step_kind, with_note, with_step}

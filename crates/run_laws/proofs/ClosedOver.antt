@@ -21,10 +21,10 @@ use Rattle.log_merge.specs.Remainders.{sources_entries}
 use Rattle.log_merge.proofs.Orders.{log_order}
 use Rattle.log_merge.proofs.Reading.{both, both_left, both_right}
 use Rattle.log_merge.proofs.Sorts.{head_of, tail_of}
-use Rattle.merge_laws.specs.Apart.{is_journals, past_of}
-use Rattle.merge_laws.specs.Fitting.{are_counted, is_look, no_steps, word_from}
-use Rattle.merge_laws.proofs.Lists.{all_append, all_head, all_more, all_order, all_reverse, all_tail, filter_none, filter_reverse}
-use Rattle.merge_laws.proofs.Placing.{number_is, word_is}
+use Rattle.run_laws.specs.Apart.{is_journals, past_of}
+use Rattle.run_laws.specs.Fitting.{are_counted, is_look, no_steps, word_from}
+use Rattle.run_laws.proofs.Lists.{all_append, all_head, all_more, all_order, all_reverse, all_tail, filter_none, filter_reverse}
+use Rattle.run_laws.proofs.Placing.{number_is, word_is}
 use Rattle.run_laws.specs.ClosedOver.{IsInLine, IsClosedOver, IsSeenLast, LooksLast, TableCovers, is_looked, has_position}
 use Rattle.wakeup_source.specs.Shown as shown
 

@@ -18,10 +18,10 @@ use Rattle.sleep_model.specs.Path.{is_same}
 use Rattle.sleep_model.specs.Sources.{is_of}
 use Rattle.log_merge.proofs.Reading.{both, both_left, both_right}
 use Rattle.log_merge.specs.Remainders.{unstamped}
-use Rattle.merge_laws.specs.Apart.{AreJumps, JumpIsLegal, before, is_journals}
-use Rattle.merge_laws.specs.Fitting.{are_raised, has_time, is_earlier, is_after_jump, jumps}
-use Rattle.merge_laws.proofs.Lists.{all_head, all_map, all_more, all_reverse, all_tail, filter_all, filter_reverse}
-use Rattle.merge_laws.proofs.Placing.{number_is, other_keeps}
+use Rattle.run_laws.specs.Apart.{AreJumps, JumpIsLegal, before, is_journals}
+use Rattle.run_laws.specs.Fitting.{are_raised, has_time, is_earlier, is_after_jump, jumps}
+use Rattle.run_laws.proofs.Lists.{all_head, all_map, all_more, all_reverse, all_tail, filter_all, filter_reverse}
+use Rattle.run_laws.proofs.Placing.{number_is, other_keeps}
 use Rattle.run_laws.specs.Acts.{Made, put_if, with_entry}
 use Rattle.run_laws.specs.Invariant.{AllOf, EachJump, RunInvariant, InvariantGrows, IsGrowth, IsInTime, InvariantBegins, falls, follows, is_above, is_ordered_with, IsNewestOfOwn}
 use Rattle.run_laws.proofs.Acts.{actor_is, acts_are_steps}

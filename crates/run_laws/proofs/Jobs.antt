@@ -17,7 +17,7 @@ use Rattle.sleep_model.specs.Sources.{caller, owed}
 use Rattle.sleep_script.specs.Jobs.{IsJobOf, IsWanted, JobState, after_call, after_turn}
 use Rattle.sleep_script.proofs.Following.{call_made, other_entry, own_entry, wanted_core, wanted_source}
 use Rattle.log_merge.specs.Remainders.{unstamped}
-use Rattle.merge_laws.specs.Apart.{IsCall, is_journals}
+use Rattle.run_laws.specs.Apart.{IsCall, is_journals}
 use Rattle.run_laws.specs.Acts.{Made, put_if, with_entry}
 use Rattle.run_laws.specs.Jobs.{IsJob, JobsFollow, JobsWantNext, SettledIsFree, is_timer}
 

@@ -9,8 +9,8 @@ use Rattle.sleep_model.specs.declared.entry.JournalEntry.{JournalEntry}
 use Rattle.sleep_model.specs.Path.{is_same}
 use Rattle.turn_lock.specs.declared.view.Made.{Made}
 use Rattle.turn_lock.specs.Bookings.{AreBelow, empty, made, made_by}
-use Rattle.merge_laws.proofs.Lists.{all_head, all_tail}
-use Rattle.merge_laws.proofs.Placing.{number_is}
+use Rattle.run_laws.proofs.Lists.{all_head, all_tail}
+use Rattle.run_laws.proofs.Placing.{number_is}
 use Rattle.run_laws.specs.Passes.{LogSays, LogSaysWho, Noted, items, items_by}
 use Rattle.run_laws.proofs.Acts.{actor_is}
 

@@ -15,15 +15,15 @@ use Rattle.sleep_model.specs.Path.{is_same}
 use Rattle.sleep_model.specs.Sources.{is_of}
 use Rattle.log_merge.specs.Remainders.{sources_entries, unstamped}
 use Rattle.log_merge.proofs.Reading.{both, both_left, both_right}
-use Rattle.merge_laws.specs.Apart.{AreJumps, AreActorSteps, IsSource, are_of, calls_after, is_inside, is_journals, last_word, past_of, source_past}
-use Rattle.merge_laws.specs.Fitting.{FitApart, are_raised, has_time, is_earlier, is_after_jump, jumps, is_ordered}
+use Rattle.run_laws.specs.Apart.{AreJumps, AreActorSteps, IsSource, are_of, calls_after, is_inside, is_journals, last_word, past_of, source_past}
+use Rattle.run_laws.specs.Fitting.{FitApart, are_raised, has_time, is_earlier, is_after_jump, jumps, is_ordered}
 use Rattle.sleep_model.specs.Legal.{is_finished, is_idle, next_time, waiting}
 use Rattle.sleep_model.specs.Due.{have_all_exited}
 use Rattle.sleep_model.specs.declared.log.LogEnd.TheVariants.{Stuck}
-use Rattle.merge_laws.specs.Merging.{AreLegalApart}
-use Rattle.merge_laws.proofs.Fits.{lists_merge}
-use Rattle.merge_laws.specs.Owned.{IsOwnList}
-use Rattle.merge_laws.proofs.Lists.{all_append, all_head, all_more, all_reverse, all_tail, filter_reverse}
+use Rattle.run_laws.specs.Merging.{AreLegalApart}
+use Rattle.run_laws.proofs.Fits.{lists_merge}
+use Rattle.run_laws.specs.Owned.{IsOwnList}
+use Rattle.run_laws.proofs.Lists.{all_append, all_head, all_more, all_reverse, all_tail, filter_reverse}
 use Rattle.run_laws.specs.Acts.{Made}
 use Rattle.run_laws.specs.Invariant.{AllOf, EachJump, RunInvariant, InvariantEnds, InvariantMerges, IsWritten, falls, follows, is_above, is_ordered_with}
 use Rattle.run_laws.specs.ClosedOver.{IsInLine}

@@ -16,8 +16,8 @@ use Rattle.sleep_model.specs.Sources.{makes, since}
 use Rattle.sleep_model.specs.Word.{position}
 use Rattle.event_word.specs.Looks.{GrewTo}
 use Rattle.log_merge.specs.Remainders.{sources_entries}
-use Rattle.merge_laws.specs.Apart.{past_of}
-use Rattle.merge_laws.proofs.Lists.{all_append, all_more, all_reverse}
+use Rattle.run_laws.specs.Apart.{past_of}
+use Rattle.run_laws.proofs.Lists.{all_append, all_more, all_reverse}
 use Rattle.wakeup_source.specs.declared.call_by.CallBy.{CallBy}
 use Rattle.wakeup_source.specs.Called.{Calls, SourceView, Steps, after_note, after_step}
 use Rattle.wakeup_source.specs.SourceStates.{unstamped_source, note_entry, note_tick, step_entry, step_kind}

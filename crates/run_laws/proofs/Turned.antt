@@ -15,9 +15,9 @@ use Rattle.sleep_model.specs.Path.{is_same}
 use Rattle.sleep_model.specs.Sources.{is_of}
 use Rattle.log_merge.proofs.Reading.{both}
 use Rattle.log_merge.specs.Remainders.{unstamped}
-use Rattle.merge_laws.specs.Apart.{is_journals}
-use Rattle.merge_laws.proofs.Calling.{same_actor}
-use Rattle.merge_laws.proofs.Lists.{all_head}
+use Rattle.run_laws.specs.Apart.{is_journals}
+use Rattle.run_laws.proofs.Calling.{same_actor}
+use Rattle.run_laws.proofs.Lists.{all_head}
 use Rattle.run_laws.specs.Acts.{IsNext, Made, MayHave, put_if, with_entry}
 use Rattle.run_laws.specs.Called.{knows}
 use Rattle.run_laws.specs.Invariant.{RunInvariant, IsGrowth, IsNewestOfOwn, IsInTime, follows, is_above}

@@ -11,7 +11,7 @@ use Rattle.sleep_model.specs.EntryClasses.{EntryClass, OfJournal, Notes, Moves, 
 use Rattle.sleep_model.specs.Path.{is_same}
 use Rattle.sleep_model.specs.Sources.{SourceStep, is_of}
 use Rattle.log_merge.specs.Remainders.{unstamped}
-use Rattle.merge_laws.specs.Apart.{AreActorSteps, IsCall, IsSource, calls_after, is_inside, is_journals}
+use Rattle.run_laws.specs.Apart.{AreActorSteps, IsCall, IsSource, calls_after, is_inside, is_journals}
 
 -- what was made so far: the journal, the entries of each source, and each actor's own, the newest first
 pub record Made : Type 0 where

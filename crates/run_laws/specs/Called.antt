@@ -16,7 +16,7 @@ use Rattle.wakeup_source.specs.SourceStates.{IsSettled, SourceState}
 use Rattle.wakeup_source.specs.SourceStates as states
 use Rattle.wakeup_source.specs.Shown.{MayCall}
 use Rattle.log_merge.specs.Remainders.{unstamped}
-use Rattle.merge_laws.specs.Apart.{IsCall}
+use Rattle.run_laws.specs.Apart.{IsCall}
 use Rattle.run_laws.specs.Acts.{IsBetweenCalls, Made}
 use Rattle.run_laws.specs.Invariant.{EachJump, RunInvariant}
 

@@ -9,9 +9,9 @@ use Rattle.sleep_model.specs.Word.{position}
 use Rattle.event_word.specs.Histories.{AreClosed}
 use Rattle.event_word.specs.Steps.{MadeStep}
 use Rattle.wakeup_source.specs.Shown.{steps_in}
-use Rattle.merge_laws.specs.Apart.{is_journals, last_word, source_past}
-use Rattle.merge_laws.specs.Apart as apart
-use Rattle.merge_laws.specs.Fitting.{are_counted, is_look, no_steps}
+use Rattle.run_laws.specs.Apart.{is_journals, last_word, source_past}
+use Rattle.run_laws.specs.Apart as apart
+use Rattle.run_laws.specs.Fitting.{are_counted, is_look, no_steps}
 
 -- one of the seats looked at the word
 abbrev pub was_seen : List (List EventNow) → EventNow → Bool

@@ -16,9 +16,9 @@ use Rattle.sleep_model.specs.EntryClasses.{EntryClass, Notes, Moves, class_of}
 use Rattle.sleep_model.specs.Sources.{is_of, most_entries}
 use Rattle.event_word.specs.Steps.{MadeStep}
 use Rattle.log_merge.specs.Remainders.{unstamped}
-use Rattle.merge_laws.specs.Apart.{AreJumps, is_journals}
-use Rattle.merge_laws.specs.Fitting.{FitApart, are_raised, has_time, is_earlier, is_after_jump, jumps}
-use Rattle.merge_laws.specs.Merging.{AreLegalApart, IsMergeOf}
+use Rattle.run_laws.specs.Apart.{AreJumps, is_journals}
+use Rattle.run_laws.specs.Fitting.{FitApart, are_raised, has_time, is_earlier, is_after_jump, jumps}
+use Rattle.run_laws.specs.Merging.{AreLegalApart, IsMergeOf}
 use Rattle.run_laws.specs.Acts.{AreSteps, IsNext, Made, MayHave, with_entry}
 use Rattle.run_laws.specs.ClosedOver.{IsClosedOver, IsSeenLast}
 

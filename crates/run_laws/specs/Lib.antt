@@ -1,4 +1,8 @@
 -- The definitions of this crate.
+pub mod Apart
+pub mod Fitting
+pub mod Merging
+pub mod Owned
 pub mod Acts
 pub mod Called
 pub mod Invariant

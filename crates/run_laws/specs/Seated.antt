@@ -14,7 +14,7 @@ use Rattle.wakeup_source.specs.declared.call_by.CallBy.{CallBy}
 use Rattle.wakeup_source.specs.Called.{Calls, SourceView}
 use Rattle.wakeup_source.specs.SourceStates.{SourceState, unstamped_source}
 use Rattle.wakeup_source.specs.Shown.{AreOwnSteps, steps_in}
-use Rattle.merge_laws.specs.Apart.{is_journals}
+use Rattle.run_laws.specs.Apart.{is_journals}
 use Rattle.run_laws.specs.ClosedOver.{IsClosedOver, has_position}
 
 -- an entry is a step on the word, or carries one of the words that were looked at

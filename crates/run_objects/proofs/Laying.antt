@@ -12,8 +12,8 @@ use Rattle.event_word.specs.Histories.{AreClosed}
 use Rattle.event_word.specs.Lists.{looked_lists, made_lists, tokens}
 use Rattle.event_word.specs.Seats.{WordToken, looked_of, made_of}
 use Rattle.event_word.specs.Steps.{MadeStep}
-use Rattle.merge_laws.specs.Apart.{is_journals}
-use Rattle.merge_laws.proofs.Lists.{all_reverse}
+use Rattle.run_laws.specs.Apart.{is_journals}
+use Rattle.run_laws.proofs.Lists.{all_reverse}
 use Rattle.run_laws.specs.ClosedOver.{has_position}
 use Rattle.run_laws.specs.Seated.{StampsAreSeen, AreSeated, IsSeated, sees}
 use Rattle.run_laws.proofs.Seated.{seats_cover}

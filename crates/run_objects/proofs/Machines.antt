@@ -22,7 +22,7 @@ use Rattle.run_laws.specs.ClosedOver.{has_position}
 use Rattle.run_laws.specs.Seated.{StampsAreSeen, sees}
 use Rattle.run_laws.proofs.Seated.{watch_keeps}
 use Rattle.run_objects.specs.Objects.{IsSeatedCore, SeatedCoreState}
-use Rattle.merge_laws.proofs.Lists.{all_more, all_tail}
+use Rattle.run_laws.proofs.Lists.{all_more, all_tail}
 
 -- more looks leave each word of the journal looked at
 looked_on : (looked new : List EventNow) (journal : List JournalEntry) (word : EventNow) → StampsAreSeen looked journal → GrewTo word (Some looked) (Some new) → StampsAreSeen new journal

@@ -4,7 +4,7 @@ ghost use Rattle.std.specs.Prelude.{◌≡◌, true, IfOk, reverse};
 ghost use Rattle.std.specs.List.{list_all};
 ghost use Rattle.event_word.specs.Lists.{tokens};
 ghost use Rattle.event_word.specs.Seats.{AreAllSeats, looked_of};
-ghost use Rattle.merge_laws.specs.Apart.{is_journals};
+ghost use Rattle.run_laws.specs.Apart.{is_journals};
 ghost use Rattle.run_objects.specs.Closed.{IsClosedTable, histories_of};
 ghost use Rattle.run_objects.specs.Objects.{SourcesInvariant, seats_of};
 

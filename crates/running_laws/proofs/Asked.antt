@@ -29,8 +29,8 @@ use Rattle.wakeup_source.specs.SourceStates.{SourceState, latest}
 use Rattle.wakeup_source.specs.SourceStates as states
 use Rattle.wakeup_source.specs.Shown.{MayCall}
 use Rattle.log_merge.specs.Remainders.{unstamped}
-use Rattle.merge_laws.specs.Apart.{IsCall}
-use Rattle.merge_laws.proofs.Lists.{all_head}
+use Rattle.run_laws.specs.Apart.{IsCall}
+use Rattle.run_laws.proofs.Lists.{all_head}
 use Rattle.running_laws.specs.Running.{CallsNext, IsGoing, calls_made, histories}
 use Rattle.running_laws.proofs.Invariant.{few_calls}
 use Rattle.running_laws.proofs.Lists.{entries_unstamped, source_at}

@@ -33,7 +33,7 @@ use Rattle.wakeup_source.specs.Shown.{MayCall}
 use Rattle.fit_laws.specs.Ranged.{is_ranged, is_ranged_entry}
 use Rattle.log_merge.proofs.Reading.{both}
 use Rattle.log_merge.specs.Remainders.{unstamped}
-use Rattle.merge_laws.specs.Apart.{IsCall}
+use Rattle.run_laws.specs.Apart.{IsCall}
 use Rattle.run_laws.specs.Acts.{Made}
 use Rattle.run_laws.specs.Called.{IsCalled, IsReady, knows}
 use Rattle.run_laws.specs.Invariant.{EachJump, RunInvariant}

@@ -25,12 +25,12 @@ use Rattle.event_word.specs.Steps.{MadeStep}
 use Rattle.wakeup_source.specs.SourceStates.{SourceState}
 use Rattle.wakeup_source.specs.SourceStates as states
 use Rattle.fit_laws.specs.Ranged.{is_ranged_entry}
-use Rattle.source_laws.proofs.Fitting.{histories_keep}
+use Rattle.room_laws.proofs.SourcesFit.{histories_keep}
 use Rattle.log_merge.specs.Remainders.{unstamped}
-use Rattle.merge_laws.specs.Apart.{past_of, source_past}
-use Rattle.merge_laws.specs.Merging.{IsMergeOf, stats_apart}
-use Rattle.merge_laws.proofs.Lists.{all_map, all_more, all_order, all_reverse}
-use Rattle.merge_laws.proofs.Picks.{history_of_merge}
+use Rattle.run_laws.specs.Apart.{past_of, source_past}
+use Rattle.run_laws.specs.Merging.{IsMergeOf, stats_apart}
+use Rattle.run_laws.proofs.Lists.{all_map, all_more, all_order, all_reverse}
+use Rattle.run_laws.proofs.Picks.{history_of_merge}
 use Rattle.run_laws.specs.Acts.{Made}
 use Rattle.run_laws.specs.Called.{knows}
 use Rattle.run_laws.specs.Invariant.{IsWritten}

@@ -17,10 +17,10 @@ use Rattle.sleep_model.specs.Numbers.{time_after, time_of}
 use Rattle.sleep_model.specs.EntryClasses.{class_of}
 use Rattle.sleep_model.specs.Places.{one_if}
 use Rattle.sleep_laws.proofs.LockHolding.{entry_of}
-use Rattle.source_laws.proofs.Summing.{below_total, if_there, total}
-use Rattle.source_laws.proofs.Weighing.{below, below_most}
+use Rattle.room_laws.proofs.Summing.{below_total, if_there, total}
+use Rattle.room_laws.proofs.Weighing.{below, below_most}
 use Rattle.log_merge.specs.Remainders.{unstamped}
-use Rattle.merge_laws.specs.Apart.{AreJumps, JumpIsLegal, before}
+use Rattle.run_laws.specs.Apart.{AreJumps, JumpIsLegal, before}
 use Rattle.end_laws.specs.Bounds.{but_jumps, one_but_jump}
 use Rattle.end_laws.proofs.Bounding.{few_in_journal, journal_bounded}
 use Rattle.end_laws.proofs.Moments.{wake}

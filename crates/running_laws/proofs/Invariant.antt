@@ -2,7 +2,7 @@
 use Rattle.std.proofs.Common.{◌≡◌, ◌≤◌, ◌<◌, ◌+◌, ◌∙◌, ℕ, suc, Bool, true, false, ◌||◌, nat_lt, List, [], ◌∷◌, length, slice_index_or, refl, sym, ap, subst, arith, nat_le, ◌&&◌}
 use Rattle.log_merge.proofs.Reading.{both_left}
 use Rattle.log_merge.specs.Remainders.{unstamped}
-use Rattle.merge_laws.proofs.Lists.{all_head}
+use Rattle.run_laws.proofs.Lists.{all_head}
 use Rattle.sleep_core.specs.Histories.{last_stamp}
 use Rattle.sleep_model.specs.Merge.{next_position}
 use Rattle.std.specs.List.{list_all}

@@ -15,9 +15,9 @@ use Rattle.sleep_model.specs.Path.{is_same}
 use Rattle.sleep_model.specs.Sources.{history, is_of}
 use Rattle.log_merge.proofs.Reading.{both}
 use Rattle.log_merge.specs.Remainders.{unstamped}
-use Rattle.merge_laws.specs.Apart.{is_journals, own_of}
-use Rattle.merge_laws.proofs.Calling.{made_own, same_actor}
-use Rattle.merge_laws.proofs.Lists.{all_head, all_map, all_more, all_tail, filter_map_through}
+use Rattle.run_laws.specs.Apart.{is_journals, own_of}
+use Rattle.run_laws.proofs.Calling.{made_own, same_actor}
+use Rattle.run_laws.proofs.Lists.{all_head, all_map, all_more, all_tail, filter_map_through}
 use Rattle.run_laws.specs.Acts.{Made}
 use Rattle.run_laws.specs.Called.{knows}
 use Rattle.run_laws.specs.Invariant.{AllOf, EachJump, RunInvariant, falls, follows}

@@ -27,7 +27,7 @@ use Rattle.wakeup_source.specs.declared.call_by.CallBy.{CallBy}
 use Rattle.wakeup_source.specs.Called.{Calls, SourceView, Steps, after_note, after_step}
 use Rattle.wakeup_source.specs.SourceStates.{SourceState, step_kind}
 use Rattle.wakeup_source.specs.SourceStates as states
-use Rattle.merge_laws.specs.Apart.{IsCall}
+use Rattle.run_laws.specs.Apart.{IsCall}
 use Rattle.run_laws.specs.Seated.{newest_tick}
 use Rattle.run_laws.specs.Turned.{newest_stamp}
 use Rattle.run_laws.proofs.Acts.{actor_is}

@@ -27,7 +27,7 @@ use Rattle.wakeup_source.specs.SourceStates.{SourceState}
 use Rattle.end_laws.proofs.Nearby.{are_bounded}
 use Rattle.fit_laws.specs.Ranged.{is_ranged, is_ranged_entry}
 use Rattle.log_merge.proofs.Reading.{both}
-use Rattle.merge_laws.proofs.Calling.{same_actor}
+use Rattle.run_laws.proofs.Calling.{same_actor}
 use Rattle.run_laws.specs.Acts.{Made, with_entry}
 use Rattle.run_laws.specs.Called.{knows}
 use Rattle.run_laws.specs.Invariant.{EachJump, RunInvariant}

@@ -28,8 +28,8 @@ use Rattle.sleep_core.proofs.Positioned.{position_small}
 use Rattle.sleep_model.specs.Word.{position}
 use Rattle.sleep_laws.proofs.Made.{Made, DeviceMade, StepMade, TaskMade, WorkMade, EntryMade, ByMaker, ByTask, ByWork, ByDevice, ByTime}
 use Rattle.sleep_laws.proofs.MakingOwn.{made}
-use Rattle.attempt_laws.specs.Room.{needed, enough, is_attempt}
-use Rattle.attempt_laws.proofs.Needing.{none_needed, due_own_spends, due_attempt_needs, due_needs_nothing, jump_needs_nothing}
+use Rattle.room_laws.specs.AttemptRoom.{needed, enough, is_attempt}
+use Rattle.room_laws.proofs.Needing.{none_needed, due_own_spends, due_attempt_needs, due_needs_nothing, jump_needs_nothing}
 use Rattle.sleep_state.specs.JournalRooms.{entries}
 use Rattle.sleep_core.specs.CoreFields.{SleptEarly, FrozeEarly, IsCore}
 use Rattle.sleep_core.specs.Cores.{CoreState, IsActor}

@@ -7,7 +7,7 @@ use Rattle.sleep_model.specs.Legal.{JournalPart}
 use Rattle.sleep_model.specs.Numbers.{time_of}
 use Rattle.sleep_model.specs.Path.{attempts}
 use Rattle.sleep_model.specs.Runtime.{may_wake}
-use Rattle.attempt_laws.specs.Room.{needed}
+use Rattle.room_laws.specs.AttemptRoom.{needed}
 use Rattle.sleep_state.specs.JournalRooms.{entries}
 use Rattle.sleep_core.specs.declared.state.Core.TheInside.{Inside}
 use Rattle.sleep_core.specs.Cores.{CoreState}

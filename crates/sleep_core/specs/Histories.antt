@@ -23,7 +23,7 @@ use Rattle.sleep_model.specs.Path.{attempts, attempts_after, maker}
 use Rattle.sleep_model.specs.Runtime.{is_async, statuses, disabled_by_direct, disabled_by_late}
 use Rattle.sleep_model.specs.Positions.{positions}
 use Rattle.sleep_model.specs.Table.{stage_of}
-use Rattle.attempt_laws.specs.Room.{enough}
+use Rattle.room_laws.specs.AttemptRoom.{enough}
 use Rattle.async_board.specs.AtPoints.{board_at}
 use Rattle.async_board.specs.Boards.{BoardState, board_after, first_board}
 use Rattle.platform_steps.specs.PlatformState.{PlatformState}

@@ -1,7 +1,7 @@
 -- What the history's fields are: each is what the definitions read from the journal's entries.
 use Rattle.std.specs.Prelude.{◌≡◌, ◌<◌, ◌^◌, length}
 use Rattle.sleep_model.specs.Numbers.{time_of}
-use Rattle.attempt_laws.specs.Room.{enough}
+use Rattle.room_laws.specs.AttemptRoom.{enough}
 use Rattle.sleep_state.specs.JournalRooms.{entries}
 use Rattle.sleep_core.specs.declared.history.History.TheInside.{Inside}
 use Rattle.sleep_core.specs.Components.{AreRead}

@@ -55,7 +55,7 @@ impl<'m> History<'m> {
     ghost use Rattle.std.specs.Prelude.{◌≡◌, ◌≤◌, ◌<◌, ◌+◌, ◌-◌, ◌^◌, [], false, length, map, reverse, IsOk, OnOk, OnErr, IfOk};
     ghost use Rattle.sleep_model.specs.Runtime.{is_async};
     ghost use Rattle.async_board.specs.Boards.{first_board};
-    ghost use Rattle.attempt_laws.specs.Room.{enough};
+    ghost use Rattle.room_laws.specs.AttemptRoom.{enough};
     ghost use Rattle.sleep_model.specs.Numbers.{time_of};
     ghost use Rattle.sleep_model.specs.Path.{maker};
     ghost use Rattle.sleep_model.specs.declared.entry.Actor.TheVariants as actor;

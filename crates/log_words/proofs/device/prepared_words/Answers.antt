@@ -1,7 +1,7 @@
 -- The answer is 0.
 use Rattle.std.proofs.Common.{◌≡◌, pos, arith}
 use Rattle.std.proofs.lemmas.Int.{ints}
-use Rattle.log_text.proofs.DeviceLines.{prepared_line}
+use Rattle.log_words.proofs.DeviceLines.{prepared_line}
 use Rattle.log_words.proofs.device.prepared_words.Goals as goal
 
 pub returns : goal.returns

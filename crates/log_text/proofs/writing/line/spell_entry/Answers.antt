@@ -1,7 +1,7 @@
 -- The pieces are the line.
 use Rattle.std.proofs.Common.{◌≡◌, ◌++◌, ℕ, List, subst, refl}
 use Rattle.log_words.specs.Front.{front_text}
-use Rattle.log_text.proofs.DeviceLines.{device_line}
+use Rattle.log_words.proofs.DeviceLines.{device_line}
 use Rattle.log_text.proofs.writing.line.spell_entry.Goals as goal
 
 pub returns-in-Some-known_device-clause-text : goal.returns-in-Some-known_device-clause-text

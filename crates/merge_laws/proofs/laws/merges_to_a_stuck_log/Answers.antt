@@ -1,6 +1,0 @@
--- Proof that `merges_to_a_stuck_log` meets its contract.
-use Rattle.merge_laws.proofs.laws.merges_to_a_stuck_log.Goals as goal
-use Rattle.merge_laws.proofs.Whole.{merges_to_stuck}
-
-pub returns : goal.returns
-returns c = merges_to_stuck

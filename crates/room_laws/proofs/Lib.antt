@@ -1,0 +1,23 @@
+-- The lemmas of this crate, by file.
+pub mod Falling
+pub mod Fitting
+pub mod Needing
+pub mod Spending
+pub mod Sums
+pub mod Things
+pub mod Weights
+pub mod Weighing
+pub mod Owing
+pub mod Counting
+pub mod Summing
+pub mod Asking
+pub mod SourceThings
+pub mod Ranking
+pub mod Rising
+pub mod Beginning
+pub mod Picking
+pub mod Trying
+pub mod Limiting
+pub mod Running
+pub mod Attempting
+pub mod SourcesFit

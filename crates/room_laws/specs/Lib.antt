@@ -1,0 +1,3 @@
+-- The definitions of this crate, by file.
+pub mod AttemptRoom
+pub mod SourceRoom

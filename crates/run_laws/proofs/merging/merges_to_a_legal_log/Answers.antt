@@ -1,0 +1,6 @@
+-- Proof that `merges_to_a_legal_log` meets its contract.
+use Rattle.run_laws.proofs.merging.merges_to_a_legal_log.Goals as goal
+use Rattle.run_laws.proofs.Whole.{merges_to_legal}
+
+pub returns : goal.returns
+returns c = merges_to_legal
