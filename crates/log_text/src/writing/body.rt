@@ -227,9 +227,9 @@ fn put_attempt(out: &mut ByteBuffer, names: &ReadyNames, kind: Kind)
 
 /// Writes how a freeze ended.
 fn put_froze_end(out: &mut ByteBuffer, names: &ReadyNames, end: FrozeEnd)
-    requires { length out.old + 256 ≤ 32768 }
+    requires { length out.old + 320 ≤ 32768 }
     ensures text { out.new ≡ out.old ++ froze_text names.now end }
-    ensures few { length out.new ≤ length out.old + 256 }
+    ensures few { length out.new ≤ length out.old + 320 }
 {
     match end {
         FrozeEnd::AllFrozen => put_words!(out; NO_ERROR),

@@ -1,19 +1,7 @@
--- The words that were put, one after another.
-use Rattle.std.proofs.Common.{◌∙◌, ◌++◌, ℕ, List, ap, append_assoc}
+-- Proof by hand of `put_body`: what it returns, by the lemmas of `OtherKinds`.
+use Rattle.std.proofs.Common.{◌∙◌, ◌++◌, ℕ, List, ap}
 use Rattle.log_text.proofs.OtherKinds.{no_write}
 use Rattle.log_text.proofs.writing.body.put_body.Goals as goal
-
-pub returns-in-StateUnsaved-clause-text : goal.returns-in-StateUnsaved-clause-text
-returns-in-StateUnsaved-clause-text c =
-    rw
-    (c.put_on-in-StateUnsaved-2.ensures.text, c.put_byte-in-StateUnsaved.ensures.text, c.put_on-in-StateUnsaved.ensures.text, c.in-StateUnsaved.is)
-    (simp append_assoc)
-
-pub returns-in-AutoDone-clause-text : goal.returns-in-AutoDone-clause-text
-returns-in-AutoDone-clause-text c =
-    rw
-    (c.put_on-in-AutoDone-2.ensures.text, c.put_byte-in-AutoDone.ensures.text, c.put_on-in-AutoDone.ensures.text, c.in-AutoDone.is)
-    (simp append_assoc)
 
 pub returns-in_default-clause-few : goal.returns-in_default-clause-few
 returns-in_default-clause-few c = c.put_step.ensures.few

@@ -5,5 +5,5 @@ use Rattle.log_text.proofs.writing.body.put_link_state.Goals as goal
 pub returns-clause-text : goal.returns-clause-text
 returns-clause-text c =
     rw
-    (c.put_set.ensures.text, c.put_on-3.ensures.text, c.put_on-2.ensures.text, c.put_byte.ensures.text, c.put_on.ensures.text, c.device.ensures)
+    (c.put_set.ensures.text, c.put_on.ensures.text, c.put_two_words.ensures.text, c.device.ensures)
     (simp append_assoc)
