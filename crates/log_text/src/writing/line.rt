@@ -7,8 +7,7 @@ use crate::writing::body::put_body;
 use crate::writing::put::put;
 use crate::writing::ready::ReadyNames;
 use log_words::{
-    AUTO, ByteBuffer, DEVICE, LineFront, Piece, ShortText, Spelled, TIME, TIMER, Verb,
-    device_words, script_word,
+    ByteBuffer, LineFront, Piece, ShortText, Spelled, Verb, device_words, script_word,
 };
 use sleep_model::{Actor, Entry, Kind, Stats, Waiting, Why};
 
@@ -28,11 +27,21 @@ fn put_maker(out: &mut ByteBuffer, names: &ReadyNames, actor: Actor)
             put_script(out, names, index);
             put!(out; b' ')
         }
-        Actor::Auto => put!(out; AUTO, b' '),
-        Actor::Dev(index) => put!(out; DEVICE, b':', names.device(index), b' '),
-        Actor::Timer(index) => put!(out; TIMER, b':', names.source(index), b' '),
-        Actor::Time => put!(out; TIME, b' '),
+        Actor::Auto => put!(out; "auto "),
+        Actor::Dev(index) => put_named(out, "dev:", names.device(index)),
+        Actor::Timer(index) => put_named(out, "timer:", names.source(index)),
+        Actor::Time => put!(out; "time "),
     }
+}
+
+/// Writes a maker of that kind by its name, with the space after it.
+fn put_named(out: &mut ByteBuffer, kind: &str, name: &ShortText)
+    requires short { length kind.now ≤ 64 }
+    requires room { length out.old + 192 ≤ 32768 }
+    ensures text { out.new ≡ out.old ++ ((kind.now ++ name.now) ++ space) }
+    ensures few { length out.new ≤ length out.old + 192 }
+{
+    put!(out; kind, name, b' ')
 }
 
 /// Writes which script it is.
