@@ -3,7 +3,9 @@
 
 ghost use Rattle.std.specs.Prelude.{◌≡◌, ◌++◌, ◌∷◌, IfSome, length, nat_lt, true};
 ghost use Rattle.sleep_model.specs.Fits.{fits_kind};
-ghost use Rattle.sleep_model.specs.Text.{body, device as device_of, newline};
+ghost use Rattle.phase_table.specs.Phases.{phase_name};
+ghost use Rattle.sleep_model.specs.Text.{body, device as device_of, newline, space};
+ghost use Rattle.log_words.specs.Verbs.{verb_word};
 
 use crate::reading::last_named::LastNamed;
 use crate::reading::machine_names::MachineNames;
@@ -13,7 +15,7 @@ use crate::reading::pieces::{
 use crate::reading::quick_sources::source_kind_first;
 use log_words::{NO_ERROR, Verb};
 use sleep_base::cut;
-use sleep_model::{Kind, SkipCause};
+use sleep_model::{Kind, Phase, SkipCause};
 
 /// What follows the name of that device and that byte. None if the text begins otherwise.
 #[inline(always)]
@@ -91,6 +93,24 @@ fn device_first<'a>(
     other_device_first(machine_names, last, text, end)
 }
 
+/// The phase and the device that a text names after that verb, and what follows them and that byte. None if
+/// the text begins otherwise.
+#[inline(always)]
+fn phase_and_device<'a>(
+    machine_names: &MachineNames,
+    last: &LastNamed,
+    verb: Verb,
+    text: &'a [u8],
+    end: u8,
+) -> Option<(Phase, u32, &'a [u8])>
+    ensures text { IfSome result (λ r. text.now ≡ verb_word verb ++ space ++ phase_name r.0 ++ space ++ device_of machine_names.now r.1 ++ end ∷ r.2.now) }
+    ensures fits { IfSome result (λ r. nat_lt r.1 (length machine_names.now.devices) ≡ true) }
+{
+    let (phase, rest) = phase_first(after_word(text, verb.word())?)?;
+    let (device, rest) = device_first(machine_names, last, rest, end)?;
+    Some((phase, device, rest))
+}
+
 /// A callback that begins.
 #[inline]
 #[tactic(auto, using(std::proofs::Common::append_assoc))]
@@ -102,8 +122,7 @@ fn begin_first<'a>(
     ensures text { IfSome result (λ r. text.now ≡ body machine_names.now r.0 ++ newline ++ r.1.now) }
     ensures fits { IfSome result (λ r. fits_kind machine_names.now r.0 ≡ true) }
 {
-    let (phase, rest) = phase_first(after_word(text, Verb::Begin.word())?)?;
-    let (device, rest) = device_first(machine_names, last, rest, b'\n')?;
+    let (phase, device, rest) = phase_and_device(machine_names, last, Verb::Begin, text, b'\n')?;
     Some((Kind::Begin(phase, device), rest))
 }
 
@@ -118,8 +137,7 @@ fn end_first<'a>(
     ensures text { IfSome result (λ r. text.now ≡ body machine_names.now r.0 ++ newline ++ r.1.now) }
     ensures fits { IfSome result (λ r. fits_kind machine_names.now r.0 ≡ true) }
 {
-    let (phase, rest) = phase_first(after_word(text, Verb::End.word())?)?;
-    let (device, rest) = device_first(machine_names, last, rest, b' ')?;
+    let (phase, device, rest) = phase_and_device(machine_names, last, Verb::End, text, b' ')?;
     let rest = after_last_word(rest, NO_ERROR)?;
     Some((Kind::End(phase, device, None), rest))
 }
@@ -165,8 +183,7 @@ fn schedule_first<'a>(
     ensures text { IfSome result (λ r. text.now ≡ body machine_names.now r.0 ++ newline ++ r.1.now) }
     ensures fits { IfSome result (λ r. fits_kind machine_names.now r.0 ≡ true) }
 {
-    let (phase, rest) = phase_first(after_word(text, Verb::Schedule.word())?)?;
-    let (device, rest) = device_first(machine_names, last, rest, b'\n')?;
+    let (phase, device, rest) = phase_and_device(machine_names, last, Verb::Schedule, text, b'\n')?;
     Some((Kind::Schedule(phase, device), rest))
 }
 
@@ -180,8 +197,7 @@ fn skip_first<'a>(
     ensures text { IfSome result (λ r. text.now ≡ body machine_names.now r.0 ++ newline ++ r.1.now) }
     ensures fits { IfSome result (λ r. fits_kind machine_names.now r.0 ≡ true) }
 {
-    let (phase, rest) = phase_first(after_word(text, Verb::Skip.word())?)?;
-    let (device, rest) = device_first(machine_names, last, rest, b' ')?;
+    let (phase, device, rest) = phase_and_device(machine_names, last, Verb::Skip, text, b' ')?;
     let rest = after_last_word(rest, SkipCause::Direct.name())?;
     Some((Kind::Skip(phase, device, SkipCause::Direct), rest))
 }

@@ -2,7 +2,8 @@
 
 ghost use Rattle.std.specs.Prelude.{◌≡◌, ◌++◌, ◌∷◌, IfSome, length, nat_le, true};
 ghost use Rattle.sleep_model.specs.Fits.{fits_kind};
-ghost use Rattle.sleep_model.specs.Text.{body, hard_word, newline, source as source_of};
+ghost use Rattle.sleep_model.specs.Text.{body, hard_word, newline, source as source_of, space};
+ghost use Rattle.log_words.specs.Verbs.{verb_word};
 
 use crate::reading::last_named::LastNamed;
 use crate::reading::machine_names::MachineNames;
@@ -68,6 +69,22 @@ fn source_first<'a>(
     source_named(machine_names, text, end)
 }
 
+/// The source that a text names after that verb, and what follows its name and that byte. None if the text
+/// begins otherwise.
+#[inline(always)]
+fn source_after_verb<'a>(
+    machine_names: &MachineNames,
+    last: &LastNamed,
+    verb: Verb,
+    text: &'a [u8],
+    end: u8,
+) -> Option<(u32, &'a [u8])>
+    ensures text { IfSome result (λ r. text.now ≡ verb_word verb ++ space ++ source_of machine_names.now r.0 ++ end ∷ r.1.now) }
+    ensures fits { IfSome result (λ r. nat_le r.0 (length machine_names.now.sources) ≡ true) }
+{
+    source_first(machine_names, last, after_word(text, verb.word())?, end)
+}
+
 /// Whether an event is hard, at the end of a line, and what follows it.
 #[inline]
 fn hardness_first(text: &[u8]) -> Option<(bool, &[u8])>
@@ -90,8 +107,7 @@ fn event_first<'a>(
     ensures text { IfSome result (λ r. text.now ≡ body machine_names.now r.0 ++ newline ++ r.1.now) }
     ensures fits { IfSome result (λ r. fits_kind machine_names.now r.0 ≡ true) }
 {
-    let text = after_word(text, Verb::Event.word())?;
-    let (source, rest) = source_first(machine_names, last, text, b' ')?;
+    let (source, rest) = source_after_verb(machine_names, last, Verb::Event, text, b' ')?;
     let (ms, rest) = number32_first(rest, b' ')?;
     let (hard, rest) = hardness_first(rest)?;
     Some((Kind::Event { source, ms, hard }, rest))
@@ -107,8 +123,7 @@ fn awake_first<'a>(
     ensures text { IfSome result (λ r. text.now ≡ body machine_names.now r.0 ++ newline ++ r.1.now) }
     ensures fits { IfSome result (λ r. fits_kind machine_names.now r.0 ≡ true) }
 {
-    let text = after_word(text, Verb::Awake.word())?;
-    let (source, rest) = source_first(machine_names, last, text, b'\n')?;
+    let (source, rest) = source_after_verb(machine_names, last, Verb::Awake, text, b'\n')?;
     Some((Kind::Awake(source), rest))
 }
 
@@ -122,8 +137,7 @@ fn relax_first<'a>(
     ensures text { IfSome result (λ r. text.now ≡ body machine_names.now r.0 ++ newline ++ r.1.now) }
     ensures fits { IfSome result (λ r. fits_kind machine_names.now r.0 ≡ true) }
 {
-    let text = after_word(text, Verb::Relax.word())?;
-    let (source, rest) = source_first(machine_names, last, text, b'\n')?;
+    let (source, rest) = source_after_verb(machine_names, last, Verb::Relax, text, b'\n')?;
     Some((Kind::Relax(source), rest))
 }
 
@@ -137,8 +151,7 @@ fn expire_first<'a>(
     ensures text { IfSome result (λ r. text.now ≡ body machine_names.now r.0 ++ newline ++ r.1.now) }
     ensures fits { IfSome result (λ r. fits_kind machine_names.now r.0 ≡ true) }
 {
-    let text = after_word(text, Verb::Expire.word())?;
-    let (source, rest) = source_first(machine_names, last, text, b'\n')?;
+    let (source, rest) = source_after_verb(machine_names, last, Verb::Expire, text, b'\n')?;
     Some((Kind::Expire(source), rest))
 }
 
@@ -152,8 +165,7 @@ fn start_first<'a>(
     ensures text { IfSome result (λ r. text.now ≡ body machine_names.now r.0 ++ newline ++ r.1.now) }
     ensures fits { IfSome result (λ r. fits_kind machine_names.now r.0 ≡ true) }
 {
-    let text = after_word(text, Verb::Start.word())?;
-    let (source, rest) = source_first(machine_names, last, text, b'\n')?;
+    let (source, rest) = source_after_verb(machine_names, last, Verb::Start, text, b'\n')?;
     Some((Kind::Start(source), rest))
 }
 
@@ -167,8 +179,7 @@ fn finish_first<'a>(
     ensures text { IfSome result (λ r. text.now ≡ body machine_names.now r.0 ++ newline ++ r.1.now) }
     ensures fits { IfSome result (λ r. fits_kind machine_names.now r.0 ≡ true) }
 {
-    let text = after_word(text, Verb::Finish.word())?;
-    let (source, rest) = source_first(machine_names, last, text, b'\n')?;
+    let (source, rest) = source_after_verb(machine_names, last, Verb::Finish, text, b'\n')?;
     Some((Kind::Finish(source), rest))
 }
 
@@ -182,8 +193,7 @@ fn hard_first<'a>(
     ensures text { IfSome result (λ r. text.now ≡ body machine_names.now r.0 ++ newline ++ r.1.now) }
     ensures fits { IfSome result (λ r. fits_kind machine_names.now r.0 ≡ true) }
 {
-    let text = after_word(text, Verb::Hard.word())?;
-    let (source, rest) = source_first(machine_names, last, text, b'\n')?;
+    let (source, rest) = source_after_verb(machine_names, last, Verb::Hard, text, b'\n')?;
     Some((Kind::Hard(source), rest))
 }
 
