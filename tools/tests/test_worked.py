@@ -11,7 +11,7 @@ from julampok.second import idle, locks
 from julampok.second.words import command_of
 from maintain.commands import worked
 from maintain.trials.files import expected
-from maintain.worked import files, idle_cases, judged, link_cases, part_cases, reader, rows, tellings
+from maintain.worked import files, idle_cases, judged, link_cases, long_logs, part_cases, reader, rows, tellings
 from maintain.worked.case import Case
 from maintain.worked.entries import entry_term
 from maintain.worked.machine import Machine
@@ -49,6 +49,22 @@ class Cases(unittest.TestCase):
         wanted = b"words 3\nsleep\nrun\n--workers=1\nread fails 2\nchunk 4\ninput 2\n{}\nrepeat 3\ninput 1\n\n\nrow 7\n"
         self.assertEqual(b"".join(rows.row(case, 7)), wanted)
         self.assertEqual(rows.said(case, 7), b"row 7 status 4 left 1 out 0 err 11\nread fault\n\n")
+
+    def test_rows_told_in_short(self):
+        for case, word, wanted in (
+            (Case(("run",), (), 0, b"ab\n", end="sums"), b"sums 7", b"row 7 status 0 left 0 out 3 adler32 32768206 err 0\n\n"),
+            (Case(("run",), (), 6, b"b\n", streams=(("gate", 2),), end="lines", counts=(2,)), b"gate 2\nlines 7",
+             b"row 7 status 6 left 0 lines 2 err 0\nb\n\ngate passed\n"),
+            (Case(("idle",), (), 0, end="steps", counts=(8, 9)), b"steps 7", b"row 7 status 0 left 0 hard 8 wake 9 err 0\n\n"),
+            (Case(("run",), (), 0, b"legal\n", end="judged"), b"judged 7", b"row 7 status 0 left 0 out 6 err 0\nlegal\n\n"),
+        ):
+            self.assertEqual(b"".join(rows.row(case, 7)).splitlines()[3:], word.splitlines())
+            self.assertEqual(rows.said(case, 7), wanted)
+
+    def test_long_logs(self):
+        """The logs that are made of their lines are those of the second writing."""
+        for case in long_logs.repeated():
+            self.assertEqual(expected(case.data), (case.status, case.out, case.err))
 
     def test_cases_of_one_worker(self):
         """The worked texts of suspend-to-idle and of named locks are those of the second writings."""

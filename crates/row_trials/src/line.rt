@@ -13,7 +13,27 @@ pub(crate) enum RowField {
     ReadFails,
     WriteFails,
     ErrorFails,
-    Row,
+    Gate,
+    /// The row is whole.
+    End(Telling),
+}
+
+/// What the program does with a whole row, and what is told of it.
+#[derive(Clone, Copy, Debug, PartialEq, Eq)]
+pub(crate) enum Telling {
+    /// It runs, and both texts are told.
+    Whole,
+    /// It runs. The length and the checksum of its output are told.
+    Sums,
+    /// It runs. The number of lines of its output and the last line are told.
+    Lines,
+    /// It runs. How many lines of its output end in `hard` is told, and how many in `wake`.
+    Steps,
+    /// It runs, and then `check` judges the log for that input. Both texts of `check` are told.
+    Judged,
+    /// It runs, and then `run` takes what it wrote. The number of lines of that log and the last line are told.
+    Rerun,
+    /// It reads the words only.
     Asks,
 }
 
@@ -21,6 +41,13 @@ pub(crate) enum RowField {
 #[derive(Clone, Copy, Debug)]
 pub(crate) struct Line {
     pub(crate) verb: RowField,
+    pub(crate) number: usize,
+}
+
+/// How a row ends: what is told of it, and its number.
+#[derive(Clone, Copy, Debug)]
+pub(crate) struct RowEnd {
+    pub(crate) telling: Telling,
     pub(crate) number: usize,
 }
 
@@ -35,8 +62,21 @@ fn verb_of(name: &str) -> Option<RowField> {
         "read fails" => Some(RowField::ReadFails),
         "write fails" => Some(RowField::WriteFails),
         "error fails" => Some(RowField::ErrorFails),
-        "row" => Some(RowField::Row),
-        "asks" => Some(RowField::Asks),
+        "gate" => Some(RowField::Gate),
+        _ => Some(RowField::End(telling_of(name)?)),
+    }
+}
+
+/// What is told of a row by the word that ends it.
+fn telling_of(name: &str) -> Option<Telling> {
+    match name {
+        "row" => Some(Telling::Whole),
+        "sums" => Some(Telling::Sums),
+        "lines" => Some(Telling::Lines),
+        "steps" => Some(Telling::Steps),
+        "judged" => Some(Telling::Judged),
+        "rerun" => Some(Telling::Rerun),
+        "asks" => Some(Telling::Asks),
         _ => None,
     }
 }

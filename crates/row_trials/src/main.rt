@@ -10,33 +10,31 @@
 //!   all.
 //! - `read fails N`, `write fails N`, `error fails N`: the N-th call on the input, standard output or
 //!   standard error fails.
+//! - `gate N`: the workers pass the gate with the plan N of `src/plans.rt`.
 //! - `row N`: the row is whole, and N is its number. The program runs.
+//! - `sums N`, `lines N`, `steps N`: the same, and of its output only the length and the checksum are told,
+//!   the number of lines and the last line, the numbers of lines that end in `hard` and in `wake`.
+//! - `judged N`: the same, and then `check` judges the log. `rerun N`: the same, and then `run` runs the
+//!   machine that it wrote; what is told is as after `lines`.
 //! - `asks N`: the row is whole, and N is its number. The words are read only.
 //!
 //! Standard output has a line for each row: its number, the status, how many bytes of the input were left and
-//! how long both texts are. After the line come the two texts. Of words that are read only it says what they
-//! ask for. `tools/dev worked` writes the rows with what they must give. What no row can say is in tests:
-//! workers that meet, and logs too long for a file.
+//! how long both texts are. After the line come the two texts, and whether the gate's counters came to what
+//! its plan says. Of words that are read only it says what they ask for. `tools/dev worked` writes the rows
+//! with what they must give.
 //!
-//! Begin reading in `src/rows.rt`, `src/row.rt`, `src/outcome.rt`; `stdin`, `stdout`.
+//! Begin reading in `src/rows.rt`, `src/row.rt`, `src/outcome.rt`, `src/gate.rt`; `stdin`, `stdout`.
 #![tactic(auto)]
 
-#[cfg(test)]
-mod calls;
 mod command;
 mod fault;
-#[cfg(test)]
-mod held_tests;
-#[cfg(test)]
-mod judged_tests;
+mod gate;
 mod line;
-#[cfg(test)]
-mod long_tests;
 mod outcome;
+mod plans;
 mod row;
 mod rows;
-#[cfg(test)]
-mod workers_tests;
+mod text;
 
 use rows::run_rows;
 use sleep_base::{StdSink, StdSource, read_all};

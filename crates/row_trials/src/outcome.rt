@@ -1,9 +1,11 @@
 //! What a call of the program gives.
 
+use crate::gate::{OPEN, RowGate};
+use crate::line::{RowEnd, Telling};
 use crate::row::{Row, Streams};
+use crate::text::{adler32, last_line, lines, lines_with};
 use sleep_base::{Mem, MemSink, MemSource};
 use sleep_commands::run_words;
-use sleep_run::{Gate, OpenGate};
 use std::alloc::Global;
 use std::sync::Wait;
 use std::thread::Threads;
@@ -21,6 +23,8 @@ struct CallStreams {
 pub(crate) struct Outcome {
     status: u8,
     ends: CallStreams,
+    /// Whether the gate's counters came to what its plan says, if the row names a gate.
+    gate: Option<bool>,
 }
 
 /// The numbers of calls that fail: this one, if it is one.
@@ -54,12 +58,12 @@ impl CallStreams {
     }
 
     /// Runs the program over these streams. Answers its status.
-    fn status_of<R: Threads + Wait + Sync, G: Gate + Sync>(
+    fn status_of<R: Threads + Wait + Sync>(
         &mut self,
         rt: &R,
         alloc: Global,
         words: &[String],
-        gate: &G,
+        gate: &RowGate,
     ) -> u8 {
         run_words(
             rt,
@@ -74,37 +78,29 @@ impl CallStreams {
 }
 
 impl Outcome {
-    /// Runs the program as a row says, with a gate for its workers.
-    pub(crate) fn with_gate<R: Threads + Wait + Sync, G: Gate + Sync>(
-        rt: &R,
-        alloc: Global,
-        row: Row,
-        gate: &G,
-    ) -> Result<Self, Mem> {
-        let Row {
-            words,
-            input,
-            streams,
-            ..
-        } = row;
-        let mut ends = CallStreams::new(alloc, input, streams)?;
-        let status = ends.status_of(rt, alloc, &words, gate);
-        drop(words);
-        Ok(Outcome { status, ends })
-    }
-
     /// Runs the program as a row says.
     pub(crate) fn new<R: Threads + Wait + Sync>(
         rt: &R,
         alloc: Global,
         row: Row,
     ) -> Result<Self, Mem> {
-        Self::with_gate(rt, alloc, row, &OpenGate)
-    }
-
-    /// The status.
-    pub(crate) fn status(&self) -> u8 {
-        self.status
+        let Row {
+            words,
+            input,
+            streams,
+            plan,
+            ..
+        } = row;
+        let mut ends = CallStreams::new(alloc, input, streams)?;
+        let gate = RowGate::new(plan.unwrap_or(OPEN));
+        let status = ends.status_of(rt, alloc, &words, &gate);
+        let is_kept = gate.is_kept();
+        drop(words);
+        Ok(Outcome {
+            status,
+            ends,
+            gate: plan.map(|_| is_kept),
+        })
     }
 
     /// What it wrote on standard output.
@@ -113,22 +109,63 @@ impl Outcome {
     }
 
     /// What it wrote on standard error.
-    pub(crate) fn err(&self) -> &[u8] {
+    fn err(&self) -> &[u8] {
         self.ends.err.bytes()
     }
 
+    /// What is told of its output by a line.
+    fn told(&self, alloc: Global, telling: Telling) -> Result<String, Mem> {
+        let (out, err) = (self.out(), self.err().len());
+        let text = match telling {
+            Telling::Lines | Telling::Rerun => {
+                let lines = lines(out);
+                format!(in alloc; "lines {lines} err {err}\n")?
+            }
+            Telling::Steps => {
+                let (hard, wake) = (lines_with(out, " hard"), lines_with(out, " wake"));
+                format!(in alloc; "hard {hard} wake {wake} err {err}\n")?
+            }
+            Telling::Sums => {
+                let (size, sum) = (out.len(), adler32(out));
+                format!(in alloc; "out {size} adler32 {sum} err {err}\n")?
+            }
+            _ => {
+                let size = out.len();
+                format!(in alloc; "out {size} err {err}\n")?
+            }
+        };
+        Ok(text)
+    }
+
+    /// What is shown of its output.
+    fn shown(&self, telling: Telling) -> &[u8] {
+        match telling {
+            Telling::Lines | Telling::Rerun => last_line(self.out()),
+            Telling::Steps | Telling::Sums => b"",
+            _ => self.out(),
+        }
+    }
+
+    /// What is told of the gate.
+    fn gate_line(&self) -> &[u8] {
+        match self.gate {
+            None => b"",
+            Some(true) => b"gate passed\n",
+            Some(false) => b"gate failed\n",
+        }
+    }
+
     /// The report of the row of that number.
-    pub(crate) fn report(&self, alloc: Global, number: usize) -> Result<Vec<u8>, Mem> {
-        let status = self.status();
+    pub(crate) fn report(&self, alloc: Global, end: RowEnd) -> Result<Vec<u8>, Mem> {
+        let (number, status) = (end.number, self.status);
         let left = self.ends.source.left().len();
-        let (out, err) = (self.out().len(), self.err().len());
-        let head = format!(in alloc;
-            "row {number} status {status} left {left} out {out} err {err}\n"
-        )?;
+        let told = self.told(alloc, end.telling)?;
+        let head = format!(in alloc; "row {number} status {status} left {left} {told}")?;
         let mut text = head.into_bytes();
-        text.extend_from_slice(self.out())?;
+        text.extend_from_slice(self.shown(end.telling))?;
         text.extend_from_slice(self.err())?;
         text.push(b'\n')?;
+        text.extend_from_slice(self.gate_line())?;
         Ok(text)
     }
 }

@@ -1,7 +1,10 @@
 //! A row: its words, its input, and how the streams behave.
 
 use crate::fault::RowsFault;
+use crate::gate::GatePlan;
 use crate::line::{Line, RowField, cut_piece, cut_text};
+use crate::plans::plan_of;
+use sleep_base::Mem;
 use std::alloc::Global;
 
 /// How the streams behave. A call whose number is 0 is none.
@@ -34,17 +37,29 @@ pub(crate) struct Row {
     pub(crate) words: Vec<String>,
     pub(crate) input: Vec<u8>,
     pub(crate) streams: Streams,
+    /// The gate that its workers pass, if it names one.
+    pub(crate) plan: Option<GatePlan>,
     /// How often the input has the next piece.
     repeat: usize,
 }
 
+/// The words as texts.
+fn texts(alloc: Global, words: &[&str]) -> Result<Vec<String>, Mem> {
+    let mut texts = Vec::new(alloc);
+    for word in words {
+        texts.push(String::from_str(alloc, word)?)?;
+    }
+    Ok(texts)
+}
+
 impl Row {
     /// A row of these words over that input, over good streams.
-    pub(crate) fn over(words: Vec<String>, input: Vec<u8>) -> Self {
+    fn over(words: Vec<String>, input: Vec<u8>) -> Self {
         Row {
             words,
             input,
             streams: GOOD,
+            plan: None,
             repeat: 1,
         }
     }
@@ -52,6 +67,12 @@ impl Row {
     /// A row without words and input.
     pub(crate) fn new(alloc: Global) -> Self {
         Self::over(Vec::new(alloc), Vec::new(alloc))
+    }
+
+    /// A row of these words over that input.
+    pub(crate) fn of(alloc: Global, words: &[&str], input: Vec<u8>) -> Result<Self, Mem> {
+        let words = texts(alloc, words)?;
+        Ok(Self::over(words, input))
     }
 
     /// Takes the word of the next line off `left`. What is left then.
@@ -108,7 +129,11 @@ impl Row {
             RowField::ReadFails => self.streams.read_fails = line.number,
             RowField::WriteFails => self.streams.write_fails = line.number,
             RowField::ErrorFails => self.streams.error_fails = line.number,
-            RowField::Row | RowField::Asks => {}
+            RowField::Gate => {
+                let plan = plan_of(line.number).ok_or(RowsFault::Form)?;
+                self.plan = Some(plan);
+            }
+            RowField::End(_) => {}
         }
         Ok(left)
     }

@@ -2,7 +2,7 @@
 
 use crate::command::told_command;
 use crate::fault::RowsFault;
-use crate::line::{Line, RowField, cut_line};
+use crate::line::{RowEnd, RowField, Telling, cut_line};
 use crate::outcome::Outcome;
 use crate::row::Row;
 use sleep_base::{ByteSink, Mem, write_all};
@@ -10,13 +10,14 @@ use std::alloc::Global;
 use std::sync::Wait;
 use std::thread::Threads;
 
-/// Takes the lines of one row. The line that ends it, and what is left after that.
-fn fill<'a>(row: &mut Row, alloc: Global, rows: &'a [u8]) -> Result<(Line, &'a [u8]), RowsFault> {
+/// Takes the lines of one row. How it ends, and what is left then.
+fn fill<'a>(row: &mut Row, alloc: Global, rows: &'a [u8]) -> Result<(RowEnd, &'a [u8]), RowsFault> {
     let mut left = rows;
     for _ in 0..rows.len() {
         let (line, after) = cut_line(left).ok_or(RowsFault::Form)?;
-        if line.verb == RowField::Row || line.verb == RowField::Asks {
-            return Ok((line, after));
+        if let RowField::End(telling) = line.verb {
+            let number = line.number;
+            return Ok((RowEnd { telling, number }, after));
         }
         left = row.take(alloc, line, after)?;
     }
@@ -28,27 +29,74 @@ fn told_outcome<R: Threads + Wait + Sync>(
     rt: &R,
     alloc: Global,
     row: Row,
-    number: usize,
+    end: RowEnd,
 ) -> Result<Vec<u8>, Mem> {
     let outcome = Outcome::new(rt, alloc, row)?;
-    let text = outcome.report(alloc, number);
+    let text = outcome.report(alloc, end);
     drop(outcome);
     text
 }
 
-/// The report of a row that this line ends.
+/// What the words of a row ask for.
+fn told_words(alloc: Global, row: Row, end: RowEnd) -> Result<Vec<u8>, Mem> {
+    let text = told_command(alloc, &row.words, end.number);
+    drop(row);
+    text
+}
+
+/// That text, and after it what the program writes for a row.
+fn with_output<R: Threads + Wait + Sync>(
+    rt: &R,
+    alloc: Global,
+    row: Row,
+    text: Vec<u8>,
+) -> Result<Vec<u8>, Mem> {
+    let mut text = text;
+    let outcome = Outcome::new(rt, alloc, row)?;
+    let added = text.extend_from_slice(outcome.out());
+    drop(outcome);
+    added?;
+    Ok(text)
+}
+
+/// What `check` says of a row's input and the log that the program writes for it.
+fn told_verdict<R: Threads + Wait + Sync>(
+    rt: &R,
+    alloc: Global,
+    row: Row,
+    end: RowEnd,
+) -> Result<Vec<u8>, Mem> {
+    let mut file = row.input.to_vec(alloc)?;
+    file.push(b'\n')?;
+    let input = with_output(rt, alloc, row, file)?;
+    told_outcome(rt, alloc, Row::of(alloc, &["sleep", "check"], input)?, end)
+}
+
+/// What a run by one worker writes for the machine that the program writes for a row.
+fn told_rerun<R: Threads + Wait + Sync>(
+    rt: &R,
+    alloc: Global,
+    row: Row,
+    end: RowEnd,
+) -> Result<Vec<u8>, Mem> {
+    let input = with_output(rt, alloc, row, Vec::new(alloc))?;
+    let words = ["sleep", "run", "--workers", "1"];
+    told_outcome(rt, alloc, Row::of(alloc, &words, input)?, end)
+}
+
+/// The report of a row.
 fn report<R: Threads + Wait + Sync>(
     rt: &R,
     alloc: Global,
     row: Row,
-    end: Line,
+    end: RowEnd,
 ) -> Result<Vec<u8>, Mem> {
-    if end.verb == RowField::Row {
-        return told_outcome(rt, alloc, row, end.number);
+    match end.telling {
+        Telling::Asks => told_words(alloc, row, end),
+        Telling::Judged => told_verdict(rt, alloc, row, end),
+        Telling::Rerun => told_rerun(rt, alloc, row, end),
+        _ => told_outcome(rt, alloc, row, end),
     }
-    let text = told_command(alloc, &row.words, end.number);
-    drop(row);
-    text
 }
 
 /// Runs the first row, and writes its report. What is left after it.

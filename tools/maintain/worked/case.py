@@ -10,7 +10,9 @@ class Case:
     """The words behind the program's name, the pieces of its input, each with how often it stands, and its end.
 
     `words` is None where there is no word at all, not even the program's name. `streams` has pairs of words and a number, as the
-    lines of a row of row_trials: how many bytes a call takes at most, how many standard output takes, which calls fail.
+    lines of a row of row_trials: how many bytes a call takes at most, how many standard output takes, which calls fail, which gate
+    the workers pass. `end` is the word that ends the row, and says what is told of it; `counts` has the numbers that are told in
+    place of the output, of which `out` then has the last line at most.
     """
 
     words: tuple
@@ -19,6 +21,8 @@ class Case:
     out: bytes = b""
     err: bytes = b""
     streams: tuple = ()
+    end: str = "row"
+    counts: tuple = ()
 
     @property
     def data(self):

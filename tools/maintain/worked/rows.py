@@ -1,13 +1,16 @@
 """The cases of the program as the crate row_trials reads them, and what it has to say of them.
 
 A row has its words, a line each, how its streams behave, the pieces of its input and its number. Of each the program says the
-number, the status, how many bytes of the input are left and how long both texts are, and then the texts.
+number, the status, how many bytes of the input are left and how long both texts are, and then the texts. Of a long output, or one
+that several workers write in an order of their own, it says less: a checksum, or how many lines there are.
 
 tools/worked/words.cases has words that are read only, a line each with what they ask for. Of each the program says that.
 """
 
+import zlib
+
 from maintain.places import WORKED
-from maintain.worked import fronts, generated, judged, reader, runs, tellings
+from maintain.worked import fronts, generated, judged, long_logs, reader, runs, tellings, workers
 from maintain.worked.part_cases import cut
 
 NAME = "sleep"  # The word before the others: the program's own.
@@ -15,7 +18,7 @@ NAME = "sleep"  # The word before the others: the program's own.
 
 def cases():
     """Every case."""
-    for module in (runs, tellings, judged, fronts, reader, generated):
+    for module in (runs, tellings, judged, fronts, reader, generated, workers, long_logs):
         yield from module.cases()
 
 
@@ -35,13 +38,26 @@ def row(case, number):
             yield b"repeat %d\n" % times
         if times:
             yield b"input %d\n%s\n" % (len(piece), piece)
-    yield b"row %d\n" % number
+    yield f"{case.end} {number}\n".encode()
+
+
+def told(case):
+    """What the line of the report has of its output, and what stands of it after the line."""
+    if case.end in ("lines", "rerun"):
+        return "lines %d" % case.counts, case.out
+    if case.end == "steps":
+        return "hard %d wake %d" % case.counts, b""
+    if case.end == "sums":
+        return f"out {len(case.out)} adler32 {zlib.adler32(case.out)}", b""
+    return f"out {len(case.out)}", case.out
 
 
 def said(case, number):
-    """What the program says of it."""
-    numbers = (number, case.status, case.left, len(case.out), len(case.err))
-    return b"row %d status %d left %d out %d err %d\n" % numbers + case.out + case.err + b"\n"
+    """What the program says of it. A gate is passed as its plan says."""
+    line, shown = told(case)
+    head = f"row {number} status {case.status} left {case.left} {line} err {len(case.err)}\n"
+    gate = b"gate passed\n" if "gate" in dict(case.streams) else b""
+    return head.encode() + shown + case.err + b"\n" + gate
 
 
 def asked():
