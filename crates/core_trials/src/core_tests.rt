@@ -6,7 +6,7 @@ ghost use Rattle.sleep_model.specs.Order.{parents_of};
 ghost use Rattle.sleep_core.specs.Cores.{IsActor};
 ghost use Rattle.sleep_core.specs.Histories.{last_stamp};
 
-use crate::MovingWord;
+use crate::moving::MovingWord;
 use device_links::Links;
 use event_word::{EventTable, Events, PlainEvents};
 use machine_file::{ReadMachine, read_machine};

@@ -9,10 +9,9 @@
 mod burst_tests;
 #[cfg(test)]
 mod core_tests;
+#[cfg(test)]
 mod moving;
 #[cfg(test)]
 mod object_tests;
+#[cfg(test)]
 mod threads;
-
-pub use moving::MovingWord;
-pub use threads::{sent_core, sent_seated_core, sent_source, sent_worker};

@@ -24,6 +24,7 @@ mod pool_tests;
 mod script_tests;
 #[cfg(test)]
 mod source_tests;
+#[cfg(test)]
 mod threads;
 #[cfg(test)]
 mod word_close_tests;
@@ -35,5 +36,3 @@ mod word_table_tests;
 mod word_tests;
 #[cfg(test)]
 mod word_thread_tests;
-
-pub use threads::{sent_job, sent_source, sent_timer};
