@@ -36,12 +36,15 @@ impl<T: OfNames> ByKind<T> {
     pub fn of(alloc: Global, machine: &Machine) -> Result<Self, Mem>
         ensures { IfOk result (λ k. HasNames machine.now (T.listed k.devices) (T.listed k.syscore) (T.listed k.notifiers) (T.listed k.sources) (T.listed k.marks) (T.listed k.scripts)) }
     {
-        let devices = of_devices(alloc, machine.devices.as_slice())?;
-        let syscore = of_listed(alloc, machine.syscore.as_slice())?;
-        let notifiers = of_notifiers(alloc, machine.notifiers.as_slice())?;
-        let sources = of_sources(alloc, machine.sources.as_slice())?;
-        let marks = of_listed(alloc, machine.marks.as_slice())?;
-        let scripts = of_scripts(alloc, machine.actors.as_slice())?;
+        let devices = T::of_names(alloc, names_of_devices(alloc, machine.devices.as_slice())?)?;
+        let syscore = T::of_names(alloc, names_of(alloc, machine.syscore.as_slice())?)?;
+        let notifiers = T::of_names(
+            alloc,
+            names_of_notifiers(alloc, machine.notifiers.as_slice())?,
+        )?;
+        let sources = T::of_names(alloc, names_of_sources(alloc, machine.sources.as_slice())?)?;
+        let marks = T::of_names(alloc, names_of(alloc, machine.marks.as_slice())?)?;
+        let scripts = T::of_names(alloc, names_of_scripts(alloc, machine.actors.as_slice())?)?;
         Ok(ByKind {
             devices,
             syscore,
@@ -53,46 +56,39 @@ impl<T: OfNames> ByKind<T> {
     }
 }
 
-/// What is made of these names.
-fn of_listed<T: OfNames>(alloc: Global, names: &[Name]) -> Result<T, Mem>
-    ensures { IfOk result (λ made. T.listed made ≡ names.now) }
+/// A copy of these names.
+fn names_of(alloc: Global, names: &[Name]) -> Result<Vec<Name>, Mem>
+    ensures { IfOk result (λ v. v.items ≡ names.now) }
 {
     let names = Vec::from_slice(alloc, names)?;
-    T::of_names(alloc, names)
+    Ok(names)
 }
 
-/// What is made of the devices' names, in order.
-fn of_devices<T: OfNames>(alloc: Global, devices: &[Device]) -> Result<T, Mem>
-    ensures { IfOk result (λ made. T.listed made ≡ map (λ d. d.name) devices.now) }
+/// The devices' names, in order.
+fn names_of_devices(alloc: Global, devices: &[Device]) -> Result<Vec<Name>, Mem>
+    ensures { IfOk result (λ v. v.items ≡ map (λ d. d.name) devices.now) }
 {
     let names = devices.iter().map(|device| device.name).collect(alloc)?;
-    T::of_names(alloc, names)
+    Ok(names)
 }
 
-/// What is made of the notifiers' names, in order.
-fn of_notifiers<T: OfNames>(alloc: Global, notifiers: &[Notifier]) -> Result<T, Mem>
-    ensures { IfOk result (λ made. T.listed made ≡ map (λ x. x.name) notifiers.now) }
+/// The notifiers' names, in order.
+fn names_of_notifiers(alloc: Global, notifiers: &[Notifier]) -> Result<Vec<Name>, Mem>
+    ensures { IfOk result (λ v. v.items ≡ map (λ x. x.name) notifiers.now) }
 {
     let names = notifiers
         .iter()
         .map(|notifier| notifier.name)
         .collect(alloc)?;
-    T::of_names(alloc, names)
+    Ok(names)
 }
 
-/// What is made of the scripts' names, in order.
-fn of_scripts<T: OfNames>(alloc: Global, scripts: &[Script]) -> Result<T, Mem>
-    ensures { IfOk result (λ made. T.listed made ≡ map (λ s. s.name) scripts.now) }
+/// The scripts' names, in order.
+fn names_of_scripts(alloc: Global, scripts: &[Script]) -> Result<Vec<Name>, Mem>
+    ensures { IfOk result (λ v. v.items ≡ map (λ s. s.name) scripts.now) }
 {
     let names = scripts.iter().map(|script| script.name).collect(alloc)?;
-    T::of_names(alloc, names)
-}
-
-/// What is made of the sources' names, in order, `autosleep` last.
-fn of_sources<T: OfNames>(alloc: Global, sources: &[Name]) -> Result<T, Mem>
-    ensures { IfOk result (λ made. T.listed made ≡ sources.now ++ codes "autosleep" ∷ []) }
-{
-    T::of_names(alloc, names_of_sources(alloc, sources)?)
+    Ok(names)
 }
 
 /// The sources' names, in order, `autosleep` last.
