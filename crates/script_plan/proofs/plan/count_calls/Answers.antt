@@ -1,0 +1,7 @@
+-- Proof that the loop of `count_calls` keeps its invariant.
+use Rattle.std.proofs.Common.{arith}
+use Rattle.std.proofs.lemmas.Grind.{common_steps}
+use Rattle.script_plan.proofs.plan.count_calls.Goals as goal
+
+pub loop-at-preserved : goal.loop-at-preserved
+loop-at-preserved c = grind (arith, common_steps)
