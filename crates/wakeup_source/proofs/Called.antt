@@ -100,13 +100,23 @@ pub finishing_is : (o : Option ℕ) → finishing o ≡ (cond (is_some o) (step.
 finishing_is None = refl
 finishing_is (Some since) = refl
 
--- an event is its note, a start if none was in progress, a hard step if it is hard, and a finish if it has no length
-pub event_calls : (by : CallBy) (ms : ℕ) (hard : Bool) (old noted started counted new : SourceView) → Notes by (call.Event ms hard) old noted → Steps by (starting (since (unstamped_source noted.source.past))) noted started
-    → Steps by (cond hard (step.Hard ∷ []) []) started counted → Steps by (cond (ms == 0) (step.Finish ∷ []) []) counted new → Calls by (call.Event ms hard) old new
-event_calls by ms hard old noted started counted new n a b d =
-    let first : Steps by (starting (since (unstamped_source old.source.past))) noted started = subst (λ o. Steps by (starting o) noted started) (ap (λ (s : SourceView). since (unstamped_source s.source.past)) n.6) a in (
-      noted,
-      n,
-      more_steps by (starting (since (unstamped_source old.source.past)) ++ cond hard (step.Hard ∷ []) []) (cond (ms == 0) (step.Finish ∷ []) []) noted counted new
-          (more_steps by (starting (since (unstamped_source old.source.past))) (cond hard (step.Hard ∷ []) []) noted started counted first b) d,
-    )
+-- a note leaves the event in progress as it was
+pub since_note : (made : SourceCall) (s : ℕ) (who : Actor) (time : ℕ) (seen : EventNow) (own : List Entry) → since (note_entry s made who time seen ∷ own) ≡ since own
+since_note call.Awake s who time seen own = refl
+since_note call.Relax s who time seen own = refl
+since_note (call.Event ms hard) s who time seen own = refl
+since_note call.Expire s who time seen own = refl
+
+-- a call is its note, and the steps that it then makes
+pub noted_call : (by : CallBy) (made : SourceCall) (old noted new : SourceView) → Notes by made old noted → Steps by (makes made (since (unstamped_source noted.source.past))) noted new → Calls by made old new
+noted_call by made old noted new n k =
+    let same = ap (λ (s : SourceView). since (unstamped_source s.source.past)) n.6 ∙ since_note made old.source.id by.actor by.now n.0 (unstamped_source old.source.past) in
+    (noted, n, subst (λ o. Steps by (makes made o) noted new) same k)
+
+-- the steps of an event: a start if none was in progress, a hard step if it is hard, and a finish if it has no length
+pub event_steps : (by : CallBy) (ms : ℕ) (hard : Bool) (noted started counted new : SourceView) → Steps by (starting (since (unstamped_source noted.source.past))) noted started
+    → Steps by (cond hard (step.Hard ∷ []) []) started counted → Steps by (cond (ms == 0) (step.Finish ∷ []) []) counted new
+    → Steps by (makes (call.Event ms hard) (since (unstamped_source noted.source.past))) noted new
+event_steps by ms hard noted started counted new a b d =
+    more_steps by (starting (since (unstamped_source noted.source.past)) ++ cond hard (step.Hard ∷ []) []) (cond (ms == 0) (step.Finish ∷ []) []) noted counted new
+    (more_steps by (starting (since (unstamped_source noted.source.past))) (cond hard (step.Hard ∷ []) []) noted started counted a b) d

@@ -4,7 +4,7 @@
 //! Promises: A call adds exactly its note and the steps that it makes, each with the word before it. Ticks
 //! rise, no position falls, the history is legal. `Full` comes exactly if fewer than four places are left,
 //! and changes nothing. An expiry comes exactly if its moment has come. Statistics and expiry are the
-//! history's. By the clauses of `WakeSource::stay_awake`, `relax`, `event`, `expire`, `due`, `stats`,
+//! history's. By the clauses of `WakeSource::call`, `stay_awake`, `relax`, `event`, `expire`, `due`, `stats`,
 //! `history`, `raise`; `stats_line`.
 //!
 //! Begin reading in `src/source.rt`, `specs/Called.antt`, `specs/Shown.antt`.

@@ -31,7 +31,7 @@ impl<const CAP: usize> WakeSource<CAP> {
     ghost use Rattle.sleep_model.specs.Sources.{makes, since, expiry, has_expired, most_entries, stats_at};
     ghost use Rattle.wakeup_source.specs.Called.{viewed_source, Calls, CanGoOnAll};
     ghost use Rattle.wakeup_source.specs.SourceStates.{new_source, unstamped_source, latest, later_stamp, IsSettled};
-    ghost use Rattle.wakeup_source.specs.Shown.{IsShownCall, AreOwnSteps, OnDone};
+    ghost use Rattle.wakeup_source.specs.Shown.{IsShownCall, AreOwnSteps, MayCall, OnDone};
 
     /// The source with that number, never called. `CAP` is at most `MOST_ENTRIES`.
     pub fn new(alloc: Global, id: u32) -> Self
@@ -43,8 +43,41 @@ impl<const CAP: usize> WakeSource<CAP> {
         }
     }
 
-    /// An event that lasts until it is ended by hand (`__pm_stay_awake`). Answers what the caller then knows.
-    /// `Full` if fewer than four places are left, `Mem` if there is no memory: nothing has changed then.
+    /// A call of any kind, an expiry only if its moment has come. Answers what the caller then knows. `Full` if
+    /// fewer than four places are left, `Mem` if there is no memory: nothing has changed then.
+    #[inline(always)]
+    pub fn call<R: Wait, B: Bump>(
+        &mut self,
+        rt: &R,
+        events: &mut B,
+        by: CallBy,
+        call: SourceCall,
+    ) -> Result<Stamp, SourceFault>
+        requires time { latest (unstamped_source self.old.past) ≤ by.now }
+        requires small { by.now ≤ 2 ^ 63 }
+        requires may { MayCall call (unstamped_source self.old.past) by.now }
+        requires can { B.can events.old (makes call (since (unstamped_source self.old.past))) ≡ true }
+        ensures calls { OnOk result (Calls by call
+            (viewed_source (B.shows events.old) (B.made events.old) (B.looked events.old) (B.floor events.old) self.old)
+            (viewed_source (B.shows events.new) (B.made events.new) (B.looked events.new) (B.floor events.new) self.new)) }
+        ensures shown { OnOk result (IsShownCall by call (B.shows events.old) (B.shows events.new) self.old self.new) }
+        ensures made { OnOk result (AreOwnSteps (B.made events.old) (B.made events.new) self.old self.new) }
+        ensures stamp { IfOk result (λ stamp. stamp ≡ self.new.floor) }
+        ensures full { (result ≡ Err SourceFault.Full) ↔ (CAP < length self.old.past + 4) }
+        ensures err { OnErr result ((self.new ≡ self.old) × (events.new ≡ events.old)) }
+        ensures time { latest (unstamped_source self.new.past) ≤ by.now }
+        ensures settled { IsSettled self.new }
+        ensures can { OnOk result (CanGoOnAll (makes call (since (unstamped_source self.old.past)))
+            (B.can events.old) (B.can events.new)) }
+        ensures root { B.root events.new ≡ B.root events.old }
+    {
+        self.source_history.make_room(rt, by, CAP)?;
+        self.source_history.look(rt, events, by, call);
+        self.source_history.make_steps(events, by, call);
+        Ok(self.source_history.floor())
+    }
+
+    /// An event that lasts until it is ended by hand (`__pm_stay_awake`). Answers and refuses as `call`.
     pub fn stay_awake<R: Wait, B: Bump>(
         &mut self,
         rt: &R,
@@ -68,13 +101,10 @@ impl<const CAP: usize> WakeSource<CAP> {
             (B.can events.old) (B.can events.new)) }
         ensures root { B.root events.new ≡ B.root events.old }
     {
-        self.source_history.make_room(rt, by, CAP)?;
-        self.source_history.look(rt, events, by, SourceCall::Awake);
-        self.source_history.start_unless_active(events, by);
-        Ok(self.source_history.floor())
+        self.call(rt, events, by, SourceCall::Awake)
     }
 
-    /// The end of the event in progress, if one is (`__pm_relax`). Answers and refuses as `stay_awake`.
+    /// The end of the event in progress, if one is (`__pm_relax`). Answers and refuses as `call`.
     pub fn relax<R: Wait, B: Bump>(
         &mut self,
         rt: &R,
@@ -98,15 +128,11 @@ impl<const CAP: usize> WakeSource<CAP> {
             (B.can events.old) (B.can events.new)) }
         ensures root { B.root events.new ≡ B.root events.old }
     {
-        self.source_history.make_room(rt, by, CAP)?;
-        self.source_history.look(rt, events, by, SourceCall::Relax);
-        let active = self.source_history.is_active();
-        self.source_history.finish_if(events, by, active);
-        Ok(self.source_history.floor())
+        self.call(rt, events, by, SourceCall::Relax)
     }
 
     /// An event of `ms` milliseconds, a hard one or not (`pm_wakeup_ws_event`): one without length ends at
-    /// once, one that lasts longer is not cut. Answers and refuses as `stay_awake`.
+    /// once, one that lasts longer is not cut. Answers and refuses as `call`.
     pub fn event<R: Wait, B: Bump>(
         &mut self,
         rt: &R,
@@ -133,17 +159,11 @@ impl<const CAP: usize> WakeSource<CAP> {
             (B.can events.old) (B.can events.new)) }
         ensures root { B.root events.new ≡ B.root events.old }
     {
-        let call = SourceCall::Event { ms, hard };
-        self.source_history.make_room(rt, by, CAP)?;
-        self.source_history.look(rt, events, by, call);
-        self.source_history.start_unless_active(events, by);
-        self.source_history.hard_if(events, by, hard);
-        self.source_history.finish_if(events, by, ms == 0);
-        Ok(self.source_history.floor())
+        self.call(rt, events, by, SourceCall::Event { ms, hard })
     }
 
     /// The end of the event in progress if its moment has come (`pm_wakeup_timer_fn`). `None` if it has not,
-    /// which is tested first. Else answers and refuses as `stay_awake`.
+    /// which is tested first. Else answers and refuses as `call`.
     pub fn expire<R: Wait, B: Bump>(
         &mut self,
         rt: &R,
@@ -174,11 +194,8 @@ impl<const CAP: usize> WakeSource<CAP> {
         if !self.source_history.has_expired(by.now) {
             return Ok(None);
         }
-        self.source_history.make_room(rt, by, CAP)?;
-        self.source_history.look(rt, events, by, SourceCall::Expire);
-        let active = self.source_history.is_active();
-        self.source_history.finish_if(events, by, active);
-        Ok(Some(self.source_history.floor()))
+        let stamp = self.call(rt, events, by, SourceCall::Expire)?;
+        Ok(Some(stamp))
     }
 
     /// When the event in progress ends by itself, in ms, if it does (`ws->timer_expires`).

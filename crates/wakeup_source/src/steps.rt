@@ -12,7 +12,7 @@ impl SourceHistory {
     ghost use Rattle.std.specs.Prelude.{◌≡◌, ◌≤◌, ◌+◌, ◌-◌, ◌<◌, ◌^◌, ◌↔◌, ◌∷◌, [], true, None, Err, length, OnOk, OnErr, if◌then◌else◌};
     ghost use Rattle.event_word.specs.Steps.{CanMake};
     ghost use Rattle.sleep_model.specs.declared.word.WordKind.TheVariants.{Start, Finish, Hard};
-    ghost use Rattle.sleep_model.specs.Sources.{since, starting, most_entries};
+    ghost use Rattle.sleep_model.specs.Sources.{makes, since, starting, most_entries};
     ghost use Rattle.wakeup_source.specs.SourceHistories.{HasRoomFor};
     ghost use Rattle.wakeup_source.specs.Called.{viewed_source, Notes, Steps, CanGoOnAll};
     ghost use Rattle.wakeup_source.specs.SourceStates.{unstamped_source, latest};
@@ -59,12 +59,40 @@ impl SourceHistory {
             self.new.source) }
         ensures ready { HasRoomFor 3 by self.new }
         ensures floor { self.new.source.floor.pos ≤ B.floor events.new }
+        ensures since { since (unstamped_source self.new.source.past) ≡ since (unstamped_source self.old.source.past) }
         ensures can { B.can events.new ≡ B.can events.old }
         ensures root { B.root events.new ≡ B.root events.old }
     {
         let floor = by.floor.pos.max(self.floor().pos);
         let seen = look_from(rt, events, floor);
         self.note(by, call, seen);
+    }
+
+    /// The steps of a call that was noted: its kind, and whether an event is in progress, say which.
+    #[inline(always)]
+    pub(crate) fn make_steps<B: Bump>(&mut self, events: &mut B, by: CallBy, call: SourceCall)
+        requires ready { HasRoomFor 3 by self.old }
+        requires floor { self.old.source.floor.pos ≤ B.floor events.old }
+        requires can { B.can events.old (makes call (since (unstamped_source self.old.source.past))) ≡ true }
+        ensures steps { Steps by (makes call (since (unstamped_source self.old.source.past)))
+            (viewed_source (B.shows events.old) (B.made events.old) (B.looked events.old) (B.floor events.old) self.old.source)
+            (viewed_source (B.shows events.new) (B.made events.new) (B.looked events.new) (B.floor events.new)
+            self.new.source) }
+        ensures can { CanGoOnAll (makes call (since (unstamped_source self.old.source.past))) (B.can events.old) (B.can events.new) }
+        ensures root { B.root events.new ≡ B.root events.old }
+    {
+        match call {
+            SourceCall::Awake => self.start_unless_active(events, by),
+            SourceCall::Relax | SourceCall::Expire => {
+                let active = self.is_active();
+                self.finish_if(events, by, active);
+            }
+            SourceCall::Event { ms, hard } => {
+                self.start_unless_active(events, by);
+                self.hard_if(events, by, hard);
+                self.finish_if(events, by, ms == 0);
+            }
+        }
     }
 
     /// The event begins, unless one is in progress (`wakeup_source_report_event`).
