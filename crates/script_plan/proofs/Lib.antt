@@ -1,3 +1,4 @@
 -- The lemmas of this crate.
 mod CallsPlanned
 mod Planned
+mod WithoutCalls

@@ -22,7 +22,7 @@ map_times f zero xs = refl
 map_times f (suc n) xs = map-append f (times_over n xs) xs ∙ ap (λ rest. rest ++ map f xs) (map_times f n xs)
 
 -- the steps of one round are the operations, each as often as it is made
-abbrev copies : Step → List Op
+abbrev pub copies : Step → List Op
 copies s = replicate s.times s.op
 
 round_ops : (f : ℕ → Op) (at : ℕ) (ss : List Step) → ((j : ℕ) → j < length ss → f (at + j) ≡ op_at ss j) → map f (round_from at ss) ≡ flat_map copies ss
@@ -52,7 +52,7 @@ entry_steps_are s = ap (filter makes_entry) (sym (ops_are s)) ∙ filter_map mak
 
 -- ---- the indices
 
-times_within : (P : ℕ → Type 0) (n : ℕ) (xs : List ℕ) → All P xs → All P (times_over n xs)
+pub times_within : {A : Type 0} (P : A → Type 0) (n : ℕ) (xs : List A) → All P xs → All P (times_over n xs)
 times_within P zero xs all = All-nil P
 times_within P (suc n) xs all = All-append P (times_over n xs) xs (times_within P n xs all) all
 
@@ -119,6 +119,6 @@ no_operation s ys k same past =
     ap (λ zs. slice_get zs k) (entry_steps_are s) ∙ (slice_get-map (op_at s.steps) (entry_indices s.steps (expanded s)) k ∙ ap (option_map (op_at s.steps)) (none_at (entry_indices s.steps (expanded s)) ys k same past))
 
 -- the calls before a turn, as they are counted
-pub counted_calls : (source : ℕ) (s : Script) (ys : List ℕ) (k n last : ℕ) → ys ≡ turns_from 0 (ops_of s.steps (expanded s)) → last ≡ calls_after 0 (ops_of s.steps (expanded s)) → n ≡ count_or (slice_get ys k) last → n ≡ calls_before (pieces source s) k
-counted_calls source s ys k n last turns all are =
-    are ∙ (ap (λ (zs : List ℕ). count_or (slice_get zs k) last) turns ∙ (ap (count_or (slice_get (turns_from 0 (ops_of s.steps (expanded s))) k)) all ∙ planned_calls source s k))
+pub counted_calls : (s : Script) (ys : List ℕ) (last : ℕ) → ys ≡ turns_from 0 (ops_of s.steps (expanded s)) → last ≡ calls_after 0 (ops_of s.steps (expanded s)) → (source k : ℕ) → count_or (slice_get ys k) last ≡ calls_before (pieces source s) k
+counted_calls s ys last turns all source k =
+    ap (λ (zs : List ℕ). count_or (slice_get zs k) last) turns ∙ (ap (count_or (slice_get (turns_from 0 (ops_of s.steps (expanded s))) k)) all ∙ planned_calls source s k)

@@ -1,8 +1,9 @@
 //! The plan of a script: its operations turn by turn, and the calls on sources before each turn.
-ghost use Rattle.std.specs.Prelude.{◌≡◌, ◌≤◌, ◌<◌, ◌+◌, ◌^◌, ◌++◌, ◌||◌, length, map, OnOk, IfOk, option_copied, slice_get, All, List, ℕ};
+ghost use Rattle.std.specs.Prelude.{◌≡◌, ◌==◌, ◌≤◌, ◌<◌, ◌+◌, ◌^◌, ◌++◌, ◌||◌, length, map, OnOk, IfOk, option_copied, slice_get, All, List, ℕ};
 ghost use Rattle.sleep_model.specs.Places.{all_operations};
 ghost use Rattle.sleep_model.specs.Scripts.{makes_entry};
 ghost use Rattle.script_plan.specs.CallPlans.{with_source};
+ghost use Rattle.std.specs.List.{list_all};
 ghost use Rattle.script_plan.specs.Plans.{expanded, op_or_read, op_at, entry_indices, calls_in, turns_in, turns_from, calls_after, ops_of};
 
 use crate::calls::{calls_between, calls_of};
@@ -54,6 +55,13 @@ fn calls_in(op: &Op) -> u32
     }
 }
 
+/// Whether no operation of these steps makes a call on a source: each makes entries.
+fn are_without_calls(steps: &[Step]) -> bool
+    ensures { result ≡ list_all (λ s. calls_in s.op == 0) steps.now }
+{
+    steps.iter().all(|step| calls_in(&step.op) == 0)
+}
+
 /// The calls before each of an operation's turns, if `before` calls were made before it.
 fn push_turns(turns: &mut Vec<u32>, before: u32, op: &Op) -> Result<(), Mem>
     requires { before < 2 ^ 31 }
@@ -78,8 +86,19 @@ pub(crate) struct CallCounts {
 }
 
 impl CallCounts {
-    ghost use Rattle.std.specs.Prelude.{slice_get};
+    ghost use Rattle.std.specs.Prelude.{[], slice_get};
     ghost use Rattle.script_plan.specs.Plans.{count_or};
+
+    /// No call is made before any turn.
+    fn none(alloc: Global) -> Self
+        ensures turns { result.before_turns.items ≡ [] }
+        ensures all { result.all ≡ 0 }
+    {
+        CallCounts {
+            before_turns: Vec::new(alloc),
+            all: 0,
+        }
+    }
 
     /// How many calls are made before the turn with that number, or before the end after the last.
     pub(crate) fn before_turn(&self, turn: usize) -> u32
@@ -138,11 +157,48 @@ impl<'m> Model for Plan<'m> {
 }
 
 impl<'m> Plan<'m> {
-    ghost use Rattle.std.specs.Prelude.{◌≡◌, ◌≤◌, ℕ, length, map, IfOk, option_copied, slice_get};
+    ghost use Rattle.std.specs.Prelude.{◌≡◌, ◌==◌, ◌≤◌, ℕ, true, length, map, IfOk, option_copied, slice_get};
+    ghost use Rattle.std.specs.List.{list_all};
     ghost use Rattle.sleep_model.specs.Calls.{calls_at};
     ghost use Rattle.sleep_model.specs.Scripts.{operations, entry_steps, pieces};
     ghost use Rattle.script_plan.specs.CallPlans.{noted, calls_ahead};
-    ghost use Rattle.script_plan.specs.Plans.{calls_before};
+    ghost use Rattle.script_plan.specs.Plans.{calls_before, calls_in, expanded};
+
+    /// The plan of a script that makes no calls, whose steps have these indices.
+    fn without_calls(alloc: Global, script: &'m Script, autosleep: u32, places: Vec<usize>) -> Self
+        requires places { places.items ≡ expanded script.now }
+        requires none { list_all (λ s. calls_in s.op == 0) script.now.steps ≡ true }
+        ensures { result ≡ record { source = autosleep; script = script.now } }
+    {
+        Plan {
+            script,
+            autosleep,
+            entry_indices: places,
+            calls: Vec::new(alloc),
+            counts: CallCounts::none(alloc),
+        }
+    }
+
+    /// The plan of a script whose steps have these indices, with its calls. `Mem` if there is no memory.
+    fn with_calls(
+        alloc: Global,
+        script: &'m Script,
+        autosleep: u32,
+        places: &[usize],
+    ) -> Result<Self, Mem>
+        requires few { length (operations script.now) ≤ 200000 }
+        requires places { places.now ≡ expanded script.now }
+        ensures { IfOk result (λ p. p ≡ record { source = autosleep; script = script.now }) }
+    {
+        let steps = script.steps.as_slice();
+        Ok(Plan {
+            script,
+            autosleep,
+            entry_indices: entry_indices(alloc, steps, places)?,
+            calls: calls_of(alloc, autosleep, steps, places)?,
+            counts: count_calls(alloc, steps, places)?,
+        })
+    }
 
     /// The plan of a script, which makes at most 200,000 steps, if autosleep has that source. `Mem` if there
     /// is no memory.
@@ -151,14 +207,10 @@ impl<'m> Plan<'m> {
         ensures { IfOk result (λ p. p ≡ record { source = autosleep; script = script.now }) }
     {
         let places = expand(alloc, script)?;
-        let steps = script.steps.as_slice();
-        Ok(Plan {
-            script,
-            autosleep,
-            entry_indices: entry_indices(alloc, steps, &places)?,
-            calls: calls_of(alloc, autosleep, steps, &places)?,
-            counts: count_calls(alloc, steps, &places)?,
-        })
+        if are_without_calls(script.steps.as_slice()) {
+            return Ok(Plan::without_calls(alloc, script, autosleep, places));
+        }
+        Plan::with_calls(alloc, script, autosleep, &places)
     }
 
     /// The operation that makes the script's entries with that number, from 0. None if it has none left.
