@@ -15,7 +15,7 @@ use crate::tables::{moved_last, registered};
 use crate::visits::order_of;
 use crate::walk::{Found, walk};
 use link_rows::is_left_out;
-use sleep_base::Mem;
+use sleep_base::{Mem, drop_for_mem};
 use sleep_model::Link;
 use std::alloc::Global;
 use std::marker::Model;
@@ -50,14 +50,14 @@ impl Model for Links {
 }
 
 impl Links {
-    ghost use Rattle.std.specs.Prelude.{◌≡◌, ◌∷◌, [], ◌<◌, ◌≤◌, ℕ, true, IfOk, OnOk, OnErr, length};
+    ghost use Rattle.std.specs.Prelude.{◌≡◌, ◌∷◌, [], ◌<◌, ◌≤◌, ◌^◌, ℕ, true, IfOk, OnOk, OnErr, length, reverse};
     ghost use Rattle.sleep_model.specs.Order.{EachAfterParent, is_among, dependents, order_by};
     ghost use Rattle.sleep_model.specs.Links.{IsOrder, is_dependent, is_linked};
     ghost use Rattle.device_links.specs.Walks.{Finds, IsWalked};
     ghost use Rattle.device_links.specs.Adds.{Adds, IsOpen, Lacks, Refuses, Sets, outcome, with_link, with_set};
     ghost use Rattle.device_links.specs.Invariant.{active_below, active_above};
     ghost use Rattle.device_links.specs.Moves.{LeavesOrder, Moves, after_move};
-    ghost use Rattle.device_links.specs.Passes.{Makes};
+    ghost use Rattle.device_links.specs.Passes.{AreTables, CanBeAdded, Makes};
     ghost use Rattle.std.specs.Bool.{OnTrue};
 
     /// Devices with these parents, in the order of their registration, and no links. `Mem` if
@@ -69,13 +69,9 @@ impl Links {
         if parents.len() > u32::MAX as usize {
             return Err(Mem);
         }
-        Ok(Links {
-            parents: Vec::from_slice(alloc, parents)?,
-            links: Vec::new(alloc),
-            tables: without_links(alloc, parents)?,
-            numbers: LinkNumbers::new(alloc, parents.len())?,
-            order: registered(alloc, parents.len() as u32)?,
-        })
+        let order = registered(alloc, parents.len() as u32)?;
+        let tables = without_links(alloc, parents)?;
+        Links::of_tables(alloc, parents, &[], tables, order)
     }
 
     /// Devices with these parents and links, as after an `add` of each link in turn, but in the time
@@ -99,16 +95,47 @@ impl Links {
         let Some(tables) = tables_of(alloc, parents, links)? else {
             return Ok(None);
         };
-        let Some(order) = order_of(alloc, parents, &tables.dependents, links)? else {
+        let Ok(order) = order_of(alloc, parents, &tables.dependents, links) else {
+            return Err(drop_for_mem(tables));
+        };
+        let Some(order) = order else {
+            drop(tables);
             return Ok(None);
         };
-        Ok(Some(Links {
-            parents: Vec::from_slice(alloc, parents)?,
-            links: Vec::from_slice(alloc, links)?,
+        Ok(Some(Links::of_tables(alloc, parents, links, tables, order)?))
+    }
+
+    /// The links of these tables, which leave that order.
+    fn of_tables(
+        alloc: Global,
+        parents: &[Option<u32>],
+        links: &[Link],
+        tables: Tables,
+        order: Vec<u32>,
+    ) -> Result<Links, Mem>
+        requires numbered { length parents.now < 2 ^ 32 }
+        requires after { EachAfterParent 0 parents.now }
+        requires added { CanBeAdded parents.now links.now }
+        requires tables { AreTables parents.now (reverse links.now) tables }
+        requires order { order.items ≡ order_by parents.now (reverse links.now) }
+        ensures { IfOk result (λ l. l ≡ record { parents = parents.now; links = reverse links.now }) }
+    {
+        let Ok(numbers) = LinkNumbers::of_links(alloc, parents, links) else {
+            return Err(drop_for_mem((tables, order)));
+        };
+        let Ok(parents) = Vec::from_slice(alloc, parents) else {
+            return Err(drop_for_mem((tables, order, numbers)));
+        };
+        let Ok(links) = Vec::from_slice(alloc, links) else {
+            return Err(drop_for_mem((tables, order, numbers, parents)));
+        };
+        Ok(Links {
+            parents,
+            links,
             tables,
-            numbers: LinkNumbers::of_links(alloc, parents, links)?,
+            numbers,
             order,
-        }))
+        })
     }
 
     /// Adds a link that is active, and moves the consumer and all that depends on it to the end of

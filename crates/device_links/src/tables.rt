@@ -50,9 +50,10 @@ pub(crate) fn moved_last(
 {
     let mut moved = Vec::with_capacity(alloc, order.len())?;
     for device in order {
-        if !marks[*device as usize] {
-            moved.push_reserved(*device);
+        if marks[*device as usize] {
+            continue;
         }
+        moved.push_reserved(*device);
     }
     moved.extend_from_slice(below)?;
     Ok(moved)
