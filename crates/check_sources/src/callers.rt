@@ -1,6 +1,6 @@
 //! Which calls on sources each actor has made and owes, after the entries that were passed.
 
-ghost use Rattle.std.specs.Prelude.{◌≡◌, ◌++◌, [], map, slice_index_or, slice_set, ◌+◌, IfOk, OnOk};
+ghost use Rattle.std.specs.Prelude.{◌≡◌, ◌++◌, [], map, replicate, slice_index_or, slice_set, ◌+◌, IfOk, OnOk};
 ghost use Rattle.sleep_model.specs.Calls.{calls_after_turn, calls_of_turn, ends_turn, report_calls};
 ghost use Rattle.script_plan.specs.CallPlans.{noted};
 
@@ -134,6 +134,17 @@ fn one_further(count: usize) -> Result<usize, Mem>
     }
 }
 
+/// So many actors, none of which owes a call. `Mem` if there is no memory.
+fn none_owed(alloc: Global, places: usize) -> Result<Vec<Calls>, Mem>
+    ensures { IfOk result (λ v. v.items ≡ replicate places []) }
+{
+    let mut later = Vec::new(alloc);
+    for i in 0..places {
+        later.push(Calls::new(alloc))?;
+    }
+    Ok(later)
+}
+
 impl<'m> Callers<'m> {
     ghost use Rattle.std.specs.Prelude.{◌≡◌, ◌≤◌, [], length, slice_get, option_copied, IfOk, OnOk};
     ghost use Rattle.sleep_model.specs.Accepted.{IsAccepted};
@@ -146,15 +157,11 @@ impl<'m> Callers<'m> {
         ensures { IfOk result (λ c. c ≡ record { machine = machine.now; state = callers_of machine.now [] }) }
     {
         let places = actor_count(machine);
-        let mut later = Vec::new(alloc);
-        for i in 0..places {
-            later.push(Calls::new(alloc))?;
-        }
         Ok(Callers {
             plans: Plans::new(alloc, machine)?,
             made: vec![in alloc; 0; places]?,
             turns: vec![in alloc; 0; places]?,
-            later,
+            later: none_owed(alloc, places)?,
         })
     }
 
