@@ -101,7 +101,8 @@ impl RowGate {
             return;
         };
         let turn = (at, count.fetch_add(1, Ordering::SeqCst));
-        for (waiting, goal) in self.plan.waits {
+        let waits = self.plan.waits;
+        for (waiting, goal) in waits {
             if *waiting == turn && self.comes_to(*goal) {
                 self.counts[WAITS].fetch_add(1, Ordering::SeqCst);
             }
