@@ -95,16 +95,21 @@ impl RowGate {
         }
     }
 
+    /// Counts one more at a counter. What it had before.
+    fn add(&self, at: usize) -> u64 {
+        match self.counts.get(at) {
+            Some(count) => count.fetch_add(1, Ordering::SeqCst),
+            None => 0,
+        }
+    }
+
     /// Counts a turn, which then waits for what its plan says.
     fn count(&self, at: usize) {
-        let Some(count) = self.counts.get(at) else {
-            return;
-        };
-        let turn = (at, count.fetch_add(1, Ordering::SeqCst));
+        let turn = (at, self.add(at));
         let waits = self.plan.waits;
         for (waiting, goal) in waits {
             if *waiting == turn && self.comes_to(*goal) {
-                self.counts[WAITS].fetch_add(1, Ordering::SeqCst);
+                self.add(WAITS);
             }
         }
     }
