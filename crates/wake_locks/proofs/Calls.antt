@@ -11,8 +11,10 @@ use Rattle.sleep_model.specs.declared.word.EventNow.{EventNow}
 use Rattle.sleep_model.specs.Numbers.{numbers}
 use Rattle.sleep_model.specs.Places.{one_if}
 use Rattle.sleep_model.specs.Sources.{since, expiry, makes, has_expired}
-use Rattle.wakeup_source.specs.SourceStates.{SourceState, unstamped_source, latest, note_entry, step_entry}
-use Rattle.wakeup_source.specs.Shown.{source_call, after_steps, word_after_kinds, MayCall}
+use Rattle.sleep_model.specs.declared.word.WordKind.{WordKind}
+use Rattle.wakeup_source.specs.Called.{SourceView, Calls, Steps, after_step, viewed_source}
+use Rattle.wakeup_source.specs.SourceStates.{SourceState, IsSettled, unstamped_source, latest, note_entry, step_entry}
+use Rattle.wakeup_source.specs.Shown.{source_call, after_steps, word_after_kinds, IsShownCall, MayCall}
 use Rattle.wakeup_source.specs.declared.call_by.CallBy.{CallBy}
 use Rattle.event_word.specs.Steps.{has_room_for_all}
 use Rattle.wake_locks.specs.Locks.{maker, entries_after_call}
@@ -69,6 +71,24 @@ may call.Awake now own meant = tt
 may call.Relax now own meant = tt
 may (call.Event ms hard) now own meant = tt
 may call.Expire now own meant = expires now (since own) (expiry own) meant
+
+-- ---- what a call on a source says
+
+same_after_steps : (by : CallBy) (steps : List WordKind) (old new : SourceView) → Steps by steps old new → new.source.id ≡ old.source.id
+same_after_steps by [] old new h = ap (λ (s : SourceView). s.source.id) h
+same_after_steps by (made ∷ rest) old new h = same_after_steps by rest (after_step by made h.0 old) new h.3
+
+-- a call on a source with a word of its own: the source gains its entries, and the word makes its steps
+pub gains_call : (by : CallBy) (made : SourceCall) (word later : EventNow) (old new : SourceState) (before after : ℕ) → Calls by made (viewed_source (Some word) None None before old) (viewed_source (Some later) None None after new)
+    → IsShownCall by made (Some word) (Some later) old new → IsSettled new → GainsCall by made word later old new
+gains_call by made word later old new before after h shown settled =
+    let is = shown.1 in
+    record {
+      number = same_after_steps by (makes made (since (unstamped_source old.past))) h.0 _ h.2 ∙ ap (λ (s : SourceView). s.source.id) h.1.6;
+      entries = shown.0;
+      word_is = cc;
+      short = settled.short;
+    }
 
 -- ---- what it leaves
 

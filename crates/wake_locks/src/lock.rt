@@ -80,15 +80,7 @@ fn make<R: Wait, const CAP: usize>(
     ensures full { (result ≡ Err SourceFault.Full) ↔ (CAP < length source.old.past + 4) }
     ensures err { OnErr result ((source.new ≡ source.old) × (events.new ≡ events.old)) }
 {
-    match call {
-        SourceCall::Awake => source.stay_awake(rt, events, by)?,
-        SourceCall::Relax => source.relax(rt, events, by)?,
-        SourceCall::Event { ms, hard } => source.event(rt, events, by, ms, hard)?,
-        SourceCall::Expire => match source.expire(rt, events, by)? {
-            Some(stamp) => stamp,
-            None => unreachable!(),
-        },
-    };
+    source.call(rt, events, by, call)?;
     Ok(())
 }
 
