@@ -113,88 +113,28 @@ fn event_first<'a>(
     Some((Kind::Event { source, ms, hard }, rest))
 }
 
-/// A source is to stay awake.
+/// What a text begins with if it names one source after that verb and no more, and what follows its line.
+#[inline(always)]
 #[tactic(auto, using(std::proofs::Common::append_assoc))]
-fn awake_first<'a>(
+fn one_source_first<'a>(
     machine_names: &MachineNames,
     last: &LastNamed,
+    verb: Verb,
     text: &'a [u8],
 ) -> Option<(Kind, &'a [u8])>
     ensures text { IfSome result (λ r. text.now ≡ body machine_names.now r.0 ++ newline ++ r.1.now) }
     ensures fits { IfSome result (λ r. fits_kind machine_names.now r.0 ≡ true) }
 {
-    let (source, rest) = source_after_verb(machine_names, last, Verb::Awake, text, b'\n')?;
-    Some((Kind::Awake(source), rest))
-}
-
-/// A source is let go.
-#[tactic(auto, using(std::proofs::Common::append_assoc))]
-fn relax_first<'a>(
-    machine_names: &MachineNames,
-    last: &LastNamed,
-    text: &'a [u8],
-) -> Option<(Kind, &'a [u8])>
-    ensures text { IfSome result (λ r. text.now ≡ body machine_names.now r.0 ++ newline ++ r.1.now) }
-    ensures fits { IfSome result (λ r. fits_kind machine_names.now r.0 ≡ true) }
-{
-    let (source, rest) = source_after_verb(machine_names, last, Verb::Relax, text, b'\n')?;
-    Some((Kind::Relax(source), rest))
-}
-
-/// An event has come to its end.
-#[tactic(auto, using(std::proofs::Common::append_assoc))]
-fn expire_first<'a>(
-    machine_names: &MachineNames,
-    last: &LastNamed,
-    text: &'a [u8],
-) -> Option<(Kind, &'a [u8])>
-    ensures text { IfSome result (λ r. text.now ≡ body machine_names.now r.0 ++ newline ++ r.1.now) }
-    ensures fits { IfSome result (λ r. fits_kind machine_names.now r.0 ≡ true) }
-{
-    let (source, rest) = source_after_verb(machine_names, last, Verb::Expire, text, b'\n')?;
-    Some((Kind::Expire(source), rest))
-}
-
-/// An event in progress is put into the word.
-#[tactic(auto, using(std::proofs::Common::append_assoc))]
-fn start_first<'a>(
-    machine_names: &MachineNames,
-    last: &LastNamed,
-    text: &'a [u8],
-) -> Option<(Kind, &'a [u8])>
-    ensures text { IfSome result (λ r. text.now ≡ body machine_names.now r.0 ++ newline ++ r.1.now) }
-    ensures fits { IfSome result (λ r. fits_kind machine_names.now r.0 ≡ true) }
-{
-    let (source, rest) = source_after_verb(machine_names, last, Verb::Start, text, b'\n')?;
-    Some((Kind::Start(source), rest))
-}
-
-/// An event in progress is taken from the word.
-#[tactic(auto, using(std::proofs::Common::append_assoc))]
-fn finish_first<'a>(
-    machine_names: &MachineNames,
-    last: &LastNamed,
-    text: &'a [u8],
-) -> Option<(Kind, &'a [u8])>
-    ensures text { IfSome result (λ r. text.now ≡ body machine_names.now r.0 ++ newline ++ r.1.now) }
-    ensures fits { IfSome result (λ r. fits_kind machine_names.now r.0 ≡ true) }
-{
-    let (source, rest) = source_after_verb(machine_names, last, Verb::Finish, text, b'\n')?;
-    Some((Kind::Finish(source), rest))
-}
-
-/// A hard event is put into the word.
-#[tactic(auto, using(std::proofs::Common::append_assoc))]
-fn hard_first<'a>(
-    machine_names: &MachineNames,
-    last: &LastNamed,
-    text: &'a [u8],
-) -> Option<(Kind, &'a [u8])>
-    ensures text { IfSome result (λ r. text.now ≡ body machine_names.now r.0 ++ newline ++ r.1.now) }
-    ensures fits { IfSome result (λ r. fits_kind machine_names.now r.0 ≡ true) }
-{
-    let (source, rest) = source_after_verb(machine_names, last, Verb::Hard, text, b'\n')?;
-    Some((Kind::Hard(source), rest))
+    let (source, rest) = source_after_verb(machine_names, last, verb, text, b'\n')?;
+    match verb {
+        Verb::Awake => Some((Kind::Awake(source), rest)),
+        Verb::Relax => Some((Kind::Relax(source), rest)),
+        Verb::Expire => Some((Kind::Expire(source), rest)),
+        Verb::Start => Some((Kind::Start(source), rest)),
+        Verb::Finish => Some((Kind::Finish(source), rest)),
+        Verb::Hard => Some((Kind::Hard(source), rest)),
+        _ => None,
+    }
 }
 
 /// An event, or its end by time.
@@ -207,7 +147,7 @@ fn event_or_expire<'a>(
     ensures fits { IfSome result (λ r. fits_kind machine_names.now r.0 ≡ true) }
 {
     match event_first(machine_names, last, text) {
-        None => expire_first(machine_names, last, text),
+        None => one_source_first(machine_names, last, Verb::Expire, text),
         found => found,
     }
 }
@@ -223,11 +163,11 @@ pub fn source_kind_first<'a>(
 {
     match text.first() {
         Some(b'e') => event_or_expire(machine_names, last, text),
-        Some(b's') => start_first(machine_names, last, text),
-        Some(b'f') => finish_first(machine_names, last, text),
-        Some(b'h') => hard_first(machine_names, last, text),
-        Some(b'a') => awake_first(machine_names, last, text),
-        Some(b'r') => relax_first(machine_names, last, text),
+        Some(b's') => one_source_first(machine_names, last, Verb::Start, text),
+        Some(b'f') => one_source_first(machine_names, last, Verb::Finish, text),
+        Some(b'h') => one_source_first(machine_names, last, Verb::Hard, text),
+        Some(b'a') => one_source_first(machine_names, last, Verb::Awake, text),
+        Some(b'r') => one_source_first(machine_names, last, Verb::Relax, text),
         _ => None,
     }
 }
