@@ -228,18 +228,15 @@ impl<'m> Run<'m> {
 
     /// Why a run gives nothing, one of whose calls was refused: if a source is full, the table of the event
     /// word is closed, and what was made up to then is a legal log, so the machine's calls may fill the
-    /// source.
-    pub(crate) fn into_fault<R: Wait>(
-        mut self,
-        rt: &R,
-        alloc: Global,
-        fault: RunFault,
-    ) -> Result<RunFault, Mem>
+    /// source. `Mem` if there is no memory to close it.
+    pub(crate) fn into_fault<R: Wait>(mut self, rt: &R, alloc: Global, fault: RunFault) -> RunFault
         requires { IsRefused self fault }
-        ensures { IfOk result (Fails self.entry.machine) }
+        ensures { Fails self.entry.machine result }
     {
         let _word = self.look(rt);
-        let _preserved = self.closed(alloc)?;
-        Ok(fault)
+        let Ok(_preserved) = self.closed(alloc) else {
+            return RunFault::Mem;
+        };
+        fault
     }
 }

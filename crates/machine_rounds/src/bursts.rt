@@ -381,11 +381,13 @@ impl<'m> Run<'m> {
         let mut run = self;
         let mut pace = Pace::new(workers);
         for _turn in 0..MOST_LOG + 1 {
-            let Advance { run: next, outcome } = run.advance(rt, alloc, gate, &mut pace)?;
+            let Ok(Advance { run: next, outcome }) = run.advance(rt, alloc, gate, &mut pace) else {
+                return Err(RunFault::Mem);
+            };
             match outcome {
                 Ok(None) => run = next,
                 Ok(Some(end)) => return Ok(next.into_log(alloc, end)?),
-                Err(fault) => return Err(next.into_fault(rt, alloc, fault)?),
+                Err(fault) => return Err(next.into_fault(rt, alloc, fault)),
             }
         }
         run.entries_are_few();
