@@ -23,10 +23,6 @@ use std::thread::Threads;
 use wakeup_source::MOST_ENTRIES;
 use world_workers::{Burst, BurstContents, BurstPlan, RunFault, make_burst};
 
-/// The most entries of a journal at which a burst is begun. No run comes near it (`MOST_LOG`): the test only
-/// gives the burst the bound that its contract asks for.
-const MOST_JOURNAL: usize = 1 << 62;
-
 /// The most entries that a log has, whatever the accepted machine is (`end_laws`, `all_logs_are_bounded`). A
 /// log is the core's journal with the histories of the sources merged in.
 const MOST_LOG: u64 = 37_585_025;
@@ -188,16 +184,9 @@ impl<'m> Run<'m> {
     ghost use Rattle.machine_rounds.specs.BurstsOf.{IsRunInBurst, entries_of};
     ghost use Rattle.machine_rounds.specs.Runs.{AfterStretches, Fails, IsRefused, IsRun, entries_made};
 
-    /// Whether the journal is so short that no job's count of turns overflows in a burst. Each turn that a
-    /// job has counted made an entry of the journal, since calls on sources are counted apart. A burst adds
-    /// 1,000 at most (`MOST_TURNS`).
-    fn is_short(&self) -> bool
-        ensures { OnTrue result (length self.now.journal + 1000 < 2 ^ 63) }
-    {
-        self.core().len() <= MOST_JOURNAL
-    }
-
-    /// The parts that go into a burst, and what stays. `Mem` if there is no memory.
+    /// The parts that go into a burst, and what stays. The journal is so short that no job's count of turns
+    /// overflows in the burst: each turn that a job has counted made an entry of the journal, and a burst adds
+    /// 1,000 at most (`MOST_TURNS`). `Mem` if there is no memory.
     fn take_apart(self, alloc: Global) -> Result<(RunInBurst<'m>, BurstContents<'m>), Mem>
         requires { length self.journal + 1000 < 2 ^ 63 }
         ensures machine { IfOk result (λ contents. contents.0.machine.now ≡ self.entry.machine) }
@@ -233,7 +222,7 @@ impl<'m> Run<'m> {
     }
 
     /// A burst by that many workers: each actor, and each source's timer, makes turns while it can, 1,000 at
-    /// most. `Mem`: no memory, or too long a journal (`is_short`).
+    /// most. `Mem` if there is no memory.
     fn burst<R: Threads + Wait + Sync, G: Gate + Sync>(
         self,
         rt: &R,
@@ -245,10 +234,10 @@ impl<'m> Run<'m> {
         ensures machine { IfOk result (λ after. after.run.machine ≡ self.entry.machine) }
         ensures grown { IfOk result (λ after. entries_made self.entry ≤ entries_made after.run) }
     {
-        if !self.is_short() {
-            return Err(drop_for_mem(self));
-        }
-        let (during, contents) = self.take_apart(alloc)?;
+        self.entries_are_few();
+        let Ok((during, contents)) = self.take_apart(alloc) else {
+            return Err(Mem);
+        };
         during.run_on(rt, alloc, contents, workers, gate)
     }
 
