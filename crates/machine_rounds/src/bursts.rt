@@ -178,6 +178,26 @@ impl<'m> RunInBurst<'m> {
     }
 }
 
+impl<'m> AfterBurst<'m> {
+    ghost use Rattle.machine_rounds.specs.Runs.{AfterStretches};
+
+    /// The pace notes what the burst by that many workers came to, and the run goes on by a round.
+    fn go_on<R: Wait>(self, rt: &R, pace: &mut Pace, workers: u8) -> Advance<'m>
+        ensures machine { result.run.machine ≡ self.entry.run.machine }
+        ensures after { AfterStretches 1 self.entry.run result.run result.outcome }
+    {
+        let AfterBurst {
+            mut run,
+            other_calls,
+            task_count,
+            stop,
+        } = self;
+        pace.note(other_calls, task_count, workers);
+        let outcome = run.round_after_burst(rt, stop);
+        Advance { run, outcome }
+    }
+}
+
 impl<'m> Run<'m> {
     ghost use Rattle.std.specs.Prelude.{◌≡◌, ◌≤◌, ◌<◌, ◌+◌, ◌^◌, length, IfOk, IfErr, IfSome};
     ghost use Rattle.std.specs.Bool.{OnTrue};
@@ -296,6 +316,22 @@ impl<'m> Run<'m> {
         Advance { run, outcome }
     }
 
+    /// After a burst a round of the caller's own, unless a task of it stopped. Answers how the run is over, if
+    /// it is.
+    fn round_after_burst<R: Wait>(
+        &mut self,
+        rt: &R,
+        stop: Option<RunFault>,
+    ) -> Result<Option<EndOfRun>, RunFault>
+        ensures machine { self.new.machine ≡ self.old.machine }
+        ensures after { AfterStretches 1 self.old self.new result }
+    {
+        match self.refused(stop) {
+            Some(fault) => Err(fault),
+            None => self.stretch(rt, 1),
+        }
+    }
+
     /// A burst, and then a round of the caller's own.
     fn advance_by_burst<R: Threads + Wait + Sync, G: Gate + Sync>(
         self,
@@ -308,21 +344,10 @@ impl<'m> Run<'m> {
         ensures after { IfOk result (λ next. AfterStretches 1 self.entry next.run next.outcome) }
     {
         let workers = pace.workers();
-        let AfterBurst {
-            mut run,
-            other_calls,
-            task_count,
-            stop,
-        } = self.burst(rt, alloc, workers, gate)?;
-        pace.note(other_calls, task_count, workers);
-        if let Some(fault) = run.refused(stop) {
-            return Ok(Advance {
-                run,
-                outcome: Err(fault),
-            });
-        }
-        let outcome = run.stretch(rt, 1);
-        Ok(Advance { run, outcome })
+        let Ok(after) = self.burst(rt, alloc, workers, gate) else {
+            return Err(Mem);
+        };
+        Ok(after.go_on(rt, pace, workers))
     }
 
     /// Brings the run on, by as many stretches of the caller's own rounds as the pace wants, else by a burst:
