@@ -124,13 +124,25 @@ impl<'m> RunInBurst<'m> {
         }
     }
 
-    /// Turns the tasks of a burst back into jobs, raises the floor to what they know, and puts the run together.
-    fn come_back(self, alloc: Global, contents: BurstContents<'m>) -> Result<Run<'m>, Mem>
+    /// Turns the tasks of a burst, of which there were that many, back into jobs, raises the floor to what they
+    /// know, and puts the run together.
+    fn come_back(
+        self,
+        alloc: Global,
+        burst: Burst<'m>,
+        task_count: usize,
+    ) -> Result<AfterBurst<'m>, Mem>
         requires { IsBack self.machine.now self.table.cells.shared.table_id self.floor
-            contents.core contents.sources.items contents.tasks.items }
-        ensures machine { IfOk result (λ run. run.machine ≡ self.entry.machine.now) }
-        ensures entries { IfOk result (λ run. entries_made run ≡ entries_of contents.entry.core contents.entry.sources.items) }
+            burst.contents.core burst.contents.sources.items burst.contents.tasks.items }
+        ensures machine { IfOk result (λ after. after.run.machine ≡ self.entry.machine.now) }
+        ensures entries { IfOk result (λ after. entries_made after.run ≡ entries_of burst.entry.contents.core burst.entry.contents.sources.items) }
     {
+        let Burst {
+            contents,
+            other_calls,
+            stop,
+            ..
+        } = burst;
         let BurstContents {
             core,
             sources,
@@ -140,7 +152,12 @@ impl<'m> RunInBurst<'m> {
         let Ok(jobs) = Jobs::of_tasks(alloc, tasks, self.machine.actors.len()) else {
             return Err(drop_for_mem((self, core, sources)));
         };
-        Ok(self.joined(core, sources, jobs, floor))
+        Ok(AfterBurst {
+            run: self.joined(core, sources, jobs, floor),
+            other_calls,
+            task_count,
+            stop,
+        })
     }
 
     /// Makes the burst of these parts, and gives the run after it.
@@ -162,19 +179,7 @@ impl<'m> RunInBurst<'m> {
         let Ok(burst) = self.run_tasks(rt, alloc, contents, workers, gate) else {
             return Err(drop_for_mem(self));
         };
-        let Burst {
-            contents,
-            other_calls,
-            stop,
-            ..
-        } = burst;
-        let run = self.come_back(alloc, contents)?;
-        Ok(AfterBurst {
-            run,
-            other_calls,
-            task_count,
-            stop,
-        })
+        self.come_back(alloc, burst, task_count)
     }
 }
 

@@ -9,11 +9,11 @@ of_tasks-requires-clause-few c = back_few _ _ _ _ _ _ c.requires
 
 pub of_tasks-requires-clause-there : goal.of_tasks-requires-clause-there
 of_tasks-requires-clause-there c =
-    subst (λ (n : ℕ). n < length (jobs_in c.args.contents.tasks.items)) (sym c.len.ensures) (back_there _ _ _ _ _ _ c.requires)
+    subst (λ (n : ℕ). n < length (jobs_in c.args.burst.contents.tasks.items)) (sym c.len.ensures) (back_there _ _ _ _ _ _ c.requires)
 
 pub joined-requires : goal.joined-requires
 joined-requires c =
-    let are = subst (λ (n : ℕ). AreJobsOf (jobs_in c.args.contents.tasks.items) n c.in-Ok.jobs) c.len.ensures c.in-Ok.ensures in
+    let are = subst (λ (n : ℕ). AreJobsOf (jobs_in c.args.burst.contents.tasks.items) n c.in-Ok.jobs) c.len.ensures c.in-Ok.ensures in
     let top = c.highest_of-floor.ensures ∙ ap (highest c.args.self.floor) c.deref.ensures.value in
     record {
       all_jobs = back_jobs _ _ _ _ _ _ c.requires c.in-Ok.jobs are;
