@@ -138,18 +138,18 @@ impl<'m> Run<'m> {
         ensures { IfOk result (λ run. run.machine ≡ plans.now) }
     {
         let machine = plans.machine();
-        let Ok((table, sources, look)) = seated_sources(alloc, machine.sources.len() as u32 + 1)
-        else {
-            return Err(drop_for_mem(links));
+        let Ok(core) = Core::new(alloc, plans, links) else {
+            return Err(Mem);
         };
         let Ok(jobs) = Jobs::new(alloc, plans) else {
-            return Err(drop_for_mem((table, sources, look, links)));
+            return Err(drop_for_mem(core));
         };
         let Ok(waiters) = all_waiters(alloc, machine) else {
-            return Err(drop_for_mem((table, sources, look, links, jobs)));
+            return Err(drop_for_mem((core, jobs)));
         };
-        let Ok(core) = Core::new(alloc, plans, links) else {
-            return Err(drop_for_mem((table, sources, look, jobs, waiters)));
+        let Ok((table, sources, look)) = seated_sources(alloc, machine.sources.len() as u32 + 1)
+        else {
+            return Err(drop_for_mem((core, jobs, waiters)));
         };
         let seated = SeatedCore::new(core, look);
         Ok(Run::of_components(machine, table, seated, sources, jobs, waiters))
