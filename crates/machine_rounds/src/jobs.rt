@@ -70,7 +70,7 @@ fn script_jobs<'m>(alloc: Global, plans: &'m MachinePlans<'_>) -> Result<Vec<Act
     let scripts = plans.machine().actors.len();
     let mut jobs = Vec::with_capacity(alloc, scripts)?;
     for script in 0..scripts as u32 {
-        jobs.push(ActorJob::of_script(plans, script))?;
+        jobs.push_reserved(ActorJob::of_script(plans, script));
     }
     Ok(jobs)
 }
@@ -83,7 +83,7 @@ fn device_jobs<'m>(alloc: Global, plans: &'m MachinePlans<'_>) -> Result<Vec<Act
     let devices = plans.machine().devices.len();
     let mut jobs = Vec::with_capacity(alloc, devices)?;
     for device in 0..devices as u32 {
-        jobs.push(ActorJob::of_device(plans, device))?;
+        jobs.push_reserved(ActorJob::of_device(plans, device));
     }
     Ok(jobs)
 }
