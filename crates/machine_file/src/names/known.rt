@@ -1,17 +1,20 @@
 //! The names of the things of a file, and the rules by which they differ.
 
-ghost use Rattle.std.specs.Prelude.{◌≡◌, ◌≤◌, ◌-◌, ◌∷◌, [], not, map, take, bytes_eq, codes, length, ◌<◌, IfOk, IfSome, position, option_map};
+ghost use Rattle.std.specs.Prelude.{◌≡◌, ◌≤◌, ◌-◌, ◌∷◌, [], not, map, take, bytes_eq, codes, length, ◌<◌, IfErr, IfOk, IfSome, Some, None, position, option_map};
 ghost use Rattle.borrowed_json.specs.View.{view};
 ghost use Rattle.machine_file.specs.Places.{item_place, first_not, first_not_after};
 ghost use Rattle.machine_file.specs.Names.{names_in, texts_in, is_among_names, repeated, repeated_callback, repeated_source};
 ghost use Rattle.machine_file.specs.Devices.{whole_devices};
 ghost use Rattle.machine_file.specs.Operations.{whole_marks};
 ghost use Rattle.machine_file.specs.Knows.{Knows, texts};
-ghost use Rattle.machine_file.specs.Broken.{member_name, place_of};
+ghost use Rattle.machine_file.specs.Broken.{broken_view, member_name, place_of};
+ghost use Rattle.machine_file.specs.Fitting.{HasDevices};
+ghost use Rattle.machine_file.specs.ValidFiles.{broken_devices};
 
-use crate::names::devices::NamedDevices;
+use crate::names::devices::{NamedDevices, devices_in};
 use crate::names::marks::marks_in;
 use crate::names::{first_repeated, names_in, texts_in};
+use crate::rules::Broken;
 use crate::value::place::{Member, Place};
 use borrowed_json::Value;
 use key_index::KeyIndex;
@@ -55,12 +58,24 @@ fn marked_in<'v>(alloc: Global, tree: &Value<'v>) -> Result<KeyIndex<&'v str>, M
     KeyIndex::new(alloc, marks)
 }
 
-/// The names of the things of a file, whose devices these are.
-pub(crate) fn known_in<'v>(
+/// The names of the things of a file, or the first rule on devices that is broken.
+pub(crate) fn known_of_file<'v>(
     alloc: Global,
     tree: &Value<'v>,
-    devices: NamedDevices,
-) -> Result<Known<'v>, Mem>
+) -> Result<Result<Known<'v>, Broken>, Mem>
+    requires { HasDevices (view tree.now) }
+    ensures broken { IfOk result (λ r. IfErr r (λ b. broken_devices (view tree.now) ≡ Some (broken_view b))) }
+    ensures unbroken { IfOk result (λ r. IfOk r (λ _. broken_devices (view tree.now) ≡ None)) }
+    ensures knows { IfOk result (λ r. IfOk r (λ k. Knows k (view tree.now))) }
+{
+    match devices_in(alloc, tree)? {
+        Ok(devices) => Ok(Ok(known_in(alloc, tree, devices)?)),
+        Err(broken) => Ok(Err(broken)),
+    }
+}
+
+/// The names of the things of a file, whose devices these are.
+fn known_in<'v>(alloc: Global, tree: &Value<'v>, devices: NamedDevices) -> Result<Known<'v>, Mem>
     requires { devices ≡ whole_devices (view tree.now) }
     ensures { IfOk result (λ k. Knows k (view tree.now)) }
 {

@@ -12,8 +12,7 @@ ghost use Rattle.machine_file.specs.ValidFiles.{broken_cycle, broken_devices, br
 
 use crate::ReadMachine;
 use crate::fault::Stop;
-use crate::names::devices::{NamedDevices, devices_in};
-use crate::names::known::{Known, known_in};
+use crate::names::known::{Known, known_of_file};
 use crate::reading::links::{links_of_file, tied_in};
 use crate::reading::machine::{Parts, rest_in};
 use crate::reading::whole::read_of;
@@ -42,35 +41,21 @@ pub(crate) fn machine_in(alloc: Global, tree: &Value<'_>) -> Result<ReadMachine,
     }
 }
 
-/// Reads a file that keeps the rules on form, but for links.
+/// Reads a file that keeps the rules on form, but for links. Only it owns the names of its things, and drops
+/// them at one exit.
 fn read_headed(alloc: Global, tree: &Value<'_>) -> Result<ReadMachine, Stop>
     requires { broken_head (view tree.now) ≡ None }
     ensures ok { IfOk result (Reads (view tree.now)) }
     ensures err { IfErr result (StopsUnless (keeps_rules (view tree.now))) }
 {
-    let devices = devices_in(alloc, tree)?;
-    match devices {
-        Ok(devices) => read_registered(alloc, tree, devices),
+    match known_of_file(alloc, tree)? {
+        Ok(known) => {
+            let read = read_known(alloc, tree, &known);
+            drop(known);
+            read
+        }
         Err(_) => Err(Stop::Broken),
     }
-}
-
-/// Reads a file with these devices. Only it owns the names of its things, and drops them at one exit.
-fn read_registered(
-    alloc: Global,
-    tree: &Value<'_>,
-    devices: NamedDevices,
-) -> Result<ReadMachine, Stop>
-    requires head { broken_head (view tree.now) ≡ None }
-    requires unbroken { broken_devices (view tree.now) ≡ None }
-    requires devices { devices ≡ whole_devices (view tree.now) }
-    ensures ok { IfOk result (Reads (view tree.now)) }
-    ensures err { IfErr result (StopsUnless (keeps_rules (view tree.now))) }
-{
-    let known = known_in(alloc, tree, devices)?;
-    let read = read_known(alloc, tree, &known);
-    drop(known);
-    read
 }
 
 /// Reads it by the names of its things.
@@ -125,9 +110,15 @@ fn read_tied(
     ensures ok { IfOk result (Reads (view tree.now)) }
     ensures err { IfErr result (StopsUnless (keeps_rules (view tree.now))) }
 {
-    let behaviour = rest_in(alloc, tree, known)?;
+    let Ok(behaviour) = rest_in(alloc, tree, known) else {
+        drop(linking);
+        return Err(Stop::Mem);
+    };
     match behaviour {
         Ok(behaviour) => Ok(read_of(alloc, tree, known, Parts { linking, behaviour })?),
-        Err(_) => Err(Stop::Broken),
+        Err(_) => {
+            drop(linking);
+            Err(Stop::Broken)
+        }
     }
 }

@@ -3,12 +3,10 @@
 ghost use Rattle.std.specs.Prelude.{◌≡◌, None, option_map, IfOk};
 ghost use Rattle.borrowed_json.specs.View.{view};
 ghost use Rattle.machine_file.specs.Broken.{broken_view};
-ghost use Rattle.machine_file.specs.Devices.{whole_devices};
 ghost use Rattle.machine_file.specs.Knows.{Knows};
 ghost use Rattle.machine_file.specs.ValidFiles.{broken_devices, broken_form, first_in_order};
 
-use crate::names::devices::{NamedDevices, devices_in};
-use crate::names::known::{Known, known_in};
+use crate::names::known::{Known, known_of_file};
 use crate::reading::machine::{first_of_form, parts_in};
 use crate::rules::Broken;
 use borrowed_json::Value;
@@ -25,33 +23,20 @@ pub(crate) fn first_broken(alloc: Global, tree: &Value<'_>) -> Result<Option<Bro
     }
 }
 
-/// The first rule that a file breaks which keeps the rules on form.
+/// The first rule that a file breaks which keeps the rules on form. Only it owns the names of its things, and
+/// drops them at one exit.
 fn first_formed(alloc: Global, tree: &Value<'_>) -> Result<Option<Broken>, Mem>
     requires { broken_form (view tree.now) ≡ None }
     ensures { IfOk result (λ b. option_map broken_view b ≡ first_in_order (view tree.now)) }
 {
-    match devices_in(alloc, tree)? {
-        Ok(devices) => first_registered(alloc, tree, devices),
+    match known_of_file(alloc, tree)? {
+        Ok(known) => {
+            let broken = first_known(alloc, tree, &known);
+            drop(known);
+            broken
+        }
         Err(broken) => Ok(Some(broken)),
     }
-}
-
-/// The first rule that a file with these devices breaks. Only it owns the names of its things, and drops them
-/// at one exit.
-fn first_registered(
-    alloc: Global,
-    tree: &Value<'_>,
-    devices: NamedDevices,
-) -> Result<Option<Broken>, Mem>
-    requires form { broken_form (view tree.now) ≡ None }
-    requires unbroken { broken_devices (view tree.now) ≡ None }
-    requires devices { devices ≡ whole_devices (view tree.now) }
-    ensures { IfOk result (λ b. option_map broken_view b ≡ first_in_order (view tree.now)) }
-{
-    let known = known_in(alloc, tree, devices)?;
-    let broken = first_known(alloc, tree, &known);
-    drop(known);
-    broken
 }
 
 /// The first rule that a file with these names breaks.

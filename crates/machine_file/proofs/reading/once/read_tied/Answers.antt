@@ -12,8 +12,8 @@ use Rattle.machine_file.proofs.reading.once.read_tied.Goals as goal
 pub read_of-requires : goal.read_of-requires
 read_of-requires c =
     let d = view c.args.tree.now in
-    let none : broken_rest d ≡ None = subst (λ r. IfOk r (λ _. broken_rest d ≡ None)) c.in-Ok.is c.in_ok-behaviour.ensures.unbroken in
-    let spelled : SpellsBehaviour d c.args.known.now c.in-Ok.behaviour = subst (λ r. IfOk r (SpellsBehaviour d c.args.known.now)) c.in-Ok.is c.in_ok-behaviour.ensures.spelled in
+    let none : broken_rest d ≡ None = subst (λ r. IfOk r (λ _. broken_rest d ≡ None)) c.in-Ok-behaviour.is c.in-Ok.ensures.unbroken in
+    let spelled : SpellsBehaviour d c.args.known.now c.in-Ok-behaviour.behaviour = subst (λ r. IfOk r (SpellsBehaviour d c.args.known.now)) c.in-Ok-behaviour.is c.in-Ok.ensures.spelled in
     record {
       unbroken =
           ap (λ (o : Option Broken). option_or o (option_or (broken_devices d) (option_or (broken_ends d) (option_or (broken_cycle d) (broken_rest d))))) c.requires.form
@@ -31,4 +31,4 @@ read_of-requires c =
 
 pub returns-in-Err-clause-err : goal.returns-in-Err-clause-err
 returns-in-Err-clause-err c =
-    let d = view c.args.tree.now in rest_breaks d _ (subst (λ r. IfErr r (λ b. broken_rest d ≡ Some (broken_view b))) c.in-Err.is c.in_ok-behaviour.ensures.broken)
+    let d = view c.args.tree.now in rest_breaks d _ (subst (λ r. IfErr r (λ b. broken_rest d ≡ Some (broken_view b))) c.in-Err.is c.in-Ok.ensures.broken)

@@ -1,7 +1,7 @@
--- What `devices_in` requires in `first_formed`.
+-- What `known_of_file` requires in `first_formed`.
 use Rattle.borrowed_json.specs.View.{view}
 use Rattle.machine_file.proofs.KeptLinks.{form_devices}
 use Rattle.machine_file.proofs.rules.first.first_formed.Goals as goal
 
-pub devices_in-requires : goal.devices_in-requires
-devices_in-requires c = form_devices (view c.args.tree.now) c.requires
+pub known_of_file-requires : goal.known_of_file-requires
+known_of_file-requires c = form_devices (view c.args.tree.now) c.requires
