@@ -1,6 +1,7 @@
 -- The rules of values by what they are about, in the order in which a broken one is named.
-use Rattle.std.specs.Prelude.{List, [], ◌∷◌, codes}
+use Rattle.std.specs.Prelude.{ℕ, List, [], ◌∷◌, codes, Option}
 use Rattle.std.specs.Option.{option_or}
+use Rattle.serde_json.specs.Data.{Data}
 use Rattle.machine_file.specs.Members.{file_members}
 use Rattle.machine_file.specs.Places.{unless}
 use Rattle.machine_file.specs.Form.{unformed_member, unformed_item}
@@ -13,16 +14,21 @@ use Rattle.machine_file.specs.Rules.{has_version}
 use Rattle.borrowed_json.specs.Look.{has_only}
 use Rattle.machine_file.specs.Whole.{Rule, rule}
 
--- the rules on form, number and the spelling of names
-abbrev pub form_rules : List Rule
-form_rules =
+-- the rules on form, number and the spelling of names, of which these two are the places of an item that has not its form, and of one that is
+-- misspelled
+abbrev pub form_rules_by : (Data → Option (List ℕ)) → (Data → Option (List ℕ)) → List Rule
+form_rules_by unformed misspelled =
     rule 2 (λ d. unless (has_only file_members d) (codes "top"))
     ∷ rule 3 (λ d. unless (has_version d) (codes "version"))
     ∷ rule 4 unformed_member
-    ∷ rule 5 unformed_item
+    ∷ rule 5 unformed
     ∷ rule 6 too_many
-    ∷ rule 7 misspelled_item
+    ∷ rule 7 misspelled
     ∷ []
+
+-- the rules on form, number and the spelling of names
+abbrev pub form_rules : List Rule
+form_rules = form_rules_by unformed_item misspelled_item
 
 -- the rules on the names and the parents of devices
 abbrev pub device_rules : List Rule

@@ -2,13 +2,11 @@
 use Rattle.std.specs.Prelude.{ℕ, List, [], ◌∷◌, codes, Bool, ◌&&◌}
 use Rattle.serde_json.specs.Data.{Data}
 use Rattle.borrowed_json.specs.Look.{has_only, is_one_of, is_string, may_have, must_have, text_at}
-use Rattle.machine_file.specs.Form.{Named, first_in_lists, is_actor_form, is_answer_form, is_device_form, is_notifier_form, link_states, row, unformed_member}
-use Rattle.machine_file.specs.Limits.{too_many}
-use Rattle.machine_file.specs.Members.{file_members, link_members}
+use Rattle.machine_file.specs.Form.{Named, first_in_lists, is_actor_form, is_answer_form, is_device_form, is_notifier_form, link_states, row}
+use Rattle.machine_file.specs.Groups.{form_rules_by}
+use Rattle.machine_file.specs.Members.{link_members}
 use Rattle.machine_file.specs.Names.{is_among_names, names_of_device, own_name, spells_name}
-use Rattle.machine_file.specs.Places.{unless}
-use Rattle.machine_file.specs.Rules.{has_version}
-use Rattle.machine_file.specs.Whole.{Rule, rule}
+use Rattle.machine_file.specs.Whole.{Rule}
 
 -- the device that is named at a member, which has to be given, is of these
 abbrev pub has_end : List ℕ → List (List ℕ) → Data → Bool
@@ -43,11 +41,4 @@ other_names =
 
 -- the rules on form, number and the spelling of names, but for links
 abbrev pub head_rules : List Rule
-head_rules =
-    rule 2 (λ d. unless (has_only file_members d) (codes "top"))
-    ∷ rule 3 (λ d. unless (has_version d) (codes "version"))
-    ∷ rule 4 unformed_member
-    ∷ rule 5 (first_in_lists other_forms)
-    ∷ rule 6 too_many
-    ∷ rule 7 (first_in_lists other_names)
-    ∷ []
+head_rules = form_rules_by (first_in_lists other_forms) (first_in_lists other_names)

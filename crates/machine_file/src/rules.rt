@@ -20,7 +20,7 @@ ghost use Rattle.machine_file.specs.Operations.{unformed_operation, sourceless_o
 ghost use Rattle.machine_file.specs.ValidFiles.{broken_form};
 ghost use Rattle.machine_file.specs.Answering.{sourceless_report, thingless_answer};
 ghost use Rattle.machine_file.specs.Places.{unless};
-ghost use Rattle.machine_file.specs.Groups.{form_rules, end_rules, thing_rules, operation_rules, reply_rules, last_rules};
+ghost use Rattle.machine_file.specs.Groups.{form_rules, form_rules_by, end_rules, thing_rules, operation_rules, reply_rules, last_rules};
 ghost use Rattle.machine_file.specs.Kept.{head_rules};
 ghost use Rattle.machine_file.specs.Knows.{Knows};
 ghost use Rattle.machine_file.specs.Seen.{AreEnds, AreNumbersOf};
@@ -93,28 +93,35 @@ fn version(tree: &Value<'_>) -> Option<Place>
     }
 }
 
-/// The first rule of form, of number and of names that is broken.
-pub(crate) fn form_broken(tree: &Value<'_>) -> Option<Broken>
-    ensures { option_map broken_view result ≡ first_of form_rules (view tree.now) }
+/// The first rule of form, of number and of names that is broken, by the first item that has not its form and
+/// the first that is misspelled.
+fn form_broken_by(
+    tree: &Value<'_>,
+    unformed: Option<Place>,
+    misspelled: Option<Place>,
+) -> Option<Broken>
+    ensures { option_map broken_view result ≡ first_of (form_rules_by (λ _. place_of unformed) (λ _. place_of misspelled)) (view tree.now) }
 {
     breaks(2, top(tree))
         .or(breaks(3, version(tree)))
         .or(breaks(4, unformed_member(tree)))
-        .or(breaks(5, unformed_item(tree)))
+        .or(breaks(5, unformed))
         .or(breaks(6, too_many(tree)))
-        .or(breaks(7, misspelled_item(tree)))
+        .or(breaks(7, misspelled))
+}
+
+/// The first rule of form, of number and of names that is broken.
+pub(crate) fn form_broken(tree: &Value<'_>) -> Option<Broken>
+    ensures { option_map broken_view result ≡ first_of form_rules (view tree.now) }
+{
+    form_broken_by(tree, unformed_item(tree), misspelled_item(tree))
 }
 
 /// The first of them that is broken, but for links.
 pub(crate) fn head_broken(tree: &Value<'_>) -> Option<Broken>
     ensures { option_map broken_view result ≡ first_of head_rules (view tree.now) }
 {
-    breaks(2, top(tree))
-        .or(breaks(3, version(tree)))
-        .or(breaks(4, unformed_member(tree)))
-        .or(breaks(5, other_unformed(tree)))
-        .or(breaks(6, too_many(tree)))
-        .or(breaks(7, other_misspelled(tree)))
+    form_broken_by(tree, other_unformed(tree), other_misspelled(tree))
 }
 
 /// The first rule of the ends of links that is broken.

@@ -1,12 +1,15 @@
 -- Proof that `form_broken` meets its contract.
-use Rattle.std.proofs.Common.{◌∙◌, ap}
-use Rattle.std.specs.Option.{option_map}
-use Rattle.machine_file.specs.Whole.{broken_at}
-use Rattle.machine_file.specs.Broken.{broken_view}
-use Rattle.machine_file.proofs.Alternatives.{first_of_six, last}
+use Rattle.std.proofs.Common.{◌∙◌, List, Option, ℕ, ap}
+use Rattle.borrowed_json.specs.View.{view}
+use Rattle.machine_file.specs.Broken.{place_of}
+use Rattle.machine_file.specs.Form.{unformed_item}
+use Rattle.machine_file.specs.Groups.{form_rules_by}
+use Rattle.machine_file.specs.Whole.{first_of}
 use Rattle.machine_file.proofs.rules.form_broken.Goals as goal
 
 pub returns : goal.returns
 returns c =
-    first_of_six broken_view _ _ _ _ _ _ _ _ _ _ _ _ _ _ _ _ _ c.or.ensures c.or-2.ensures c.or-3.ensures c.or-4.ensures c.or-5.ensures
-    (c.breaks.ensures ∙ ap (option_map (broken_at 2)) c.top.ensures) (c.breaks-2.ensures ∙ ap (option_map (broken_at 3)) c.version.ensures) (c.breaks-3.ensures ∙ ap (option_map (broken_at 4)) c.unformed_member.ensures) (c.breaks-4.ensures ∙ ap (option_map (broken_at 5)) c.unformed_item.ensures) (c.breaks-5.ensures ∙ ap (option_map (broken_at 6)) c.too_many.ensures) (c.breaks-6.ensures ∙ ap (option_map (broken_at 7)) c.misspelled_item.ensures ∙ last _)
+    let d = view c.args.tree.now in
+    c.form_broken_by.ensures
+    ∙ ap (λ (u : Option (List ℕ)). first_of (form_rules_by (λ _. u) (λ _. place_of c.misspelled_item.result)) d) c.unformed_item.ensures
+    ∙ ap (λ (m : Option (List ℕ)). first_of (form_rules_by (unformed_item) (λ _. m)) d) c.misspelled_item.ensures
