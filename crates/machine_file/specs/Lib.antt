@@ -25,6 +25,7 @@ pub mod Joined
 pub mod Groups
 pub mod Kept
 pub mod ValidFiles
+pub mod Sound
 pub mod Marks
 pub mod Fitting
 pub mod Reading

@@ -1,17 +1,11 @@
 -- The rules of a file by groups, and a file that keeps them.
-use Rattle.std.specs.Prelude.{◌≡◌, Bool, Option, None, is_none, reverse}
+use Rattle.std.specs.Prelude.{Bool, Option, is_none}
 use Rattle.std.specs.Option.{option_or, option_map}
 use Rattle.serde_json.specs.Data.{Data}
-use Rattle.sleep_model.specs.Order.{parents_of}
-use Rattle.machine_file.specs.declared.names.known.Known.{Known}
-use Rattle.machine_file.specs.declared.reading.machine.Behaviour.{Behaviour}
-use Rattle.machine_file.specs.declared.reading.machine.Parts.{Parts}
-use Rattle.machine_file.specs.Answering.{whole_answers}
-use Rattle.machine_file.specs.Devices.{whole_devices, whole_links, cyclic_link}
+use Rattle.machine_file.specs.Devices.{cyclic_link}
 use Rattle.machine_file.specs.Whole.{Broken, first_of, broken_at}
 use Rattle.machine_file.specs.Groups.{form_rules, device_rules, end_rules, thing_rules, operation_rules, answer_rules, last_rules}
 use Rattle.machine_file.specs.Kept.{head_rules}
-use Rattle.machine_file.specs.Knows.{Knows, AreFew, SpellsScripts}
 
 -- the first rule on form that is broken
 unfoldable pub broken_form : Data → Option Broken
@@ -48,18 +42,3 @@ first_in_order d = option_or (broken_form d) (option_or (broken_devices d) (opti
 -- no rule is broken
 abbrev pub keeps_rules : Data → Bool
 keeps_rules d = is_none (first_in_order d)
-
--- no rule is broken, the names are known and few, the links are added, and the scripts and the answers are read
-pub record IsSound (file : Data) (k : Known) (p : Parts) : Type 0 where
-  pub unbroken : first_in_order file ≡ None
-  pub knows : Knows k file
-  pub few : AreFew k
-  pub links : p.linking.links.items ≡ whole_links file
-  pub added : p.linking.added.links ≡ record { parents = parents_of (whole_devices file); links = reverse (whole_links file) }
-  pub scripts : SpellsScripts file k p.behaviour.scripts
-  pub answers : p.behaviour.answers.items ≡ whole_answers file
-
--- these are the scripts of the file, and its answers
-pub record SpellsBehaviour (file : Data) (k : Known) (b : Behaviour) : Type 0 where
-  pub scripts : SpellsScripts file k b.scripts
-  pub answers : b.answers.items ≡ whole_answers file

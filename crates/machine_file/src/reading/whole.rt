@@ -10,7 +10,7 @@ ghost use Rattle.machine_file.specs.Answering.{whole_answers};
 ghost use Rattle.machine_file.specs.Whole.{whole_notifier, whole_machine};
 ghost use Rattle.machine_file.specs.Knows.{Knows, AreFew};
 ghost use Rattle.machine_file.specs.Fitting.{FitsFile};
-ghost use Rattle.machine_file.specs.ValidFiles.{IsSound};
+ghost use Rattle.machine_file.specs.Sound.{IsSound};
 ghost use Rattle.machine_file.specs.Reading.{Reads};
 
 use crate::ReadMachine;

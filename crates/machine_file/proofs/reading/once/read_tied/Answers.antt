@@ -3,7 +3,8 @@ use Rattle.std.proofs.Common.{◌≡◌, ◌∙◌, IfErr, IfOk, Option, None, S
 use Rattle.std.specs.Option.{option_or}
 use Rattle.borrowed_json.specs.View.{view}
 use Rattle.machine_file.specs.Broken.{broken_view}
-use Rattle.machine_file.specs.ValidFiles.{SpellsBehaviour, broken_cycle, broken_devices, broken_ends, broken_rest}
+use Rattle.machine_file.specs.Sound.{SpellsBehaviour}
+use Rattle.machine_file.specs.ValidFiles.{broken_cycle, broken_devices, broken_ends, broken_rest}
 use Rattle.machine_file.specs.Whole.{Broken}
 use Rattle.machine_file.proofs.Grouping.{few_known}
 use Rattle.machine_file.proofs.KeptLinks.{rest_breaks}
