@@ -18,6 +18,7 @@ pub mod LinksValid
 pub mod AnswersValid
 pub mod Accepted
 pub mod Each
+pub mod Passed
 pub mod Fitted
 pub mod FittedFile
 pub mod Marked

@@ -4,7 +4,7 @@ use Rattle.std.proofs.lemmas.Result.{err_from_is_err_and}
 use Rattle.machine_file.specs.Kept.{is_valid_link}
 use Rattle.machine_file.specs.Knows.{names}
 use Rattle.machine_file.specs.Spelled.{link_of}
-use Rattle.machine_file.proofs.Each.{all_passed, one_more, stops_all}
+use Rattle.machine_file.proofs.Passed.{all_passed, one_more, stops_all}
 use Rattle.machine_file.proofs.reading.links.links_in.Goals as goal
 
 pub loop-link-preserved : goal.loop-link-preserved

@@ -3,7 +3,8 @@ use Rattle.std.proofs.Common.{arith}
 use Rattle.std.proofs.lemmas.Result.{err_from_is_err_and}
 use Rattle.machine_file.specs.AnswerTests.{answer_made, is_valid_answer}
 use Rattle.machine_file.specs.Fitting.{FitsAnswer}
-use Rattle.machine_file.proofs.Each.{all_passed, one_more, stops_all, value_each}
+use Rattle.machine_file.proofs.Each.{value_each}
+use Rattle.machine_file.proofs.Passed.{all_passed, one_more, stops_all}
 use Rattle.machine_file.proofs.reading.replies.answers_in.Goals as goal
 
 pub answer_in-requires-clause-fits : goal.answer_in-requires-clause-fits

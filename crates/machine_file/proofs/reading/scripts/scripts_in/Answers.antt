@@ -4,7 +4,8 @@ use Rattle.std.proofs.lemmas.Result.{err_from_is_err_and}
 use Rattle.machine_file.specs.Fitting.{FitsScript}
 use Rattle.machine_file.specs.Knows.{known_seen}
 use Rattle.machine_file.specs.OperationRows.{is_valid_script}
-use Rattle.machine_file.proofs.Each.{all_passed, stops_all, value_each}
+use Rattle.machine_file.proofs.Each.{value_each}
+use Rattle.machine_file.proofs.Passed.{all_passed, stops_all}
 use Rattle.machine_file.proofs.reading.scripts.scripts_in.Goals as goal
 
 pub script_in-requires-clause-fits : goal.script_in-requires-clause-fits

@@ -3,7 +3,7 @@ use Rattle.std.proofs.lemmas.Grind.{common_steps}
 use Rattle.std.proofs.lemmas.Result.{err_from_is_err_and}
 use Rattle.machine_file.specs.Knows.{known_seen}
 use Rattle.machine_file.specs.OperationRows.{is_valid_for}
-use Rattle.machine_file.proofs.Each.{all_passed, stops_all}
+use Rattle.machine_file.proofs.Passed.{all_passed, stops_all}
 use Rattle.machine_file.proofs.reading.scripts.steps_in.Goals as goal
 
 pub loop-operation-preserved : goal.loop-operation-preserved
