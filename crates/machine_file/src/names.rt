@@ -11,12 +11,25 @@ ghost use Rattle.machine_file.specs.Rules.{name_of};
 ghost use Rattle.machine_file.specs.Places.{first_not_after};
 ghost use Rattle.machine_file.specs.Names.{names_in, texts_in, is_among_names};
 ghost use Rattle.machine_file.specs.Broken.{member_name};
+ghost use Rattle.machine_file.specs.Fitting.{IsShort};
 
 use crate::value::place::{Member, items};
 use borrowed_json::{Value, text_at, text_of};
 use key_index::KeyIndex;
 use sleep_base::Mem;
+use sleep_model::Name;
 use std::alloc::Global;
+
+/// The name that a text spells.
+pub(crate) fn name_of_text(text: &str) -> Name
+    requires { IsShort text.now }
+    ensures { result ≡ text.now }
+{
+    match Name::of_bytes(text.as_bytes()) {
+        Some(name) => name,
+        None => unreachable!(),
+    }
+}
 
 /// The names of a list of objects.
 pub(crate) fn names_in<'v>(

@@ -1,11 +1,11 @@
 //! A machine file is read, or refused by the first rule that it breaks.
 pub(crate) mod links;
 pub(crate) mod machine;
+pub(crate) mod notifiers;
 pub(crate) mod once;
 pub(crate) mod replies;
 pub(crate) mod scripts;
 pub(crate) mod texts;
-pub(crate) mod things;
 pub(crate) mod whole;
 
 ghost use Rattle.std.specs.Prelude.{◌≡◌, ◌++◌, codes, false, Some, None, IfOk, IfErr, string_bytes};

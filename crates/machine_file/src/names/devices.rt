@@ -3,7 +3,7 @@
 ghost use Rattle.std.specs.Prelude.{◌≡◌, ◌≤◌, [], All, None, Some, map, bytes_eq, codes, length, IfErr, IfOk, OnOk, position};
 ghost use Rattle.borrowed_json.specs.View.{view};
 ghost use Rattle.machine_file.specs.Broken.{broken_view};
-ghost use Rattle.machine_file.specs.Devices.{whole_devices};
+ghost use Rattle.machine_file.specs.Devices.{bit, flags_of, whole_devices};
 ghost use Rattle.machine_file.specs.Fitting.{HasDevices, HasShortName};
 ghost use Rattle.machine_file.specs.ValidFiles.{broken_devices};
 ghost use Rattle.machine_file.specs.Knows.{names};
@@ -15,14 +15,14 @@ ghost use Rattle.machine_file.specs.Spelled.{index_among};
 ghost use Rattle.machine_file.specs.Whole.{broken_at};
 
 use crate::names::known::repeated;
-use crate::reading::texts::name_of_text;
-use crate::reading::things::flags_of;
+use crate::names::name_of_text;
 use crate::rules::Broken;
 use crate::value::place::{Member, Place, items};
-use borrowed_json::{Value, text_at, word_at};
+use bitflags::Flags;
+use borrowed_json::{Value, has_text, text_at, truth_at, word_at};
 use device_tree::{Tree, TreeFault};
 use sleep_base::Mem;
-use sleep_model::{Device, Name};
+use sleep_model::{Device, DeviceFlags, Name, runtime_word};
 use std::alloc::Global;
 use std::marker::Model;
 
@@ -114,6 +114,22 @@ fn parent_of(device: &Value<'_>, devices: &NamedDevices) -> Option<u32>
         Some(number) => Some(number),
         None => Some(devices.len()),
     }
+}
+
+fn flag(set: bool, value: u8) -> u8
+    ensures { result ≡ bit set value }
+{
+    if set { value } else { 0 }
+}
+
+/// What a file says of a device's driver.
+fn flags_of(device: &Value<'_>) -> DeviceFlags
+    ensures { result ≡ flags_of (view device.now) }
+{
+    let asynchronous = truth_at(device, "async").unwrap_or(false);
+    let wakeup = truth_at(device, "wakeup").unwrap_or(false);
+    let suspended = has_text(device, "runtime", runtime_word(true));
+    DeviceFlags::from_bits_retain(flag(asynchronous, 1) + flag(wakeup, 2) + flag(suspended, 4))
 }
 
 /// A device as it is registered after these.

@@ -4,20 +4,10 @@ ghost use Rattle.std.specs.Prelude.{◌≡◌, All, IfOk};
 ghost use Rattle.machine_file.specs.Knows.{texts};
 ghost use Rattle.machine_file.specs.Fitting.{IsShort};
 
+use crate::names::name_of_text;
 use sleep_base::Mem;
 use sleep_model::{Name, Text};
 use std::alloc::Global;
-
-/// The name that a text spells.
-pub(crate) fn name_of_text(text: &str) -> Name
-    requires { IsShort text.now }
-    ensures { result ≡ text.now }
-{
-    match Name::of_bytes(text.as_bytes()) {
-        Some(name) => name,
-        None => unreachable!(),
-    }
-}
 
 /// The names that texts spell.
 pub(crate) fn names_of_texts(alloc: Global, all: &[&str]) -> Result<Vec<Name>, Mem>

@@ -1,35 +1,17 @@
-//! The flags of devices, and the notifiers, that a file spells.
+//! The notifiers that a file spells.
 
 ghost use Rattle.std.specs.Prelude.{◌≡◌, ◌≤◌, All, Some, map, length, codes, IfOk, option_and_then, true};
 ghost use Rattle.borrowed_json.specs.View.{view};
 ghost use Rattle.serde_json.specs.Find.{as_number, as_integer};
 ghost use Rattle.borrowed_json.specs.Look.{may_have, is_bounded};
-ghost use Rattle.machine_file.specs.Devices.{bit, flags_of};
 ghost use Rattle.machine_file.specs.Whole.{priority_of, whole_notifier};
 ghost use Rattle.machine_file.specs.Fitting.{FitsNotifier};
 
-use crate::reading::texts::name_of_text;
-use bitflags::Flags;
-use borrowed_json::{Value, as_i64, get, has_text, text_at, truth_at};
+use crate::names::name_of_text;
+use borrowed_json::{Value, as_i64, get, text_at};
 use sleep_base::Mem;
-use sleep_model::{DeviceFlags, Notifier, runtime_word};
+use sleep_model::Notifier;
 use std::alloc::Global;
-
-fn flag(set: bool, value: u8) -> u8
-    ensures { result ≡ bit set value }
-{
-    if set { value } else { 0 }
-}
-
-/// What a file says of a device's driver.
-pub(crate) fn flags_of(device: &Value<'_>) -> DeviceFlags
-    ensures { result ≡ flags_of (view device.now) }
-{
-    let asynchronous = truth_at(device, "async").unwrap_or(false);
-    let wakeup = truth_at(device, "wakeup").unwrap_or(false);
-    let suspended = has_text(device, "runtime", runtime_word(true));
-    DeviceFlags::from_bits_retain(flag(asynchronous, 1) + flag(wakeup, 2) + flag(suspended, 4))
-}
 
 /// A number from -1000 to 1000.
 fn bounded_of(value: &Value<'_>) -> i32

@@ -3,7 +3,7 @@ use Rattle.std.proofs.Common.{arith}
 use Rattle.std.proofs.lemmas.Grind.{common_steps}
 use Rattle.machine_file.specs.Fitting.{FitsNotifier}
 use Rattle.machine_file.proofs.Each.{value_each}
-use Rattle.machine_file.proofs.reading.things.notifiers_of.Goals as goal
+use Rattle.machine_file.proofs.reading.notifiers.notifiers_of.Goals as goal
 
 pub notifier_of-requires : goal.notifier_of-requires
 notifier_of-requires c = value_each FitsNotifier c.args.notifiers.now c.loop-notifier.notifier-index c.notifier-item.result (omega arith) c.notifier-item.is c.requires

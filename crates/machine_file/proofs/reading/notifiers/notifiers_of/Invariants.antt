@@ -2,7 +2,7 @@
 use Rattle.std.proofs.Common.{◌≡◌, map, take}
 use Rattle.borrowed_json.specs.View.{view}
 use Rattle.machine_file.specs.Whole.{whole_notifier}
-use Rattle.machine_file.proofs.reading.things.notifiers_of.Given as goal
+use Rattle.machine_file.proofs.reading.notifiers.notifiers_of.Given as goal
 
 abbrev pub invariant-loop-notifier : goal.invariant-loop-notifier
 invariant-loop-notifier l = l.all.items ≡ map whole_notifier (map view (take l.notifier-index l.notifiers))
