@@ -3,8 +3,8 @@ use Rattle.std.proofs.Common.{◌≡◌, ◌∙◌, ◌&&◌, ◌||◌, ℕ, suc
 use Rattle.std.specs.List.{list_all, list_any}
 use Rattle.std.proofs.lemmas.Bool.{and_parts, and_from}
 use Rattle.std.proofs.lemmas.List.Sums.{sum_by-cons}
-use Rattle.machine_file.specs.Places.{first_not, first_not_after}
-use Rattle.machine_file.proofs.Placing.{position_cons}
+use Rattle.file_rules.specs.Places.{first_not, first_not_after}
+use Rattle.file_rules.proofs.Placing.{position_cons}
 
 -- each of them is so
 abbrev pub EachOf : {X : Type 0} → (X → Type 0) → List X → Type 0

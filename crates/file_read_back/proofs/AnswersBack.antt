@@ -17,15 +17,15 @@ use Rattle.sleep_model.specs.Text.{device, syscore, notifier, down_word}
 use Rattle.phase_table.specs.declared.phase.Phase.TheVariants as phase
 use Rattle.phase_table.specs.Phases.{phase_name}
 use Rattle.borrowed_json.specs.Look.{is_some_and, is_none_or, is_number, is_text, has_only, must_have, may_have, has_text, list_in, items_of, number_at, word_at, is_string, is_within, is_one_of}
-use Rattle.machine_file.specs.Members.{answer_members}
-use Rattle.machine_file.specs.Form.{answerers, phases, is_ret_form, is_report_form, are_reports, is_answer_form}
-use Rattle.machine_file.specs.Names.{is_among_names, own_name, spells_name, devices_named, sources_named, texts_in, names_in}
-use Rattle.machine_file.specs.Rules.{name_of}
+use Rattle.file_rules.specs.Members.{answer_members}
+use Rattle.file_rules.specs.Form.{answerers, phases, is_ret_form, is_report_form, are_reports, is_answer_form}
+use Rattle.file_rules.specs.Names.{is_among_names, own_name, spells_name, devices_named, sources_named, texts_in, names_in}
+use Rattle.file_rules.specs.Rules.{name_of}
 use Rattle.sleep_model.specs.NameBytes.{is_name}
-use Rattle.machine_file.specs.Spelled.{index_among}
-use Rattle.machine_file.specs.Operations.{names_source}
-use Rattle.machine_file.specs.Answering.{platform_steps, answering_phases, is_of_device, names_of_kind, has_its_phase, names_thing, is_of_prepare, common_errors, is_ret_allowed, may_report, phase_of, step_of, thing_of, ret_of, whole_report, whole_answer}
-use Rattle.machine_file.specs.Whole.{whole_machine}
+use Rattle.file_rules.specs.Spelled.{index_among}
+use Rattle.file_rules.specs.Operations.{names_source}
+use Rattle.file_rules.specs.Answering.{platform_steps, answering_phases, is_of_device, names_of_kind, has_its_phase, names_thing, is_of_prepare, common_errors, is_ret_allowed, may_report, phase_of, step_of, thing_of, ret_of, whole_report, whole_answer}
+use Rattle.file_rules.specs.Whole.{whole_machine}
 use Rattle.machine_file.specs.Spelling.{list_unless_empty, count, error_or, thing_word, thing_name, thing_phase, answer_rows, answer_value, report_value}
 use Rattle.file_read_back.proofs.Rows.{at_name, named, list_found, items_back}
 use Rattle.file_read_back.proofs.NamesBack.{device_back, syscore_back, notifier_back}

@@ -7,13 +7,13 @@ use Rattle.sleep_model.specs.declared.flags.DeviceFlags.{DeviceFlags}
 use Rattle.sleep_model.specs.Runtime.{has_bit}
 use Rattle.sleep_model.specs.Text.{device}
 use Rattle.borrowed_json.specs.Look.{is_some_and, is_none_or, is_text, must_have, may_have, word_at, is_string, is_truth, is_one_of}
-use Rattle.machine_file.specs.Members.{device_members}
-use Rattle.machine_file.specs.Form.{Named, statuses, is_device_form}
-use Rattle.machine_file.specs.Names.{is_among_names, spells_name, names_of_device, devices_named}
-use Rattle.machine_file.specs.Rules.{name_of}
+use Rattle.file_rules.specs.Members.{device_members}
+use Rattle.file_rules.specs.Form.{Named, statuses, is_device_form}
+use Rattle.file_rules.specs.Names.{is_among_names, spells_name, names_of_device, devices_named}
+use Rattle.file_rules.specs.Rules.{name_of}
 use Rattle.sleep_model.specs.NameBytes.{is_name}
-use Rattle.machine_file.specs.Devices.{bit, flags_of, whole_device}
-use Rattle.machine_file.specs.Whole.{whole_machine}
+use Rattle.file_rules.specs.Devices.{bit, flags_of, whole_device}
+use Rattle.file_rules.specs.Whole.{whole_machine}
 use Rattle.machine_file.specs.Spelling.{device_rows, device_value}
 use Rattle.file_read_back.proofs.Rows.{at_name, at_names, named}
 use Rattle.file_read_back.proofs.NamesBack.{placed, device_named}

@@ -7,11 +7,11 @@ use Rattle.std.specs.Str.Parse.{AllDigits}
 use Rattle.std.proofs.lemmas.Bool.{and_from, eqb-false}
 use Rattle.std.proofs.lemmas.Fmt.{decimal_injective, decimal_is_IsNumeral, length-decimal-le}
 use Rattle.std.proofs.lemmas.Str.Parse.{digit_from_value}
-use Rattle.machine_file.specs.Names.{is_among_names}
-use Rattle.machine_file.specs.Places.{first_not_after}
+use Rattle.file_rules.specs.Names.{is_among_names}
+use Rattle.file_rules.specs.Places.{first_not_after}
 use Rattle.sleep_model.specs.NameBytes.{is_name, is_name_byte}
-use Rattle.machine_file.specs.Spelled.{index_among}
-use Rattle.machine_file.proofs.Placing.{position_cons}
+use Rattle.file_rules.specs.Spelled.{index_among}
+use Rattle.file_rules.proofs.Placing.{position_cons}
 
 -- a device's name
 abbrev pub drawn_name : ℕ → List ℕ

@@ -11,16 +11,16 @@ use Rattle.sleep_model.specs.Accepted.{IsAccepted}
 use Rattle.sleep_model.specs.Links.{AreLinks, is_linked}
 use Rattle.sleep_model.specs.Order.{is_among, dependents, moved, parents_of}
 use Rattle.borrowed_json.specs.Look.{items_of, list_in}
-use Rattle.machine_file.specs.Places.{first_not_after, first_item, item_place}
-use Rattle.machine_file.specs.Form.{is_device_form, is_link_form, unformed_item}
-use Rattle.machine_file.specs.Names.{is_among_names, names_of_device, names_of_link, devices_named, sources_named, misspelled_item, repeated, repeated_device}
-use Rattle.machine_file.specs.Rules.{name_of}
+use Rattle.file_rules.specs.Places.{first_not_after, first_item, item_place}
+use Rattle.file_rules.specs.Form.{is_device_form, is_link_form, unformed_item}
+use Rattle.file_rules.specs.Names.{is_among_names, names_of_device, names_of_link, devices_named, sources_named, misspelled_item, repeated, repeated_device}
+use Rattle.file_rules.specs.Rules.{name_of}
 use Rattle.sleep_model.specs.NameBytes.{is_name}
-use Rattle.machine_file.specs.Spelled.{link_of, index_among}
-use Rattle.machine_file.specs.Devices.{has_parent_before, has_ends, is_new_link, is_same_link, closes_no_cycle, orphan, loose_link, repeated_link, cyclic_link}
-use Rattle.machine_file.specs.Operations.{is_formed, names_source, unformed_operation, sourceless_operation}
-use Rattle.machine_file.specs.Limits.{most_items, too_many, all_steps, is_link_step, are_links_few, are_steps_few, too_much}
-use Rattle.machine_file.specs.Whole.{rules, first_broken}
+use Rattle.file_rules.specs.Spelled.{link_of, index_among}
+use Rattle.file_rules.specs.Devices.{has_parent_before, has_ends, is_new_link, is_same_link, closes_no_cycle, orphan, loose_link, repeated_link, cyclic_link}
+use Rattle.file_rules.specs.Operations.{is_formed, names_source, unformed_operation, sourceless_operation}
+use Rattle.file_rules.specs.Limits.{most_items, too_many, all_steps, is_link_step, are_links_few, are_steps_few, too_much}
+use Rattle.file_rules.specs.Whole.{rules, first_broken}
 use Rattle.machine_file.specs.Spelling.{as_items}
 use Rattle.sleep_script.specs.Generated.{draw, drawn_parent, drawn_links, after_links, generated}
 use Rattle.sleep_script.proofs.Generating.{accepted, drawn_less}

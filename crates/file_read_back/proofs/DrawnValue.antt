@@ -6,14 +6,14 @@ use Rattle.serde_json.specs.Data.{Data, boolean, string, array, object, no_membe
 use Rattle.sleep_model.specs.declared.machine.Link.{Link}
 use Rattle.sleep_model.specs.declared.machine.Op.TheVariants.{Sleep, Event}
 use Rattle.sleep_model.specs.declared.machine.TaskKind.TheVariants.{Irq}
-use Rattle.machine_file.specs.Devices.{flags_of, whole_device, whole_devices, whole_links}
+use Rattle.file_rules.specs.Devices.{flags_of, whole_device, whole_devices, whole_links}
 use Rattle.borrowed_json.specs.Look.{items_of, list_in}
-use Rattle.machine_file.specs.Names.{devices_named}
-use Rattle.machine_file.specs.Operations.{known_of, whole_scripts, whole_step}
-use Rattle.machine_file.specs.Rules.{name_of}
-use Rattle.machine_file.specs.Spelled.{link_of, parent_of}
+use Rattle.file_rules.specs.Names.{devices_named}
+use Rattle.file_rules.specs.Operations.{known_of, whole_scripts, whole_step}
+use Rattle.file_rules.specs.Rules.{name_of}
+use Rattle.file_rules.specs.Spelled.{link_of, parent_of}
 use Rattle.machine_file.specs.Spelling.{as_items, count}
-use Rattle.machine_file.specs.Whole.{whole_machine}
+use Rattle.file_rules.specs.Whole.{whole_machine}
 use Rattle.sleep_script.specs.Generated.{draw, drawn_parent, drawn_device, drawn_links, drawn_event, after_links, generated, once, sleeper}
 use Rattle.sleep_script.proofs.Generating.{drawn_less}
 use Rattle.file_read_back.proofs.Alike.{EachOf}

@@ -6,16 +6,16 @@ use Rattle.std.specs.Cmp.Lexicographic.{bytes_decides}
 use Rattle.std.proofs.lemmas.Bool.{and_parts, false≢true}
 use Rattle.serde_json.specs.Data.{Data}
 use Rattle.borrowed_json.specs.Look.{is_none_or, list_in, word_at, may_have}
-use Rattle.machine_file.specs.Places.{first_not_after, item_place}
-use Rattle.machine_file.specs.Form.{item_forms, is_actor_form, is_answer_form, is_notifier_form}
-use Rattle.machine_file.specs.Names.{item_names, is_among_names, own_name, names_of_device, names_of_link, spells_name, devices_named, sources_named}
-use Rattle.machine_file.specs.Rules.{is_second, name_of}
-use Rattle.machine_file.specs.Devices.{has_parent_before, has_ends}
-use Rattle.machine_file.specs.Operations.{is_formed, names_source, names_device, whole_marks, marks_of, sourceless_operation}
-use Rattle.machine_file.specs.Answering.{names_thing, is_ret_allowed, may_report, sourceless_report}
-use Rattle.machine_file.specs.Whole.{rules, first_broken}
-use Rattle.machine_file.proofs.Accepted.{keeps_all}
-use Rattle.machine_file.proofs.ScriptsValid.{table_row, each_item, each_list, EachList, each_operation, marks_known, each_found}
+use Rattle.file_rules.specs.Places.{first_not_after, item_place}
+use Rattle.file_rules.specs.Form.{item_forms, is_actor_form, is_answer_form, is_notifier_form}
+use Rattle.file_rules.specs.Names.{item_names, is_among_names, own_name, names_of_device, names_of_link, spells_name, devices_named, sources_named}
+use Rattle.file_rules.specs.Rules.{is_second, name_of}
+use Rattle.file_rules.specs.Devices.{has_parent_before, has_ends}
+use Rattle.file_rules.specs.Operations.{is_formed, names_source, names_device, whole_marks, marks_of, sourceless_operation}
+use Rattle.file_rules.specs.Answering.{names_thing, is_ret_allowed, may_report, sourceless_report}
+use Rattle.file_rules.specs.Whole.{rules, first_broken}
+use Rattle.file_rules.proofs.Accepted.{keeps_all}
+use Rattle.file_rules.proofs.ScriptsValid.{table_row, each_item, each_list, EachList, each_operation, marks_known, each_found}
 use Rattle.file_read_back.proofs.Alike.{EachOf, weaker, each_passes, each_both}
 use Rattle.file_read_back.proofs.DevicesBack.{ValidDevice}
 use Rattle.file_read_back.proofs.OperationsBack.{ValidOperation}

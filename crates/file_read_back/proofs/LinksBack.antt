@@ -5,14 +5,14 @@ use Rattle.serde_json.specs.Data.{Data, string}
 use Rattle.serde_json.specs.Find.{get, as_str, as_number, as_integer}
 use Rattle.sleep_model.specs.Text.{device}
 use Rattle.borrowed_json.specs.Look.{is_some_and, is_none_or, is_text, has_only, text_at, must_have, may_have, has_text, is_string, is_bounded, is_one_of}
-use Rattle.machine_file.specs.Members.{link_members, notifier_members}
-use Rattle.machine_file.specs.Form.{link_states, is_link_form, is_notifier_form}
-use Rattle.machine_file.specs.Names.{is_among_names, spells_name, names_of_link, own_name, devices_named}
-use Rattle.machine_file.specs.Rules.{name_of}
+use Rattle.file_rules.specs.Members.{link_members, notifier_members}
+use Rattle.file_rules.specs.Form.{link_states, is_link_form, is_notifier_form}
+use Rattle.file_rules.specs.Names.{is_among_names, spells_name, names_of_link, own_name, devices_named}
+use Rattle.file_rules.specs.Rules.{name_of}
 use Rattle.sleep_model.specs.NameBytes.{is_name}
-use Rattle.machine_file.specs.Spelled.{index_among, link_of}
-use Rattle.machine_file.specs.Devices.{has_ends}
-use Rattle.machine_file.specs.Whole.{whole_machine, whole_notifier, priority_of}
+use Rattle.file_rules.specs.Spelled.{index_among, link_of}
+use Rattle.file_rules.specs.Devices.{has_ends}
+use Rattle.file_rules.specs.Whole.{whole_machine, whole_notifier, priority_of}
 use Rattle.machine_file.specs.Spelling.{count, integer_unless_zero, link_rows, link_value, notifier_rows, notifier_value}
 use Rattle.file_read_back.proofs.Rows.{at_name, named}
 use Rattle.file_read_back.proofs.NamesBack.{device_back}

@@ -6,14 +6,14 @@ use Rattle.sleep_model.specs.Text.{down_word}
 use Rattle.sleep_model.specs.declared.machine.What.{What}
 use Rattle.sleep_model.specs.declared.machine.What.TheVariants as what
 use Rattle.borrowed_json.specs.Look.{text_of, has_text, list_in, number_at}
-use Rattle.machine_file.specs.Names.{names_of_link, own_name, devices_named, sources_named, names_in, texts_in}
-use Rattle.machine_file.specs.Form.{is_notifier_form}
-use Rattle.machine_file.specs.Rules.{name_of}
-use Rattle.machine_file.specs.Spelled.{index_among, link_of}
-use Rattle.machine_file.specs.Devices.{has_ends, whole_device, whole_devices, whole_links}
-use Rattle.machine_file.specs.Operations.{known_of, whole_step, whole_script, whole_marks, whole_scripts, marks_of, first_occurrences}
-use Rattle.machine_file.specs.Answering.{names_of_kind, platform_steps, answering_phases, thing_of, whole_report, whole_answer, whole_answers}
-use Rattle.machine_file.specs.Whole.{whole_machine, whole_notifier}
+use Rattle.file_rules.specs.Names.{names_of_link, own_name, devices_named, sources_named, names_in, texts_in}
+use Rattle.file_rules.specs.Form.{is_notifier_form}
+use Rattle.file_rules.specs.Rules.{name_of}
+use Rattle.file_rules.specs.Spelled.{index_among, link_of}
+use Rattle.file_rules.specs.Devices.{has_ends, whole_device, whole_devices, whole_links}
+use Rattle.file_rules.specs.Operations.{known_of, whole_step, whole_script, whole_marks, whole_scripts, marks_of, first_occurrences}
+use Rattle.file_rules.specs.Answering.{names_of_kind, platform_steps, answering_phases, thing_of, whole_report, whole_answer, whole_answers}
+use Rattle.file_rules.specs.Whole.{whole_machine, whole_notifier}
 use Rattle.machine_file.specs.Spelling.{machine_rows, machine_value, device_value, link_value, notifier_value, script_value, answer_value}
 use Rattle.file_read_back.proofs.Rows.{at_name, list_found}
 use Rattle.file_read_back.proofs.Numbers.{number_of, number_back}

@@ -6,13 +6,13 @@ use Rattle.std.proofs.lemmas.Bool.{false≢true}
 use Rattle.serde_json.specs.Data.{Data}
 use Rattle.sleep_model.specs.Text.{name_in, device_name, notifier_name, device, notifier, syscore, source, mark}
 use Rattle.borrowed_json.specs.Look.{list_in}
-use Rattle.machine_file.specs.Names.{is_among_names, devices_named, sources_named, names_in, texts_in}
-use Rattle.machine_file.specs.Rules.{name_of}
-use Rattle.machine_file.specs.Spelled.{index_among}
-use Rattle.machine_file.specs.Devices.{whole_device}
-use Rattle.machine_file.specs.Operations.{whole_marks}
-use Rattle.machine_file.specs.Whole.{whole_machine, whole_notifier}
-use Rattle.machine_file.proofs.Placing.{position_cons}
+use Rattle.file_rules.specs.Names.{is_among_names, devices_named, sources_named, names_in, texts_in}
+use Rattle.file_rules.specs.Rules.{name_of}
+use Rattle.file_rules.specs.Spelled.{index_among}
+use Rattle.file_rules.specs.Devices.{whole_device}
+use Rattle.file_rules.specs.Operations.{whole_marks}
+use Rattle.file_rules.specs.Whole.{whole_machine, whole_notifier}
+use Rattle.file_rules.proofs.Placing.{position_cons}
 
 -- a name's index, and that it is there
 pub record HasPlace (names : List (List ℕ)) (s : List ℕ) : Type 0 where

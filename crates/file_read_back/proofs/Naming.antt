@@ -8,16 +8,16 @@ use Rattle.serde_json.specs.Data.{Data}
 use Rattle.serde_json.specs.Find.{get, as_str}
 use Rattle.sleep_model.specs.declared.machine.Machine.{Machine}
 use Rattle.borrowed_json.specs.Look.{has_only, is_some_and, is_none_or, text_of, list_in, word_at, must_have, may_have, has_text, is_within}
-use Rattle.machine_file.specs.Places.{first_not_after, item_place}
-use Rattle.machine_file.specs.Names.{is_among_names, own_name, names_of_device, spells_name, names_in, texts_in, devices_named, sources_named, repeated}
-use Rattle.machine_file.specs.Rules.{name_of}
+use Rattle.file_rules.specs.Places.{first_not_after, item_place}
+use Rattle.file_rules.specs.Names.{is_among_names, own_name, names_of_device, spells_name, names_in, texts_in, devices_named, sources_named, repeated}
+use Rattle.file_rules.specs.Rules.{name_of}
 use Rattle.sleep_model.specs.NameBytes.{is_name}
-use Rattle.machine_file.specs.Devices.{whole_device}
-use Rattle.machine_file.specs.Operations.{Operation, operations, fits_row, has_mark, marks_of, first_occurrences, whole_marks, known_of, whole_script}
-use Rattle.machine_file.specs.Tree.{tree}
-use Rattle.machine_file.specs.Whole.{Broken, rules, first_broken, whole_machine, whole_notifier, unless_broken}
-use Rattle.machine_file.proofs.Accepted.{keeps_all}
-use Rattle.machine_file.proofs.Fitted.{absent}
+use Rattle.file_rules.specs.Devices.{whole_device}
+use Rattle.file_rules.specs.Operations.{Operation, operations, fits_row, has_mark, marks_of, first_occurrences, whole_marks, known_of, whole_script}
+use Rattle.file_rules.specs.Tree.{tree}
+use Rattle.file_rules.specs.Whole.{Broken, rules, first_broken, whole_machine, whole_notifier, unless_broken}
+use Rattle.file_rules.proofs.Accepted.{keeps_all}
+use Rattle.file_rules.proofs.Fitted.{absent}
 use Rattle.log_text.specs.Named.{are_distinct, are_names, AreNamed}
 use Rattle.file_read_back.proofs.Alike.{EachOf, weaker, made_pass, mapped}
 use Rattle.file_read_back.proofs.DevicesBack.{ValidDevice}

@@ -8,21 +8,21 @@ use Rattle.sleep_model.specs.declared.machine.Op.{Op}
 use Rattle.sleep_model.specs.declared.machine.Op.TheVariants.{Read, Save, State, Autosleep, Sleep, SleepD, FreezePoint, Post, Wait, Runtime, Link, LinkState, Awake, Relax, Event}
 use Rattle.sleep_model.specs.Text.{device, source, mark, runtime_word, link_word}
 use Rattle.borrowed_json.specs.Look.{is_some_and, is_none_or, is_text, has_only, text_at, must_have, may_have, has_text, number_at, word_at, is_string, is_truth, is_within, is_one_of}
-use Rattle.machine_file.specs.Form.{Named, is_time, statuses, link_states}
-use Rattle.machine_file.specs.Names.{spells_name, is_among_names, devices_named, sources_named}
+use Rattle.file_rules.specs.Form.{Named, is_time, statuses, link_states}
+use Rattle.file_rules.specs.Names.{spells_name, is_among_names, devices_named, sources_named}
 use Rattle.sleep_model.specs.NameBytes.{is_name}
-use Rattle.machine_file.specs.Spelled.{index_among}
-use Rattle.machine_file.specs.Limits.{times_of}
-use Rattle.machine_file.specs.Operations.{Operation, operation, operations, row_of, fits_row, names_source, names_device_at, names_device, has_count, is_state_form, has_short_text, has_length, has_mark, is_runtime_form, has_ends_named, is_link_state_form, has_source, is_event_form, plain, users, tasks, everyone, Known, known_of, thing_at, ms_of, says, spelled_op, whole_op, whole_step, whole_marks}
-use Rattle.machine_file.specs.Whole.{whole_machine}
+use Rattle.file_rules.specs.Spelled.{index_among}
+use Rattle.file_rules.specs.Limits.{times_of}
+use Rattle.file_rules.specs.Operations.{Operation, operation, operations, row_of, fits_row, names_source, names_device_at, names_device, has_count, is_state_form, has_short_text, has_length, has_mark, is_runtime_form, has_ends_named, is_link_state_form, has_source, is_event_form, plain, users, tasks, everyone, Known, known_of, thing_at, ms_of, says, spelled_op, whole_op, whole_step, whole_marks}
+use Rattle.file_rules.specs.Whole.{whole_machine}
 use Rattle.machine_file.specs.Spelling.{object_of, op_rows, step_value}
-use Rattle.machine_file.proofs.Fitted.{absent}
+use Rattle.file_rules.proofs.Fitted.{absent}
 use Rattle.file_read_back.proofs.Rows.{found, at_name, at_names, named}
 use Rattle.machine_file.proofs.Sheets.{are_rising}
 use Rattle.file_read_back.proofs.NamesBack.{device_back, source_back, mark_back}
 use Rattle.file_read_back.proofs.LinksBack.{spelled}
 use Rattle.file_read_back.proofs.Numbers.{number_of, unless_default, number_back, in_range_or, number_form, maybe_back, maybe_form, if_true, truth_back, truth_form}
-use Rattle.machine_file.proofs.ScriptsValid.{member_apart}
+use Rattle.file_rules.proofs.ScriptsValid.{member_apart}
 
 -- what each word of the table spells, by what is at each name
 abbrev spelled_by : Known → (List ℕ → Option Data) → List (List ℕ × Op)

@@ -24,18 +24,18 @@ use Rattle.sleep_model.specs.declared.machine.What.TheVariants as what
 use Rattle.sleep_model.specs.Runtime.{has_bit, is_async, may_wake}
 use Rattle.sleep_model.specs.Text.{device, source, kind_word, runtime_word, link_word}
 use Rattle.borrowed_json.specs.Look.{is_some_and, is_none_or, text_of, list_in, has_text, number_at, is_within, is_bounded}
-use Rattle.machine_file.specs.Form.{Named, is_ret_form, is_notifier_form}
-use Rattle.machine_file.specs.Names.{own_name, devices_named, sources_named}
-use Rattle.machine_file.specs.Spelled.{link_of}
-use Rattle.machine_file.specs.Devices.{whole_device}
-use Rattle.machine_file.specs.Operations.{Known, known_of, spelled_op, whole_op, whole_step, whole_script}
-use Rattle.machine_file.specs.Answering.{whole_report, whole_answer, thing_of}
-use Rattle.machine_file.specs.Whole.{whole_machine, whole_notifier, priority_of, first_broken}
+use Rattle.file_rules.specs.Form.{Named, is_ret_form, is_notifier_form}
+use Rattle.file_rules.specs.Names.{own_name, devices_named, sources_named}
+use Rattle.file_rules.specs.Spelled.{link_of}
+use Rattle.file_rules.specs.Devices.{whole_device}
+use Rattle.file_rules.specs.Operations.{Known, known_of, spelled_op, whole_op, whole_step, whole_script}
+use Rattle.file_rules.specs.Answering.{whole_report, whole_answer, thing_of}
+use Rattle.file_rules.specs.Whole.{whole_machine, whole_notifier, priority_of, first_broken}
 use Rattle.machine_file.specs.Spelling.{count, as_items, as_members, put_if, object_of, list_unless_empty, integer_unless_zero, op_rows, step_value, script_value, device_value, link_value, notifier_value, report_rows, report_value, thing_word, thing_phase, answer_value, machine_value, device_rows, link_rows, notifier_rows, script_rows, answer_rows, machine_rows}
 use Rattle.machine_file.proofs.Sheets.{is_before, are_rising, put_first}
 use Rattle.file_read_back.proofs.Numbers.{number_of, unless_default, if_true}
 use Rattle.file_read_back.proofs.Alike.{EachOf}
-use Rattle.machine_file.proofs.Accepted.{accepted}
+use Rattle.file_rules.proofs.Accepted.{accepted}
 use Rattle.file_read_back.proofs.LinksBack.{priority_form}
 use Rattle.file_read_back.proofs.AnswersBack.{ValidAnswer, thing_named, with_phase, with_attempt, ret_by, ret_written, ret_back, RetBack}
 use Rattle.file_read_back.proofs.FileValid.{valid_file}

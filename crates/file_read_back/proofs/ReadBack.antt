@@ -2,8 +2,8 @@
 use Rattle.std.proofs.Common.{◌≡◌, ◌∙◌, ℕ, List, Option, Some, None, option_and_then, refl, ap, ap₂, subst, arith}
 use Rattle.serde_json.specs.Data.{Data}
 use Rattle.sleep_model.specs.declared.machine.Machine.{Machine}
-use Rattle.machine_file.specs.Tree.{tree}
-use Rattle.machine_file.specs.Whole.{Broken, first_broken, whole_machine, unless_broken}
+use Rattle.file_rules.specs.Tree.{tree}
+use Rattle.file_rules.specs.Whole.{Broken, first_broken, whole_machine, unless_broken}
 use Rattle.machine_file.specs.Spelling.{machine_value, ReadsBack, AllReadBack}
 use Rattle.file_read_back.specs.Laws.{AllGenerated}
 use Rattle.file_read_back.proofs.DrawnValue.{drawn_value, spells_drawn}

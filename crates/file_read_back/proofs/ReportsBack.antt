@@ -8,13 +8,13 @@ use Rattle.sleep_model.specs.declared.machine.SourceCall.{SourceCall}
 use Rattle.sleep_model.specs.declared.machine.SourceCall.TheVariants as call
 use Rattle.sleep_model.specs.Text.{source}
 use Rattle.borrowed_json.specs.Look.{is_some_and, is_none_or, is_text, has_only, text_at, must_have, may_have, has_text, word_at, is_string, is_truth, is_one_of}
-use Rattle.machine_file.specs.Members.{report_members}
-use Rattle.machine_file.specs.Form.{Named, is_time, is_plain_report, is_event_report, is_report_form}
-use Rattle.machine_file.specs.Names.{sources_named}
-use Rattle.machine_file.specs.Spelled.{index_among}
-use Rattle.machine_file.specs.Operations.{names_source, ms_of, says}
-use Rattle.machine_file.specs.Answering.{call_of, whole_report}
-use Rattle.machine_file.specs.Whole.{whole_machine}
+use Rattle.file_rules.specs.Members.{report_members}
+use Rattle.file_rules.specs.Form.{Named, is_time, is_plain_report, is_event_report, is_report_form}
+use Rattle.file_rules.specs.Names.{sources_named}
+use Rattle.file_rules.specs.Spelled.{index_among}
+use Rattle.file_rules.specs.Operations.{names_source, ms_of, says}
+use Rattle.file_rules.specs.Answering.{call_of, whole_report}
+use Rattle.file_rules.specs.Whole.{whole_machine}
 use Rattle.machine_file.specs.Spelling.{object_of, report_rows, report_value}
 use Rattle.file_read_back.proofs.Rows.{at_name, at_names, named}
 use Rattle.file_read_back.proofs.NamesBack.{source_back}

@@ -9,7 +9,7 @@ use Rattle.serde_json.specs.Data.{Data, no_items, put}
 use Rattle.serde_json.specs.Find.{get, get_member, as_array}
 use Rattle.serde_json.proofs.Views.{get_member-put, get_member-put_other}
 use Rattle.borrowed_json.specs.Look.{are_named, has_only, items_of, list_in}
-use Rattle.machine_file.specs.Form.{Named}
+use Rattle.file_rules.specs.Form.{Named}
 use Rattle.machine_file.specs.Spelling.{as_items, put_if, as_members, object_of, list_unless_empty}
 use Rattle.machine_file.proofs.Sheets.{is_before, are_rising, put_first}
 

@@ -8,23 +8,23 @@ use Rattle.serde_json.specs.Find.{get}
 use Rattle.sleep_model.specs.Answers.{is_for}
 use Rattle.sleep_model.specs.Order.{is_among, dependents, moved, parents_of}
 use Rattle.borrowed_json.specs.Look.{is_some_and, is_none_or, is_number, is_list, has_only, may_have, has_text, list_in, number_at, is_within, is_string}
-use Rattle.machine_file.specs.Members.{file_members}
-use Rattle.machine_file.specs.Places.{unless, first_not, first_not_after, first_item, first_operation_of, item_place}
-use Rattle.machine_file.specs.Form.{Named, first_row, member_forms, is_device_form, is_link_form, is_notifier_form, is_actor_form, is_answer_form, unformed_member, unformed_item}
-use Rattle.machine_file.specs.Names.{is_among_names, names_of_device, names_of_link, spells_name, own_name, devices_named, sources_named, repeated, misspelled_item}
-use Rattle.machine_file.specs.Rules.{name_of, has_version, is_second}
+use Rattle.file_rules.specs.Members.{file_members}
+use Rattle.file_rules.specs.Places.{unless, first_not, first_not_after, first_item, first_operation_of, item_place}
+use Rattle.file_rules.specs.Form.{Named, first_row, member_forms, is_device_form, is_link_form, is_notifier_form, is_actor_form, is_answer_form, unformed_member, unformed_item}
+use Rattle.file_rules.specs.Names.{is_among_names, names_of_device, names_of_link, spells_name, own_name, devices_named, sources_named, repeated, misspelled_item}
+use Rattle.file_rules.specs.Rules.{name_of, has_version, is_second}
 use Rattle.sleep_model.specs.NameBytes.{is_name}
-use Rattle.machine_file.specs.Spelled.{index_among, link_of}
-use Rattle.machine_file.specs.Devices.{has_parent_before, has_ends, is_same_link, is_new_link, closes_no_cycle, orphan, loose_link, repeated_link, cyclic_link}
-use Rattle.machine_file.specs.Operations.{is_formed, is_allowed, names_source, names_device, unformed_operation, forbidden_operation, sourceless_operation, deviceless_operation}
-use Rattle.machine_file.specs.Answering.{names_of_kind, has_its_phase, names_thing, is_ret_allowed, may_report, is_same_answer, sourceless_report, repeated_answer}
-use Rattle.machine_file.specs.Limits.{most_items, too_many, all_steps, script_steps, is_state_step, is_link_step, has_autosleep, autosleep_attempts, are_steps_few, are_reports_few, too_much}
-use Rattle.machine_file.specs.Whole.{Rule, rules, first_of, first_broken, broken_at, whole_machine}
+use Rattle.file_rules.specs.Spelled.{index_among, link_of}
+use Rattle.file_rules.specs.Devices.{has_parent_before, has_ends, is_same_link, is_new_link, closes_no_cycle, orphan, loose_link, repeated_link, cyclic_link}
+use Rattle.file_rules.specs.Operations.{is_formed, is_allowed, names_source, names_device, unformed_operation, forbidden_operation, sourceless_operation, deviceless_operation}
+use Rattle.file_rules.specs.Answering.{names_of_kind, has_its_phase, names_thing, is_ret_allowed, may_report, is_same_answer, sourceless_report, repeated_answer}
+use Rattle.file_rules.specs.Limits.{most_items, too_many, all_steps, script_steps, is_state_step, is_link_step, has_autosleep, autosleep_attempts, are_steps_few, are_reports_few, too_much}
+use Rattle.file_rules.specs.Whole.{Rule, rules, first_of, first_broken, broken_at, whole_machine}
 use Rattle.machine_file.specs.Spelling.{list_unless_empty, machine_rows}
 use Rattle.file_read_back.proofs.Rows.{at_name, named}
-use Rattle.machine_file.proofs.Accepted.{KeepsAll, keeps_all, AllPass, all_pass}
+use Rattle.file_rules.proofs.Accepted.{KeepsAll, keeps_all, AllPass, all_pass}
 use Rattle.file_read_back.proofs.Numbers.{number_of, number_back, in_range_or, number_form}
-use Rattle.machine_file.proofs.ScriptsValid.{each_operation}
+use Rattle.file_rules.proofs.ScriptsValid.{each_operation}
 use Rattle.file_read_back.proofs.Alike.{EachOf, weaker, each_both, each_passes, each_made, all_alike, made_pass, none_fails, seen_alike, length_alike, later_alike, any_alike, sum_alike}
 use Rattle.file_read_back.proofs.DevicesBack.{ValidDevice, device_again, same_device}
 use Rattle.file_read_back.proofs.LinksBack.{link_again, same_link, notifier_again, same_notifier}
@@ -255,7 +255,7 @@ module _ (d : Data) (unbroken : first_broken d ≡ None) where
   -- ---- operations
 
   actor_pass : (test : Data → Data → Bool) → ((a : Data) → ValidActor d a → list_all (test (actor_again d a)) (map (op_again d) (list_in (codes "script") a)) ≡ true) →
-      Rattle.machine_file.specs.Places.first_operation test v ≡ None
+      Rattle.file_rules.specs.Places.first_operation test v ≡ None
   actor_pass test h =
       ap (first_operation_of test 0) (actors_list d)
       ∙ none_fails_of test 0 (map (actor_again d) (list_in (codes "actors") d))

@@ -9,14 +9,14 @@ use Rattle.serde_json.specs.Find.{get, as_str}
 use Rattle.sleep_model.specs.declared.machine.TaskKind.{TaskKind}
 use Rattle.sleep_model.specs.declared.machine.TaskKind.TheVariants.{User, Kthread, NoFreeze, Irq}
 use Rattle.borrowed_json.specs.Look.{is_some_and, is_none_or, is_text, is_list, has_only, text_at, must_have, may_have, list_in, word_at, is_string, is_within, is_one_of}
-use Rattle.machine_file.specs.Members.{actor_members}
-use Rattle.machine_file.specs.Places.{first_operation_of, operation_place}
-use Rattle.machine_file.specs.Form.{kinds, is_actor_form}
-use Rattle.machine_file.specs.Names.{is_among_names, own_name, spells_name}
-use Rattle.machine_file.specs.Rules.{name_of}
-use Rattle.machine_file.specs.Limits.{repeat_of, times_if, script_steps}
-use Rattle.machine_file.specs.Operations.{Operation, operations, row_of, is_allowed, known_of, whole_step, whole_script, kind_of, marks_of}
-use Rattle.machine_file.specs.Whole.{whole_machine}
+use Rattle.file_rules.specs.Members.{actor_members}
+use Rattle.file_rules.specs.Places.{first_operation_of, operation_place}
+use Rattle.file_rules.specs.Form.{kinds, is_actor_form}
+use Rattle.file_rules.specs.Names.{is_among_names, own_name, spells_name}
+use Rattle.file_rules.specs.Rules.{name_of}
+use Rattle.file_rules.specs.Limits.{repeat_of, times_if, script_steps}
+use Rattle.file_rules.specs.Operations.{Operation, operations, row_of, is_allowed, known_of, whole_step, whole_script, kind_of, marks_of}
+use Rattle.file_rules.specs.Whole.{whole_machine}
 use Rattle.machine_file.specs.Spelling.{list_unless_empty, script_rows, script_value, step_value}
 use Rattle.sleep_model.specs.Text.{kind_word}
 use Rattle.file_read_back.proofs.Rows.{at_name, named, list_found}

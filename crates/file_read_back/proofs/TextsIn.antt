@@ -10,10 +10,10 @@ use Rattle.serde_json.specs.Data.{Data, null, boolean, number, string, array, ob
 use Rattle.serde_json.specs.Find.{get, get_member, as_str, as_array}
 use Rattle.sleep_model.specs.Text.{name_in, device, source, mark}
 use Rattle.borrowed_json.specs.Look.{text_at, text_of, items_of, list_in, word_at}
-use Rattle.machine_file.specs.Names.{is_among_names, devices_named, sources_named}
-use Rattle.machine_file.specs.Rules.{name_of}
-use Rattle.machine_file.specs.Operations.{marks_of, first_occurrences, whole_marks}
-use Rattle.machine_file.specs.Whole.{whole_machine}
+use Rattle.file_rules.specs.Names.{is_among_names, devices_named, sources_named}
+use Rattle.file_rules.specs.Rules.{name_of}
+use Rattle.file_rules.specs.Operations.{marks_of, first_occurrences, whole_marks}
+use Rattle.file_rules.specs.Whole.{whole_machine}
 use Rattle.file_read_back.proofs.Alike.{EachOf}
 use Rattle.file_read_back.proofs.NamesBack.{device_at}
 

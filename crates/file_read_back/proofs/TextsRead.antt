@@ -18,7 +18,7 @@ use Rattle.json.specs.Json.{Parse, parse_map, after_end_array, read_key, items_s
 use Rattle.serde_json.specs.Data.{Data, Items, Members, no_members, member, put}
 use Rattle.serde_json.specs.Data as sort
 use Rattle.serde_json.specs.Read.{number_of, of_json, of_items, of_members, read}
-use Rattle.machine_file.specs.Tree.{tree}
+use Rattle.file_rules.specs.Tree.{tree}
 use Rattle.file_read_back.proofs.Alike.{EachOf}
 use Rattle.file_read_back.proofs.ContentRead.{content_utf8, high_bytes}
 use Rattle.file_read_back.proofs.TextsIn.{MayBeUtf8, HasTexts, ItemsHaveTexts, MembersHaveTexts, MayHaveTexts}

@@ -10,19 +10,19 @@ use Rattle.sleep_model.specs.declared.machine.What.TheVariants as what
 use Rattle.sleep_model.specs.Order.{is_among, dependents, moved, parents_of}
 use Rattle.sleep_model.specs.Text.{down_word}
 use Rattle.borrowed_json.specs.Look.{is_some_and, is_none_or, is_number, are_named, has_only, text_at, text_of, must_have, may_have, has_text, items_of, list_in, number_at, is_string, is_one_of}
-use Rattle.machine_file.specs.Members.{file_members, link_members}
-use Rattle.machine_file.specs.Places.{unless, first_not, first_not_after, first_item, first_operation_of, item_place}
-use Rattle.machine_file.specs.Form.{Named, member_forms, item_forms, link_states, is_device_form, is_link_form, is_notifier_form, is_actor_form, is_answer_form, unformed_member, unformed_item}
-use Rattle.machine_file.specs.Names.{is_among_names, names_of_device, names_of_link, spells_name, own_name, devices_named, repeated, misspelled_item}
-use Rattle.machine_file.specs.Rules.{is_second, has_version, name_of}
-use Rattle.machine_file.specs.Spelled.{index_among, link_of}
-use Rattle.machine_file.specs.Devices.{whole_device, whole_devices, has_parent_before, has_ends, is_new_link, cyclic_link}
-use Rattle.machine_file.specs.Operations.{is_formed, is_allowed, names_source, names_device, unformed_operation, marks_of, first_occurrences, whole_marks, known_of, whole_script}
-use Rattle.machine_file.specs.Answering.{platform_steps, is_of_device, has_its_phase, phase_of, step_of, ret_of, is_ret_allowed, may_report, is_same_answer, whole_report, whole_answers, thingless_answer}
-use Rattle.machine_file.specs.Limits.{most_items, too_many, script_steps, is_state_step, is_link_step, has_autosleep, too_much}
-use Rattle.machine_file.specs.Whole.{rules, first_broken, whole_machine, whole_notifier}
-use Rattle.machine_file.proofs.Accepted.{AllPass, all_pass, keeps_all, KeepsAll}
-use Rattle.machine_file.proofs.ScriptsValid.{EachList, each_list, each_item, each_operation, table_row}
+use Rattle.file_rules.specs.Members.{file_members, link_members}
+use Rattle.file_rules.specs.Places.{unless, first_not, first_not_after, first_item, first_operation_of, item_place}
+use Rattle.file_rules.specs.Form.{Named, member_forms, item_forms, link_states, is_device_form, is_link_form, is_notifier_form, is_actor_form, is_answer_form, unformed_member, unformed_item}
+use Rattle.file_rules.specs.Names.{is_among_names, names_of_device, names_of_link, spells_name, own_name, devices_named, repeated, misspelled_item}
+use Rattle.file_rules.specs.Rules.{is_second, has_version, name_of}
+use Rattle.file_rules.specs.Spelled.{index_among, link_of}
+use Rattle.file_rules.specs.Devices.{whole_device, whole_devices, has_parent_before, has_ends, is_new_link, cyclic_link}
+use Rattle.file_rules.specs.Operations.{is_formed, is_allowed, names_source, names_device, unformed_operation, marks_of, first_occurrences, whole_marks, known_of, whole_script}
+use Rattle.file_rules.specs.Answering.{platform_steps, is_of_device, has_its_phase, phase_of, step_of, ret_of, is_ret_allowed, may_report, is_same_answer, whole_report, whole_answers, thingless_answer}
+use Rattle.file_rules.specs.Limits.{most_items, too_many, script_steps, is_state_step, is_link_step, has_autosleep, too_much}
+use Rattle.file_rules.specs.Whole.{rules, first_broken, whole_machine, whole_notifier}
+use Rattle.file_rules.proofs.Accepted.{AllPass, all_pass, keeps_all, KeepsAll}
+use Rattle.file_rules.proofs.ScriptsValid.{EachList, each_list, each_item, each_operation, table_row}
 use Rattle.file_read_back.specs.Laws.{IsSecondOf, AllVersionsAlike}
 use Rattle.file_read_back.proofs.Alike.{each_passes}
 use Rattle.file_read_back.proofs.Numbers.{number_of}

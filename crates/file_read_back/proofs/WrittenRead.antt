@@ -19,7 +19,7 @@ use Rattle.serde_json.specs.Read.{of_json, of_items, of_members, read}
 use Rattle.serde_json.specs.Written.{outline, items_outline, members_outline, comma_if, compact_text, items_text, members_text}
 use Rattle.serde_json.proofs.Numbers.{number_of-decimal, number_of-negative}
 use Rattle.serde_json.proofs.Texts.{print-outline}
-use Rattle.machine_file.specs.Tree as file
+use Rattle.file_rules.specs.Tree as file
 use Rattle.file_read_back.proofs.LastNewline.{tokens-newline}
 
 -- ---- values that are read as they are written

@@ -7,8 +7,8 @@ use Rattle.sleep_model.specs.declared.machine.Machine.{Machine}
 use Rattle.sleep_model.specs.Fits.{IsWritable}
 use Rattle.sleep_model.specs.Text.{text}
 use Rattle.borrowed_json.specs.Look.{has_only}
-use Rattle.machine_file.specs.Members.{file_members}
-use Rattle.machine_file.specs.Whole.{first_broken, whole_machine, IsSpelled}
+use Rattle.file_rules.specs.Members.{file_members}
+use Rattle.file_rules.specs.Whole.{first_broken, whole_machine, IsSpelled}
 use Rattle.log_text.specs.Named.{AreNamed}
 use Rattle.machine_file.specs.Spelling.{count, machine_value, ReadsBack}
 use Rattle.sleep_script.specs.Generated.{generated}

@@ -5,8 +5,8 @@ use Rattle.serde_json.specs.Data.{Data}
 use Rattle.sleep_model.specs.declared.log.Log.{Log}
 use Rattle.sleep_model.specs.declared.machine.Machine.{Machine}
 use Rattle.sleep_model.specs.Order.{parents_of}
-use Rattle.machine_file.specs.Tree.{tree}
-use Rattle.machine_file.specs.Whole.{Broken as Breach, broken_by, first_broken, machine_in, unless_broken, whole_machine}
+use Rattle.file_rules.specs.Tree.{tree}
+use Rattle.file_rules.specs.Whole.{Broken as Breach, broken_by, first_broken, machine_in, unless_broken, whole_machine}
 use Rattle.log_text.specs.Grammar.{IsFirstBad}
 use Rattle.log_text.specs.Named.{AreNamed}
 use Rattle.log_text.proofs.NoBadLine.{none_bad}

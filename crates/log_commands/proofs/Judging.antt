@@ -5,8 +5,8 @@ use Rattle.sleep_model.specs.declared.machine.Machine.{Machine}
 use Rattle.sleep_model.specs.Fits.{IsWritable}
 use Rattle.rule_definitions.specs.Verdict.{IsGood}
 use Rattle.sleep_model.specs.Text.{text}
-use Rattle.machine_file.specs.Tree.{tree}
-use Rattle.machine_file.specs.Whole.{machine_in}
+use Rattle.file_rules.specs.Tree.{tree}
+use Rattle.file_rules.specs.Whole.{machine_in}
 use Rattle.log_text.proofs.NoBadLine.{none_bad}
 use Rattle.log_text.proofs.OneLog.{one_log}
 use Rattle.log_text.specs.Grammar.{IsFirstBad}

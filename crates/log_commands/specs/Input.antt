@@ -5,7 +5,7 @@ use Rattle.sleep_model.specs.declared.log.Log.{Log}
 use Rattle.sleep_model.specs.declared.machine.Machine.{Machine}
 use Rattle.sleep_model.specs.Fits.{IsWritable}
 use Rattle.sleep_model.specs.Text.{text}
-use Rattle.machine_file.specs.Whole.{machine_in, broken_at, broken_in}
+use Rattle.file_rules.specs.Whole.{machine_in, broken_at, broken_in}
 use Rattle.log_text.specs.Grammar.{IsFirstBad}
 use Rattle.program_ending.specs.declared.refusal.Refusal.{Refusal}
 use Rattle.program_ending.specs.declared.refusal.Refusal.TheVariants.{LongMachine, Broken, BadLine}

@@ -6,7 +6,7 @@ use Rattle.sleep_model.specs.declared.machine.Machine.{Machine}
 use Rattle.sleep_model.specs.Fits.{IsWritable}
 use Rattle.rule_definitions.specs.Verdict.{IsGood}
 use Rattle.sleep_model.specs.Text.{text}
-use Rattle.machine_file.specs.Whole.{machine_in}
+use Rattle.file_rules.specs.Whole.{machine_in}
 use Rattle.log_text.specs.Grammar.{IsFirstBad}
 use Rattle.log_check.specs.declared.ending.Verdict.{Verdict}
 use Rattle.log_check.specs.declared.ending.Verdict.TheVariants.{Good, Bad}

@@ -5,7 +5,7 @@ ghost use Rattle.sleep_model.specs.Accepted.{IsAccepted};
 ghost use Rattle.sleep_model.specs.Fits.{IsWritable};
 ghost use Rattle.sleep_model.specs.Text.{text};
 ghost use Rattle.machine_file.specs.Reading.{links_among};
-ghost use Rattle.machine_file.specs.Whole.{IsSpelled, machine_in};
+ghost use Rattle.file_rules.specs.Whole.{IsSpelled, machine_in};
 ghost use Rattle.program_ending.specs.Streams.{most_machine};
 ghost use Rattle.program_ending.specs.CommandEndings.{Refuses};
 ghost use Rattle.log_commands.specs.Input.{IsBadInput, IsBadLog, IsBadMachine, IsLogIn, file_in, text_in};

@@ -2,7 +2,7 @@
 
 ghost use Rattle.std.specs.Prelude.{◌≡◌, IfErr, IfOk};
 ghost use Rattle.sleep_model.specs.Accepted.{IsAccepted};
-ghost use Rattle.machine_file.specs.Whole.{IsSpelled};
+ghost use Rattle.file_rules.specs.Whole.{IsSpelled};
 ghost use Rattle.program_ending.specs.CommandEndings.{Refuses};
 ghost use Rattle.log_commands.specs.Judging.{IsJudged, IsVerdictOf, RefusesCheck, ShowsVerdict, is_good, verdict_text};
 

@@ -11,9 +11,9 @@ use Rattle.device_links.specs.Adds.{Adds}
 use Rattle.device_links.specs.Linked.{Linked}
 use Rattle.device_links.specs.declared.fault.LinkFault.{LinkFault}
 use Rattle.device_links.specs.declared.fault.LinkFault.TheVariants as link
-use Rattle.machine_file.specs.Fresh.{closes_nothing, IsFresh, AreFresh, no_link}
-use Rattle.machine_file.specs.Places.{first_not_after}
-use Rattle.machine_file.proofs.Placing.{later_from, later_here, later_next}
+use Rattle.file_rules.specs.Fresh.{closes_nothing, IsFresh, AreFresh, no_link}
+use Rattle.file_rules.specs.Places.{first_not_after}
+use Rattle.file_rules.proofs.Placing.{later_from, later_here, later_next}
 
 -- what is added up to number i, and that no cycle is found so far
 pub record Adding (ps : List (Option ℕ)) (ls : List Link) (i : ℕ) (added : Linked) : Type 0 where

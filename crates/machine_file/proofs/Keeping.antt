@@ -4,25 +4,25 @@ use Rattle.std.specs.List.{list_all, list_any}
 use Rattle.std.specs.Option.{option_map, option_or}
 use Rattle.std.proofs.lemmas.Bool.{and_from, and_parts, false≢true}
 use Rattle.serde_json.specs.Data.{Data}
-use Rattle.machine_file.specs.declared.rules.operations.Word.{Word}
-use Rattle.machine_file.specs.declared.rules.operations.Word.TheVariants as word
-use Rattle.machine_file.specs.Answering.{sourceless_report}
+use Rattle.file_rules.specs.declared.rules.operations.Word.{Word}
+use Rattle.file_rules.specs.declared.rules.operations.Word.TheVariants as word
+use Rattle.file_rules.specs.Answering.{sourceless_report}
 use Rattle.borrowed_json.specs.Look.{is_one_of, is_string, is_truth, is_within, has_only, is_some_and, text_at, list_in, may_have, must_have, word_at, is_none_or}
-use Rattle.machine_file.specs.Form.{is_time, link_states, statuses}
-use Rattle.machine_file.specs.Knows.{Knows, known_seen, texts}
-use Rattle.machine_file.specs.declared.names.known.Known.{Known as Names}
-use Rattle.machine_file.specs.Groups.{operation_rules}
-use Rattle.machine_file.specs.Names.{is_among_names, devices_named, sources_named}
-use Rattle.machine_file.specs.Operations.{Known, Operation, known_of, whole_script, whole_scripts, changes_links, fits_row, row_of, is_formed, is_allowed, names_source, names_device, names_device_at, unformed_operation, forbidden_operation, sourceless_operation, deviceless_operation, has_count, has_short_text, is_state_form, has_length, has_mark, has_ends_named, has_source, thing_at}
-use Rattle.machine_file.specs.OperationRows.{operation_of_word, is_valid_for, is_valid_script, row_test, word_test, must_name}
-use Rattle.machine_file.specs.Places.{first_not, first_operation, first_operation_of, operation_place}
-use Rattle.machine_file.specs.Rules.{is_second}
-use Rattle.machine_file.specs.Whole.{broken_at, first_of}
-use Rattle.machine_file.proofs.Fitted.{absent_word}
-use Rattle.machine_file.proofs.Grouping.{or_none, none_left}
-use Rattle.machine_file.proofs.Placing.{position_cons, some_position}
-use Rattle.machine_file.proofs.ScriptsValid.{each_operation}
-use Rattle.machine_file.proofs.Worded.{changes}
+use Rattle.file_rules.specs.Form.{is_time, link_states, statuses}
+use Rattle.file_rules.specs.Knows.{Knows, known_seen, texts}
+use Rattle.file_rules.specs.declared.names.known.Known.{Known as Names}
+use Rattle.file_rules.specs.Groups.{operation_rules}
+use Rattle.file_rules.specs.Names.{is_among_names, devices_named, sources_named}
+use Rattle.file_rules.specs.Operations.{Known, Operation, known_of, whole_script, whole_scripts, changes_links, fits_row, row_of, is_formed, is_allowed, names_source, names_device, names_device_at, unformed_operation, forbidden_operation, sourceless_operation, deviceless_operation, has_count, has_short_text, is_state_form, has_length, has_mark, has_ends_named, has_source, thing_at}
+use Rattle.file_rules.specs.OperationRows.{operation_of_word, is_valid_for, is_valid_script, row_test, word_test, must_name}
+use Rattle.file_rules.specs.Places.{first_not, first_operation, first_operation_of, operation_place}
+use Rattle.file_rules.specs.Rules.{is_second}
+use Rattle.file_rules.specs.Whole.{broken_at, first_of}
+use Rattle.file_rules.proofs.Fitted.{absent_word}
+use Rattle.file_rules.proofs.Grouping.{or_none, none_left}
+use Rattle.file_rules.proofs.Placing.{position_cons, some_position}
+use Rattle.file_rules.proofs.ScriptsValid.{each_operation}
+use Rattle.file_rules.proofs.Worded.{changes}
 
 -- ---- one pass
 

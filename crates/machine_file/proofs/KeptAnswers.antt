@@ -6,19 +6,19 @@ use Rattle.std.proofs.lemmas.Bool.{and_from, and_parts}
 use Rattle.serde_json.specs.Data.{Data}
 use Rattle.sleep_model.specs.Text.{down_word}
 use Rattle.borrowed_json.specs.Look.{has_text, list_in, may_have}
-use Rattle.machine_file.specs.declared.names.known.Known.{Known}
-use Rattle.machine_file.specs.AnswerTests.{is_valid_answer}
-use Rattle.machine_file.specs.Answering.{forbidden_reports, forbidden_ret, has_its_phase, is_of_device, is_ret_allowed, may_report, names_thing, platform_steps, sourceless_report, thingless_answer}
-use Rattle.machine_file.specs.Groups.{answer_rules, reply_rules}
-use Rattle.machine_file.specs.Knows.{Knows, texts}
-use Rattle.machine_file.specs.Names.{devices_named, is_among_names, names_in, sources_named, texts_in}
-use Rattle.machine_file.specs.Operations.{names_source}
-use Rattle.machine_file.specs.Places.{first_item, item_place}
-use Rattle.machine_file.specs.Rules.{name_of}
-use Rattle.machine_file.specs.Whole.{broken_at, first_of}
-use Rattle.machine_file.proofs.Grouping.{none_left, or_none}
+use Rattle.file_rules.specs.declared.names.known.Known.{Known}
+use Rattle.file_rules.specs.AnswerTests.{is_valid_answer}
+use Rattle.file_rules.specs.Answering.{forbidden_reports, forbidden_ret, has_its_phase, is_of_device, is_ret_allowed, may_report, names_thing, platform_steps, sourceless_report, thingless_answer}
+use Rattle.file_rules.specs.Groups.{answer_rules, reply_rules}
+use Rattle.file_rules.specs.Knows.{Knows, texts}
+use Rattle.file_rules.specs.Names.{devices_named, is_among_names, names_in, sources_named, texts_in}
+use Rattle.file_rules.specs.Operations.{names_source}
+use Rattle.file_rules.specs.Places.{first_item, item_place}
+use Rattle.file_rules.specs.Rules.{name_of}
+use Rattle.file_rules.specs.Whole.{broken_at, first_of}
+use Rattle.file_rules.proofs.Grouping.{none_left, or_none}
 use Rattle.machine_file.proofs.Keeping.{both_tests, none_in_script}
-use Rattle.machine_file.proofs.ScriptsValid.{each_item}
+use Rattle.file_rules.proofs.ScriptsValid.{each_item}
 
 -- the reports of an answer name sources of the file
 abbrev pub names_sources : Data → Data → Bool

@@ -10,30 +10,30 @@ use Rattle.sleep_model.specs.declared.machine.Link.{Link}
 use Rattle.borrowed_json.specs.Look.{has_only, is_one_of, is_some_and, is_string, list_in, may_have, must_have, text_at, text_of}
 use Rattle.machine_file.specs.declared.fault.Stop.{Stop}
 use Rattle.machine_file.specs.declared.fault.Stop.TheVariants as stop
-use Rattle.machine_file.specs.declared.names.known.Known.{Known}
-use Rattle.machine_file.specs.Devices.{closes_no_cycle, cyclic_link, has_ends, loose_link, repeated_link, whole_links}
-use Rattle.machine_file.specs.Fitting.{HasDevices}
-use Rattle.machine_file.specs.Form.{Named, first_in_lists, is_link_form, item_forms, link_states}
-use Rattle.machine_file.specs.Groups.{end_rules, form_rules}
-use Rattle.machine_file.specs.Kept.{has_end, head_rules, is_valid_link, other_forms, other_names}
-use Rattle.machine_file.specs.Knows.{Knows, names}
-use Rattle.machine_file.specs.Members.{link_members}
-use Rattle.machine_file.specs.Names.{devices_named, is_among_names, item_names, names_of_link, spells_name}
-use Rattle.machine_file.specs.Operations.{thing_at}
-use Rattle.machine_file.specs.Places.{first_item, first_not_after, item_place}
-use Rattle.machine_file.specs.Rules.{is_second}
+use Rattle.file_rules.specs.declared.names.known.Known.{Known}
+use Rattle.file_rules.specs.Devices.{closes_no_cycle, cyclic_link, has_ends, loose_link, repeated_link, whole_links}
+use Rattle.file_rules.specs.Fitting.{HasDevices}
+use Rattle.file_rules.specs.Form.{Named, first_in_lists, is_link_form, item_forms, link_states}
+use Rattle.file_rules.specs.Groups.{end_rules, form_rules}
+use Rattle.file_rules.specs.Kept.{has_end, head_rules, is_valid_link, other_forms, other_names}
+use Rattle.file_rules.specs.Knows.{Knows, names}
+use Rattle.file_rules.specs.Members.{link_members}
+use Rattle.file_rules.specs.Names.{devices_named, is_among_names, item_names, names_of_link, spells_name}
+use Rattle.file_rules.specs.Operations.{thing_at}
+use Rattle.file_rules.specs.Places.{first_item, first_not_after, item_place}
+use Rattle.file_rules.specs.Rules.{is_second}
 use Rattle.sleep_model.specs.NameBytes.{is_name}
-use Rattle.machine_file.specs.Spelled.{index_among, link_of}
+use Rattle.file_rules.specs.Spelled.{index_among, link_of}
 use Rattle.machine_file.specs.Stopping.{StopsUnless}
-use Rattle.machine_file.specs.ValidFiles.{broken_cycle, broken_devices, broken_ends, broken_form, broken_head, broken_rest, first_in_order, keeps_rules}
-use Rattle.machine_file.specs.Whole.{Broken, Rule, broken_at, first_of}
-use Rattle.machine_file.proofs.Accepted.{KeepsAll, keeps_all}
-use Rattle.machine_file.proofs.FittedFile.{short_devices}
-use Rattle.machine_file.proofs.Grouping.{few_items, no_cycle, or_none}
+use Rattle.file_rules.specs.ValidFiles.{broken_cycle, broken_devices, broken_ends, broken_form, broken_head, broken_rest, first_in_order, keeps_rules}
+use Rattle.file_rules.specs.Whole.{Broken, Rule, broken_at, first_of}
+use Rattle.file_rules.proofs.Accepted.{KeepsAll, keeps_all}
+use Rattle.file_rules.proofs.FittedFile.{short_devices}
+use Rattle.file_rules.proofs.Grouping.{few_items, no_cycle, or_none}
 use Rattle.machine_file.proofs.Keeping.{both_tests, none_in_script}
 use Rattle.machine_file.proofs.KeptAnswers.{weaker}
-use Rattle.machine_file.proofs.Placing.{some_position}
-use Rattle.machine_file.proofs.ScriptsValid.{EachList, each_item, each_list}
+use Rattle.file_rules.proofs.Placing.{some_position}
+use Rattle.file_rules.proofs.ScriptsValid.{EachList, each_item, each_list}
 
 -- ---- the order of the rules
 

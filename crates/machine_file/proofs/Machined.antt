@@ -2,15 +2,15 @@
 use Rattle.std.proofs.Common.{◌≡◌, ◌∙◌, ℕ, List, Some, None, Result, Ok, Err, IfOk, IfErr, refl, sym, ap, subst}
 use Rattle.serde_json.specs.Data.{Data}
 use Rattle.sleep_model.specs.Accepted.{IsAccepted}
-use Rattle.machine_file.specs.Tree.{tree}
-use Rattle.machine_file.specs.Whole.{machine_in, whole_machine, first_broken, broken_by}
+use Rattle.file_rules.specs.Tree.{tree}
+use Rattle.file_rules.specs.Whole.{machine_in, whole_machine, first_broken, broken_by}
 use Rattle.machine_file.specs.Reading.{Reads}
 use Rattle.machine_file.specs.Refusing.{Refuses, RefusesValue}
 use Rattle.machine_file.specs.declared.reading.ReadMachine.{ReadMachine}
 use Rattle.machine_file.specs.declared.fault.MachineFault.{MachineFault}
 use Rattle.machine_file.specs.declared.fault.MachineFault.TheVariants as fault
-use Rattle.machine_file.proofs.Grouping.{in_order}
-use Rattle.machine_file.proofs.Accepted.{accepted}
+use Rattle.file_rules.proofs.Grouping.{in_order}
+use Rattle.file_rules.proofs.Accepted.{accepted}
 
 module _ (bytes : List ℕ) (d : Data) (is : tree bytes ≡ Some d) where
   machine_is : first_broken d ≡ None → machine_in bytes ≡ Some (whole_machine d)

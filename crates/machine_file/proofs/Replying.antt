@@ -4,14 +4,14 @@ use Rattle.serde_json.specs.Data.{Data}
 use Rattle.sleep_model.specs.declared.machine.Answer.{Answer}
 use Rattle.sleep_model.specs.declared.machine.What.TheVariants as what
 use Rattle.sleep_model.specs.Text.{down_word}
-use Rattle.machine_file.specs.declared.names.known.Known.{Known}
-use Rattle.machine_file.specs.Knows.{Knows, texts}
+use Rattle.file_rules.specs.declared.names.known.Known.{Known}
+use Rattle.file_rules.specs.Knows.{Knows, texts}
 use Rattle.borrowed_json.specs.Look.{has_text, list_in, number_at}
-use Rattle.machine_file.specs.Names.{devices_named, texts_in, names_in}
-use Rattle.machine_file.specs.Rules.{name_of}
-use Rattle.machine_file.specs.Spelled.{index_among}
-use Rattle.machine_file.specs.Answering.{is_of_device, platform_steps, phase_of, step_of, ret_of, whole_report, whole_answer}
-use Rattle.machine_file.specs.AnswerTests.{answer_made}
+use Rattle.file_rules.specs.Names.{devices_named, texts_in, names_in}
+use Rattle.file_rules.specs.Rules.{name_of}
+use Rattle.file_rules.specs.Spelled.{index_among}
+use Rattle.file_rules.specs.Answering.{is_of_device, platform_steps, phase_of, step_of, ret_of, whole_report, whole_answer}
+use Rattle.file_rules.specs.AnswerTests.{answer_made}
 
 -- an answer, with these names known
 abbrev made : List (List ℕ) → List (List ℕ) → List (List ℕ) → List (List ℕ) → Data → Answer

@@ -8,7 +8,7 @@ use Rattle.std.proofs.lemmas.Result.{on_ok_weaker}
 use Rattle.json.specs.Print.{quoted}
 use Rattle.serde_json.specs.Data.{Data, Members, member, put}
 use Rattle.serde_json.specs.Written.{comma_if, compact_text, items_text, members_text}
-use Rattle.machine_file.specs.Form.{Named}
+use Rattle.file_rules.specs.Form.{Named}
 use Rattle.machine_file.specs.Spelling.{as_items, put_if, as_members, object_of, list_if}
 use Rattle.machine_file.specs.Writing.{Sheet, added, with_item, with_member, with_row, with_object, object_ended}
 

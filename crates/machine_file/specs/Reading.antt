@@ -5,8 +5,8 @@ use Rattle.sleep_model.specs.declared.machine.Machine.{Machine}
 use Rattle.sleep_model.specs.Order.{parents_of}
 use Rattle.device_links.specs.Linked.{Linked}
 use Rattle.machine_file.specs.declared.reading.ReadMachine.{ReadMachine}
-use Rattle.machine_file.specs.Whole.{whole_machine}
-use Rattle.machine_file.specs.ValidFiles.{first_in_order}
+use Rattle.file_rules.specs.Whole.{whole_machine}
+use Rattle.file_rules.specs.ValidFiles.{first_in_order}
 
 -- a machine's links, by the parents of its devices, the newest first
 abbrev pub links_among : Machine → Linked

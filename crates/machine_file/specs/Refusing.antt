@@ -3,8 +3,8 @@ use Rattle.std.specs.Prelude.{◌≡◌, ℕ, List, Some, string_bytes}
 use Rattle.serde_json.specs.Data.{Data}
 use Rattle.machine_file.specs.declared.fault.MachineFault.{MachineFault}
 use Rattle.machine_file.specs.declared.fault.MachineFault.TheVariants as fault
-use Rattle.machine_file.specs.Whole.{Broken, broken_at, broken_in}
-use Rattle.machine_file.specs.ValidFiles.{first_in_order}
+use Rattle.file_rules.specs.Whole.{Broken, broken_at, broken_in}
+use Rattle.file_rules.specs.ValidFiles.{first_in_order}
 
 -- the fault names this rule and this place, or memory ran out
 abbrev pub Names : MachineFault → Broken → Type 0

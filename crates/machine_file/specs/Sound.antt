@@ -2,13 +2,13 @@
 use Rattle.std.specs.Prelude.{◌≡◌, None, reverse}
 use Rattle.serde_json.specs.Data.{Data}
 use Rattle.sleep_model.specs.Order.{parents_of}
-use Rattle.machine_file.specs.declared.names.known.Known.{Known}
+use Rattle.file_rules.specs.declared.names.known.Known.{Known}
 use Rattle.machine_file.specs.declared.reading.machine.Behaviour.{Behaviour}
 use Rattle.machine_file.specs.declared.reading.machine.Parts.{Parts}
-use Rattle.machine_file.specs.Answering.{whole_answers}
-use Rattle.machine_file.specs.Devices.{whole_devices, whole_links}
-use Rattle.machine_file.specs.Knows.{Knows, AreFew, SpellsScripts}
-use Rattle.machine_file.specs.ValidFiles.{first_in_order}
+use Rattle.file_rules.specs.Answering.{whole_answers}
+use Rattle.file_rules.specs.Devices.{whole_devices, whole_links}
+use Rattle.file_rules.specs.Knows.{Knows, AreFew, SpellsScripts}
+use Rattle.file_rules.specs.ValidFiles.{first_in_order}
 
 -- no rule is broken, the names are known and few, the links are added, and the scripts and the answers are read
 pub record IsSound (file : Data) (k : Known) (p : Parts) : Type 0 where

@@ -23,8 +23,8 @@ use Rattle.sleep_model.specs.Answers.{error_of_number}
 use Rattle.sleep_model.specs.Runtime.{has_bit, is_async, may_wake}
 use Rattle.phase_table.specs.Phases.{phase_name}
 use Rattle.sleep_model.specs.Text.{down_word, kind_word, runtime_word, link_word, newline, device, source, syscore, notifier, mark}
-use Rattle.machine_file.specs.Form.{Named, row}
-use Rattle.machine_file.specs.Whole.{SpellsWhole, IsSpelled}
+use Rattle.file_rules.specs.Form.{Named, row}
+use Rattle.file_rules.specs.Whole.{SpellsWhole, IsSpelled}
 
 -- ---- values
 

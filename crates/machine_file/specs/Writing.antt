@@ -3,7 +3,7 @@ use Rattle.std.specs.Prelude.{ℕ, List, [], ◌∷◌, ◌++◌, Bool, true, fa
 use Rattle.json.specs.Print.{quoted}
 use Rattle.serde_json.specs.Data.{Data}
 use Rattle.serde_json.specs.Written.{comma_if, compact_text}
-use Rattle.machine_file.specs.Form.{Named}
+use Rattle.file_rules.specs.Form.{Named}
 
 -- what was written; later, if a value or a member was the last, so that a comma comes before the next
 pub record Sheet : Type 0 where

@@ -7,14 +7,12 @@
 //! definitions give the machine. By the clauses of `read_machine`: `spells`, `links`, `accepted`, `refused`;
 //! `write_machine`.
 //!
-//! Begin reading in `specs/Whole.antt`; `specs/Spelling.antt`.
+//! Begin reading in `specs/Spelling.antt`; `specs/Whole.antt` of `file_rules`.
 #![tactic(auto)]
 
 mod fault;
-mod names;
 mod reading;
 mod rules;
-mod value;
 mod writing;
 
 pub use fault::MachineFault;

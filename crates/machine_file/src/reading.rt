@@ -11,21 +11,19 @@ pub(crate) mod whole;
 ghost use Rattle.std.specs.Prelude.{◌≡◌, ◌++◌, codes, false, Some, None, IfOk, IfErr, string_bytes};
 ghost use Rattle.borrowed_json.specs.View.{view};
 ghost use Rattle.sleep_model.specs.Accepted.{IsAccepted};
-ghost use Rattle.machine_file.specs.Whole.{machine_in};
-ghost use Rattle.machine_file.specs.ValidFiles.{keeps_rules};
+ghost use Rattle.file_rules.specs.Whole.{machine_in};
+ghost use Rattle.file_rules.specs.ValidFiles.{keeps_rules};
 ghost use Rattle.machine_file.specs.Reading.{links_among, Reads};
 ghost use Rattle.machine_file.specs.Refusing.{Names, Refuses, RefusesValue};
-ghost use Rattle.machine_file.specs.Places.{item_place};
-ghost use Rattle.machine_file.specs.Broken.{broken_view, place_text};
+ghost use Rattle.file_rules.specs.Places.{item_place};
+ghost use Rattle.file_rules.specs.Broken.{broken_view, place_text};
 
 use crate::fault::{MachineFault, Stop};
 use crate::reading::once::machine_in;
-use crate::rules::Broken;
 use crate::rules::first::first_broken;
-use crate::value::place::Place;
-use crate::value::tree::tree_of;
 use borrowed_json::{Scratch, Value};
 use device_links::Links;
+use file_rules::{Broken, Place, tree_of};
 use sleep_model::Machine;
 use std::alloc::{AllocError, Global};
 

@@ -2,7 +2,7 @@
 use Rattle.std.proofs.Common.{◌≡◌, inr, ℕ, List, Some, refl, sym, subst}
 use Rattle.sleep_model.specs.declared.machine.Machine.{Machine}
 use Rattle.sleep_model.specs.Text.{text}
-use Rattle.machine_file.specs.Whole.{machine_in}
+use Rattle.file_rules.specs.Whole.{machine_in}
 use Rattle.world_workers.specs.declared.fault.RunFault.{RunFault}
 use Rattle.world_workers.specs.declared.fault.RunFault.TheVariants as fault
 use Rattle.machine_rounds.specs.Runs.{Fails, MayFillSource}

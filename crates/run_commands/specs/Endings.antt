@@ -8,7 +8,7 @@ use Rattle.sleep_model.specs.declared.machine.Machine.{Machine}
 use Rattle.sleep_model.specs.Legal.{IsFinishedLog, IsStuckLog}
 use Rattle.sleep_model.specs.Text.{text, source}
 use Rattle.machine_file.specs.Spelling.{spelling}
-use Rattle.machine_file.specs.Whole.{machine_in, broken_at, broken_in}
+use Rattle.file_rules.specs.Whole.{machine_in, broken_at, broken_in}
 use Rattle.sleep_script.specs.Generated.{generated}
 use Rattle.world_workers.specs.declared.fault.RunFault.{RunFault}
 use Rattle.world_workers.specs.declared.fault.RunFault.TheVariants as fault

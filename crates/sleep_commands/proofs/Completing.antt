@@ -4,8 +4,8 @@ use Rattle.std.proofs.lemmas.List.{length-append, append-nil}
 use Rattle.std.specs.Io.KnownBytes.{Consumes, IsAtEnd}
 use Rattle.sleep_base.specs.Faults.{Rose}
 use Rattle.sleep_model.specs.declared.machine.Machine.{Machine}
-use Rattle.machine_file.specs.Tree.{tree}
-use Rattle.machine_file.specs.Whole.{machine_in}
+use Rattle.file_rules.specs.Tree.{tree}
+use Rattle.file_rules.specs.Whole.{machine_in}
 use Rattle.machine_rounds.specs.Runs.{MayFillSource}
 use Rattle.command_line.specs.declared.command.Command.{Command}
 use Rattle.command_line.specs.declared.command.Command.TheVariants.{Run, Gen, Soak, Check, Locks, Stats, Idle}

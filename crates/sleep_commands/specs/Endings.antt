@@ -6,7 +6,7 @@ use Rattle.sleep_model.specs.Order.{parents_of}
 use Rattle.command_line.specs.declared.command.Command.{Command}
 use Rattle.command_line.specs.declared.command.Command.TheVariants.{Run, Gen, Soak, Check, Locks, Stats, Idle}
 use Rattle.idle_loop.specs.declared.entry.IdleSizes.{IdleSizes}
-use Rattle.machine_file.specs.Whole.{machine_in}
+use Rattle.file_rules.specs.Whole.{machine_in}
 use Rattle.machine_rounds.specs.Runs.{MayFillSource}
 use Rattle.program_ending.specs.declared.ending.Ending.{Ending}
 use Rattle.program_ending.specs.declared.ending.Ending.TheVariants.{Done, Stuck, Illegal, NoForm, NoMemory}

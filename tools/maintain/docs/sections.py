@@ -39,7 +39,7 @@ READING = [
         ],
     ),
     ("What is a run?", [("machine_rounds", "Runs", ["IsRun", "MayFillSource"])]),
-    ("Which machine do these bytes spell?", [("machine_file", "Whole", ["machine_in", "SpellsWhole", "first_broken", "rule"])]),
+    ("Which machine do these bytes spell?", [("file_rules", "Whole", ["machine_in", "SpellsWhole", "first_broken", "rule"])]),
     (
         "When is a log legal, and at its end?",
         [
@@ -161,7 +161,7 @@ SECTIONS = [
         ["Errno", "Digits", "Cutting", "Faults", "Calls", "Streams", "Whole"],
     ),
     (
-        "machine_file",
+        "file_rules",
         "Accepted bytes: the first broken rule, and the machine that is spelled",
         "`include/linux/pm.h`, `drivers/base/core.c`; most is own",
         [

@@ -25,12 +25,12 @@ def clause(place, file):
 
 A_LAW = 20  # Files of a law.
 NAME = "file_laws"
-LIBRARIES = "phase_table sleep_model machine_file serde_json json".split()
+LIBRARIES = "phase_table sleep_model file_rules machine_file serde_json json".split()
 
 FILES = """-- How laws speak of files. A file's text is written with ' in place of ".
 use Prim.Native.String.{String}
 use Rattle.std.specs.Prelude.{◌≡◌, ℕ, ◌==◌, List, codes, map, Some, if◌then◌else◌}
-use Rattle.machine_file.specs.Whole.{broken_in, broken_at}
+use Rattle.file_rules.specs.Whole.{broken_in, broken_at}
 
 -- the bytes of a text, with " in place of '
 abbrev pub file : String → List ℕ
@@ -54,7 +54,7 @@ use Rattle.json.specs.Text.{content, code_unit, short_escape}
 use Rattle.json.specs.Word.{word, after_number}
 use Rattle.serde_json.specs.Data.{Data}
 use Rattle.serde_json.specs.Read.{number_of}
-use Rattle.machine_file.specs.Tree.{tree}
+use Rattle.file_rules.specs.Tree.{tree}
 
 unfoldable pub reading : List ℕ → Option Data
 unfolding escape_byte digits is_utf8 chars encode_utf8 scan_numeral lex punctuate content code_unit short_escape word after_number items members value number_of
@@ -66,7 +66,7 @@ HEAD = """//! Random files.
 
 ghost use Rattle.std.specs.Prelude.{◌≡◌, ◌++◌, Some, option_map};
 ghost use Rattle.sleep_model.specs.Text.{newline};
-ghost use Rattle.machine_file.specs.Whole.{machine_in};
+ghost use Rattle.file_rules.specs.Whole.{machine_in};
 ghost use Rattle.machine_file.specs.Spelling.{spelling};
 ghost use Rattle.file_laws.specs.Files.{Breaks, file};
 """

@@ -5,26 +5,24 @@ ghost use Rattle.std.specs.List.{list_all};
 ghost use Rattle.borrowed_json.specs.View.{view};
 ghost use Rattle.borrowed_json.specs.Look.{list_in};
 ghost use Rattle.sleep_model.specs.Order.{parents_of};
-ghost use Rattle.machine_file.specs.Devices.{loose_link, whole_devices, whole_links};
-ghost use Rattle.machine_file.specs.Kept.{has_end, is_valid_link};
-ghost use Rattle.machine_file.specs.Knows.{Knows, names};
-ghost use Rattle.machine_file.specs.Names.{devices_named};
-ghost use Rattle.machine_file.specs.Operations.{thing_at};
-ghost use Rattle.machine_file.specs.Rules.{is_second};
-ghost use Rattle.machine_file.specs.Spelled.{link_of};
+ghost use Rattle.file_rules.specs.Devices.{loose_link, whole_devices, whole_links};
+ghost use Rattle.file_rules.specs.Kept.{has_end, is_valid_link};
+ghost use Rattle.file_rules.specs.Knows.{Knows, names};
+ghost use Rattle.file_rules.specs.Names.{devices_named};
+ghost use Rattle.file_rules.specs.Operations.{thing_at};
+ghost use Rattle.file_rules.specs.Rules.{is_second};
+ghost use Rattle.file_rules.specs.Spelled.{link_of};
 ghost use Rattle.machine_file.specs.Stopping.{StopsUnless};
-ghost use Rattle.machine_file.specs.ValidFiles.{broken_cycle, broken_devices, broken_ends, broken_form, keeps_rules};
+ghost use Rattle.file_rules.specs.ValidFiles.{broken_cycle, broken_devices, broken_ends, broken_form, keeps_rules};
 
 use crate::fault::Stop;
-use crate::names::devices::NamedDevices;
-use crate::names::known::Known;
 use crate::reading::scripts::member_of;
 use crate::rules::cycles::{Linking, linking_with};
-use crate::rules::form::{has_link_members, link_states};
-use crate::rules::items::{is_second, spells_name};
-use crate::rules::pairs::{ends_in, repeated_link};
-use crate::value::place::{Member, items};
 use borrowed_json::{Value, has_text, may_be_one_of, text_of};
+use file_rules::{
+    Known, Member, NamedDevices, ends_in, has_link_members, is_second, items, link_states,
+    repeated_link, spells_name,
+};
 use sleep_model::{Link, link_word};
 use std::alloc::Global;
 

@@ -4,43 +4,40 @@ ghost use Rattle.std.specs.Prelude.{◌≡◌, [], option_map, codes, Some, None
 ghost use Rattle.std.specs.Option.{option_or};
 ghost use Rattle.borrowed_json.specs.View.{view};
 ghost use Rattle.borrowed_json.specs.Look.{list_in};
-ghost use Rattle.machine_file.specs.Places.{first_not_after};
-ghost use Rattle.machine_file.specs.Devices.{closes_no_cycle};
-ghost use Rattle.machine_file.specs.Knows.{Knows};
-ghost use Rattle.machine_file.specs.Answering.{whole_answers};
+ghost use Rattle.file_rules.specs.Places.{first_not_after};
+ghost use Rattle.file_rules.specs.Devices.{closes_no_cycle};
+ghost use Rattle.file_rules.specs.Knows.{Knows};
+ghost use Rattle.file_rules.specs.Answering.{whole_answers};
 ghost use Rattle.machine_file.specs.Sound.{IsSound, SpellsBehaviour};
-ghost use Rattle.machine_file.specs.ValidFiles.{first_in_order, broken_form, broken_devices, broken_ends, broken_cycle, broken_behaviour, broken_rest};
-ghost use Rattle.machine_file.specs.Seen.{AreEnds, AreNumbersOf};
-ghost use Rattle.machine_file.specs.Broken.{broken_view};
-ghost use Rattle.machine_file.specs.Whole.{first_of};
-ghost use Rattle.machine_file.specs.Groups.{last_rules, reply_rules};
-ghost use Rattle.machine_file.specs.Knows.{SpellsScripts};
+ghost use Rattle.file_rules.specs.ValidFiles.{first_in_order, broken_form, broken_devices, broken_ends, broken_cycle, broken_behaviour, broken_rest};
+ghost use Rattle.file_rules.specs.Seen.{AreEnds, AreNumbersOf};
+ghost use Rattle.file_rules.specs.Broken.{broken_view};
+ghost use Rattle.file_rules.specs.Whole.{first_of};
+ghost use Rattle.file_rules.specs.Groups.{last_rules, reply_rules};
+ghost use Rattle.file_rules.specs.Knows.{SpellsScripts};
 
 use crate::fault::Stop;
-use crate::names::known::Known;
 use crate::reading::replies::answers_in;
 use crate::reading::scripts::scripts_in;
 use crate::rules::cycles::{Linking, linking_of};
-use crate::rules::items::is_second;
-use crate::rules::pairs::{EndNumbers, LinkEnds, ends_in, numbers_in};
-use crate::rules::{
-    Broken, end_broken, form_broken, last_broken, operation_broken, reply_broken, thing_broken,
-};
-use crate::value::place::{Member, Place, items};
 use borrowed_json::Value;
+use file_rules::{
+    Broken, EndNumbers, Known, LinkEnds, Member, Place, end_broken, ends_in, form_broken, is_second,
+    items, last_broken, numbers_in, operation_broken, reply_broken, thing_broken,
+};
 use sleep_base::{Mem, drop_for_mem};
 use sleep_model::{Answer, Script};
 use std::alloc::Global;
 
 /// The first rule on form that is broken.
-#[tactic(auto, unfolding(crate::specs::ValidFiles::broken_form))]
+#[tactic(auto, unfolding(file_rules::specs::ValidFiles::broken_form))]
 pub(crate) fn first_of_form(tree: &Value<'_>) -> Option<Broken>
     ensures { option_map broken_view result ≡ broken_form (view tree.now) }
 {
     form_broken(tree)
 }
 
-#[tactic(auto, unfolding(crate::specs::ValidFiles::broken_ends))]
+#[tactic(auto, unfolding(file_rules::specs::ValidFiles::broken_ends))]
 fn first_of_ends(
     alloc: Global,
     tree: &Value<'_>,
@@ -55,7 +52,7 @@ fn first_of_ends(
 }
 
 /// The rule on cycles, if a link closes one.
-#[tactic(auto, unfolding(crate::specs::ValidFiles::broken_cycle))]
+#[tactic(auto, unfolding(file_rules::specs::ValidFiles::broken_cycle))]
 fn first_cycle(cycle: Option<usize>, _tree: &Value<'_>) -> Option<Broken>
     requires { cycle ≡ first_not_after (closes_no_cycle (view _tree.now)) [] 0 (list_in (codes "links") (view _tree.now)) }
     ensures { option_map broken_view result ≡ broken_cycle (view _tree.now) }
@@ -179,7 +176,7 @@ fn unless_last_broken(
 }
 
 /// The scripts and the answers of a file, or the first rule after those on links that is broken.
-#[tactic(auto, unfolding(crate::specs::ValidFiles::broken_rest))]
+#[tactic(auto, unfolding(file_rules::specs::ValidFiles::broken_rest))]
 pub(crate) fn rest_in(
     alloc: Global,
     tree: &Value<'_>,

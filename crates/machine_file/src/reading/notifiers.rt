@@ -4,11 +4,11 @@ ghost use Rattle.std.specs.Prelude.{◌≡◌, ◌≤◌, All, Some, map, length
 ghost use Rattle.borrowed_json.specs.View.{view};
 ghost use Rattle.serde_json.specs.Find.{as_number, as_integer};
 ghost use Rattle.borrowed_json.specs.Look.{may_have, is_bounded};
-ghost use Rattle.machine_file.specs.Whole.{priority_of, whole_notifier};
-ghost use Rattle.machine_file.specs.Fitting.{FitsNotifier};
+ghost use Rattle.file_rules.specs.Whole.{priority_of, whole_notifier};
+ghost use Rattle.file_rules.specs.Fitting.{FitsNotifier};
 
-use crate::names::name_of_text;
 use borrowed_json::{Value, as_i64, get, text_at};
+use file_rules::name_of_text;
 use sleep_base::Mem;
 use sleep_model::Notifier;
 use std::alloc::Global;

@@ -3,27 +3,26 @@
 ghost use Rattle.std.specs.Prelude.{◌≡◌, None, option_map, reverse, IfErr, IfOk};
 ghost use Rattle.borrowed_json.specs.View.{view};
 ghost use Rattle.sleep_model.specs.Order.{parents_of};
-ghost use Rattle.machine_file.specs.Broken.{broken_view};
-ghost use Rattle.machine_file.specs.Devices.{loose_link, whole_devices, whole_links};
-ghost use Rattle.machine_file.specs.Knows.{Knows};
+ghost use Rattle.file_rules.specs.Broken.{broken_view};
+ghost use Rattle.file_rules.specs.Devices.{loose_link, whole_devices, whole_links};
+ghost use Rattle.file_rules.specs.Knows.{Knows};
 ghost use Rattle.machine_file.specs.Reading.{Reads};
 ghost use Rattle.machine_file.specs.Stopping.{StopsUnless};
-ghost use Rattle.machine_file.specs.ValidFiles.{broken_cycle, broken_devices, broken_ends, broken_form, broken_head, keeps_rules};
+ghost use Rattle.file_rules.specs.ValidFiles.{broken_cycle, broken_devices, broken_ends, broken_form, broken_head, keeps_rules};
 
 use crate::ReadMachine;
 use crate::fault::Stop;
-use crate::names::known::{Known, known_of_file};
 use crate::reading::links::{links_of_file, tied_in};
 use crate::reading::machine::{Parts, rest_in};
 use crate::reading::whole::read_of;
 use crate::rules::cycles::Linking;
-use crate::rules::{Broken, head_broken};
 use borrowed_json::Value;
+use file_rules::{Broken, Known, head_broken, known_of_file};
 use sleep_model::Link;
 use std::alloc::Global;
 
 /// The first rule on form that is broken, but for links.
-#[tactic(auto, unfolding(crate::specs::ValidFiles::broken_head))]
+#[tactic(auto, unfolding(file_rules::specs::ValidFiles::broken_head))]
 fn first_of_head(tree: &Value<'_>) -> Option<Broken>
     ensures { option_map broken_view result ≡ broken_head (view tree.now) }
 {

@@ -4,23 +4,23 @@ ghost use Rattle.std.specs.Prelude.{◌≡◌, ◌≤◌, All, map, length, code
 ghost use Rattle.std.specs.List.{list_all};
 ghost use Rattle.borrowed_json.specs.View.{view};
 ghost use Rattle.borrowed_json.specs.Look.{has_text, number_at};
-ghost use Rattle.machine_file.specs.Answering.{answering_phases, platform_steps, phase_of, step_of, ret_of, call_of, whole_report};
-ghost use Rattle.machine_file.specs.AnswerTests.{thing_seen, answer_made, is_valid_answer};
+ghost use Rattle.file_rules.specs.Answering.{answering_phases, platform_steps, phase_of, step_of, ret_of, call_of, whole_report};
+ghost use Rattle.file_rules.specs.AnswerTests.{thing_seen, answer_made, is_valid_answer};
 ghost use Rattle.phase_table.specs.Phases.{phase_name};
 ghost use Rattle.sleep_model.specs.Text.{down_word};
 ghost use Rattle.sleep_base.specs.Errno.{name_of, number_of};
 ghost use Rattle.sleep_model.specs.Answers.{errors};
-ghost use Rattle.machine_file.specs.Fitting.{FitsAt, HasPlainRet, FitsAnswer};
-ghost use Rattle.machine_file.specs.Knows.{texts, AreFew};
+ghost use Rattle.file_rules.specs.Fitting.{FitsAt, HasPlainRet, FitsAnswer};
+ghost use Rattle.file_rules.specs.Knows.{texts, AreFew};
 ghost use Rattle.machine_file.specs.Stopping.{StopsUnless};
 
 use crate::fault::Stop;
-use crate::names::devices::device_named;
-use crate::names::known::Known;
 use crate::reading::scripts::{ms_of, says, small_at, thing_at};
-use crate::rules::answers::{is_of_device, is_valid_answer};
-use crate::value::words::{AWAKE, NOTIFIER, RELAX, SYSCORE, error_in, phase_in, step_in};
 use borrowed_json::{Value, get, has_text, list_in, number_at};
+use file_rules::{
+    AWAKE, Known, NOTIFIER, RELAX, SYSCORE, device_named, error_in, is_of_device, is_valid_answer,
+    phase_in, step_in,
+};
 use key_index::KeyIndex;
 use sleep_base::{Errno, Mem};
 use sleep_model::{Answer, ListOf, Phase, PlatDo, Report, SourceCall, What};

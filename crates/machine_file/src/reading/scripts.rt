@@ -7,32 +7,27 @@ ghost use Rattle.borrowed_json.specs.View.{view};
 ghost use Rattle.sleep_model.specs.Text.{kind_word};
 ghost use Rattle.sleep_model.specs.declared.machine.Op.TheVariants as op;
 ghost use Rattle.borrowed_json.specs.Look.{has_text, may_have, must_have, number_at, word_at, text_at, is_string, is_truth, is_within};
-ghost use Rattle.machine_file.specs.WordLists.{task_kinds};
-ghost use Rattle.machine_file.specs.Operations.{has_length, has_mark, has_short_text, is_state_form, kind_of, ms_of, row_of, says, thing_at, whole_script, whole_step};
+ghost use Rattle.file_rules.specs.WordLists.{task_kinds};
+ghost use Rattle.file_rules.specs.Operations.{has_length, has_mark, has_short_text, is_state_form, kind_of, ms_of, row_of, says, thing_at, whole_script, whole_step};
 ghost use Rattle.machine_file.specs.declared.fault.Stop.TheVariants as stop;
-ghost use Rattle.machine_file.specs.declared.rules.operations.Word.TheVariants as word;
-ghost use Rattle.machine_file.specs.OperationRows.{is_valid_for, is_valid_script, names_ends, must_name, op_spelled, operation_of_word, row_test, word_test};
-ghost use Rattle.machine_file.specs.Fitting.{FitsAt, FitsScript};
-ghost use Rattle.machine_file.specs.Spelled.{index_among};
+ghost use Rattle.file_rules.specs.declared.rules.operations.Word.TheVariants as word;
+ghost use Rattle.file_rules.specs.OperationRows.{is_valid_for, is_valid_script, names_ends, must_name, op_spelled, operation_of_word, row_test, word_test};
+ghost use Rattle.file_rules.specs.Fitting.{FitsAt, FitsScript};
+ghost use Rattle.file_rules.specs.Spelled.{index_among};
 ghost use Rattle.machine_file.specs.Stopping.{StopsUnless};
-ghost use Rattle.machine_file.specs.Knows.{texts, names, AreFew, known_seen};
+ghost use Rattle.file_rules.specs.Knows.{texts, names, AreFew, known_seen};
 
 use crate::fault::Stop;
-use crate::names::devices::NamedDevices;
-use crate::names::known::{Known, index_of_name};
-use crate::names::name_of_text;
 use crate::reading::texts::text_from;
 use crate::rules::cycles::index_among;
-use crate::rules::form::{DAY, link_states, statuses};
-use crate::rules::items::spells_name;
-use crate::rules::limits::MOST_STEPS;
-use crate::rules::operations::{
-    MOST_TIMES, Word, by_operation, has_members, has_short_text, is_allowed, is_of_version, word_of,
-};
-use crate::value::words::kind_in;
 use borrowed_json::{
     Value, as_bool, as_str, as_u64, get, has_text, list_in, must_be_one_of, number_at, text_at,
     text_of, truth_at,
+};
+use file_rules::{
+    DAY, Known, MOST_STEPS, MOST_TIMES, NamedDevices, Word, by_operation, has_members,
+    has_short_text, index_of_name, is_allowed, is_of_version, kind_in, link_states, name_of_text,
+    spells_name, statuses, word_of,
 };
 use key_index::KeyIndex;
 use sleep_model::{ListOf, Op, Script, Step, TaskKind, Text, link_word, runtime_word};
@@ -359,7 +354,7 @@ fn kind_at(actor: &Value<'_>) -> Option<TaskKind>
     }
 }
 
-#[tactic(auto, using(crate::proofs::Namings::kind_found))]
+#[tactic(auto, using(file_rules::proofs::Namings::kind_found))]
 fn kind_of(actor: &Value<'_>) -> TaskKind
     ensures { result ≡ kind_of (view actor.now) }
 {

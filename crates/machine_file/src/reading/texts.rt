@@ -1,10 +1,10 @@
 //! Names and texts of a machine, from the texts of its file.
 
 ghost use Rattle.std.specs.Prelude.{◌≡◌, All, IfOk};
-ghost use Rattle.machine_file.specs.Knows.{texts};
-ghost use Rattle.machine_file.specs.Fitting.{IsShort};
+ghost use Rattle.file_rules.specs.Knows.{texts};
+ghost use Rattle.file_rules.specs.Fitting.{IsShort};
 
-use crate::names::name_of_text;
+use file_rules::name_of_text;
 use sleep_base::Mem;
 use sleep_model::{Name, Text};
 use std::alloc::Global;

@@ -2,21 +2,19 @@
 
 ghost use Rattle.std.specs.Prelude.{◌≡◌, ◌≤◌, [], map, reverse, length, position, bytes_eq, codes, IfOk, None};
 ghost use Rattle.borrowed_json.specs.View.{view};
-ghost use Rattle.machine_file.specs.Spelled.{index_among};
+ghost use Rattle.file_rules.specs.Spelled.{index_among};
 ghost use Rattle.sleep_model.specs.Order.{EachAfterParent, parents_of};
 ghost use Rattle.borrowed_json.specs.Look.{list_in};
-ghost use Rattle.machine_file.specs.Devices.{whole_devices, whole_links, closes_no_cycle};
-ghost use Rattle.machine_file.specs.Joined.{AreJoined};
-ghost use Rattle.machine_file.specs.Places.{first_not_after};
-ghost use Rattle.machine_file.specs.Fresh.{AreFresh, closes_nothing};
-ghost use Rattle.machine_file.specs.Seen.{AreNumbersOf, link_at, links_between};
-ghost use Rattle.machine_file.specs.Knows.{Knows, texts};
+ghost use Rattle.file_rules.specs.Devices.{whole_devices, whole_links, closes_no_cycle};
+ghost use Rattle.file_rules.specs.Joined.{AreJoined};
+ghost use Rattle.file_rules.specs.Places.{first_not_after};
+ghost use Rattle.file_rules.specs.Fresh.{AreFresh, closes_nothing};
+ghost use Rattle.file_rules.specs.Seen.{AreNumbersOf, link_at, links_between};
+ghost use Rattle.file_rules.specs.Knows.{Knows, texts};
 
-use crate::names::known::{Known, index_of_name};
-use crate::rules::pairs::EndNumbers;
-use crate::value::place::{Member, items};
 use borrowed_json::{Value, has_text};
 use device_links::{LinkFault, Links};
+use file_rules::{EndNumbers, Known, Member, index_of_name, items};
 use key_index::KeyIndex;
 use sleep_base::{Mem, drop_for_mem};
 use sleep_model::{Link, link_word, parents_of};

@@ -2,14 +2,13 @@
 
 ghost use Rattle.std.specs.Prelude.{◌≡◌, None, option_map, IfOk};
 ghost use Rattle.borrowed_json.specs.View.{view};
-ghost use Rattle.machine_file.specs.Broken.{broken_view};
-ghost use Rattle.machine_file.specs.Knows.{Knows};
-ghost use Rattle.machine_file.specs.ValidFiles.{broken_devices, broken_form, first_in_order};
+ghost use Rattle.file_rules.specs.Broken.{broken_view};
+ghost use Rattle.file_rules.specs.Knows.{Knows};
+ghost use Rattle.file_rules.specs.ValidFiles.{broken_devices, broken_form, first_in_order};
 
-use crate::names::known::{Known, known_of_file};
 use crate::reading::machine::{first_of_form, parts_in};
-use crate::rules::Broken;
 use borrowed_json::Value;
+use file_rules::{Broken, Known, known_of_file};
 use sleep_base::Mem;
 use std::alloc::Global;
 

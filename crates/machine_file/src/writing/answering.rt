@@ -1,13 +1,13 @@
 //! The JSON of answers.
 
 ghost use Rattle.std.specs.Prelude.{◌≡◌, codes, OnOk};
-ghost use Rattle.machine_file.specs.Form.{row};
+ghost use Rattle.file_rules.specs.Form.{row};
 ghost use Rattle.machine_file.specs.Spelling.{thing_word, thing_name, thing_phase, error_or, answer_value};
 ghost use Rattle.machine_file.specs.Writing.{with_row};
 ghost use Rattle.sleep_model.specs.Answers.{error_of_number};
 
-use crate::value::words::{DEVICE, NOTIFIER, PLATFORM, SYSCORE};
 use crate::writing::writer::{JsonWriter, Written};
+use file_rules::{DEVICE, NOTIFIER, PLATFORM, SYSCORE};
 use sleep_base::{Errno, Mem};
 use sleep_model::{Answer, Machine, What};
 

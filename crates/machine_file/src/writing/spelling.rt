@@ -5,13 +5,12 @@ ghost use Rattle.std.specs.Prelude.{◌≡◌, ◌∷◌, [], codes, fold, optio
 ghost use Rattle.serde_json.specs.Data.{string};
 ghost use Rattle.sleep_model.specs.Runtime.{has_bit};
 ghost use Rattle.sleep_model.specs.Text.{device};
-ghost use Rattle.machine_file.specs.Form.{row};
+ghost use Rattle.file_rules.specs.Form.{row};
 ghost use Rattle.machine_file.specs.Spelling.{always, count, text_row, integer_unless_zero, device_value, link_value, notifier_value, op_member, times as times_row, op_rows, step_value, script_value, report_rows, report_value};
 ghost use Rattle.machine_file.specs.Writing.{with_row};
 
-use crate::rules::operations::by_operation;
-use crate::value::words::{AWAKE, EVENT, RELAX};
 use crate::writing::writer::{JsonWriter, Written};
+use file_rules::{AWAKE, EVENT, RELAX, by_operation};
 use sleep_base::Mem;
 use sleep_model::{
     Device, DeviceFlags, Link, Machine, Name, Notifier, Op, Report, Script, SourceCall, Step,

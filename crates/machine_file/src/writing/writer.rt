@@ -42,7 +42,7 @@ impl JsonWriter {
     ghost use Rattle.json.specs.Print.{quoted};
     ghost use Rattle.serde_json.specs.Data.{string};
     ghost use Rattle.serde_json.specs.Written.{comma_if};
-    ghost use Rattle.machine_file.specs.Form.{row};
+    ghost use Rattle.file_rules.specs.Form.{row};
     ghost use Rattle.machine_file.specs.Spelling.{always, count, count_unless, true_if, list_if, text_row, integer_unless_zero};
     ghost use Rattle.machine_file.specs.Writing.{blank, added, with_item, with_row, with_object, object_ended};
 

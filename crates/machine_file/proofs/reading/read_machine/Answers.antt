@@ -1,7 +1,7 @@
 -- Proof that `read_machine` meets its contract.
 use Rattle.std.proofs.Common.{◌≡◌, subst, Option, Some, IfSome}
 use Rattle.borrowed_json.specs.View.{Value, view}
-use Rattle.machine_file.specs.Tree.{tree}
+use Rattle.file_rules.specs.Tree.{tree}
 use Rattle.machine_file.proofs.Machined.{spelled, is_accepted, is_refused}
 use Rattle.machine_file.proofs.reading.read_machine.Goals as goal
 

@@ -2,7 +2,7 @@
 use Rattle.std.proofs.Common.{◌∙◌, ap, is_none, sym}
 use Rattle.std.specs.Option.{option_map}
 use Rattle.std.proofs.lemmas.Bool.{false≢true}
-use Rattle.machine_file.specs.Broken.{broken_view}
+use Rattle.file_rules.specs.Broken.{broken_view}
 use Rattle.machine_file.proofs.reading.refusal_of.Goals as goal
 
 pub unreachable-requires : goal.unreachable-requires

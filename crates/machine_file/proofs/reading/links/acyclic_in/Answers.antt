@@ -1,7 +1,7 @@
 -- Proof that `acyclic_in` meets its contract, and what `linking_with` requires.
 use Rattle.std.proofs.Common.{◌∙◌, sym}
 use Rattle.borrowed_json.specs.View.{view}
-use Rattle.machine_file.proofs.Grouping.{joined_groups}
+use Rattle.file_rules.proofs.Grouping.{joined_groups}
 use Rattle.machine_file.proofs.KeptLinks.{cycle_breaks, cycle_none}
 use Rattle.machine_file.proofs.reading.links.acyclic_in.Goals as goal
 

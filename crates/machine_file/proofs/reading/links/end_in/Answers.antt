@@ -1,7 +1,7 @@
 -- Proof that `end_in` meets its contract.
 use Rattle.std.proofs.Common.{◌∙◌, List, ℕ, ap, bytes_eq, position, sym}
 use Rattle.borrowed_json.specs.View.{view}
-use Rattle.machine_file.specs.Knows.{names}
+use Rattle.file_rules.specs.Knows.{names}
 use Rattle.machine_file.proofs.KeptLinks.{end_named, end_unnamed}
 use Rattle.machine_file.proofs.reading.links.end_in.Goals as goal
 

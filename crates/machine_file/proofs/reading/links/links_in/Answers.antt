@@ -1,9 +1,9 @@
 -- Proof that the loop of `links_in` keeps its invariant, and why it stops.
 use Rattle.std.proofs.Common.{arith}
 use Rattle.std.proofs.lemmas.Result.{err_from_is_err_and}
-use Rattle.machine_file.specs.Kept.{is_valid_link}
-use Rattle.machine_file.specs.Knows.{names}
-use Rattle.machine_file.specs.Spelled.{link_of}
+use Rattle.file_rules.specs.Kept.{is_valid_link}
+use Rattle.file_rules.specs.Knows.{names}
+use Rattle.file_rules.specs.Spelled.{link_of}
 use Rattle.machine_file.proofs.Passed.{all_passed, one_more, stops_all}
 use Rattle.machine_file.proofs.reading.links.links_in.Goals as goal
 

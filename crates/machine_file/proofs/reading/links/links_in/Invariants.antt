@@ -2,9 +2,9 @@
 use Rattle.std.proofs.Common.{◌≡◌, map, take, true}
 use Rattle.std.specs.List.{list_all}
 use Rattle.borrowed_json.specs.View.{view}
-use Rattle.machine_file.specs.Kept.{is_valid_link}
-use Rattle.machine_file.specs.Knows.{names}
-use Rattle.machine_file.specs.Spelled.{link_of}
+use Rattle.file_rules.specs.Kept.{is_valid_link}
+use Rattle.file_rules.specs.Knows.{names}
+use Rattle.file_rules.specs.Spelled.{link_of}
 use Rattle.machine_file.proofs.reading.links.links_in.Given as goal
 
 abbrev pub invariant-loop-link : goal.invariant-loop-link

@@ -4,8 +4,8 @@ use Rattle.std.specs.declared.alloc.Global.{Global}
 use Rattle.std.specs.List.{list_all}
 use Rattle.borrowed_json.specs.View.{view}
 use Rattle.sleep_model.specs.declared.machine.Link.{Link}
-use Rattle.machine_file.specs.Kept.{is_valid_link}
-use Rattle.machine_file.specs.Knows.{names}
+use Rattle.file_rules.specs.Kept.{is_valid_link}
+use Rattle.file_rules.specs.Knows.{names}
 use Rattle.machine_file.proofs.KeptLinks.{links_known, links_spelled, links_stop}
 use Rattle.machine_file.proofs.reading.links.links_of_file.Goals as goal
 

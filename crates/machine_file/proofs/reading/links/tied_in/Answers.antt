@@ -1,7 +1,7 @@
 -- Proof that `tied_in` meets its contract, and what `acyclic_in` requires.
 use Rattle.std.proofs.Common.{◌∙◌, ap, sym}
 use Rattle.borrowed_json.specs.View.{view}
-use Rattle.machine_file.specs.Broken.{place_of}
+use Rattle.file_rules.specs.Broken.{place_of}
 use Rattle.machine_file.proofs.KeptLinks.{again_breaks, ends_none}
 use Rattle.machine_file.proofs.reading.links.tied_in.Goals as goal
 

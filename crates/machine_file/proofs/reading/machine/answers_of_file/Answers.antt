@@ -4,13 +4,13 @@ use Rattle.std.proofs.lemmas.Bool.{false≢true}
 use Rattle.std.specs.List.{All, list_all}
 use Rattle.std.specs.Option.{option_map}
 use Rattle.borrowed_json.specs.View.{view}
-use Rattle.machine_file.specs.Answering.{whole_answer}
-use Rattle.machine_file.specs.AnswerTests.{is_valid_answer}
-use Rattle.machine_file.specs.Broken.{broken_view}
-use Rattle.machine_file.specs.Fitting.{FitsAnswer}
+use Rattle.file_rules.specs.Answering.{whole_answer}
+use Rattle.file_rules.specs.AnswerTests.{is_valid_answer}
+use Rattle.file_rules.specs.Broken.{broken_view}
+use Rattle.file_rules.specs.Fitting.{FitsAnswer}
 use Rattle.machine_file.specs.Stopping.{StopsUnless}
-use Rattle.machine_file.proofs.FittedFile.{fits_answers}
-use Rattle.machine_file.proofs.Grouping.{few_known}
+use Rattle.file_rules.proofs.FittedFile.{fits_answers}
+use Rattle.file_rules.proofs.Grouping.{few_known}
 use Rattle.machine_file.proofs.KeptAnswers.{answers_kept, replies_pass, replies_valid}
 use Rattle.machine_file.proofs.Replying.{answers_made}
 use Rattle.machine_file.proofs.reading.machine.answers_of_file.Goals as goal

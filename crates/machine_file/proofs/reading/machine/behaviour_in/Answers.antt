@@ -4,16 +4,16 @@ use Rattle.std.proofs.lemmas.Bool.{false≢true}
 use Rattle.std.specs.List.{All, list_all}
 use Rattle.std.specs.Option.{option_map, option_or}
 use Rattle.borrowed_json.specs.View.{view}
-use Rattle.machine_file.specs.Broken.{broken_view}
-use Rattle.machine_file.specs.Fitting.{FitsScript}
-use Rattle.machine_file.specs.Groups.{answer_rules}
-use Rattle.machine_file.specs.Knows.{known_seen}
-use Rattle.machine_file.specs.OperationRows.{is_valid_script}
+use Rattle.file_rules.specs.Broken.{broken_view}
+use Rattle.file_rules.specs.Fitting.{FitsScript}
+use Rattle.file_rules.specs.Groups.{answer_rules}
+use Rattle.file_rules.specs.Knows.{known_seen}
+use Rattle.file_rules.specs.OperationRows.{is_valid_script}
 use Rattle.machine_file.specs.Stopping.{StopsUnless}
-use Rattle.machine_file.specs.ValidFiles.{broken_behaviour}
-use Rattle.machine_file.specs.Whole.{Broken, first_of}
-use Rattle.machine_file.proofs.FittedFile.{fits_actors}
-use Rattle.machine_file.proofs.Grouping.{few_known}
+use Rattle.file_rules.specs.ValidFiles.{broken_behaviour}
+use Rattle.file_rules.specs.Whole.{Broken, first_of}
+use Rattle.file_rules.proofs.FittedFile.{fits_actors}
+use Rattle.file_rules.proofs.Grouping.{few_known}
 use Rattle.machine_file.proofs.Keeping.{operations_pass, operations_valid, read_scripts, read_valid}
 use Rattle.machine_file.proofs.reading.machine.behaviour_in.Goals as goal
 

@@ -1,10 +1,10 @@
 use Rattle.std.proofs.Common.{◌≡◌, ◌∙◌, IfOk, Option, None, ap, subst}
 use Rattle.std.specs.Option.{option_or}
 use Rattle.borrowed_json.specs.View.{view}
-use Rattle.machine_file.specs.Whole.{Broken}
+use Rattle.file_rules.specs.Whole.{Broken}
 use Rattle.machine_file.specs.Sound.{SpellsBehaviour}
-use Rattle.machine_file.specs.ValidFiles.{broken_devices, broken_ends, broken_cycle, broken_rest}
-use Rattle.machine_file.proofs.Grouping.{joined_groups, few_known, no_cycle, or_none}
+use Rattle.file_rules.specs.ValidFiles.{broken_devices, broken_ends, broken_cycle, broken_rest}
+use Rattle.file_rules.proofs.Grouping.{joined_groups, few_known, no_cycle, or_none}
 use Rattle.machine_file.proofs.reading.machine.parts_by.Goals as goal
 
 pub linking_of-requires-clause-joined : goal.linking_of-requires-clause-joined

@@ -1,11 +1,11 @@
 -- What `last_broken` requires in `unless_last_broken`.
 use Rattle.std.proofs.Common.{◌∙◌}
 use Rattle.borrowed_json.specs.View.{view}
-use Rattle.machine_file.specs.Groups.{answer_rules, operation_rules}
-use Rattle.machine_file.specs.ValidFiles.{broken_behaviour}
-use Rattle.machine_file.specs.Whole.{first_of}
-use Rattle.machine_file.proofs.Accepted.{keeps_all}
-use Rattle.machine_file.proofs.Grouping.{or_none}
+use Rattle.file_rules.specs.Groups.{answer_rules, operation_rules}
+use Rattle.file_rules.specs.ValidFiles.{broken_behaviour}
+use Rattle.file_rules.specs.Whole.{first_of}
+use Rattle.file_rules.proofs.Accepted.{keeps_all}
+use Rattle.file_rules.proofs.Grouping.{or_none}
 use Rattle.machine_file.proofs.reading.machine.unless_last_broken.Goals as goal
 
 pub last_broken-requires-clause-operations : goal.last_broken-requires-clause-operations

@@ -3,10 +3,10 @@ use Rattle.std.proofs.Common.{◌≡◌, ◌∙◌, IfErr, IfOk, None, Some, Vec
 use Rattle.std.specs.declared.alloc.Global.{Global}
 use Rattle.sleep_model.specs.declared.machine.Answer.{Answer}
 use Rattle.borrowed_json.specs.View.{view}
-use Rattle.machine_file.specs.Answering.{whole_answers}
-use Rattle.machine_file.specs.Broken.{broken_view}
-use Rattle.machine_file.specs.Groups.{reply_rules}
-use Rattle.machine_file.specs.Whole.{first_of}
+use Rattle.file_rules.specs.Answering.{whole_answers}
+use Rattle.file_rules.specs.Broken.{broken_view}
+use Rattle.file_rules.specs.Groups.{reply_rules}
+use Rattle.file_rules.specs.Whole.{first_of}
 use Rattle.machine_file.proofs.reading.machine.with_answers.Goals as goal
 
 pub returns-in-Ok-answers-clause-spelled : goal.returns-in-Ok-answers-clause-spelled

@@ -1,8 +1,8 @@
 -- Proof that the loop of `notifiers_of` keeps its invariant, and that it meets what `notifier_of` requires.
 use Rattle.std.proofs.Common.{arith}
 use Rattle.std.proofs.lemmas.Grind.{common_steps}
-use Rattle.machine_file.specs.Fitting.{FitsNotifier}
-use Rattle.machine_file.proofs.Each.{value_each}
+use Rattle.file_rules.specs.Fitting.{FitsNotifier}
+use Rattle.file_rules.proofs.Each.{value_each}
 use Rattle.machine_file.proofs.reading.notifiers.notifiers_of.Goals as goal
 
 pub notifier_of-requires : goal.notifier_of-requires

@@ -1,7 +1,7 @@
 -- The invariant of the loop of `notifiers_of`.
 use Rattle.std.proofs.Common.{◌≡◌, map, take}
 use Rattle.borrowed_json.specs.View.{view}
-use Rattle.machine_file.specs.Whole.{whole_notifier}
+use Rattle.file_rules.specs.Whole.{whole_notifier}
 use Rattle.machine_file.proofs.reading.notifiers.notifiers_of.Given as goal
 
 abbrev pub invariant-loop-notifier : goal.invariant-loop-notifier

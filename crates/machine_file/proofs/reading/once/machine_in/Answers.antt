@@ -2,7 +2,7 @@
 use Rattle.std.proofs.Common.{◌∙◌, ap, sym}
 use Rattle.std.specs.Option.{option_map}
 use Rattle.borrowed_json.specs.View.{view}
-use Rattle.machine_file.specs.Broken.{broken_view}
+use Rattle.file_rules.specs.Broken.{broken_view}
 use Rattle.machine_file.proofs.KeptLinks.{head_breaks}
 use Rattle.machine_file.proofs.reading.once.machine_in.Goals as goal
 

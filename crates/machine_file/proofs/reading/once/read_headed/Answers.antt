@@ -1,8 +1,8 @@
 -- Proof that `read_headed` meets its contract, and what `known_of_file` requires.
 use Rattle.std.proofs.Common.{◌≡◌, IfErr, Some, subst}
 use Rattle.borrowed_json.specs.View.{view}
-use Rattle.machine_file.specs.Broken.{broken_view}
-use Rattle.machine_file.specs.ValidFiles.{broken_devices}
+use Rattle.file_rules.specs.Broken.{broken_view}
+use Rattle.file_rules.specs.ValidFiles.{broken_devices}
 use Rattle.machine_file.proofs.KeptLinks.{devices_break, head_devices}
 use Rattle.machine_file.proofs.reading.once.read_headed.Goals as goal
 

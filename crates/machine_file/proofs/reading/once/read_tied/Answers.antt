@@ -2,11 +2,11 @@
 use Rattle.std.proofs.Common.{◌≡◌, ◌∙◌, IfErr, IfOk, Option, None, Some, ap, subst}
 use Rattle.std.specs.Option.{option_or}
 use Rattle.borrowed_json.specs.View.{view}
-use Rattle.machine_file.specs.Broken.{broken_view}
+use Rattle.file_rules.specs.Broken.{broken_view}
 use Rattle.machine_file.specs.Sound.{SpellsBehaviour}
-use Rattle.machine_file.specs.ValidFiles.{broken_cycle, broken_devices, broken_ends, broken_rest}
-use Rattle.machine_file.specs.Whole.{Broken}
-use Rattle.machine_file.proofs.Grouping.{few_known}
+use Rattle.file_rules.specs.ValidFiles.{broken_cycle, broken_devices, broken_ends, broken_rest}
+use Rattle.file_rules.specs.Whole.{Broken}
+use Rattle.file_rules.proofs.Grouping.{few_known}
 use Rattle.machine_file.proofs.KeptLinks.{rest_breaks}
 use Rattle.machine_file.proofs.reading.once.read_tied.Goals as goal
 

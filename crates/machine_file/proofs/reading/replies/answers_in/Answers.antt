@@ -1,9 +1,9 @@
 -- Proof that the loop of `answers_in` keeps its invariant, that it meets what `answer_in` requires, and why it stops.
 use Rattle.std.proofs.Common.{arith}
 use Rattle.std.proofs.lemmas.Result.{err_from_is_err_and}
-use Rattle.machine_file.specs.AnswerTests.{answer_made, is_valid_answer}
-use Rattle.machine_file.specs.Fitting.{FitsAnswer}
-use Rattle.machine_file.proofs.Each.{value_each}
+use Rattle.file_rules.specs.AnswerTests.{answer_made, is_valid_answer}
+use Rattle.file_rules.specs.Fitting.{FitsAnswer}
+use Rattle.file_rules.proofs.Each.{value_each}
 use Rattle.machine_file.proofs.Passed.{all_passed, one_more, stops_all}
 use Rattle.machine_file.proofs.reading.replies.answers_in.Goals as goal
 

@@ -2,7 +2,7 @@
 use Rattle.std.proofs.Common.{◌≡◌, map, take, true}
 use Rattle.std.specs.List.{list_all}
 use Rattle.borrowed_json.specs.View.{view}
-use Rattle.machine_file.specs.AnswerTests.{answer_made, is_valid_answer}
+use Rattle.file_rules.specs.AnswerTests.{answer_made, is_valid_answer}
 use Rattle.machine_file.proofs.reading.replies.answers_in.Given as goal
 
 abbrev pub invariant-loop-answer : goal.invariant-loop-answer

@@ -1,8 +1,8 @@
 -- Proof that the loop of `reports_of` keeps its invariant, and that it meets what `report_of` requires.
 use Rattle.std.proofs.Common.{arith, codes}
 use Rattle.std.proofs.lemmas.Grind.{common_steps}
-use Rattle.machine_file.specs.Fitting.{FitsAt}
-use Rattle.machine_file.proofs.Each.{value_each}
+use Rattle.file_rules.specs.Fitting.{FitsAt}
+use Rattle.file_rules.proofs.Each.{value_each}
 use Rattle.machine_file.proofs.reading.replies.reports_of.Goals as goal
 
 pub report_of-requires-clause-fits : goal.report_of-requires-clause-fits

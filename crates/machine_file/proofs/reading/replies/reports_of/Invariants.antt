@@ -1,8 +1,8 @@
 -- The invariant of the loop of `reports_of`.
 use Rattle.std.proofs.Common.{◌≡◌, map, take}
 use Rattle.borrowed_json.specs.View.{view}
-use Rattle.machine_file.specs.Answering.{whole_report}
-use Rattle.machine_file.specs.Knows.{texts}
+use Rattle.file_rules.specs.Answering.{whole_report}
+use Rattle.file_rules.specs.Knows.{texts}
 use Rattle.machine_file.proofs.reading.replies.reports_of.Given as goal
 
 abbrev pub invariant-loop-report : goal.invariant-loop-report

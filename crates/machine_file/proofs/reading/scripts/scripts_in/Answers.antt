@@ -1,10 +1,10 @@
 use Rattle.std.proofs.Common.{arith}
 use Rattle.std.proofs.lemmas.Grind.{common_steps}
 use Rattle.std.proofs.lemmas.Result.{err_from_is_err_and}
-use Rattle.machine_file.specs.Fitting.{FitsScript}
-use Rattle.machine_file.specs.Knows.{known_seen}
-use Rattle.machine_file.specs.OperationRows.{is_valid_script}
-use Rattle.machine_file.proofs.Each.{value_each}
+use Rattle.file_rules.specs.Fitting.{FitsScript}
+use Rattle.file_rules.specs.Knows.{known_seen}
+use Rattle.file_rules.specs.OperationRows.{is_valid_script}
+use Rattle.file_rules.proofs.Each.{value_each}
 use Rattle.machine_file.proofs.Passed.{all_passed, stops_all}
 use Rattle.machine_file.proofs.reading.scripts.scripts_in.Goals as goal
 

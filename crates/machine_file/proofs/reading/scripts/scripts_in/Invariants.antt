@@ -1,9 +1,9 @@
 use Rattle.std.proofs.Common.{◌≡◌, ◌≤◌, length, map, take, true}
 use Rattle.std.specs.List.{list_all}
 use Rattle.borrowed_json.specs.View.{view}
-use Rattle.machine_file.specs.Operations.{whole_script}
-use Rattle.machine_file.specs.OperationRows.{is_valid_script}
-use Rattle.machine_file.specs.Knows.{known_seen}
+use Rattle.file_rules.specs.Operations.{whole_script}
+use Rattle.file_rules.specs.OperationRows.{is_valid_script}
+use Rattle.file_rules.specs.Knows.{known_seen}
 use Rattle.machine_file.proofs.reading.scripts.scripts_in.Given as goal
 
 abbrev pub invariant-loop-actor : goal.invariant-loop-actor

@@ -1,9 +1,9 @@
 use Rattle.std.proofs.Common.{◌≡◌, ◌∙◌, Bool, Some, true, IfErr, IfOk, option_map, sym, ap, subst}
 use Rattle.borrowed_json.specs.View.{view}
 use Rattle.sleep_model.specs.declared.machine.Step.{Step}
-use Rattle.machine_file.specs.Knows.{known_seen}
-use Rattle.machine_file.specs.Operations.{row_of}
-use Rattle.machine_file.specs.OperationRows.{operation_of_word}
+use Rattle.file_rules.specs.Knows.{known_seen}
+use Rattle.file_rules.specs.Operations.{row_of}
+use Rattle.file_rules.specs.OperationRows.{operation_of_word}
 use Rattle.machine_file.specs.Stopping.{StopsUnless}
 use Rattle.machine_file.proofs.Keeping.{by_word_test}
 use Rattle.machine_file.proofs.reading.scripts.step_in.Goals as goal

@@ -3,9 +3,9 @@ use Rattle.borrowed_json.specs.Look.{number_at}
 use Rattle.borrowed_json.specs.View.{view}
 use Rattle.sleep_model.specs.declared.machine.Op.{Op}
 use Rattle.sleep_model.specs.declared.machine.Step.{Step}
-use Rattle.machine_file.specs.Knows.{known_seen}
-use Rattle.machine_file.specs.Operations.{whole_op}
-use Rattle.machine_file.proofs.Worded.{by_word}
+use Rattle.file_rules.specs.Knows.{known_seen}
+use Rattle.file_rules.specs.Operations.{whole_op}
+use Rattle.file_rules.proofs.Worded.{by_word}
 use Rattle.machine_file.proofs.reading.scripts.step_of_word.Goals as goal
 
 abbrev made : Op → ℕ → Step

@@ -1,8 +1,8 @@
 use Rattle.std.proofs.Common.{arith}
 use Rattle.std.proofs.lemmas.Grind.{common_steps}
 use Rattle.std.proofs.lemmas.Result.{err_from_is_err_and}
-use Rattle.machine_file.specs.Knows.{known_seen}
-use Rattle.machine_file.specs.OperationRows.{is_valid_for}
+use Rattle.file_rules.specs.Knows.{known_seen}
+use Rattle.file_rules.specs.OperationRows.{is_valid_for}
 use Rattle.machine_file.proofs.Passed.{all_passed, stops_all}
 use Rattle.machine_file.proofs.reading.scripts.steps_in.Goals as goal
 

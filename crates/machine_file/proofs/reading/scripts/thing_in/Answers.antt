@@ -1,5 +1,5 @@
 use Rattle.borrowed_json.specs.View.{view}
-use Rattle.machine_file.specs.Knows.{texts}
+use Rattle.file_rules.specs.Knows.{texts}
 use Rattle.machine_file.proofs.Keeping.{thing_named, thing_unnamed}
 use Rattle.machine_file.proofs.reading.scripts.thing_in.Goals as goal
 

@@ -1,8 +1,8 @@
 -- Proof that the loop of `names_of_texts` keeps its invariant, and that it meets what `name_of_text` requires.
 use Rattle.std.proofs.Common.{arith}
 use Rattle.std.proofs.lemmas.Grind.{common_steps}
-use Rattle.machine_file.specs.Fitting.{IsShort}
-use Rattle.machine_file.proofs.Each.{text_each}
+use Rattle.file_rules.specs.Fitting.{IsShort}
+use Rattle.file_rules.proofs.Each.{text_each}
 use Rattle.machine_file.proofs.reading.texts.names_of_texts.Goals as goal
 
 pub name_of_text-requires : goal.name_of_text-requires

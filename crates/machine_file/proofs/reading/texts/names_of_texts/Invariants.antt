@@ -1,6 +1,6 @@
 -- The invariant of the loop of `names_of_texts`.
 use Rattle.std.proofs.Common.{◌≡◌, take}
-use Rattle.machine_file.specs.Knows.{texts}
+use Rattle.file_rules.specs.Knows.{texts}
 use Rattle.machine_file.proofs.reading.texts.names_of_texts.Given as goal
 
 abbrev pub invariant-loop-text : goal.invariant-loop-text

@@ -1,11 +1,11 @@
 use Rattle.std.proofs.Common.{◌≡◌, ◌≤◌, ◌∙◌, ℕ, Bor, List, length, sym, ap, subst, arith}
 use Rattle.std.proofs.lemmas.List.{length-map}
 use Rattle.borrowed_json.specs.View.{view}
-use Rattle.machine_file.specs.Fitting.{FitsFile}
-use Rattle.machine_file.specs.Knows.{texts}
-use Rattle.machine_file.specs.Operations.{whole_marks}
-use Rattle.machine_file.proofs.Grouping.{in_order}
-use Rattle.machine_file.proofs.FittedFile.{fits_file}
+use Rattle.file_rules.specs.Fitting.{FitsFile}
+use Rattle.file_rules.specs.Knows.{texts}
+use Rattle.file_rules.specs.Operations.{whole_marks}
+use Rattle.file_rules.proofs.Grouping.{in_order}
+use Rattle.file_rules.proofs.FittedFile.{fits_file}
 use Rattle.machine_file.proofs.reading.whole.read_of.Goals as goal
 
 pub machine_of-requires-clause-fits : goal.machine_of-requires-clause-fits

@@ -5,7 +5,7 @@ use Rattle.device_links.specs.Linked.{Linked}
 use Rattle.device_links.specs.Passes.{Makes}
 use Rattle.device_links.specs.declared.fault.LinkFault.{LinkFault}
 use Rattle.std.proofs.lemmas.List.{get_or_default}
-use Rattle.machine_file.specs.Fresh.{no_link}
+use Rattle.file_rules.specs.Fresh.{no_link}
 use Rattle.machine_file.proofs.Cycling.{is_added, is_cycle, closes_none}
 use Rattle.machine_file.proofs.rules.cycles.add_links.Goals as goal
 

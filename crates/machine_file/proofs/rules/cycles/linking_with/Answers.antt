@@ -4,10 +4,10 @@ use Rattle.borrowed_json.specs.View.{view}
 use Rattle.sleep_model.specs.declared.machine.Link.{Link}
 use Rattle.sleep_model.specs.Order.{EachAfterParent, parents_of}
 use Rattle.device_links.specs.Linked.{Linked}
-use Rattle.machine_file.specs.Devices.{whole_devices, whole_links}
-use Rattle.machine_file.specs.Fresh.{AreFresh, closes_nothing}
-use Rattle.machine_file.specs.Places.{first_not_after}
-use Rattle.machine_file.proofs.Freshly.{file_after, file_fresh, cycle_seen}
+use Rattle.file_rules.specs.Devices.{whole_devices, whole_links}
+use Rattle.file_rules.specs.Fresh.{AreFresh, closes_nothing}
+use Rattle.file_rules.specs.Places.{first_not_after}
+use Rattle.file_rules.proofs.Freshly.{file_after, file_fresh, cycle_seen}
 use Rattle.machine_file.proofs.rules.cycles.linking_with.Goals as goal
 
 abbrev as_linked : List (Option ℕ) → List Link → Linked

@@ -1,13 +1,13 @@
 -- Proof that `links_in` meets its contract, and that it meets what `links_of` requires.
 use Rattle.std.proofs.Common.{◌∙◌, List, length, sym, ap, codes}
 use Rattle.std.proofs.lemmas.List.{length-map}
-use Rattle.machine_file.specs.declared.rules.pairs.EndNumbers.{EndNumbers}
+use Rattle.file_rules.specs.declared.rules.pairs.EndNumbers.{EndNumbers}
 use Rattle.borrowed_json.specs.View.{view}
 use Rattle.serde_json.specs.Data.{Data}
 use Rattle.borrowed_json.specs.Look.{list_in}
-use Rattle.machine_file.specs.Names.{devices_named}
-use Rattle.machine_file.specs.Seen.{links_between}
-use Rattle.machine_file.proofs.Pairing.{as_many, all_between}
+use Rattle.file_rules.specs.Names.{devices_named}
+use Rattle.file_rules.specs.Seen.{links_between}
+use Rattle.file_rules.proofs.Pairing.{as_many, all_between}
 use Rattle.machine_file.proofs.rules.cycles.links_in.Goals as goal
 
 pub links_of-requires : goal.links_of-requires

@@ -3,9 +3,9 @@ use Rattle.std.proofs.Common.{◌<◌, ◌∙◌, ◌++◌, ◌∷◌, [], List,
 use Rattle.borrowed_json.specs.View.{view}
 use Rattle.std.proofs.lemmas.List.{get_or_default}
 use Rattle.sleep_model.specs.declared.machine.Link.{Link}
-use Rattle.machine_file.specs.declared.rules.pairs.EndNumbers.{EndNumbers}
-use Rattle.machine_file.specs.Seen.{links_between}
-use Rattle.machine_file.proofs.Pairing.{between_more}
+use Rattle.file_rules.specs.declared.rules.pairs.EndNumbers.{EndNumbers}
+use Rattle.file_rules.specs.Seen.{links_between}
+use Rattle.file_rules.proofs.Pairing.{between_more}
 use Rattle.machine_file.proofs.rules.cycles.links_of.Goals as goal
 
 abbrev unset : EndNumbers

@@ -1,7 +1,0 @@
--- The invariant of the loop of `all_steps`.
-use Rattle.std.proofs.Common.{◌≡◌, take}
-use Rattle.machine_file.specs.Counted.{steps_of_scripts}
-use Rattle.machine_file.proofs.rules.limits.all_steps.Given as goal
-
-abbrev pub invariant-loop-script : goal.invariant-loop-script
-invariant-loop-script l = l.sum ≡ steps_of_scripts (take l.script-index l.scripts)

@@ -1,7 +1,0 @@
--- The invariant of the loop of `steps_once`.
-use Rattle.std.proofs.Common.{◌≡◌, take}
-use Rattle.machine_file.specs.Counted.{steps_once}
-use Rattle.machine_file.proofs.rules.limits.steps_once.Given as goal
-
-abbrev pub invariant-loop-step : goal.invariant-loop-step
-invariant-loop-step l = l.steps ≡ steps_once (take l.step-index l.script)

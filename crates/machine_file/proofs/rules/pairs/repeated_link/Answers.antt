@@ -1,9 +1,0 @@
--- Proof that `repeated_link` meets its contract.
-use Rattle.std.proofs.Common.{◌∙◌, ap, codes}
-use Rattle.std.specs.Option.{option_map}
-use Rattle.machine_file.specs.Places.{item_place}
-use Rattle.machine_file.proofs.Pairing.{links_again}
-use Rattle.machine_file.proofs.rules.pairs.repeated_link.Goals as goal
-
-pub returns : goal.returns
-returns c = c.item.ensures ∙ ap (option_map (item_place (codes "links"))) (c.in_ok-number.ensures ∙ links_again c.args.ends.now _ c.requires)
