@@ -19,11 +19,11 @@ use Rattle.run_world.specs.declared.task.Task.{Task}
 use Rattle.run_world.specs.declared.task.Task.TheVariants as task
 use Rattle.run_world.specs.Acts.{actor_of, known_by}
 use Rattle.run_world.specs.Bursts.{IsBurst}
-use Rattle.burst_laws.specs.Courses.{GoesOnAt, IsTaskOf, has_task}
-use Rattle.burst_laws.specs.Preservation.{GoesOnWith}
-use Rattle.burst_laws.specs.Serial.{burst_state_of}
-use Rattle.burst_laws.proofs.GoingBursts.{bursts_go_on}
-use Rattle.burst_laws.proofs.SerialGrowth.{bursts_grow}
+use Rattle.running_laws.specs.Courses.{GoesOnAt, IsTaskOf, has_task}
+use Rattle.running_laws.specs.Preservation.{GoesOnWith}
+use Rattle.running_laws.specs.Serial.{burst_state_of}
+use Rattle.running_laws.proofs.GoingBursts.{bursts_go_on}
+use Rattle.running_laws.proofs.SerialGrowth.{bursts_grow}
 use Rattle.machine_rounds.specs.JobsOf.{AreAllJobs, JobsState, job_at}
 use Rattle.machine_rounds.specs.TasksOf.{highest, all_tasks}
 use Rattle.machine_rounds.proofs.CameBack.{CameBack, again, all_same, came_back}

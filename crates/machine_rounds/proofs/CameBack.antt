@@ -11,7 +11,7 @@ use Rattle.run_world.specs.declared.task.Task.{Task}
 use Rattle.run_world.specs.declared.task.Task.TheVariants as task
 use Rattle.run_world.specs.Acts.{Calls, Does, Expires, Nothing, Plays, Turns, actor_of}
 use Rattle.run_world.specs.Bursts.{AllPlayed}
-use Rattle.burst_laws.specs.Courses.{has_task}
+use Rattle.running_laws.specs.Courses.{has_task}
 use Rattle.machine_rounds.specs.JobsOf.{JobsState}
 use Rattle.machine_rounds.specs.TasksOf.{AreJobsOf, acts, jobs_in, all_tasks, timers}
 

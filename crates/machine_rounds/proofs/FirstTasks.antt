@@ -17,7 +17,7 @@ use Rattle.running_laws.proofs.Turns as turns
 use Rattle.run_world.specs.declared.task.Task.{Task}
 use Rattle.run_world.specs.declared.task.Task.TheVariants as task
 use Rattle.run_world.specs.Acts.{actor_of, known_by}
-use Rattle.burst_laws.specs.Courses.{HaveDistinctActors, AreTasks, GoesOnAt, IsTaskOf, has_task, lists_of}
+use Rattle.running_laws.specs.Courses.{HaveDistinctActors, AreTasks, GoesOnAt, IsTaskOf, has_task, lists_of}
 use Rattle.machine_rounds.specs.JobsOf.{AreAllJobs, JobsState, job_at}
 use Rattle.machine_rounds.specs.TasksOf.{acts, all_tasks, timers}
 

@@ -1,2 +1,5 @@
 -- The definitions of this crate.
 pub mod Running
+pub mod Courses
+pub mod Preservation
+pub mod Serial

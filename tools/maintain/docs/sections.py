@@ -111,8 +111,8 @@ READING = [
         [
             ("run_world", "Outcomes", ["AfterReport", "AfterCoreTurn"]),
             ("run_world", "Bursts", ["IsBurst"]),
-            ("burst_laws", "Serial", ["IsSerial"]),
-            ("burst_laws", "Preservation", ["BurstsGoOn"]),
+            ("running_laws", "Serial", ["IsSerial"]),
+            ("running_laws", "Preservation", ["BurstsGoOn"]),
         ],
     ),
 ]
@@ -200,7 +200,7 @@ SECTIONS = [
     ("run_laws", "What the passes of a burst made", "own", ["Passes"]),
     ("run_world", "The world of a burst, its tasks, and what it came to", "own", ["Objects", "Roots", "Outcomes", "Calling", "Acts", "Bursts"]),
     ("world_workers", "A worker of a burst, and what goes into it", "own", ["Tries", "Workers", "Bursts"]),
-    ("burst_laws", "A burst as acts in an order", "own", ["Courses", "Serial", "Preservation"]),
+    ("running_laws", "A burst as acts in an order", "own", ["Courses", "Serial", "Preservation"]),
 ]
 
 # What the two clauses of the program name.
@@ -238,9 +238,9 @@ PROMISED = [
     ("run_world", "Objects", ["IsWorldPass"]),
     ("run_world", "Bursts", ["IsBurst"]),
     ("world_workers", "Bursts", ["HaveTurned", "AreReady"]),
-    ("burst_laws", "Courses", ["CoursesGoOn"]),
-    ("burst_laws", "Serial", ["BurstsAreSerial"]),
-    ("burst_laws", "Preservation", ["BurstsGoOn"]),
+    ("running_laws", "Courses", ["CoursesGoOn"]),
+    ("running_laws", "Serial", ["BurstsAreSerial"]),
+    ("running_laws", "Preservation", ["BurstsGoOn"]),
 ]
 
 # The same of crates to whose definitions no clause of the program comes; each of them is listed.

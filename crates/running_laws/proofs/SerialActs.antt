@@ -20,11 +20,11 @@ use Rattle.run_world.specs.Outcomes.{IsReport, IsTurn}
 use Rattle.run_world.specs.declared.task.Task.{Task}
 use Rattle.run_world.specs.Acts.{Does, Nothing, Turns, Calls, Expires, Plays, all_gains, known_by}
 use Rattle.run_world.specs.Bursts.{AllPlayed}
-use Rattle.burst_laws.proofs.SerialNotes.{newest}
-use Rattle.burst_laws.proofs.SerialBooks.{Rises, rises_low}
-use Rattle.burst_laws.proofs.SerialPlans.{AllGo, Goes, Plan, flat, gains_of, notes}
-use Rattle.burst_laws.proofs.SerialClimbs.{AreMadeFresh, AreWithin, Climbs, climbs_fresh, climbs_rise, placed_within}
-use Rattle.burst_laws.proofs.SerialCalls.{HasClimbed, added_are, call_climbs}
+use Rattle.running_laws.proofs.SerialNotes.{newest}
+use Rattle.running_laws.proofs.SerialBooks.{Rises, rises_low}
+use Rattle.running_laws.proofs.SerialPlans.{AllGo, Goes, Plan, flat, gains_of, notes}
+use Rattle.running_laws.proofs.SerialClimbs.{AreMadeFresh, AreWithin, Climbs, climbs_fresh, climbs_rise, placed_within}
+use Rattle.running_laws.proofs.SerialCalls.{HasClimbed, added_are, call_climbs}
 
 -- ---- one act
 

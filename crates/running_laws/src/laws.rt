@@ -1,8 +1,8 @@
 //! What holds of each burst, whichever way its workers took turns.
 
-ghost use Rattle.burst_laws.specs.Courses.{CoursesGoOn};
-ghost use Rattle.burst_laws.specs.Preservation.{BurstsGoOn, BurstsGrow};
-ghost use Rattle.burst_laws.specs.Serial.{BurstsAreSerial};
+ghost use Rattle.running_laws.specs.Courses.{CoursesGoOn};
+ghost use Rattle.running_laws.specs.Preservation.{BurstsGoOn, BurstsGrow};
+ghost use Rattle.running_laws.specs.Serial.{BurstsAreSerial};
 
 /// The acts of a burst have an order in which each finds the machine and the sources as those before it left
 /// them. The last one leaves the tasks, the machine and the sources that came back.

@@ -9,10 +9,10 @@ use Rattle.run_objects.specs.Objects.{SeatedSourceState, sources_of}
 use Rattle.wakeup_source.specs.SourceStates.{SourceState}
 use Rattle.running_laws.specs.Running.{of_sources}
 use Rattle.running_laws.proofs.Rising.{entries_more}
-use Rattle.burst_laws.specs.Courses.{Begins, Course, Goes, Lands, BurstState, lists_of}
-use Rattle.burst_laws.specs.Preservation.{BurstsGrow}
-use Rattle.burst_laws.specs.Serial.{IsSerial, burst_state_of}
-use Rattle.burst_laws.proofs.SerialBursts.{bursts_are_serial}
+use Rattle.running_laws.specs.Courses.{Begins, Course, Goes, Lands, BurstState, lists_of}
+use Rattle.running_laws.specs.Preservation.{BurstsGrow}
+use Rattle.running_laws.specs.Serial.{IsSerial, burst_state_of}
+use Rattle.running_laws.proofs.SerialBursts.{bursts_are_serial}
 
 lands_longer : (gains : List (Made Noted)) (old new : ℕ → List JournalEntry) → Lands gains old new → (i : ℕ) → length (old i) ≤ length (new i)
 lands_longer gains old new l i = by (l.object == i) refl

@@ -12,8 +12,8 @@ use Rattle.sleep_model.specs.Word.{position}
 use Rattle.wakeup_source.specs.declared.call_by.CallBy.{CallBy}
 use Rattle.wakeup_source.specs.Called.{Calls, SourceView, Steps, after_note, after_step}
 use Rattle.wakeup_source.specs.SourceStates.{RiseUpTo, SourceState, unstamped_source, note_entry, note_tick, step_entry}
-use Rattle.burst_laws.proofs.SerialNotes.{newest}
-use Rattle.burst_laws.proofs.SerialClimbs.{Climbs}
+use Rattle.running_laws.proofs.SerialNotes.{newest}
+use Rattle.running_laws.proofs.SerialClimbs.{Climbs}
 
 -- the source has gained entries that climb from that tick, and knows the newest
 pub record HasClimbed (low : ℕ) (base : List SourceEntry) (source : SourceState) : Type 0 where

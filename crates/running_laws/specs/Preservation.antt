@@ -8,8 +8,8 @@ use Rattle.wakeup_source.specs.SourceStates.{SourceState}
 use Rattle.running_laws.specs.Running.{AreSources, entry_count}
 use Rattle.run_world.specs.declared.task.Task.{Task}
 use Rattle.run_world.specs.Bursts.{IsBurst}
-use Rattle.burst_laws.specs.Courses.{GoesFarther, GoesOnAt, BurstState}
-use Rattle.burst_laws.specs.Serial.{burst_state_of}
+use Rattle.running_laws.specs.Courses.{GoesFarther, GoesOnAt, BurstState}
+use Rattle.running_laws.specs.Serial.{burst_state_of}
 
 -- the run goes on in a later state with these very sources
 pub record GoesOnWith (m : Machine) (first last : BurstState) (g : GoesOnAt m first) (sources : List SourceState) : Type 0 where

@@ -9,13 +9,13 @@ use Rattle.run_objects.specs.Objects.{SeatedCoreState, SeatedSourceState, source
 use Rattle.wakeup_source.specs.SourceStates.{SourceState}
 use Rattle.running_laws.specs.Running.{AreSources, IsGoing, of_sources}
 use Rattle.run_world.specs.declared.task.Task.{Task}
-use Rattle.burst_laws.specs.Courses.{AreTasks, GoesFarther, GoesOnAt, has_task}
-use Rattle.burst_laws.specs.Preservation.{BurstsGoOn, GoesOnWith}
-use Rattle.burst_laws.specs.Serial.{IsSerial, burst_state_of}
-use Rattle.burst_laws.proofs.GoingOn.{courses_go_on}
-use Rattle.burst_laws.proofs.GoingSwapped.{swapped}
-use Rattle.burst_laws.proofs.SerialBursts.{bursts_are_serial}
-use Rattle.burst_laws.proofs.SerialGrowth.{one_after}
+use Rattle.running_laws.specs.Courses.{AreTasks, GoesFarther, GoesOnAt, has_task}
+use Rattle.running_laws.specs.Preservation.{BurstsGoOn, GoesOnWith}
+use Rattle.running_laws.specs.Serial.{IsSerial, burst_state_of}
+use Rattle.running_laws.proofs.GoingOn.{courses_go_on}
+use Rattle.running_laws.proofs.GoingSwapped.{swapped}
+use Rattle.running_laws.proofs.SerialBursts.{bursts_are_serial}
+use Rattle.running_laws.proofs.SerialGrowth.{one_after}
 
 module _ (m : Machine) (moment : ℕ) (machine machine_then : SeatedCoreState) (sources sources_then : List SeatedSourceState) (tasks tasks_then : List Task) where
   -- after a burst that is serial the run goes on

@@ -6,7 +6,7 @@ use Rattle.turn_lock.specs.declared.view.Made.{Made}
 use Rattle.turn_lock.specs.Bookings.{placed}
 use Rattle.run_laws.specs.Passes.{Noted}
 use Rattle.run_world.specs.Roots.{notes_on}
-use Rattle.burst_laws.specs.Courses.{Lands}
+use Rattle.running_laws.specs.Courses.{Lands}
 
 -- ---- what was noted says which object it is at
 

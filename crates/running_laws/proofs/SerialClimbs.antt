@@ -5,8 +5,8 @@ use Rattle.turn_lock.specs.declared.view.Made.{Made}
 use Rattle.turn_lock.specs.Bookings.{empty, made, made_by, of_object, placed}
 use Rattle.run_laws.specs.Passes.{Noted}
 use Rattle.run_world.specs.Roots.{notes_on}
-use Rattle.burst_laws.proofs.SerialNotes.{AreFreshNotes, IsFresh, newest}
-use Rattle.burst_laws.proofs.SerialBooks.{Rises, head_made}
+use Rattle.running_laws.proofs.SerialNotes.{AreFreshNotes, IsFresh, newest}
+use Rattle.running_laws.proofs.SerialBooks.{Rises, head_made}
 
 -- each of these entries, the newest first, has a tick above the others', this number, and those of the list before
 abbrev pub Climbs : ℕ → List JournalEntry → List JournalEntry → Type 0

@@ -7,7 +7,7 @@ use Rattle.turn_lock.specs.Bookings.{made, of_object, placed}
 use Rattle.turn_lock.proofs.Booking.{of_object_both, of_object_other, of_object_own}
 use Rattle.run_laws.specs.Passes.{Noted}
 use Rattle.run_world.specs.Roots.{notes_on}
-use Rattle.burst_laws.proofs.SerialNotes.{has_first}
+use Rattle.running_laws.proofs.SerialNotes.{has_first}
 
 -- an act that is left: the object, its list then, and the entries that it adds, the newest and the others
 pub record Plan : Type 0 where

@@ -3,7 +3,7 @@ use Rattle.std.specs.Prelude.{◌≡◌, ℕ, List, length}
 use Rattle.run_objects.specs.Objects.{SeatedCoreState, SeatedSourceState, sources_of}
 use Rattle.run_world.specs.declared.task.Task.{Task}
 use Rattle.run_world.specs.Bursts.{IsBurst}
-use Rattle.burst_laws.specs.Courses.{Course, BurstState, lists_of}
+use Rattle.running_laws.specs.Courses.{Course, BurstState, lists_of}
 
 -- the state of a burst with these
 abbrev pub burst_state_of : SeatedCoreState → List SeatedSourceState → List Task → BurstState

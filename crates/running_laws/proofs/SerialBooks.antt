@@ -4,7 +4,7 @@ use Rattle.std.proofs.lemmas.Bool.Decides.{nat_tests}
 use Rattle.turn_lock.specs.declared.view.Made.{Made}
 use Rattle.turn_lock.specs.Bookings.{all_by, empty, made, made_by, of_object, placed}
 use Rattle.run_laws.specs.Passes.{Noted}
-use Rattle.burst_laws.proofs.SerialNotes.{Ascends}
+use Rattle.running_laws.proofs.SerialNotes.{Ascends}
 
 pub same_number : (k : ℕ) → (k == k) ≡ true
 same_number k = grind (arith, nat_tests)

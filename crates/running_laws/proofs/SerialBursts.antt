@@ -19,15 +19,15 @@ use Rattle.run_world.proofs.Adding.{items_count}
 use Rattle.run_world.specs.declared.task.Task.{Task}
 use Rattle.run_world.specs.Acts.{Does}
 use Rattle.run_world.specs.Bursts.{IsBurst}
-use Rattle.burst_laws.specs.Courses.{Begins, Course, Goes, IsAct, lists_of}
-use Rattle.burst_laws.specs.Serial.{BurstsAreSerial, IsSerial, burst_state_of}
-use Rattle.burst_laws.proofs.SerialNotes.{Follows, ascends, ascends_low, behind, gained_follows, newest}
-use Rattle.burst_laws.proofs.SerialBooks.{same_number}
-use Rattle.burst_laws.proofs.SerialPlans.{Plan, flat, gains_of}
-use Rattle.burst_laws.proofs.SerialOrder.{Fits, ObjectFits, in_turn, landed}
-use Rattle.burst_laws.proofs.SerialClimbs.{AreMadeFresh, AreWithin, fresh_log, fresh_of}
-use Rattle.burst_laws.proofs.SerialActs.{HaveAllPlans, have_all_plans}
-use Rattle.burst_laws.proofs.SerialWorld.{list_is, no_list, object_count}
+use Rattle.running_laws.specs.Courses.{Begins, Course, Goes, IsAct, lists_of}
+use Rattle.running_laws.specs.Serial.{BurstsAreSerial, IsSerial, burst_state_of}
+use Rattle.running_laws.proofs.SerialNotes.{Follows, ascends, ascends_low, behind, gained_follows, newest}
+use Rattle.running_laws.proofs.SerialBooks.{same_number}
+use Rattle.running_laws.proofs.SerialPlans.{Plan, flat, gains_of}
+use Rattle.running_laws.proofs.SerialOrder.{Fits, ObjectFits, in_turn, landed}
+use Rattle.running_laws.proofs.SerialClimbs.{AreMadeFresh, AreWithin, fresh_log, fresh_of}
+use Rattle.running_laws.proofs.SerialActs.{HaveAllPlans, have_all_plans}
+use Rattle.running_laws.proofs.SerialWorld.{list_is, no_list, object_count}
 
 -- ---- passes and objects that are not there
 

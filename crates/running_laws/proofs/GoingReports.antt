@@ -26,9 +26,9 @@ use Rattle.running_laws.specs.Running.{IsGoing, calls_made, of_sources}
 use Rattle.running_laws.proofs.Calls.{IsCalledNow}
 use Rattle.running_laws.proofs.Lists.{set_same, source_other, source_set}
 use Rattle.running_laws.proofs.Rising.{call_longer}
-use Rattle.burst_laws.specs.Courses.{Lands}
-use Rattle.burst_laws.proofs.GoingLanding.{HasLanded, lands_there}
-use Rattle.burst_laws.proofs.GoingSwapped.{one_swapped}
+use Rattle.running_laws.specs.Courses.{Lands}
+use Rattle.running_laws.proofs.GoingLanding.{HasLanded, lands_there}
+use Rattle.running_laws.proofs.GoingSwapped.{one_swapped}
 
 -- ---- the object of a report
 

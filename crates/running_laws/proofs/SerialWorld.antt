@@ -10,7 +10,7 @@ use Rattle.run_world.specs.declared.object.WorldObject.{WorldObject}
 use Rattle.run_world.specs.declared.object.WorldObject.TheVariants as object
 use Rattle.run_world.specs.ObjectLists.{AreObjectsOf, AreThose, IsThat}
 use Rattle.run_world.specs.Objects.{journal_of}
-use Rattle.burst_laws.specs.Courses.{lists_of}
+use Rattle.running_laws.specs.Courses.{lists_of}
 
 that_is : (s : SeatedSourceState) (y : WorldObject) → IsThat s y → journal_of y ≡ map of_source s.source.past
 that_is s (object.Machine m) is = absurd is

@@ -8,7 +8,7 @@ use Rattle.sleep_model.specs.Path.{is_same}
 use Rattle.sleep_script.specs.Jobs.{JobState}
 use Rattle.run_world.specs.declared.task.Task.{Task}
 use Rattle.run_world.specs.Acts.{actor_of}
-use Rattle.burst_laws.specs.Courses.{HaveDistinctActors, AreTasks, IsTaskOf, has_task}
+use Rattle.running_laws.specs.Courses.{HaveDistinctActors, AreTasks, IsTaskOf, has_task}
 
 -- ---- one of a list is another
 

@@ -37,10 +37,10 @@ use Rattle.run_world.specs.declared.task.Task.{Task}
 use Rattle.run_world.specs.declared.task.Task.TheVariants as task
 use Rattle.run_world.specs.Acts.{Does, actor_of}
 use Rattle.run_world.specs.Acts as acts
-use Rattle.burst_laws.specs.Courses.{AreTasks, GoesOnAt, IsTaskOf, Lands, BurstState}
-use Rattle.burst_laws.proofs.GoingLanding.{HasLanded, lands_nowhere, lands_there}
-use Rattle.burst_laws.proofs.GoingReports.{HasReported, after, before, called_now, going_before, has_reported, lists_after}
-use Rattle.burst_laws.proofs.GoingTasks.{tasks_go}
+use Rattle.running_laws.specs.Courses.{AreTasks, GoesOnAt, IsTaskOf, Lands, BurstState}
+use Rattle.running_laws.proofs.GoingLanding.{HasLanded, lands_nowhere, lands_there}
+use Rattle.running_laws.proofs.GoingReports.{HasReported, after, before, called_now, going_before, has_reported, lists_after}
+use Rattle.running_laws.proofs.GoingTasks.{tasks_go}
 
 -- ---- one actor's is another, and the others' are as they were
 

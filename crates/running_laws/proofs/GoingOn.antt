@@ -6,9 +6,9 @@ use Rattle.sleep_model.specs.Numbers.{time_of}
 use Rattle.sleep_state.specs.JournalRooms.{entries}
 use Rattle.run_world.specs.declared.task.Task.{Task}
 use Rattle.run_world.specs.Acts.{actor_of}
-use Rattle.burst_laws.specs.Courses.{Begins, Course, CoursesGoOn, Goes, GoesFarther, GoesOnAt, IsAct, BurstState, has_task}
-use Rattle.burst_laws.proofs.GoingActs.{GoesOnBy, acted, actor_stays}
-use Rattle.burst_laws.proofs.GoingTasks.{has_none, has_same}
+use Rattle.running_laws.specs.Courses.{Begins, Course, CoursesGoOn, Goes, GoesFarther, GoesOnAt, IsAct, BurstState, has_task}
+use Rattle.running_laws.proofs.GoingActs.{GoesOnBy, acted, actor_stays}
+use Rattle.running_laws.proofs.GoingTasks.{has_none, has_same}
 
 -- at a later state the run goes on, at the same moment
 record GoesTo (m : Machine) (moment : ℕ) (first last : BurstState) (g : GoesOnAt m first) : Type 0 where

@@ -8,9 +8,9 @@ use Rattle.turn_lock.specs.declared.view.Made.{Made}
 use Rattle.turn_lock.specs.Bookings.{all_by, empty, made, made_by, of_object, placed}
 use Rattle.turn_lock.proofs.Booking.{unstamped_all, unstamped_both, made_by_both, made_by_other}
 use Rattle.run_laws.specs.Passes.{Noted}
-use Rattle.burst_laws.proofs.SerialNotes.{Ascends, Follows, ascends_rest, behind, after_both, after_notes, count_notes, follows_front, follows_rest, past_is}
-use Rattle.burst_laws.proofs.SerialBooks.{Rises, first_low, none_left, number_is, ready, rises_rest, taken}
-use Rattle.burst_laws.proofs.SerialPlans.{AllDone, AllGo, IsFirst, Plan, all_done, find_first, first_note, flat, gains_first, gains_of, more_notes, none_of_none, notes, number_within, of_other, of_own, one_goes, one_less, plans_are, total}
+use Rattle.running_laws.proofs.SerialNotes.{Ascends, Follows, ascends_rest, behind, after_both, after_notes, count_notes, follows_front, follows_rest, past_is}
+use Rattle.running_laws.proofs.SerialBooks.{Rises, first_low, none_left, number_is, ready, rises_rest, taken}
+use Rattle.running_laws.proofs.SerialPlans.{AllDone, AllGo, IsFirst, Plan, all_done, find_first, first_note, flat, gains_first, gains_of, more_notes, none_of_none, notes, number_within, of_other, of_own, one_goes, one_less, plans_are, total}
 
 count_all : (k : ℕ) (xs : List Noted) → length (all_by k xs) ≡ length xs
 count_all k [] = refl

@@ -1,6 +1,0 @@
--- The law `bursts_are_serial`, by the lemmas of `SerialBursts`.
-use Rattle.burst_laws.proofs.laws.bursts_are_serial.Goals as goal
-use Rattle.burst_laws.proofs.SerialBursts.{bursts_are_serial}
-
-pub returns : goal.returns
-returns c = bursts_are_serial

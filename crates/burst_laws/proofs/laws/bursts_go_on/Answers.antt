@@ -1,6 +1,0 @@
--- The law `bursts_go_on`, by the lemmas of `GoingBursts`.
-use Rattle.burst_laws.proofs.laws.bursts_go_on.Goals as goal
-use Rattle.burst_laws.proofs.GoingBursts.{bursts_go_on}
-
-pub returns : goal.returns
-returns c = bursts_go_on
