@@ -59,10 +59,7 @@ fn marked_in<'v>(alloc: Global, tree: &Value<'v>) -> Result<KeyIndex<&'v str>, M
 }
 
 /// The names of the things of a file, or the first rule on devices that is broken.
-pub fn known_of_file<'v>(
-    alloc: Global,
-    tree: &Value<'v>,
-) -> Result<Result<Known<'v>, Broken>, Mem>
+pub fn known_of_file<'v>(alloc: Global, tree: &Value<'v>) -> Result<Result<Known<'v>, Broken>, Mem>
     requires { HasDevices (view tree.now) }
     ensures broken { IfOk result (λ r. IfErr r (λ b. broken_devices (view tree.now) ≡ Some (broken_view b))) }
     ensures unbroken { IfOk result (λ r. IfOk r (λ _. broken_devices (view tree.now) ≡ None)) }
