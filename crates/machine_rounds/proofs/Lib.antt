@@ -9,7 +9,6 @@ pub mod CameBack
 pub mod Fields
 pub mod FirstTasks
 pub mod JobsChanged
-pub mod NumberSetBits
 pub mod Numbered
 pub mod Idling
 pub mod SeatedSources

@@ -2,7 +2,6 @@
 pub mod BurstsOf
 pub mod JobsFields
 pub mod JobsOf
-pub mod NumberSets
 pub mod RunFields
 pub mod Runs
 pub mod TasksOf

@@ -8,7 +8,6 @@ ghost use Rattle.machine_rounds.specs.Waits.{script_waits, all_stats};
 ghost use Rattle.wakeup_source.specs.SourceStates.{unstamped_source, latest};
 
 use crate::run::Run;
-use crate::waiters::Waiters;
 use apart_log::ApartLog;
 use fit_laws::{moments_are_ranged, stats_are_ranged};
 use run_objects::{SeatedSource, close_table};
@@ -17,6 +16,7 @@ use sleep_core::Core;
 use sleep_model::{Actor, Due, EventNow, Journal, ListOf, LogEnd, SourceList, Stats, Waiting};
 use std::alloc::{AllocError, Global};
 use std::sync::Wait;
+use wait_queues::Waiters;
 use world_workers::RunFault;
 
 /// How a run is over, by the word that was looked at last.

@@ -10,7 +10,6 @@ use crate::jobs::Jobs;
 use crate::pace::Pace;
 use crate::run::Run;
 use crate::tasks::highest_of;
-use crate::waiters::Waiters;
 use apart_log::ApartLog;
 use event_word::EventTable;
 use run_objects::{SeatedCore, SeatedSource};
@@ -20,6 +19,7 @@ use sleep_model::{Machine, Stamp};
 use std::alloc::Global;
 use std::sync::Wait;
 use std::thread::Threads;
+use wait_queues::Waiters;
 use wakeup_source::MOST_ENTRIES;
 use world_workers::{Burst, BurstContents, BurstPlan, RunFault, make_burst};
 

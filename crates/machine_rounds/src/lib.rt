@@ -13,7 +13,6 @@
 #![tactic(auto)]
 
 mod after_idle_round;
-mod asks;
 mod bursts;
 mod going;
 mod jobs;
@@ -22,7 +21,6 @@ mod pace;
 mod rounds;
 mod run;
 mod tasks;
-mod waiters;
 
 pub use run::Run;
 pub use world_workers::RunFault;

@@ -4,7 +4,6 @@ ghost use Rattle.std.specs.Prelude.{◌≡◌, ◌≤◌, ◌<◌, ◌+◌, zero
 ghost use Rattle.sleep_model.specs.Accepted.{IsAccepted};
 
 use crate::jobs::Jobs;
-use crate::waiters::Waiters;
 use device_links::Links;
 use event_word::EventTable;
 use fit_laws::{calls_are_ranged, kinds_are_ranged, moments_are_ranged};
@@ -16,6 +15,7 @@ use sleep_model::{Actor, EventNow, Kind, Machine, Phase, SourceCall, Stamp};
 use std::alloc::Global;
 use std::marker::Model;
 use std::sync::Wait;
+use wait_queues::Waiters;
 use wakeup_source::CallBy;
 use world_workers::{RunFault, TurnOutcome};
 

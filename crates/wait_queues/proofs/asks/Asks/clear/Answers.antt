@@ -1,8 +1,8 @@
 -- Proof that `Asks::clear` meets its contract.
 use Rattle.std.proofs.Common.{◌≡◌, ℕ, length, replicate, ap, ◌∙◌}
-use Rattle.machine_rounds.specs.NumberSets.{bits_of}
-use Rattle.machine_rounds.proofs.NumberSetBits.{bits_of-none}
-use Rattle.machine_rounds.proofs.asks.Asks.clear.Goals as goal
+use Rattle.wait_queues.specs.NumberSets.{bits_of}
+use Rattle.wait_queues.proofs.NumberSetBits.{bits_of-none}
+use Rattle.wait_queues.proofs.asks.Asks.clear.Goals as goal
 
 pub returns : goal.returns
 returns c =

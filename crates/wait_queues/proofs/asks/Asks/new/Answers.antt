@@ -1,9 +1,9 @@
 -- Proof that `Asks::new` meets its contract.
 use Rattle.std.proofs.Common.{◌≡◌, ◌+◌, ◌/◌, replicate, arith, ap, ◌∙◌}
 use Rattle.std.specs.Prelude.{min}
-use Rattle.machine_rounds.specs.NumberSets.{bits_of}
-use Rattle.machine_rounds.proofs.NumberSetBits.{bits_of-replicate, marked-new}
-use Rattle.machine_rounds.proofs.asks.Asks.new.Goals as goal
+use Rattle.wait_queues.specs.NumberSets.{bits_of}
+use Rattle.wait_queues.proofs.NumberSetBits.{bits_of-replicate, marked-new}
+use Rattle.wait_queues.proofs.asks.Asks.new.Goals as goal
 
 pub returns : goal.returns
 returns c =

@@ -5,9 +5,9 @@ use Rattle.std.proofs.lemmas.Nat.Bits.{bit_at_set_same}
 use Rattle.std.specs.Int.{w64}
 use Rattle.std.proofs.lemmas.Nat.{or_lt}
 use Rattle.std.specs.Prelude.{bit_or}
-use Rattle.machine_rounds.specs.NumberSets.{bits_of}
-use Rattle.machine_rounds.proofs.NumberSetBits.{bits_of-insert, marked-some, some_bit, length-bits_of}
-use Rattle.machine_rounds.proofs.asks.Asks.insert.Goals as goal
+use Rattle.wait_queues.specs.NumberSets.{bits_of}
+use Rattle.wait_queues.proofs.NumberSetBits.{bits_of-insert, marked-some, some_bit, length-bits_of}
+use Rattle.wait_queues.proofs.asks.Asks.insert.Goals as goal
 
 pub invariant_of-self : goal.invariant_of-self
 invariant_of-self c =

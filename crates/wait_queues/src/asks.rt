@@ -3,7 +3,7 @@
 ghost use Rattle.std.specs.Prelude.{◌≡◌, ℕ, ◌+◌, ◌*◌, ◌/◌, ◌<◌, ◌≤◌, ◌^◌, ◌==◌, ◌↔◌, Bool, true, false, List, length, replicate, min, slice_index, slice_set, IfOk, IfSome};
 ghost use Rattle.std.specs.Int.{trailing_zeros, w64};
 ghost use Rattle.std.specs.Option.{MatchOption};
-ghost use Rattle.machine_rounds.specs.NumberSets.{is_in, union, IsNextNumber};
+ghost use Rattle.wait_queues.specs.NumberSets.{is_in, union, IsNextNumber};
 
 use std::alloc::{AllocError, Global};
 use std::marker::Model;
@@ -23,7 +23,7 @@ impl Model for Asks {
 
     ghost Value = { List Bool };
 
-    ghost use Rattle.machine_rounds.specs.NumberSets.{bits_of, AreMarked};
+    ghost use Rattle.wait_queues.specs.NumberSets.{bits_of, AreMarked};
 
     ghost view = { λ a. bits_of a.words.items };
 

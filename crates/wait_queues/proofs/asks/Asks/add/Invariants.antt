@@ -1,7 +1,7 @@
 -- The invariant of the loop of `Asks::add`.
 use Rattle.std.proofs.Common.{◌≡◌, ℕ, ◌<◌, ◌≤◌, List, length, get_or}
 use Rattle.std.specs.Prelude.{bit_or}
-use Rattle.machine_rounds.proofs.asks.Asks.add.Given as goal
+use Rattle.wait_queues.proofs.asks.Asks.add.Given as goal
 
 -- the words before this place are those of both
 pub record BothBelow (words others changed : List ℕ) (end : ℕ) : Type 0 where

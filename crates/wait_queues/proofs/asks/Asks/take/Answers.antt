@@ -1,6 +1,6 @@
 -- Proof that `Asks::take` meets its contract.
-use Rattle.machine_rounds.proofs.NumberSetBits.{none_are, union-none}
-use Rattle.machine_rounds.proofs.asks.Asks.take.Goals as goal
+use Rattle.wait_queues.proofs.NumberSetBits.{none_are, union-none}
+use Rattle.wait_queues.proofs.asks.Asks.take.Goals as goal
 
 pub returns-else-not-is_empty-clause-taken : goal.returns-else-not-is_empty-clause-taken
 returns-else-not-is_empty-clause-taken c =

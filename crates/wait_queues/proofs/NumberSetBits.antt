@@ -8,7 +8,7 @@ use Rattle.std.proofs.lemmas.Nat.Bits.{bit_at_and, bit_at_or, bit_at_not, bit_at
 use Rattle.std.specs.Prelude.{min, max, bit_and, bit_or, Option, None, Some}
 use Rattle.std.specs.Int.{bit_at, bit_not, trailing_zeros}
 use Rattle.std.specs.Option.{MatchOption}
-use Rattle.machine_rounds.specs.NumberSets.{bit_of, bits_of, AreMarked, is_in, union, AreNone, IsNextNumber}
+use Rattle.wait_queues.specs.NumberSets.{bit_of, bits_of, AreMarked, is_in, union, AreNone, IsNextNumber}
 use mathlib.Core.Logic.{◌≢◌}
 
 -- ---- the flags

@@ -4,9 +4,9 @@ use Rattle.std.proofs.lemmas.List.{get_or_read, set_past}
 use Rattle.std.proofs.lemmas.Nat.{and_le_l}
 use Rattle.std.specs.Int.{w64, bit_not}
 use Rattle.std.specs.Prelude.{bit_and}
-use Rattle.machine_rounds.specs.NumberSets.{bits_of}
-use Rattle.machine_rounds.proofs.NumberSetBits.{bits_of-remove, marked-none, marked-same, length-bits_of}
-use Rattle.machine_rounds.proofs.asks.Asks.remove.Goals as goal
+use Rattle.wait_queues.specs.NumberSets.{bits_of}
+use Rattle.wait_queues.proofs.NumberSetBits.{bits_of-remove, marked-none, marked-same, length-bits_of}
+use Rattle.wait_queues.proofs.asks.Asks.remove.Goals as goal
 
 pub invariant_of-self : goal.invariant_of-self
 invariant_of-self c =

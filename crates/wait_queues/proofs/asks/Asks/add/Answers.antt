@@ -2,9 +2,9 @@
 use Rattle.std.proofs.Common.{◌≡◌, ◌+◌, ◌-◌, ◌*◌, ◌%◌, ◌^◌, ◌<◌, ℕ, length, get_or, arith, sym, ap, subst, ◌∙◌}
 use Rattle.std.specs.Int.{bit_not, w64}
 use Rattle.std.specs.Prelude.{bit_and, bit_or}
-use Rattle.machine_rounds.specs.NumberSets.{AreMarked}
-use Rattle.machine_rounds.proofs.NumberSetBits.{bits_of-union, marked-union}
-use Rattle.machine_rounds.proofs.asks.Asks.add.Goals as goal
+use Rattle.wait_queues.specs.NumberSets.{AreMarked}
+use Rattle.wait_queues.proofs.NumberSetBits.{bits_of-union, marked-union}
+use Rattle.wait_queues.proofs.asks.Asks.add.Goals as goal
 
 pub invariant_of-self : goal.invariant_of-self
 invariant_of-self c =

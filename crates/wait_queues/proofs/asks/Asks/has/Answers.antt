@@ -1,9 +1,9 @@
 -- Proof that `Asks::has` meets its contract.
 use Rattle.std.proofs.Common.{◌≡◌, ◌/◌, ◌%◌, ℕ, get_or, eqb, arith, sym, ap, ◌∙◌}
 use Rattle.std.specs.Int.{bit_at}
-use Rattle.machine_rounds.specs.NumberSets.{is_in}
-use Rattle.machine_rounds.proofs.NumberSetBits.{has_bit, is_in-bits_of}
-use Rattle.machine_rounds.proofs.asks.Asks.has.Goals as goal
+use Rattle.wait_queues.specs.NumberSets.{is_in}
+use Rattle.wait_queues.proofs.NumberSetBits.{has_bit, is_in-bits_of}
+use Rattle.wait_queues.proofs.asks.Asks.has.Goals as goal
 
 pub returns : goal.returns
 returns c =

@@ -2,8 +2,8 @@
 use Rattle.std.proofs.Common.{◌≡◌, ◌+◌, ◌*◌, ◌-◌, ◌/◌, ◌%◌, ◌^◌, ◌<◌, ℕ, get_or, arith, ap, ◌∙◌}
 use Rattle.std.specs.Int.{trailing_zeros, w64}
 use Rattle.std.specs.Prelude.{min, bit_and}
-use Rattle.machine_rounds.proofs.NumberSetBits.{next_here, next_none, next_later, some_there}
-use Rattle.machine_rounds.proofs.asks.Asks.next.Goals as goal
+use Rattle.wait_queues.proofs.NumberSetBits.{next_here, next_none, next_later, some_there}
+use Rattle.wait_queues.proofs.asks.Asks.next.Goals as goal
 
 pub returns-then-left-ne0-clause-next : goal.returns-then-left-ne0-clause-next
 returns-then-left-ne0-clause-next c =

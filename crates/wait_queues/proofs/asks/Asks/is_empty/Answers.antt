@@ -1,9 +1,9 @@
 -- Proof that `Asks::is_empty` meets its contract.
 use Rattle.std.proofs.Common.{◌≡◌, ℕ, ◌^◌, ◌<◌, eq-eqb, sym, ap, subst, ◌∙◌, arith, rules}
 use Rattle.std.proofs.lemmas.Bool.{eqb-true}
-use Rattle.machine_rounds.specs.NumberSets.{is_in}
-use Rattle.machine_rounds.proofs.NumberSetBits.{all_empty, is_empty}
-use Rattle.machine_rounds.proofs.asks.Asks.is_empty.Goals as goal
+use Rattle.wait_queues.specs.NumberSets.{is_in}
+use Rattle.wait_queues.proofs.NumberSetBits.{all_empty, is_empty}
+use Rattle.wait_queues.proofs.asks.Asks.is_empty.Goals as goal
 
 pub returns : goal.returns
 returns c =

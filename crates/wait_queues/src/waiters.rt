@@ -37,7 +37,7 @@ struct MarkWaiters {
 /// entry, a step of the event word, a jump of time. None of this is part of what is promised: whoever was
 /// left out is found before time jumps.
 #[derive(Drop)]
-pub(crate) struct Waiters {
+pub struct Waiters {
     scripts: Asks,
     devices: Asks,
     /// The asynchronous devices.
@@ -117,12 +117,7 @@ impl MarkWaiters {
 
 impl Waiters {
     /// Nobody waits: each script is to be asked, and the work.
-    pub(crate) fn new(
-        alloc: Global,
-        scripts: usize,
-        marks: usize,
-        devices: &[Device],
-    ) -> Result<Self, Mem>
+    pub fn new(alloc: Global, scripts: usize, marks: usize, devices: &[Device]) -> Result<Self, Mem>
         requires scripts { scripts < 2 ^ 32 }
         requires devices { length devices.now < 2 ^ 32 }
     {
@@ -142,14 +137,14 @@ impl Waiters {
     }
 
     /// The first script from a number on that is to be asked, among the first `many`.
-    pub(crate) fn next_script(&self, from: u32, many: u32) -> Option<u32>
+    pub fn next_script(&self, from: u32, many: u32) -> Option<u32>
         ensures { IfSome result (λ n. n < many) }
     {
         self.scripts.next(from, many)
     }
 
     /// The first device from a number on that is to be asked, among the first `many`.
-    pub(crate) fn next_device(&self, from: u32, many: u32) -> Option<u32>
+    pub fn next_device(&self, from: u32, many: u32) -> Option<u32>
         ensures { IfSome result (λ n. n < many) }
     {
         self.devices.next(from, many)
@@ -157,7 +152,7 @@ impl Waiters {
 
     /// Whether that script or the work is to be asked, and nobody else.
     #[inline(always)]
-    pub(crate) fn is_alone(&self, who: Actor) -> bool {
+    pub fn is_alone(&self, who: Actor) -> bool {
         if self.timers || !self.devices.is_empty() {
             return false;
         }
@@ -170,23 +165,23 @@ impl Waiters {
 
     /// Whether nobody is to be asked.
     #[inline(always)]
-    pub(crate) fn asks_nobody(&self) -> bool {
+    pub fn asks_nobody(&self) -> bool {
         self.scripts.is_empty() && self.devices.is_empty() && !self.auto && !self.timers
     }
 
     /// Whether the autosleep work is to be asked.
-    pub(crate) fn asks_auto(&self) -> bool {
+    pub fn asks_auto(&self) -> bool {
         self.auto
     }
 
     /// Whether the timers are to be asked.
-    pub(crate) fn asks_timers(&self) -> bool {
+    pub fn asks_timers(&self) -> bool {
         self.timers
     }
 
     /// An actor waits, for that, and is not asked again before something may have ended the wait.
     #[inline(never)]
-    pub(crate) fn waits(&mut self, who: Actor, why: Why) {
+    pub fn waits(&mut self, who: Actor, why: Why) {
         match who {
             Actor::Script(script) => self.script_waits(script, why),
             Actor::Dev(device) => self.device_waits(device),
@@ -196,7 +191,7 @@ impl Waiters {
 
     /// An actor has nothing to do any more: a script has exited.
     #[inline(never)]
-    pub(crate) fn is_exited(&mut self, who: Actor) {
+    pub fn is_exited(&mut self, who: Actor) {
         match who {
             Actor::Script(script) => self.scripts.remove(script),
             Actor::Dev(device) => self.device_waits(device),
@@ -250,7 +245,7 @@ impl Waiters {
     }
 
     /// The script has begun to sleep, and is not asked again before its sleep ends.
-    pub(crate) fn sleeps(&mut self, who: Actor) {
+    pub fn sleeps(&mut self, who: Actor) {
         if let Actor::Script(script) = who {
             self.scripts.remove(script);
             self.waiting.asleep.insert(script);
@@ -258,28 +253,28 @@ impl Waiters {
     }
 
     /// The device waits, or has nothing to do.
-    pub(crate) fn device_waits(&mut self, device: u32) {
+    pub fn device_waits(&mut self, device: u32) {
         self.devices.remove(device);
     }
 
     /// No timer is due.
-    pub(crate) fn timers_wait(&mut self) {
+    pub fn timers_wait(&mut self) {
         self.timers = false;
     }
 
     /// Whether no device is asynchronous.
-    pub(crate) fn are_in_step(&self) -> bool {
+    pub fn are_in_step(&self) -> bool {
         self.asynchronous.is_empty()
     }
 
     /// Wakes an asynchronous device, which may have something to do.
-    pub(crate) fn wake_device(&mut self, device: u32) {
+    pub fn wake_device(&mut self, device: u32) {
         self.devices.insert(device);
     }
 
     /// Wakes the maker of an attempt, if it waits for that device, which is done with a phase.
     #[inline(always)]
-    pub(crate) fn wake_maker(&mut self, device: u32) {
+    pub fn wake_maker(&mut self, device: u32) {
         if self.awaited == Some(device) {
             self.wake_any_maker();
         }
@@ -298,19 +293,19 @@ impl Waiters {
 
     /// Wakes those that wait for the word, which made a step, or for a task, which has come further.
     #[inline(never)]
-    pub(crate) fn wake_for_word(&mut self) {
+    pub fn wake_for_word(&mut self) {
         self.scripts.take(&mut self.waiting.for_word);
         self.wake_auto();
     }
 
     /// Whether a reader of the count waits.
     #[inline(always)]
-    pub(crate) fn has_readers(&self) -> bool {
+    pub fn has_readers(&self) -> bool {
         !self.waiting.readers.is_empty()
     }
 
     /// Wakes the readers of the count, since no event is in progress.
-    pub(crate) fn wake_readers(&mut self) {
+    pub fn wake_readers(&mut self) {
         self.scripts.take(&mut self.waiting.readers);
     }
 
@@ -318,7 +313,7 @@ impl Waiters {
     /// the scripts, of which there are `many`, that wait for it, the first one after the last. So as many are
     /// called as the mark is high, in the order in which rounds come to them.
     #[inline(never)]
-    pub(crate) fn call_for_mark(&mut self, who: Actor, mark: u32, many: u32) {
+    pub fn call_for_mark(&mut self, who: Actor, mark: u32, many: u32) {
         let from = match who {
             Actor::Script(script) => script.saturating_add(1),
             _ => 0,
@@ -358,7 +353,7 @@ impl Waiters {
 
     /// The mark that an actor was called for, if this is its try.
     #[inline(always)]
-    pub(crate) fn take_call(&mut self, who: Actor) -> Option<u32> {
+    pub fn take_call(&mut self, who: Actor) -> Option<u32> {
         match who {
             Actor::Script(script)
                 if !self.marks.called.is_empty() && self.marks.called.has(script) => {
@@ -372,7 +367,7 @@ impl Waiters {
     /// An actor has let the autosleep lock go: wakes the next of the scripts, of which there are `many`, that
     /// wait for the lock, and the work, which may be queued.
     #[inline(never)]
-    pub(crate) fn wake_for_lock(&mut self, who: Actor, many: u32) {
+    pub fn wake_for_lock(&mut self, who: Actor, many: u32) {
         self.unqueued = false;
         self.auto = true;
         match who {
@@ -400,7 +395,7 @@ impl Waiters {
 
     /// Whether that actor was woken for the lock, and this is its try.
     #[inline(always)]
-    pub(crate) fn has_lock_turn(&self, who: Actor) -> bool {
+    pub fn has_lock_turn(&self, who: Actor) -> bool {
         match (who, self.next_for_lock) {
             (Actor::Script(script), Some(next)) => script == next,
             _ => false,
@@ -409,7 +404,7 @@ impl Waiters {
 
     /// The script that was woken for the lock has had its try. If the lock was free, the next one is woken.
     #[inline(never)]
-    pub(crate) fn had_lock_turn(&mut self, who: Actor, is_held: bool, many: u32) {
+    pub fn had_lock_turn(&mut self, who: Actor, is_held: bool, many: u32) {
         self.next_for_lock = None;
         if let Actor::Script(script) = who
             && !is_held
@@ -419,7 +414,7 @@ impl Waiters {
     }
 
     /// Wakes the scripts that wait, but for those that sleep or are frozen, and the work.
-    pub(crate) fn wake_but_sleepers(&mut self) {
+    pub fn wake_but_sleepers(&mut self) {
         self.wake_for_word();
         self.wake_readers();
         self.scripts.take(&mut self.marks.all);
@@ -430,25 +425,25 @@ impl Waiters {
 
     /// Wakes all scripts: tasks are asked to freeze or let go, or the machine wakes.
     #[inline(never)]
-    pub(crate) fn wake_scripts(&mut self) {
+    pub fn wake_scripts(&mut self) {
         self.wake_but_sleepers();
         self.scripts.take(&mut self.waiting.asleep);
         self.scripts.take(&mut self.waiting.frozen);
     }
 
     /// Wakes a script whose sleep has come to its end.
-    pub(crate) fn wake_sleeper(&mut self, script: u32) {
+    pub fn wake_sleeper(&mut self, script: u32) {
         self.waiting.asleep.remove(script);
         self.scripts.insert(script);
     }
 
     /// Wakes the timers, one of which is due.
-    pub(crate) fn wake_timers(&mut self) {
+    pub fn wake_timers(&mut self) {
         self.timers = true;
     }
 
     /// Wakes everybody.
-    pub(crate) fn wake_all(&mut self) {
+    pub fn wake_all(&mut self) {
         self.unqueued = false;
         self.wake_scripts();
         self.timers = true;

@@ -2,9 +2,9 @@
 use Rattle.std.proofs.Common.{◌≡◌, ◌*◌, ◌/◌, ◌%◌, ◌^◌, ◌<◌, ℕ, get_or, eq-eqb, arith, sym, ap, ◌∙◌, true≢false}
 use Rattle.std.proofs.lemmas.Bool.{eqb-true, ltb-true}
 use Rattle.std.proofs.lemmas.Nat.{one_shl}
-use Rattle.machine_rounds.proofs.NumberSetBits.{is_only, only_word, only_in, only_full}
-use Rattle.machine_rounds.proofs.asks.Asks.is_only.Goals.{then-at-lt64, else-at-lt64}
-use Rattle.machine_rounds.proofs.asks.Asks.is_only.Goals as goal
+use Rattle.wait_queues.proofs.NumberSetBits.{is_only, only_word, only_in, only_full}
+use Rattle.wait_queues.proofs.asks.Asks.is_only.Goals.{then-at-lt64, else-at-lt64}
+use Rattle.wait_queues.proofs.asks.Asks.is_only.Goals as goal
 
 pub returns-then-self-at : goal.returns-then-self-at
 returns-then-self-at c =
