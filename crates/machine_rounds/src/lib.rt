@@ -1,6 +1,6 @@
 //! A run of a machine, as far as it has come: rounds over its actors, bursts of their turns on threads
-//! between the rounds, jumps of time, and at the end the log of every step. `sleep_run` makes a whole run of
-//! it.
+//! between the rounds, jumps of time, and at the end the log of every step. `wait_queues` says whom a round
+//! asks. `sleep_run` makes a whole run of it.
 //!
 //! Promises: A run that was begun gives, by one worker or by several, a legal log that is finished or stuck,
 //! with no attempt left open, and that fits its machine. So `read_log` reads its text as that log, and a
