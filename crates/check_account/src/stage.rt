@@ -92,7 +92,7 @@ fn stage_after_platform_up(step: PlatUndo) -> Stage
     match step {
         PlatUndo::Recover | PlatUndo::Finish => Stage::Ups(Phase::Resume),
         PlatUndo::Wake => Stage::Ups(Phase::ResumeNoirq),
-        PlatUndo::End => Stage::ClearsSavedCount,
+        PlatUndo::End => Stage::ClearsEventsCheck,
     }
 }
 
@@ -198,7 +198,7 @@ pub fn next_stage(stage: Stage) -> Stage
         Stage::PlatformUndo(step) => stage_after_platform_up(step),
         Stage::Ups(phase) => stage_after_up(phase),
         Stage::Completes => Stage::PlatformUndo(PlatUndo::End),
-        Stage::ClearsSavedCount => Stage::Thaws(Thaw::All),
+        Stage::ClearsEventsCheck => Stage::Thaws(Thaw::All),
         Stage::Thaws(those) => stage_after_thaw(those),
         Stage::NotifiesPost | Stage::Ends => Stage::Ends,
     }

@@ -129,7 +129,7 @@ fn stage_due(past: &Passed<'_>, now: EventNow, stage: Stage) -> Result<Due, Mem>
         Stage::PlatformUndo(step) => Ok(Due::Makes(Kind::PlatformUndo(step))),
         Stage::Ups(phase) => Ok(up_due(past, phase)),
         Stage::Completes => Ok(complete_due(past)),
-        Stage::ClearsSavedCount => Ok(Due::Makes(Kind::Clear)),
+        Stage::ClearsEventsCheck => Ok(Due::Makes(Kind::Clear)),
         Stage::Thaws(those) => Ok(Due::Makes(Kind::Thaw(those))),
         Stage::NotifiesPost => Ok(notify_post_due(past)),
         Stage::Ends => Ok(Due::Makes(Kind::Over {

@@ -177,7 +177,7 @@ fn is_of_ascent(past: &Passed<'_>, now: EventNow, row: Stage, kind: Kind) -> boo
         (Stage::Ups(phase), _) => is_of_up(phase, kind),
         (Stage::Completes, Kind::Complete(_)) => true,
         (Stage::Completes, Kind::Done(p, _)) => is_phase(p, Phase::Complete),
-        (Stage::ClearsSavedCount, Kind::Clear) => true,
+        (Stage::ClearsEventsCheck, Kind::Clear) => true,
         (Stage::Thaws(those), Kind::Thaw(thawed)) => is_thaw(thawed, those),
         (Stage::NotifiesPost, Kind::NotifyPost(x)) => is_number(past.next_post_notified(), x),
         (Stage::Ends, Kind::Over { .. }) => true,

@@ -156,7 +156,7 @@ module _ (m : Machine) (past : List Entry) (now : EventNow) where
   stage_determined (stage.PlatformUndo step) = tt
   stage_determined (stage.Ups p) = first_determined (stage_due m past now (stage.Ups p)) (stage_due m past now (next_stage (stage.Ups p))) (up_determined p (callback past))
   stage_determined stage.Completes = first_determined (stage_due m past now stage.Completes) (stage_due m past now (next_stage stage.Completes)) (complete_determined (next_completed m past))
-  stage_determined stage.ClearsSavedCount = tt
+  stage_determined stage.ClearsEventsCheck = tt
   stage_determined (stage.Thaws those) = tt
   stage_determined stage.NotifiesPost = left_determined kind.NotifyPost (next_post_notified m past) (stage_due m past now stage.Ends) tt
   stage_determined stage.Ends = tt

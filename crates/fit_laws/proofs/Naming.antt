@@ -306,7 +306,7 @@ module _ (m : Machine) (acc : IsAccepted m) (past : List Entry) (j : JournalPart
   stage_fits (stage.PlatformUndo step) = λ r. refl
   stage_fits (stage.Ups p) = up_fits p (callback past) runs
   stage_fits stage.Completes = complete_fits (next_completed m past) refl
-  stage_fits stage.ClearsSavedCount = λ r. refl
+  stage_fits stage.ClearsEventsCheck = λ r. refl
   stage_fits (stage.Thaws those) = λ r. refl
   stage_fits stage.NotifiesPost = only_left (FitsIf m) kind.NotifyPost (next_post_notified m past) (λ x e r. less x (length m.notifiers) (called_in x (first_among _ (call_order m) x e)))
   stage_fits stage.Ends = λ r. r

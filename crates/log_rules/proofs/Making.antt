@@ -253,7 +253,7 @@ module _ (m : Machine) (past : List Entry) (now : EventNow) where
   row_made (stage.PlatformUndo step) i e o c = row (stage.PlatformUndo step) (kind.PlatformUndo step) refl tt tt tt tt tt tt tt tt tt
   row_made (stage.Ups p) i e o c = up_made p i e (callback past) refl c
   row_made stage.Completes i e o c = complete_made e (next_completed m past) refl
-  row_made stage.ClearsSavedCount i e o c = row stage.ClearsSavedCount kind.Clear tt tt tt tt tt tt tt tt tt tt
+  row_made stage.ClearsEventsCheck i e o c = row stage.ClearsEventsCheck kind.Clear tt tt tt tt tt tt tt tt tt tt
   row_made (stage.Thaws those) i e o c = row (stage.Thaws those) (kind.Thaw those) refl tt tt tt tt tt tt tt tt tt
   row_made stage.NotifiesPost i e o c = only_left (RowKeepsRules m past now stage.NotifiesPost) kind.NotifyPost (next_post_notified m past) (λ x f. row stage.NotifiesPost (kind.NotifyPost x) f tt tt tt tt tt tt tt tt tt)
   row_made stage.Ends i e o c = row stage.Ends (kind.Over (attempts past) (failed past)) tt (refl, o) tt tt tt tt tt tt tt tt

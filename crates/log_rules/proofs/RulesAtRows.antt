@@ -154,7 +154,7 @@ row_back m past now stage.Completes (kind.Done q r) i e o a w s f n z b =
     let h : DoneAt m past q (Some stage.Completes) = subst (DoneAt m past q) e w in
     let answers : r ≡ None = n ∙ ap (phase_answer past) o in
     rw (h.1) (rw answers (rw o refl))
-row_back m past now stage.ClearsSavedCount kind.Clear i e o a w s f n z b = refl
+row_back m past now stage.ClearsEventsCheck kind.Clear i e o a w s f n z b = refl
 row_back m past now (stage.Thaws those) (kind.Thaw notified_flags) i e o a w s f n z b = rw o refl
 row_back m past now stage.NotifiesPost (kind.NotifyPost x) i e o a w s f n z b = rw o refl
 row_back m past now stage.Ends (kind.Over n r) i e o a w s f x z b = rw (a.0, x.0) refl

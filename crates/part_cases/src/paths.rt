@@ -41,7 +41,7 @@ fn alone_name(stage: Stage) -> &'static str {
         Stage::StartsIrqs => "starts_irqs",
         Stage::StartsCpus => "starts_cpus",
         Stage::Completes => "completes",
-        Stage::ClearsSavedCount => "clears",
+        Stage::ClearsEventsCheck => "clears",
         Stage::NotifiesPost => "posts",
         _ => "ends",
     }

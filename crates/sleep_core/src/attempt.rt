@@ -190,7 +190,7 @@ impl<'m> Core<'m> {
             Stage::PlatformUndo(step) => Due::Makes(Kind::PlatformUndo(step)),
             Stage::Ups(p) => self.up_due(p),
             Stage::Completes => self.complete_due(),
-            Stage::ClearsSavedCount => Due::Makes(Kind::Clear),
+            Stage::ClearsEventsCheck => Due::Makes(Kind::Clear),
             Stage::Thaws(those) => Due::Makes(Kind::Thaw(those)),
             Stage::NotifiesPost => self.notify_post_due(),
             Stage::Ends => Due::Makes(Kind::Over {

@@ -151,7 +151,7 @@ pub data Made (m : Machine) (past : List Entry) (now : EventNow) : Stage → Kin
   ResumeEnds : Rises m past phase.Suspend → Made m past now (stage.Ups phase.Resume) (kind.Done phase.Resume None)
   Completes : (d : ℕ) → next_completed m past ≡ Some d → Made m past now stage.Completes (kind.Complete d)
   Completed : next_completed m past ≡ None → Made m past now stage.Completes (kind.Done phase.Complete None)
-  Clears : Made m past now stage.ClearsSavedCount kind.Clear
+  Clears : Made m past now stage.ClearsEventsCheck kind.Clear
   ThawsKernel : Made m past now (stage.Thaws thaw.Kernel) (kind.Thaw thaw.Kernel)
   ThawsAll : Made m past now (stage.Thaws thaw.All) (kind.Thaw thaw.All)
   Posts : (x : ℕ) → next_post_notified m past ≡ Some x → Made m past now stage.NotifiesPost (kind.NotifyPost x)

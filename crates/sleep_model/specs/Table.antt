@@ -37,7 +37,7 @@ always next = record { next = next; failed = next }
 
 -- the table. A phase late or noirq that fails resumes what it suspended. PrepareLate is the prepare_late of suspend_ops, after noirq.
 -- ChecksWakeup is the test with which syscore_suspend begins; Enters begins with the test after syscore_suspend.
--- ClearsSavedCount sets events_check_enabled to false
+-- ClearsEventsCheck sets events_check_enabled to false
 -- (enter_state, suspend_devices_and_enter, suspend_enter, dpm_suspend_late, dpm_suspend_noirq, platform_suspend_prepare_noirq)
 abbrev pub row : Stage → Row
 row stage.Notifies = may_fail (stage.Freezes group.User) stage.NotifiesPost
@@ -66,8 +66,8 @@ row (stage.PlatformUndo undo.Recover) = always (stage.Ups phase.Resume)
 -- this is Ups of Resume: no stage is Ups of a phase but the three (dpm_resume_end)
 row (stage.Ups _) = always stage.Completes
 row stage.Completes = always (stage.PlatformUndo undo.End)
-row (stage.PlatformUndo undo.End) = always stage.ClearsSavedCount
-row stage.ClearsSavedCount = always (stage.Thaws thaw.All)
+row (stage.PlatformUndo undo.End) = always stage.ClearsEventsCheck
+row stage.ClearsEventsCheck = always (stage.Thaws thaw.All)
 row (stage.Thaws thaw.Kernel) = always (stage.Thaws thaw.All)
 row (stage.Thaws thaw.All) = always stage.NotifiesPost
 row stage.NotifiesPost = always stage.Ends

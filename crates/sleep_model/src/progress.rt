@@ -91,8 +91,8 @@ pub enum Stage {
     Ups(Phase),
     /// Devices are completed (`dpm_complete`).
     Completes,
-    /// The saved count is dropped (`enter_state`, `events_check_enabled`).
-    ClearsSavedCount,
+    /// `events_check_enabled` is set to false, so that no saved count is in force any more (`enter_state`).
+    ClearsEventsCheck,
     /// Tasks are let go (`thaw_kernel_threads`, `thaw_processes`).
     Thaws(Thaw),
     /// Notifiers hear that it is over (`PM_POST_SUSPEND`).

@@ -84,7 +84,7 @@ fn stage_after(kind: Kind, before: Option<Stage>) -> Option<Stage>
         Kind::Irqs { on: true } => next_stage(Stage::StartsIrqs),
         Kind::CpuOn(_) => Stage::StartsCpus,
         Kind::PlatformUndo(step) => next_stage(Stage::PlatformUndo(step)),
-        Kind::Clear => next_stage(Stage::ClearsSavedCount),
+        Kind::Clear => next_stage(Stage::ClearsEventsCheck),
         Kind::Thaw(those) => next_stage(Stage::Thaws(those)),
         Kind::NotifyPost(_) => Stage::NotifiesPost,
         Kind::Over { .. } => return None,

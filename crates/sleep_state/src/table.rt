@@ -41,8 +41,8 @@ macro_rules! table {
             Stage::PlatformUndo(PlatUndo::Recover) => Stage::Ups(Phase::Resume), Stage::Ups(Phase::Resume);
             Stage::Ups(Phase::Resume) => Stage::Completes, Stage::Completes;
             Stage::Completes => Stage::PlatformUndo(PlatUndo::End), Stage::PlatformUndo(PlatUndo::End);
-            Stage::PlatformUndo(PlatUndo::End) => Stage::ClearsSavedCount, Stage::ClearsSavedCount;
-            Stage::ClearsSavedCount => Stage::Thaws(Thaw::All), Stage::Thaws(Thaw::All);
+            Stage::PlatformUndo(PlatUndo::End) => Stage::ClearsEventsCheck, Stage::ClearsEventsCheck;
+            Stage::ClearsEventsCheck => Stage::Thaws(Thaw::All), Stage::Thaws(Thaw::All);
             Stage::Thaws(Thaw::Kernel) => Stage::Thaws(Thaw::All), Stage::Thaws(Thaw::All);
             Stage::Thaws(Thaw::All) => Stage::NotifiesPost, Stage::NotifiesPost;
             Stage::NotifiesPost => Stage::Ends, Stage::Ends;
