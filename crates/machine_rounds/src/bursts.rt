@@ -383,9 +383,9 @@ impl<'m> Run<'m> {
         let _ = &self.machine;
     }
 
-    /// The log of the whole run. If `workers` is 1 the caller makes all rounds itself, else bursts come
-    /// between them. Each turn of the loop makes an entry or ends the run, and no run has more entries than a
-    /// log has at most.
+    /// The log of the whole run. If `workers` is 1 the calling thread makes all rounds itself, else bursts come
+    /// between them. Each pass of the loop makes an entry or ends the run, so there are no more passes than
+    /// entries: `MOST_LOG` at most.
     pub fn to_end<R: Threads + Wait + Sync, G: Gate + Sync>(
         self,
         rt: &R,
@@ -399,7 +399,7 @@ impl<'m> Run<'m> {
     {
         let mut run = self;
         let mut pace = Pace::new(workers);
-        for _turn in 0..MOST_LOG + 1 {
+        for _pass in 0..MOST_LOG + 1 {
             let Ok(Advance { run: next, outcome }) = run.advance(rt, alloc, gate, &mut pace) else {
                 return Err(RunFault::Mem);
             };

@@ -6,4 +6,4 @@ use Rattle.machine_rounds.proofs.run.Run.to_end.Goals as goal
 
 pub returns-in-Ok-Some-clause-ok : goal.returns-in-Ok-Some-clause-ok
 returns-in-Ok-Some-clause-ok g c =
-    subst (λ (m : Machine). IsRun m c.in_ok-into_log-in-Ok-Some.field-0) (c.in-Ok.ensures.machine ∙ c.loop-turn.invariant.machine) c.in_ok-into_log-in-Ok-Some.ensures
+    subst (λ (m : Machine). IsRun m c.in_ok-into_log-in-Ok-Some.field-0) (c.in-Ok.ensures.machine ∙ c.loop-pass.invariant.machine) c.in_ok-into_log-in-Ok-Some.ensures

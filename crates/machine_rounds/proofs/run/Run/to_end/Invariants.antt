@@ -3,5 +3,5 @@ use Rattle.std.proofs.Common.{◌≡◌, ◌≤◌}
 use Rattle.machine_rounds.specs.Runs.{entries_made}
 use Rattle.machine_rounds.proofs.run.Run.to_end.Given as goal
 
-abbrev pub invariant-loop-turn : goal.invariant-loop-turn
-invariant-loop-turn g l = record { machine : l.run.machine ≡ l.fn.self.machine; more : l._turn ≤ entries_made l.run }
+abbrev pub invariant-loop-pass : goal.invariant-loop-pass
+invariant-loop-pass g l = record { machine : l.run.machine ≡ l.fn.self.machine; more : l._pass ≤ entries_made l.run }
