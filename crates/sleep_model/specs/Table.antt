@@ -1,4 +1,7 @@
 -- The table of an attempt: the stage under way, what follows it, and what a failure leads to (kernel/power/suspend.c).
+-- An attempt is one try to suspend, a call of enter_state; the open attempt is the one that is under way.
+-- The journal lists the steps of a machine, each as one entry; the Kind of an entry says which step it is.
+-- The table is of PM_SUSPEND_MEM by suspend_ops. It leaves out s2idle, suspend_again, pm_test, consoles, GFP masks and the sync of files.
 use Rattle.std.specs.Prelude.{Bool, true, false, if◌then◌else◌, List, [], ◌∷◌, Option, Some, None}
 use Rattle.sleep_base.specs.declared.errno.Errno.{Errno}
 use Rattle.sleep_model.specs.declared.entry.Entry.{Entry}
@@ -22,7 +25,7 @@ use Rattle.phase_table.specs.Phases.{is_down}
 
 -- ---- rows
 
--- a row has two columns: what follows the stage, and what its failure leads to
+-- a row has two columns: the stage that follows, and the stage that a failure leads to
 pub record Row : Type 0 where
   pub next : Stage
   pub failed : Stage
@@ -35,9 +38,10 @@ may_fail next failed = record { next = next; failed = failed }
 abbrev pub always : Stage → Row
 always next = record { next = next; failed = next }
 
--- the table. A phase late or noirq that fails resumes what it suspended. PrepareLate is the prepare_late of suspend_ops, after noirq.
--- ChecksWakeup is the test with which syscore_suspend begins; Enters begins with the test after syscore_suspend.
--- ClearsEventsCheck sets events_check_enabled to false
+-- the table. Downs p and Ups p are phase p of the devices' way down and of their way up. If the phases late and noirq fail, they resume
+-- what they suspended. PlatformDo is begin, prepare or prepare_late of suspend_ops, and PlatformUndo is recover, wake, finish or end.
+-- PrepareLate comes after noirq. ChecksWakeup is the test with which syscore_suspend begins; Enters begins with the test after
+-- syscore_suspend. ClearsEventsCheck sets events_check_enabled to false. The comments of the type Stage name the kernel's function of each
 -- (enter_state, suspend_devices_and_enter, suspend_enter, dpm_suspend_late, dpm_suspend_noirq, platform_suspend_prepare_noirq)
 abbrev pub row : Stage → Row
 row stage.Notifies = may_fail (stage.Freezes group.User) stage.NotifiesPost
@@ -63,7 +67,7 @@ row (stage.Ups phase.ResumeNoirq) = always (stage.Ups phase.Early)
 row (stage.Ups phase.Early) = always (stage.PlatformUndo undo.Finish)
 row (stage.PlatformUndo undo.Finish) = always (stage.Ups phase.Resume)
 row (stage.PlatformUndo undo.Recover) = always (stage.Ups phase.Resume)
--- this is Ups of Resume: no stage is Ups of a phase but the three (dpm_resume_end)
+-- only Ups Resume comes here: Ups has three phases, and the other two have rows above (dpm_resume_end)
 row (stage.Ups _) = always stage.Completes
 row stage.Completes = always (stage.PlatformUndo undo.End)
 row (stage.PlatformUndo undo.End) = always stage.ClearsEventsCheck
@@ -72,8 +76,8 @@ row (stage.Thaws thaw.Kernel) = always (stage.Thaws thaw.All)
 row (stage.Thaws thaw.All) = always stage.NotifiesPost
 row stage.NotifiesPost = always stage.Ends
 row stage.Ends = always stage.Ends
--- no attempt comes to this row: Prepare and Syscore have stages of their own. So its first column means nothing.
--- The checker asks failed_phase of Prepare (check_account), which reads the second: it is the same as that of Prepares
+-- no attempt comes to this row: Prepare and the two syscore phases have stages of their own. No code reads its first column. The checker's
+-- code reads the second: it asks failed_phase of Prepare (check_account). So the second is the same as in the row of Prepares
 row (stage.Downs _) = may_fail (stage.PlatformDo down.PrepareLate) (stage.PlatformUndo undo.Recover)
 
 -- ---- the columns of the table, for each sort of stage
@@ -118,7 +122,7 @@ failed_platform_down step = (row (stage.PlatformDo step)).failed
 abbrev pub failed_freeze : Group → Stage
 failed_freeze g = (row (stage.Freezes g)).failed
 
--- after a phase that failed: after prepare or suspend the platform recovers first, late and noirq resume what they suspended
+-- where a failed phase leads. Prepare and suspend: to recover of suspend_ops. Late and noirq: to the resume of what they suspended
 -- (suspend_devices_and_enter, Recover_platform)
 abbrev pub failed_phase : Phase → Stage
 failed_phase p = (row (stage.Downs p)).failed
@@ -140,8 +144,8 @@ abbrev pub by_case : Bool → Stage → Stage → Stage
 by_case true here there = here
 by_case false here there = there
 
--- the stage after a phase that is done. Nobody makes an entry Done of the two syscore phases. The entry of an operation that fails
--- moves the stage; if none fails, Enter or Irqs does, the entry after the last operation's
+-- the stage after a phase that is done. The two syscore phases have no entry Done: their rows only make the function total. Such a phase
+-- ends at the entry of an operation that fails, else at the entry after the last operation's: Enter on the way down, Irqs on the way up
 -- (suspend_devices_and_enter, suspend_enter)
 abbrev pub after_done : Phase → Option Errno → Stage
 after_done phase.Prepare r = by_error r (next_stage stage.Prepares) (after_failure stage.Prepares)
@@ -150,9 +154,12 @@ after_done phase.SyscoreResume r = next_stage stage.StartsSyscore
 after_done phase.Complete r = next_stage stage.Completes
 after_done p r = if is_down p then by_error r (stage_after_down p) (failed_phase p) else stage_after_up p
 
--- the stage of the open attempt after an entry of the journal: one step that an actor made, whose kind says what it was.
--- An entry of a single device, or of no attempt, leaves the stage as it is. So does a good one of a single notifier, processor or
--- syscore operation: an entry of the next stage moves it
+-- in the entries below n is the number of an attempt, x of a notifier or a syscore operation, k of a processor; r is an error, or none.
+-- guarded is the saved count by which the attempt's tests go, if events_check_enabled was true as it began
+
+-- the stage of the open attempt after an entry of the journal. An entry of one device, and one that is not made for the attempt, such as a
+-- read of the count, does not change it. Nor does that of one notifier, processor or syscore operation that succeeds: the stage changes at
+-- the first entry of the next stage
 -- (enter_state, suspend_devices_and_enter, suspend_enter)
 abbrev pub stage_after : Kind → Option Stage → Option Stage
 stage_after (kind.Attempt n guarded) before = Some stage.Notifies
