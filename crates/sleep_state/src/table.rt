@@ -1,4 +1,6 @@
-//! The table of an attempt (`enter_state`, `suspend_devices_and_enter`, `suspend_enter`).
+//! The order of the stages of an attempt, and where each leads if it fails (`enter_state`,
+//! `suspend_devices_and_enter`, `suspend_enter`). It is the definition `row` of `sleep_model`, in Rust. An
+//! attempt is one try to suspend, a call of `enter_state`.
 
 ghost use Rattle.std.specs.Prelude.{◌≡◌};
 ghost use Rattle.sleep_model.specs.Table.{next_stage, by_case, after_failure};
@@ -6,7 +8,8 @@ ghost use Rattle.sleep_model.specs.Table.{next_stage, by_case, after_failure};
 use sleep_model::{Group, Phase, PlatDo, PlatUndo, Stage, Thaw};
 
 /// Picks a column of the table of an attempt: `next` is what follows a stage, `failed` is the stage that its
-/// failure leads to. Both are the same if a stage does not fail, or if its failure changes nothing.
+/// failure leads to. Both are the same if a stage does not fail, or if its failure changes nothing. It is a
+/// macro so that each row stands once, with both columns, and each function matches over one of them.
 macro_rules! table {
     (@next $from:expr; $($stage:pat => $next:expr, $failed:expr;)*) => {
         match $from { $($stage => $next,)* }
@@ -47,7 +50,8 @@ macro_rules! table {
             Stage::Thaws(Thaw::All) => Stage::NotifiesPost, Stage::NotifiesPost;
             Stage::NotifiesPost => Stage::Ends, Stage::Ends;
             Stage::Ends => Stage::Ends, Stage::Ends;
-            // Never reached: each other phase has a stage of its own. These two only make the match total.
+            // The core never comes to these two rows: the way down has three phases, and so has the way up.
+            // The match has to be total, and the definition `row` gives the columns. It says who reads them.
             Stage::Downs(_) => Stage::PlatformDo(PlatDo::PrepareLate), Stage::PlatformUndo(PlatUndo::Recover);
             Stage::Ups(_) => Stage::Completes, Stage::Completes;
         }
@@ -68,7 +72,8 @@ pub(crate) fn after_failure(stage: Stage) -> Stage
     table!(failed of stage)
 }
 
-/// The stage after one that is over; `fails` says whether it failed.
+/// The stage after one that is over: the next, or, if it `fails`, the one that its failure leads to. The
+/// stage after any one entry is `stage_after` (`path.rt`), which goes by this.
 pub(crate) fn after_stage(stage: Stage, fails: bool) -> Stage
     ensures { result ≡ by_case fails (after_failure stage) (next_stage stage) }
 {
@@ -79,8 +84,8 @@ pub(crate) fn after_stage(stage: Stage, fails: bool) -> Stage
     }
 }
 
-/// The stage after an entry that need not be its stage's last, such as one notifier's. It is the same stage,
-/// or, if the entry `fails`, the one that its failure leads to.
+/// The stage after one of several entries of a stage, such as one notifier's: the same, or, if the entry
+/// `fails`, the one that its failure leads to.
 pub(crate) fn within_stage(stage: Stage, fails: bool) -> Stage
     ensures { result ≡ by_case fails (after_failure stage) stage }
 {
