@@ -1,5 +1,9 @@
-//! What the walk of a phase on the way down does next, and what a device does. Each makes an entry of the
-//! journal, whose `Kind` says what it is, or waits (`Due`).
+//! What the walk of a phase on the way down does next, and what a device does (`dpm_suspend`,
+//! `__device_suspend`). The phases are suspend, late and noirq. No callback is called here: each function
+//! decides which step comes next. The core records the step as one entry of the journal, the list of a
+//! machine's steps; `Kind` says which step it is. A `Due` is what is due of somebody: one entry, a wait with
+//! its cause (`Why`), or nothing. The subordinates of a device are its children, and its consumers by links
+//! that are not `DL_STATE_DORMANT`.
 ghost use Rattle.std.specs.Prelude.{◌≡◌, None};
 ghost use Rattle.sleep_model.specs.Devices.{unless_failed};
 ghost use Rattle.sleep_model.specs.Walk.{or_else};
@@ -10,21 +14,24 @@ use device_rows::Flags;
 use sleep_base::Errno;
 use sleep_model::{Due, Kind, Phase, SkipCause, Why};
 
-/// The errors of the open phase (`drivers/base/power/main.c`, `async_error`, `error`).
+/// The errors of the phase under way, by which its walk and its devices go on (`drivers/base/power/main.c`,
+/// `async_error`, `error`).
 #[derive(Clone, Copy)]
 pub struct Down {
-    /// The last error of any device, or `EBUSY` of a wakeup that was found.
+    /// The last error: of any device's callback, or `EBUSY` of a wakeup that was found.
     pub async_error: Option<Errno>,
-    /// The error of the synchronous device's callback that failed, if one did: the walk ends at it.
+    /// The error of the synchronous device's callback that failed, if one did. Then `async_error` is set,
+    /// too, and the walk ends by that.
     pub error: Option<Errno>,
 }
 
 /// What a phase on the way down looks at.
 #[derive(Clone, Copy)]
 pub struct DownEnv<'a> {
-    /// The state of each device.
+    /// The state of each device in the phases (`struct dev_pm_info`).
     pub board: &'a Board,
-    /// Which devices answered 1 to their last prepare.
+    /// Which devices' `prepare` answered 1 in this attempt: they ask for direct-complete. It answers 0, 1 or
+    /// an error here; in the kernel any number above 0 asks.
     pub asks_direct: &'a Flags,
     /// Which devices are runtime suspended.
     pub runtime_suspended: &'a Flags,
@@ -35,9 +42,10 @@ pub struct DownEnv<'a> {
 }
 
 /// Whether the phase skips the device as direct-complete. Suspend does if the device asked for it, is runtime
-/// suspended, may not wake the machine, and all right below it are direct-complete. Right below are its
-/// children, and its consumers by active links (in the kernel by dormant ones, too). Late and noirq skip it
-/// if suspend did.
+/// suspended, may not wake the machine, and all its subordinates are direct-complete. Late and noirq do if
+/// suspend did. The kernel differs: there a consumer by a dormant link counts, too
+/// (`dpm_clear_superiors_direct_complete`). Here only those count for which the device waits;
+/// docs/BEHAVIOUR.md lists what departs from the kernel.
 fn is_direct(env: &DownEnv<'_>, p: Phase, device: u32) -> bool
     ensures { (down : Down) → result ≡ is_direct_on (down_state down env.now) p device }
 {
@@ -52,8 +60,9 @@ fn is_direct(env: &DownEnv<'_>, p: Phase, device: u32) -> bool
     }
 }
 
-/// What a device makes at its turn. In a phase that checks for wakeups a pending one skips it; else it is
-/// direct-complete, or its callback begins.
+/// The entry of a device that waits for no other, if there is no error. It is skipped if a wakeup is pending
+/// and the phase checks for one, as suspend and late do; else it is skipped as direct-complete, or its
+/// callback begins.
 fn begin_or_skip(env: &DownEnv<'_>, p: Phase, device: u32) -> Kind
     ensures { (down : Down) → result ≡ begin_or_skip_on (down_state down env.now) p device }
 {
@@ -78,9 +87,10 @@ impl Down {
     }
 
     /// What the walk of a phase on the way down does next while it runs no callback (`dpm_suspend`,
-    /// `dpm_suspend_late`, `dpm_noirq_suspend_devices`). It goes from the last device to the first. It schedules
-    /// an asynchronous one. For a synchronous one it waits for all below it, then skips it or begins its
-    /// callback. At an error, or once no device is left, it waits for all that were scheduled, and ends.
+    /// `dpm_suspend_late`, `dpm_noirq_suspend_devices`). It goes from the last device to the first. It
+    /// schedules an asynchronous one. For a synchronous one it waits for its subordinates, then skips it or
+    /// begins its callback. After an error, or after the last device, it waits for all that were scheduled,
+    /// and ends.
     pub fn walk_due(&self, env: &DownEnv<'_>, p: Phase) -> Due
         ensures { result ≡ walk_down_due_on (down_state self.now env.now) p }
     {
@@ -90,8 +100,9 @@ impl Down {
         }
     }
 
-    /// What a device does next on the way down (`__device_suspend`), in its own work or inside the walk. It waits
-    /// for all below it. Then it is skipped, after an error or for a wakeup, is direct-complete, or begins.
+    /// What a device does next on the way down (`__device_suspend`), in its own work or inside the walk. It
+    /// waits for its subordinates. Then it is skipped (after an error, for a pending wakeup, or as
+    /// direct-complete), or its callback begins.
     pub fn device_due(&self, env: &DownEnv<'_>, p: Phase, device: u32) -> Due
         ensures { result ≡ scheduled_down_on (down_state self.now env.now) p device }
     {
@@ -101,7 +112,7 @@ impl Down {
         }
     }
 
-    /// What a device makes once it waits for no other: after an error it is skipped.
+    /// The entry of a device that waits for no other: after an error it is skipped.
     fn device_step(&self, env: &DownEnv<'_>, p: Phase, device: u32) -> Kind
         ensures { result ≡ unless_failed self.now.async_error p device
             (begin_or_skip_on (down_state self.now env.now) p device) }
@@ -112,8 +123,8 @@ impl Down {
         }
     }
 
-    /// The walk at a device if there is no error: an asynchronous one is scheduled, a synchronous one waits,
-    /// is skipped or begins inside the walk.
+    /// The walk's next step at `device`, if there is no error. It schedules an asynchronous device; for a
+    /// synchronous one it does what the device does (`device_due`).
     fn walk_device(&self, env: &DownEnv<'_>, p: Phase, device: u32) -> Due
         requires { self.now.async_error ≡ None }
         ensures { result ≡ walk_device_on (down_state self.now env.now) p device }
@@ -125,7 +136,8 @@ impl Down {
         }
     }
 
-    /// The end of the walk, once all that were scheduled are done.
+    /// The end of the walk, after all that were scheduled are done: `waits_down` is the first that is not
+    /// (`async_synchronize_full`).
     fn walk_end(&self, env: &DownEnv<'_>, p: Phase) -> Due
         ensures { result ≡ walk_end_on (down_state self.now env.now) p }
     {
