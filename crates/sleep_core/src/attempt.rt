@@ -1,6 +1,14 @@
-//! What the maker of the open attempt, the task inside `enter_state`, does next, stage by stage
-//! (`kernel/power/suspend.c`). `now` is no time: it is the event word (`combined_event_count`, and
-//! `pm_abort_suspend` for hard events) as the maker sees it.
+//! What the maker of the open attempt does next, stage by stage (`kernel/power/suspend.c`). An attempt is one
+//! try to suspend; its maker is the task inside `enter_state`: the one that wrote the state, or the autosleep
+//! work.
+//!
+//! The core calls no driver and drives no hardware. It decides which step the maker makes next, and records
+//! it as one entry of the journal, the list of a machine's steps; `Kind` says which step it is. The error
+//! that a callback would return comes from the description of the machine (`Machine`; `What` names the
+//! callback). A `Due` is what is due of somebody: one entry, a wait with its cause (`Why`), or nothing.
+//!
+//! `now` is no time: it is the event word (`combined_event_count`, and `pm_abort_suspend` for hard events) as
+//! it was read before this step. Sources may have changed it since.
 
 ghost use Rattle.std.specs.Prelude.{◌≡◌, ◌≤◌, ◌^◌};
 ghost use Rattle.sleep_model.specs.declared.progress.Due.TheVariants.{Makes};
@@ -21,8 +29,8 @@ use sleep_state::{busy_error, next_stage};
 use task_freezer::Round;
 
 impl<'m> Core<'m> {
-    /// The next notifier hears of the attempt. The core calls nothing: the description of the machine
-    /// (`Machine`) says what the notifier answers (`answered`).
+    /// The entry of the next notifier that hears of the attempt (`PM_SUSPEND_PREPARE`), with the error that
+    /// the description gives (`answered`).
     fn notify_prepare_due(&self) -> Due
         ensures { result ≡ if_left (λ x. kind.NotifyPrepare x (answered self.now.machine (entries self.now.past) (what.Notifier x)))
             (next_notified self.now.machine (entries self.now.past)) }
@@ -33,8 +41,8 @@ impl<'m> Core<'m> {
         }
     }
 
-    /// How a freeze ends that a wakeup breaks off: with the tasks that are left. One at least is: `None` only
-    /// makes the match total.
+    /// The end of a freeze that a wakeup interrupts, with the tasks that are left. One at least is left, else
+    /// the freeze would have succeeded: so `None` does not come.
     fn woken_end(&self, group: Group) -> FrozeEnd
         ensures { result ≡ woken_end (left self.now.machine group (entries self.now.past)) }
     {
@@ -48,10 +56,10 @@ impl<'m> Core<'m> {
         }
     }
 
-    /// A freeze of a group that has gone on since that moment, in ms. A `Round` is one look of the freezer at
-    /// the group (`try_to_freeze_tasks`). `Late`: the freeze has timed out. `Again`: tasks are left, and the
-    /// freeze times out at `until`. The freezer counts the tasks that are left, and looks up the first of
-    /// them only as the freeze ends.
+    /// What a freeze of `group` that began at `since`, in ms, does next. A `Round` is what one look of the
+    /// freezer at the group finds (`try_to_freeze_tasks`). `Late`: the freeze has timed out. `Again`: tasks
+    /// are left, and the freeze times out at `until`. It does not say which task is the first one left: that
+    /// is a search, and only the entry that ends a freeze needs it (`woken_end`).
     fn froze_due(&self, now: EventNow, group: Group, since: u64) -> Due
         requires { since ≤ 2 ^ 63 }
         ensures { result ≡ froze_due (entries self.now.past) now group since (left self.now.machine group (entries self.now.past)) }
@@ -71,7 +79,7 @@ impl<'m> Core<'m> {
         }
     }
 
-    /// A freeze of a group: it asks the group's tasks, then waits for them.
+    /// The next step of a freeze of a group: it asks the group's tasks, then waits for them.
     fn freeze_due(&self, now: EventNow, group: Group) -> Due
         ensures { result ≡ freeze_due self.now.machine (entries self.now.past) now group (freeze_since (entries self.now.past)) }
     {
@@ -81,15 +89,16 @@ impl<'m> Core<'m> {
         }
     }
 
-    /// The platform is asked for a step on the way down (`suspend_ops`).
+    /// The entry of a step of `suspend_ops` on the way down, with the error that the description gives.
     fn platform_due(&self, step: PlatDo) -> Due
         ensures { result ≡ Makes (kind.PlatformDo step (answered self.now.machine (entries self.now.past) (what.Platform step))) }
     {
         Due::Makes(Kind::PlatformDo(step, self.answered(What::Platform(step))))
     }
 
-    /// The next processor is stopped, unless a wakeup is pending. `platform` keeps which processors are off,
-    /// and which notifiers have heard of the attempt.
+    /// The entry by which the next processor is stopped. If a wakeup is pending it is `CpuBusy`: the
+    /// processor stays on, and the stage fails. The history's `platform` keeps which processors are off, and
+    /// which notifiers are owed the news that the attempt is over.
     fn cpu_off_due(&self, now: EventNow) -> Due
         ensures { result ≡ if_left (cpu_kind (pending (entries self.now.past) now)) (next_cpu_off self.now.machine (entries self.now.past)) }
     {
@@ -100,7 +109,7 @@ impl<'m> Core<'m> {
         }
     }
 
-    /// The `suspend` of the next `syscore_ops` is called.
+    /// The entry of the next `syscore_ops`' `suspend`, with the error that the description gives.
     fn syscore_suspend_due(&self) -> Due
         ensures { result ≡ if_left (λ x. kind.SyscoreSuspend x (answered self.now.machine (entries self.now.past) (what.Syscore x)))
             (next_syscore_suspended self.now.machine (entries self.now.past)) }
@@ -111,8 +120,10 @@ impl<'m> Core<'m> {
         }
     }
 
-    /// What wakes a machine that sleeps: a step of the event word since it entered, else its alarm. An
-    /// event's start, its finish and a hard event are steps; `pos` is how many were made.
+    /// What ends the machine's sleep: a step of the event word since `Enter`, else the alarm, which the
+    /// description sets. A step is an event's start, its finish or a hard event; `pos` counts them. Interrupt
+    /// lines, timers and `nofreeze` tasks make steps while the machine sleeps. In the kernel hardware ends
+    /// the sleep, and the word has no part in it.
     fn wakes_due(&self, now: EventNow, sleep: Sleep) -> Due
         requires { sleep.since ≤ 2 ^ 63 }
         ensures { result ≡ wakes_due self.now.machine (entries self.now.past) now sleep }
@@ -126,7 +137,8 @@ impl<'m> Core<'m> {
         }
     }
 
-    /// The machine enters sleep, unless a wakeup is pending (`busy`); after that, what wakes it.
+    /// The entry `Enter`, the last test before `suspend_ops->enter`: if a wakeup is pending (`busy`), the
+    /// machine does not sleep. If it sleeps, what wakes it.
     fn enter_due(&self, now: EventNow) -> Due
         ensures { result ≡ enter_due self.now.machine (entries self.now.past) now (sleep_of (entries self.now.past)) }
     {
@@ -138,7 +150,7 @@ impl<'m> Core<'m> {
         }
     }
 
-    /// The `resume` of the next `syscore_ops` is called.
+    /// The entry of the next `syscore_ops`' `resume`.
     fn syscore_resume_due(&self) -> Due
         ensures { result ≡ if_left kind.SyscoreResume (next_syscore_resumed self.now.machine (entries self.now.past)) }
     {
@@ -148,7 +160,7 @@ impl<'m> Core<'m> {
         }
     }
 
-    /// The next processor is started.
+    /// The entry by which the next processor is started.
     fn cpu_on_due(&self) -> Due
         ensures { result ≡ if_left kind.CpuOn (next_cpu_on self.now.machine (entries self.now.past)) }
     {
@@ -158,7 +170,7 @@ impl<'m> Core<'m> {
         }
     }
 
-    /// The next notifier hears that the attempt is over.
+    /// The entry of the next notifier that hears that the attempt is over (`PM_POST_SUSPEND`).
     fn notify_post_due(&self) -> Due
         ensures { result ≡ if_left kind.NotifyPost (next_post_notified self.now.machine (entries self.now.past)) }
     {
@@ -168,7 +180,7 @@ impl<'m> Core<'m> {
         }
     }
 
-    /// What the maker makes at a stage, if that has anything left.
+    /// The maker's next step at a stage; `Nothing` if the stage has no step left.
     fn stage_due(&self, now: EventNow, stage: Stage) -> Due
         requires { FitsPhase stage }
         ensures { result ≡ stage_due self.now.machine (entries self.now.past) now stage }
@@ -200,9 +212,9 @@ impl<'m> Core<'m> {
         }
     }
 
-    /// What is made at a stage, or else at the one after it. One look ahead is enough: no two stages in a row
-    /// have nothing to do. It stays out of line: `due_of` answers the stages of devices itself, and the
-    /// others make few entries.
+    /// The maker's next step at a stage, or else at the one after it. One look ahead is enough: no two stages
+    /// in a row have nothing to do. It is not inlined: `due_of`, which calls it, answers the phases of
+    /// devices itself, and these have most entries.
     #[inline(never)]
     pub(crate) fn stage_or_next(&self, now: EventNow, stage: Stage) -> Due
         requires { FitsPhase stage }
