@@ -1,7 +1,16 @@
-//! What an attempt's maker, the task inside `enter_state`, does next (`kernel/power/suspend.c`). The checker
-//! of logs finds it anew, without the core: `past` is what it knows from the entries that it has gone
-//! through. `Mem` is also the answer to a sum of times that overflows, which is beyond all time: no log that
-//! fits into memory comes to it (`later_by`).
+//! What the maker of an attempt does next (`kernel/power/suspend.c`). An attempt is one try to suspend; its
+//! maker is the task inside `enter_state`: the one that wrote the state, or the autosleep work. The checker
+//! of logs does not trust the core: it works out by itself which step the maker has to make next. So this
+//! repeats `sleep_core/src/attempt.rt` on purpose.
+//!
+//! `past` is what the checker knows of the entries of a log that it has passed. Each entry is one step of the
+//! machine, and its `Kind` says which. A `Due` is what is due of somebody: one entry, a wait with its cause,
+//! or nothing. `now` is no time: it is the event word after these entries (`combined_event_count`, and
+//! `pm_abort_suspend` for hard events).
+//!
+//! `Mem` is also the answer to a sum of times that overflows (`later_by`). No log comes to that: the passed
+//! entries are legal, so they are few, and no jump of time is longer than a day (in `end_laws`:
+//! `all_logs_are_bounded`, `next_moments_are_bounded`).
 
 ghost use Rattle.std.specs.Prelude.{◌≡◌, IfOk};
 ghost use Rattle.sleep_model.specs.declared.progress.Stage.TheVariants.{Notifies, NotifiesPost, StartsCpus, StartsSyscore, StopsCpus, StopsSyscore};
@@ -17,7 +26,8 @@ use check_past::Passed;
 use sleep_base::Mem;
 use sleep_model::{Due, EventNow, Group, Kind, Stage, What};
 
-/// A freeze of a group: it asks the group's tasks, then waits for them. `Mem` if its end is beyond all time.
+/// The next step of a freeze of a group: it asks the group's tasks, then waits for them. `Mem` if the moment
+/// at which it gives up overflows.
 fn freeze_due(past: &Passed<'_>, now: EventNow, group: Group) -> Result<Due, Mem>
     ensures { IfOk result (λ d. d ≡ freeze_due past.now.machine (journal_of past.now) now group
         (freeze_since (journal_of past.now))) }
@@ -28,8 +38,8 @@ fn freeze_due(past: &Passed<'_>, now: EventNow, group: Group) -> Result<Due, Mem
     }
 }
 
-/// The machine enters sleep, unless a wakeup is pending (`busy`); once asleep, what wakes it. `Mem` if the
-/// alarm is beyond all time.
+/// The entry `Enter`, the last test before `suspend_ops->enter`: if a wakeup is pending (`busy`), the machine
+/// does not sleep. If it sleeps, what wakes it. `Mem` if the alarm's moment overflows.
 fn enter_due(past: &Passed<'_>, now: EventNow) -> Result<Due, Mem>
     ensures { IfOk result (λ d. d ≡ enter_due past.now.machine (journal_of past.now) now (sleep_of (journal_of past.now))) }
 {
@@ -41,7 +51,7 @@ fn enter_due(past: &Passed<'_>, now: EventNow) -> Result<Due, Mem>
     }
 }
 
-/// The next notifier hears of the attempt.
+/// The entry of the next notifier that hears of the attempt (`PM_SUSPEND_PREPARE`).
 fn notify_prepare_due(past: &Passed<'_>) -> Due
     ensures { (now : EventNow) → result ≡ stage_due past.now.machine (journal_of past.now) now Notifies }
 {
@@ -51,7 +61,8 @@ fn notify_prepare_due(past: &Passed<'_>) -> Due
     }
 }
 
-/// The next processor is stopped, unless a wakeup is pending.
+/// The entry by which the next processor is stopped. If a wakeup is pending it is `CpuBusy`: the processor
+/// stays on, and the stage fails.
 fn cpu_off_due(past: &Passed<'_>, now: EventNow) -> Due
     ensures { result ≡ stage_due past.now.machine (journal_of past.now) now StopsCpus }
 {
@@ -62,7 +73,7 @@ fn cpu_off_due(past: &Passed<'_>, now: EventNow) -> Due
     }
 }
 
-/// The `suspend` of the next `syscore_ops` is called.
+/// The entry of the next `syscore_ops`' `suspend`.
 fn syscore_suspend_due(past: &Passed<'_>) -> Due
     ensures { (now : EventNow) → result ≡ stage_due past.now.machine (journal_of past.now) now StopsSyscore }
 {
@@ -72,7 +83,7 @@ fn syscore_suspend_due(past: &Passed<'_>) -> Due
     }
 }
 
-/// The `resume` of the next `syscore_ops` is called.
+/// The entry of the next `syscore_ops`' `resume`.
 fn syscore_resume_due(past: &Passed<'_>) -> Due
     ensures { (now : EventNow) → result ≡ stage_due past.now.machine (journal_of past.now) now StartsSyscore }
 {
@@ -82,7 +93,7 @@ fn syscore_resume_due(past: &Passed<'_>) -> Due
     }
 }
 
-/// The next processor is started.
+/// The entry by which the next processor is started.
 fn cpu_on_due(past: &Passed<'_>) -> Due
     ensures { (now : EventNow) → result ≡ stage_due past.now.machine (journal_of past.now) now StartsCpus }
 {
@@ -92,7 +103,7 @@ fn cpu_on_due(past: &Passed<'_>) -> Due
     }
 }
 
-/// The next notifier hears that the attempt is over.
+/// The entry of the next notifier that hears that the attempt is over (`PM_POST_SUSPEND`).
 fn notify_post_due(past: &Passed<'_>) -> Due
     ensures { (now : EventNow) → result ≡ stage_due past.now.machine (journal_of past.now) now NotifiesPost }
 {
@@ -102,7 +113,8 @@ fn notify_post_due(past: &Passed<'_>) -> Due
     }
 }
 
-/// What the maker makes at a stage, if that has anything left. `Mem` if a moment is beyond all time.
+/// The maker's next step at a stage; `Nothing` if the stage has no step left. At the end `Over` has the
+/// attempt's number, and the error of the stage that failed (`Passed::failed`). `Mem` if a moment overflows.
 fn stage_due(past: &Passed<'_>, now: EventNow, stage: Stage) -> Result<Due, Mem>
     ensures { IfOk result (λ d. d ≡ stage_due past.now.machine (journal_of past.now) now stage) }
 {
@@ -139,8 +151,8 @@ fn stage_due(past: &Passed<'_>, now: EventNow, stage: Stage) -> Result<Due, Mem>
     }
 }
 
-/// What is made at a stage, or else at the one after it. One look ahead is enough: no two stages in a row
-/// have nothing to do.
+/// The maker's next step at a stage, or else at the one after it. One look ahead is enough: no two stages in
+/// a row have nothing to do. `Mem` if a moment overflows.
 fn stage_or_next(past: &Passed<'_>, now: EventNow, stage: Stage) -> Result<Due, Mem>
     ensures { IfOk result (λ d. d ≡ stage_or_next past.now.machine (journal_of past.now) now stage) }
 {
@@ -150,8 +162,8 @@ fn stage_or_next(past: &Passed<'_>, now: EventNow, stage: Stage) -> Result<Due, 
     }
 }
 
-/// What the open attempt's maker makes next, if an attempt is open (`enter_state`). `Mem` if a moment is
-/// beyond all time.
+/// The next step of the open attempt's maker, if an attempt is open (`enter_state`). `Mem` if a moment
+/// overflows.
 pub(crate) fn attempt_due(past: &Passed<'_>, now: EventNow) -> Result<Due, Mem>
     ensures { IfOk result (λ d. d ≡ attempt_due past.now.machine (journal_of past.now) now) }
 {
