@@ -1,5 +1,12 @@
-//! The rule that each actor makes its own steps, each once and in order. `path.rt` and `walk.rt` look at the
-//! maker's order, and `reads.rt` at what reads and writes answer.
+//! The rule of steps: an entry of the journal is one that its actor can make at the point to which it has
+//! come. The journal lists the steps of a machine, each as one entry; the `Kind` of an entry says which step
+//! it is. An actor is a script (of a task or of an interrupt line), the autosleep work, an asynchronous
+//! device, the timer of a source, or time.
+//!
+//! The maker of an attempt is the task inside `enter_state`. Of its entries only the kind is looked at here:
+//! `path.rt` and `walk.rt` look at their order. `reads.rt` looks at what reads and writes answer. `now` is no
+//! time: it is the event word before the entry (`combined_event_count`, and `pm_abort_suspend` for hard
+//! events).
 
 ghost use Rattle.std.specs.Prelude.{◌≡◌, ◌↔◌, true, IsTrue, IfOk, option_copied, slice_get};
 ghost use Rattle.rule_definitions.specs.Steps.{IsDeviceStep, IsLinkOf, IsLinkStateOf, IsMakerStep, IsOfAutosleep, IsOfOp, IsPostOf, IsRequestOf, IsScriptStep, IsStep, IsWorkStep, KeepsSteps, is_of_state_write};
@@ -16,22 +23,23 @@ use check_past::Passed;
 use sleep_base::Mem;
 use sleep_model::{Actor, AsyncWork, EventNow, Kind, NAP_MSECS, Op, ScriptPosition, State, Work};
 
-/// Whether the entry is of a read of `/sys/power/wakeup_count`.
+/// Whether the entry belongs to a read of `/sys/power/wakeup_count`.
 fn is_of_count_read(kind: Kind) -> bool
     ensures { result ≡ is_of_count_read kind }
 {
     matches!(kind, Kind::ReadWait | Kind::Read(_) | Kind::ReadIntr)
 }
 
-/// Whether the entry is of a write to `/sys/power/wakeup_count`.
+/// Whether the entry belongs to a write to `/sys/power/wakeup_count`.
 fn is_of_count_save(kind: Kind) -> bool
     ensures { result ≡ is_of_count_save kind }
 {
     matches!(kind, Kind::SaveWait(_) | Kind::Saved(_) | Kind::SaveErr(..))
 }
 
-/// Whether the entry is of a write to `/sys/power/state`, up to the beginning of its attempt. `StateUnsaved`:
-/// the script left the write out, since it needs a good save and the last one was not.
+/// Whether the entry belongs to a write to `/sys/power/state`, up to the beginning of its attempt.
+/// `StateUnsaved`: the script did not write, since it is to write only after a write to `wakeup_count` that
+/// succeeded, and its last one did not, or there was none.
 fn is_of_state_write(kind: Kind) -> bool
     ensures { result ≡ is_of_state_write kind }
 {
@@ -41,8 +49,9 @@ fn is_of_state_write(kind: Kind) -> bool
     )
 }
 
-/// Whether the entry is of a write to `/sys/power/autosleep`. `mem`, `off`: what the text says; `begun`: the
-/// setting was begun. `reads.rt` sees that only another text is refused (`AutoBad`).
+/// Whether the entry belongs to a write to `/sys/power/autosleep`, whose text is `mem`, `off` or neither.
+/// `begun`: the write has set the state (`AutoSet`), so only its end is left (`AutoDone`). `AutoBad`, the
+/// answer to a text that is neither, passes here for any text: `reads.rt` looks at the text.
 fn is_of_autosleep(begun: bool, mem: bool, off: bool, kind: Kind) -> bool
     ensures { IsTrue result ↔ IsOfAutosleep begun mem off kind }
 {
@@ -55,29 +64,31 @@ fn is_of_autosleep(begun: bool, mem: bool, off: bool, kind: Kind) -> bool
     }
 }
 
-/// Whether the entry is a post to that mark. A mark is a semaphore by which scripts wait for one another: a
-/// post raises it by one, and a wait that ends lowers it by one.
+/// Whether the entry is a post to `mark`. A mark is a semaphore by which scripts wait for one another: a post
+/// raises it by one, and a wait that ends lowers it by one.
 fn is_post_of(mark: u32, kind: Kind) -> bool
     ensures { IsTrue result ↔ IsPostOf mark kind }
 {
     matches!(kind, Kind::Post(other) if other == mark)
 }
 
-/// Whether the entry is a request for that status of that device.
+/// Whether the entry is a request for a runtime status of `device`: suspended or active, as `to_suspended`
+/// says.
 fn is_request_of(device: u32, to_suspended: bool, kind: Kind) -> bool
     ensures { IsTrue result ↔ IsRequestOf device to_suspended kind }
 {
     matches!(kind, Kind::RuntimeAsk { device: d, to_suspended: to, .. } if d == device && to == to_suspended)
 }
 
-/// Whether the entry is a new link between those two.
+/// Whether the entry is a request for a new link by which `consumer` needs `supplier`.
 fn is_link_of(supplier: u32, consumer: u32, kind: Kind) -> bool
     ensures { IsTrue result ↔ IsLinkOf supplier consumer kind }
 {
     matches!(kind, Kind::LinkAdd { supplier: s, consumer: c, .. } if s == supplier && c == consumer)
 }
 
-/// Whether the entry sets the link between those two to that state.
+/// Whether the entry is a request that the link of `consumer` to `supplier` be active or dormant, as `active`
+/// says.
 fn is_link_state_of(supplier: u32, consumer: u32, active: bool, kind: Kind) -> bool
     ensures { IsTrue result ↔ IsLinkStateOf supplier consumer active kind }
 {
@@ -92,8 +103,9 @@ fn is_link_state_of(supplier: u32, consumer: u32, active: bool, kind: Kind) -> b
     }
 }
 
-/// Whether the entry is of that operation, or the exit if there is no operation left (`None`). `Mem` if a
-/// sleep ends beyond all time.
+/// Whether the entry belongs to `op`, or is the exit if no operation is left (`None`). `position.waits` says
+/// whether the operation has begun; `makes`, whether `kind` is the entry that is due. `SleepD` is a sleep in
+/// `TASK_UNINTERRUPTIBLE`. `Mem` if the end of a sleep overflows.
 fn is_of_op(
     past: &Passed<'_>,
     position: ScriptPosition,
@@ -134,7 +146,8 @@ fn is_of_op(
     }
 }
 
-/// Whether the entry is of the operation, or says that the task freezes at one that has a freeze point.
+/// Whether the entry belongs to the operation, or says that the task was frozen at it (`Frozen`), if a task
+/// that is asked may freeze there (`freezes_at`).
 fn is_step(
     past: &Passed<'_>,
     user: bool,
@@ -148,13 +161,15 @@ fn is_step(
     match kind {
         Kind::Frozen => Ok(freezes_at(user, position.waits, op)),
         _ => {
+            // By the `?` the proof has what `is_of_op` promises.
             let keeps = is_of_op(past, position, op, kind)?;
             Ok(keeps)
         }
     }
 }
 
-/// Whether the entry is a step of script i, which is there and has not exited.
+/// Whether the entry is a step of script i, which is there and has not exited. A machine's `actors` are its
+/// scripts.
 fn is_script_step(past: &Passed<'_>, i: u32, kind: Kind) -> Result<bool, Mem>
     ensures { IfOk result (λ b. IsTrue b ↔ IsScriptStep past.now.machine (journal_of past.now)
         (position_of past.now.machine (journal_of past.now) i) (op_of past.now.machine (journal_of past.now) i)
@@ -179,8 +194,16 @@ fn is_script_step(past: &Passed<'_>, i: u32, kind: Kind) -> Result<bool, Mem>
     }
 }
 
-/// Whether the entry is of autosleep's work in that state. That an attempt needs autosleep on is a rule of
-/// `reads.rt`. `Mem` if a nap ends beyond all time.
+/// Whether the entry is one of the autosleep work in that state. The work is `try_to_suspend`: `Reading` and
+/// `Looking` are its two calls of `pm_get_wakeup_count`, `Saving` is `pm_save_wakeup_count`, `Attempting` is
+/// the test of `autosleep_state` and `pm_suspend`. `Napping` is its sleep of half a second, and `Closing` is
+/// `queue_up_suspend_work`. While `Resting` it does not run; it may if it is queued, `auto_cycles` times at
+/// most (`may_run`).
+///
+/// `AutoRun` begins the work, `AutoAfter` has the second count, `AutoAgain` queues the work anew, and
+/// `AutoOff` ends it because autosleep is off. (`AutoSet`, `AutoDone` and `AutoBad` are entries of a write to
+/// autosleep.) That an attempt needs autosleep on is a rule of `reads.rt`. `Mem` if the end of its sleep
+/// overflows.
 fn is_work_step(past: &Passed<'_>, now: EventNow, work: Work, kind: Kind) -> Result<bool, Mem>
     ensures { IfOk result (λ b. IsTrue b ↔ IsWorkStep past.now.machine (journal_of past.now) now work kind) }
 {
@@ -201,7 +224,7 @@ fn is_work_step(past: &Passed<'_>, now: EventNow, work: Work, kind: Kind) -> Res
     }
 }
 
-/// Whether the entry is of an asynchronous device whose work is in that state.
+/// Whether the entry is one of an asynchronous device whose work is in that state.
 fn is_device_step(device: u32, work: AsyncWork, kind: Kind) -> bool
     ensures { IsTrue result ↔ IsDeviceStep device work kind }
 {
@@ -213,8 +236,8 @@ fn is_device_step(device: u32, work: AsyncWork, kind: Kind) -> bool
     }
 }
 
-/// Whether the entry is of the attempt's maker. Its walk itself begins, ends and skips only synchronous
-/// devices.
+/// Whether an attempt's maker makes entries of this kind. Its walk itself begins, ends and skips only
+/// synchronous devices.
 fn is_maker_step(past: &Passed<'_>, kind: Kind) -> bool
     ensures { IsTrue result ↔ IsMakerStep past.now.machine kind }
 {
@@ -246,9 +269,9 @@ fn is_maker_step(past: &Passed<'_>, kind: Kind) -> bool
     }
 }
 
-/// Whether an entry of the journal is its actor's next step, or any step of an attempt's maker
-/// (`kernel/power/main.c`, `autosleep.c`, `suspend.c`, `drivers/base/power/main.c`). `Mem` if a sleep ends
-/// beyond all time.
+/// Whether an entry of the journal is the next step of `who`, or, if `who` makes the open attempt, any step
+/// of an attempt (`kernel/power/main.c`, `autosleep.c`, `suspend.c`, `drivers/base/power/main.c`). `Mem` if
+/// the end of a sleep overflows.
 pub fn keeps_steps(past: &Passed<'_>, now: EventNow, who: Actor, kind: Kind) -> Result<bool, Mem>
     ensures { IfOk result (λ b. IsTrue b ↔ KeepsSteps past.now.machine (journal_of past.now) now who kind) }
 {
@@ -259,8 +282,8 @@ pub fn keeps_steps(past: &Passed<'_>, now: EventNow, who: Actor, kind: Kind) -> 
         Actor::Script(i) => is_script_step(past, i, kind),
         Actor::Auto => is_work_step(past, now, past.work(), kind),
         Actor::Dev(d) => Ok(is_device_step(d, async_work(past, d), kind)),
-        // A timer only makes calls on its source, and time only jumps: `entries.rt` looks at both. No other
-        // entry is theirs.
+        // The entries of a timer are calls on its source, and those of time, which moves the clock if nobody
+        // can go on, are jumps. `entries.rt` looks at both; no entry of the journal is theirs.
         Actor::Timer(_) | Actor::Time => Ok(false),
     }
 }
