@@ -84,8 +84,8 @@ fn link_set_due(past: &Passed<'_>, supplier: u32, consumer: u32, active: bool) -
     })
 }
 
-/// The next entry of a script at its operation, which names what there is. `Mem` if a moment is beyond all
-/// time, if the next attempt has no number, or if there is no memory for a walk.
+/// The next entry of a script at its operation, which names what there is. `Mem` if a moment overflows, if
+/// the next attempt has no number, or if there is no memory for a walk.
 fn op_due(
     past: &Passed<'_>,
     now: EventNow,
@@ -190,8 +190,8 @@ fn script_due(past: &Passed<'_>, now: EventNow, i: u32) -> Result<Due, Mem>
 }
 
 /// What is due of an actor that sees that word: the open attempt's maker follows the table; a script its
-/// steps, autosleep's work and an asynchronous device theirs. `Mem` if a moment is beyond all time, if the
-/// next attempt has no number, or if there is no memory for a walk.
+/// steps, autosleep's work and an asynchronous device theirs. `Mem` if a moment overflows, if the next
+/// attempt has no number, or if there is no memory for a walk.
 pub fn due(past: &Passed<'_>, who: Actor, now: EventNow) -> Result<Due, Mem>
     ensures { IfOk result (λ d. d ≡ due past.now.machine (journal_of past.now) who now) }
 {

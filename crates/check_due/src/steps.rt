@@ -7,8 +7,7 @@ ghost use Rattle.sleep_model.specs.Steps.{autosleep_due, count_due, lock_due, ma
 use sleep_base::{Errno, Mem};
 use sleep_model::{Due, EventNow, Kind, ScriptPosition, State, Why, visible};
 
-/// The sum of a moment and a length, in ms. `Mem` if that is beyond all time, which no log that fits into
-/// memory comes to.
+/// The sum of a moment and a length, in ms. `Mem` if the sum overflows, to which no log comes (`attempt.rt`).
 pub fn later_by(time: u64, ms: u32) -> Result<u64, Mem>
     ensures { IfOk result (λ t. t ≡ time + ms) }
 {
@@ -131,8 +130,8 @@ fn slept_due(until: Option<u64>, time: u64) -> Due
     }
 }
 
-/// A sleep that can be frozen, of so long, that has begun or not (`schedule_timeout`). `Mem` if its end is
-/// beyond all time.
+/// A sleep that can be frozen, of so long, that has begun or not (`schedule_timeout`). `Mem` if its end
+/// overflows.
 pub fn sleep_due(ms: u32, position: ScriptPosition, time: u64) -> Result<Due, Mem>
     ensures { IfOk result (λ d. d ≡ sleep_due kind.Sleep ms position time) }
 {

@@ -14,14 +14,14 @@ use sleep_model::{
     Due, EventNow, FREEZE_TIMEOUT_MSECS, FrozeEnd, Group, Kind, Sleep, Why, pos, visible,
 };
 
-/// When a freeze gives up that has gone on since that moment, in ms. `Mem` if that is beyond all time.
+/// When a freeze gives up that has gone on since that moment, in ms. `Mem` if that overflows.
 pub fn gives_up_at(since: u64) -> Result<u64, Mem>
     ensures { IfOk result (λ t. t ≡ gives_up_at since) }
 {
     later_by(since, FREEZE_TIMEOUT_MSECS)
 }
 
-/// A freeze of a group that still waits for those tasks. `Mem` if its end is beyond all time.
+/// A freeze of a group that still waits for those tasks. `Mem` if its end overflows.
 fn froze_by(
     past: &Passed<'_>,
     now: EventNow,
@@ -47,8 +47,8 @@ fn froze_by(
     })
 }
 
-/// A freeze of a group that has gone on since that moment (`try_to_freeze_tasks`). `Mem` if its end is beyond
-/// all time.
+/// A freeze of a group that has gone on since that moment (`try_to_freeze_tasks`). `Mem` if its end
+/// overflows.
 pub fn froze_due(past: &Passed<'_>, now: EventNow, group: Group, since: u64) -> Result<Due, Mem>
     ensures { IfOk result (λ d. d ≡ froze_due (journal_of past.now) now group since
         (left past.now.machine group (journal_of past.now))) }
@@ -57,7 +57,7 @@ pub fn froze_due(past: &Passed<'_>, now: EventNow, group: Group, since: u64) -> 
 }
 
 /// A machine that sleeps wakes by a step of the word, else by its alarm (`suspend_enter`). `Mem` if the alarm
-/// is beyond all time.
+/// overflows.
 pub fn wakes_due(past: &Passed<'_>, now: EventNow, sleep: Sleep) -> Result<Due, Mem>
     ensures { IfOk result (λ d. d ≡ wakes_due past.now.machine (journal_of past.now) now sleep) }
 {

@@ -46,7 +46,7 @@ fn if_on(past: &Passed<'_>, kind: Kind) -> Due
     }
 }
 
-/// The work's next entry. `Mem` if a nap ends beyond all time, or the next attempt has no number.
+/// The work's next entry. `Mem` if the end of a nap overflows, or the next attempt has no number.
 fn work_due(past: &Passed<'_>, now: EventNow, work: Work) -> Result<Due, Mem>
     ensures { IfOk result (λ d. d ≡ work_due past.now.machine (journal_of past.now) now work) }
 {
@@ -74,7 +74,7 @@ fn work_due(past: &Passed<'_>, now: EventNow, work: Work) -> Result<Due, Mem>
 }
 
 /// The work outside its own attempts: nothing while the machine sleeps, and nothing once all tasks have
-/// exited and no attempt is open. `Mem` if a nap ends beyond all time, or the next attempt has no number.
+/// exited and no attempt is open. `Mem` if the end of a nap overflows, or the next attempt has no number.
 pub(crate) fn auto_due(past: &Passed<'_>, now: EventNow) -> Result<Due, Mem>
     ensures { IfOk result (λ d. d ≡ auto_due past.now.machine (journal_of past.now) now
         (sleeps_now (journal_of past.now)) (is_over past.now.machine (journal_of past.now))) }

@@ -36,8 +36,7 @@ fn is_awake(past: &Passed<'_>, who: Actor) -> bool
     }
 }
 
-/// Whether the machine wakes rightly, by a step of the word or else by its alarm. `Mem` if that is beyond all
-/// time.
+/// Whether the machine wakes rightly, by a step of the word or else by its alarm. `Mem` if that overflows.
 fn wakes_by(past: &Passed<'_>, now: EventNow, kind: Kind) -> Result<bool, Mem>
     ensures { IfOk result (λ b. IsTrue b
         ↔ WakesBy past.now.machine (journal_of past.now) now (sleep_of (journal_of past.now)) kind) }
@@ -50,7 +49,7 @@ fn wakes_by(past: &Passed<'_>, now: EventNow, kind: Kind) -> Result<bool, Mem>
 }
 
 /// Whether who makes an entry of the journal may go on, and the machine wakes rightly (`suspend_enter`).
-/// `Mem` if its alarm is beyond all time.
+/// `Mem` if its alarm overflows.
 pub fn keeps_enabled(past: &Passed<'_>, now: EventNow, who: Actor, kind: Kind) -> Result<bool, Mem>
     ensures { IfOk result (λ b. IsTrue b ↔ KeepsEnabled past.now.machine (journal_of past.now) now who kind) }
 {

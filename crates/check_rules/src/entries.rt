@@ -75,7 +75,7 @@ pub fn walk_entry(past: &Passed<'_>, e: Entry) -> Result<bool, Mem>
     keeps_walk_in(past, e, class_of(e.kind))
 }
 
-/// Whether an entry of that class keeps the rule of the freezer. `Mem` if a freeze ends beyond all time, or a
+/// Whether an entry of that class keeps the rule of the freezer. `Mem` if the end of a freeze overflows, or a
 /// number has no room.
 #[inline(always)]
 fn keeps_freezer_in(past: &Passed<'_>, e: Entry, class: EntryClass) -> Result<bool, Mem>
@@ -96,8 +96,7 @@ fn keeps_freezer_in(past: &Passed<'_>, e: Entry, class: EntryClass) -> Result<bo
 }
 
 /// Whether tasks freeze if they are asked to and come to it, frozen ones make nothing, and a freeze ends
-/// rightly (`try_to_freeze`, `try_to_freeze_tasks`). `Mem` if its end is beyond all time, or a number has no
-/// room.
+/// rightly (`try_to_freeze`, `try_to_freeze_tasks`). `Mem` if its end overflows, or a number has no room.
 #[inline(always)]
 pub fn freezer_entry(past: &Passed<'_>, e: Entry) -> Result<bool, Mem>
     requires { fits_entry past.now.machine e ≡ true }
@@ -127,8 +126,8 @@ pub fn path_entry(past: &Passed<'_>, e: Entry) -> bool
     keeps_path_in(past, e, class_of(e.kind))
 }
 
-/// Whether an entry of that class keeps the rule of steps. `Mem` if a moment is beyond all time, or a number
-/// has no room.
+/// Whether an entry of that class keeps the rule of steps. `Mem` if a moment overflows, or a number has no
+/// room.
 #[inline(always)]
 fn keeps_steps_in(past: &Passed<'_>, e: Entry, class: EntryClass) -> Result<bool, Mem>
     requires { fits_entry past.now.machine e ≡ true }
@@ -149,8 +148,8 @@ fn keeps_steps_in(past: &Passed<'_>, e: Entry, class: EntryClass) -> Result<bool
 }
 
 /// Whether an entry is its actor's next, once the calls before it are made whole; a note its actor's next
-/// call; a step of the word owed by its actor; and time makes the jumps. `Mem` if a moment is beyond all
-/// time, or a number has no room.
+/// call; a step of the word owed by its actor; and time makes the jumps. `Mem` if a moment overflows, or a
+/// number has no room.
 #[inline(always)]
 pub fn steps_entry(past: &Passed<'_>, e: Entry) -> Result<bool, Mem>
     requires { fits_entry past.now.machine e ≡ true }
@@ -174,8 +173,8 @@ fn keeps_enabled_in(past: &Passed<'_>, e: Entry, class: EntryClass) -> Result<bo
     }
 }
 
-/// Whether who makes an entry may go on, and time jumps if it may (`suspend_enter`). `Mem` if a moment is
-/// beyond all time, if a number has no room, or if there is no memory for a walk.
+/// Whether who makes an entry may go on, and time jumps if it may (`suspend_enter`). `Mem` if a moment
+/// overflows, if a number has no room, or if there is no memory for a walk.
 #[inline(always)]
 pub fn enabled_entry(past: &Passed<'_>, e: Entry) -> Result<bool, Mem>
     ensures { IfOk result (λ b. IsTrue b ↔ EnabledEntry past.now.machine (past_of past.now) e (class_of e.kind)) }

@@ -141,7 +141,7 @@ pub(crate) fn goes_on_entry(past: &Passed<'_>, who: Actor) -> Result<bool, Mem>
     }
 }
 
-/// Whether a freeze ends rightly (`try_to_freeze_tasks`). `Mem` if its end is beyond all time.
+/// Whether a freeze ends rightly (`try_to_freeze_tasks`). `Mem` if its end overflows.
 pub(crate) fn freeze_ends(past: &Passed<'_>, now: EventNow, kind: Kind) -> Result<bool, Mem>
     ensures { IfOk result (λ b. IsTrue b
         ↔ FreezeEnds past.now.machine (journal_of past.now) now (freeze_since (journal_of past.now)) kind) }

@@ -115,8 +115,8 @@ fn in_journal(kind: Kind, keeps: bool) -> bool
     !is_of_journal(kind) || keeps
 }
 
-/// Whether an entry keeps a rule after the entries that were passed. `Mem` if a moment is beyond all time, a
-/// number has no room, or if there is no memory for a walk.
+/// Whether an entry keeps a rule after the entries that were passed. `Mem` if a moment overflows, a number
+/// has no room, or if there is no memory for a walk.
 #[inline(never)]
 fn keeps(past: &Passed<'_>, e: Entry, rule: Rule) -> Result<bool, Mem>
     requires { fits_entry past.now.machine e ≡ true }
@@ -142,8 +142,8 @@ fn keeps(past: &Passed<'_>, e: Entry, rule: Rule) -> Result<bool, Mem>
     }
 }
 
-/// Whether an entry keeps the rules that also concern entries of sources and jumps. `Mem` if a moment is
-/// beyond all time, a number has no room, or if there is no memory for a walk.
+/// Whether an entry keeps the rules that also concern entries of sources and jumps. `Mem` if a moment
+/// overflows, a number has no room, or if there is no memory for a walk.
 fn keeps_together(past: &Passed<'_>, e: Entry) -> Result<bool, Mem>
     requires { fits_entry past.now.machine e ≡ true }
     ensures { IfOk result (λ b. IsTrue b → KeepsTogether past.now.machine (past_of past.now) e (class_of e.kind)) }
@@ -192,7 +192,7 @@ fn least_broken(past: &Passed<'_>, e: Entry) -> Result<Option<u8>, Mem>
 }
 
 /// The number of the least rule that an entry breaks after the entries that were passed, if it breaks one.
-/// `Mem` if a moment is beyond all time, a number has no room, or if there is no memory for a walk.
+/// `Mem` if a moment overflows, a number has no room, or if there is no memory for a walk.
 pub fn first_broken(past: &Passed<'_>, e: Entry) -> Result<Option<u8>, Mem>
     requires { fits_entry past.now.machine e ≡ true }
     ensures { IfOk result (λ n. IsBroken past.now.machine (past_of past.now) e n) }

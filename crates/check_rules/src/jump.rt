@@ -38,8 +38,8 @@ fn owes_call(past: &Passed<'_>, who: Actor) -> Result<bool, Mem>
 }
 
 /// Whether an actor of the machine is enabled: it is inside a call, has a call to make, or an entry of the
-/// journal is due of it. `Mem` if a moment is beyond all time, a number has no room, or if there is no memory
-/// for a walk.
+/// journal is due of it. `Mem` if a moment overflows, a number has no room, or if there is no memory for a
+/// walk.
 fn is_enabled(past: &Passed<'_>, now: EventNow, who: Actor) -> Result<bool, Mem>
     requires { fits_actor past.now.machine who ≡ true }
     ensures { IfOk result (λ b. b ≡ is_enabled past.now.machine (journal_of past.now) (λ s. history s (past_of past.now)) now who) }
@@ -186,8 +186,8 @@ fn is_idle_outside_if(past: &Passed<'_>, now: EventNow, idle: bool) -> bool
 }
 
 /// Whether no attempt is open, and nobody can make anything: all that a finished log is but that every script
-/// has exited (`Passed::have_all_exited`). `Mem` if a moment is beyond all time, a number has no room, or if
-/// there is no memory for a walk.
+/// has exited (`Passed::have_all_exited`). `Mem` if a moment overflows, a number has no room, or if there is
+/// no memory for a walk.
 pub fn is_idle_outside(past: &Passed<'_>, now: EventNow) -> Result<bool, Mem>
     ensures { IfOk result (λ b. b ≡ (is_none (maker (journal_of past.now))
         && is_idle past.now.machine (journal_of past.now) (λ s. history s (past_of past.now)) now)) }
@@ -227,7 +227,7 @@ fn next_expiry(past: &Passed<'_>) -> Option<u64>
     next
 }
 
-/// The alarm of a machine that sleeps. `Mem` if it is beyond all time.
+/// The alarm of a machine that sleeps. `Mem` if it overflows.
 fn alarm_at(past: &Passed<'_>) -> Result<Option<u64>, Mem>
     ensures { IfOk result (λ t. t ≡ alarm_at past.now.machine (sleep_of (journal_of past.now))) }
 {
@@ -240,7 +240,7 @@ fn alarm_at(past: &Passed<'_>) -> Result<Option<u64>, Mem>
     }
 }
 
-/// The end of a freeze that is not over. `Mem` if it is beyond all time.
+/// The end of a freeze that is not over. `Mem` if it overflows.
 fn deadline_at(past: &Passed<'_>) -> Result<Option<u64>, Mem>
     ensures { IfOk result (λ t. t ≡ deadline_at (freeze_since (journal_of past.now))) }
 {
@@ -288,7 +288,7 @@ fn next_sleep(past: &Passed<'_>) -> Option<u64>
     next
 }
 
-/// The least pending time. `Mem` if a moment is beyond all time.
+/// The least pending time. `Mem` if a moment overflows.
 fn next_time(past: &Passed<'_>) -> Result<Option<u64>, Mem>
     ensures { IfOk result (λ t. t ≡ next_time past.now.machine (journal_of past.now) (λ s. history s (past_of past.now))) }
 {
@@ -307,7 +307,7 @@ fn may_jump(idle: bool, finished: bool, least: bool, forward: bool) -> bool
 }
 
 /// Whether time jumps forward to the least pending time, if nobody can make anything and something is left to
-/// do. `Mem` if a moment is beyond all time, if a number has no room, or if there is no memory for a walk.
+/// do. `Mem` if a moment overflows, if a number has no room, or if there is no memory for a walk.
 pub fn keeps_jump(past: &Passed<'_>, time: u64) -> Result<bool, Mem>
     ensures { IfOk result (λ b. IsTrue b ↔ ((JumpStep past.now.machine (journal_of past.now) (λ s. history s (past_of past.now))
         (numbers (past_of past.now)) time) × (time_of (past_of past.now) < time))) }

@@ -31,8 +31,8 @@ fn has_numbers_of_index(past: &Passed<'_>, e: Entry) -> bool
 }
 
 /// Whether an entry is the journal's and what is due of its actor, at its index, and its actor is inside no
-/// call and has made those that come before. `Mem` if a moment is beyond all time, if a number has no room,
-/// or if there is no memory for a walk.
+/// call and has made those that come before. `Mem` if a moment overflows, if a number has no room, or if
+/// there is no memory for a walk.
 pub fn is_next_entry(past: &Passed<'_>, e: Entry) -> Result<bool, Mem>
     requires { fits_entry past.now.machine e ≡ true }
     ensures { IfOk result (λ b. IsTrue b ↔ IsNextEntry past.now.machine (past_of past.now) e) }

@@ -79,8 +79,8 @@ fn first_wrong(past: &Passed<'_>, logged: &[Stats]) -> Result<Option<usize>, Mem
     Ok(None)
 }
 
-/// Whether every script has exited, no attempt is open, and nobody can make anything. `Mem` if a moment is
-/// beyond all time, a number has no room, or if there is no memory for a walk.
+/// Whether every script has exited, no attempt is open, and nobody can make anything. `Mem` if a moment
+/// overflows, a number has no room, or if there is no memory for a walk.
 fn is_finished(past: &Passed<'_>) -> Result<bool, Mem>
     ensures { IfOk result (λ b. b ≡ is_finished_after past.now.machine (past_of past.now)) }
 {

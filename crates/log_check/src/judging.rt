@@ -16,8 +16,8 @@ use sleep_model::{Entry, Log, Machine};
 use std::alloc::Global;
 
 /// The number of the least rule that an entry breaks after the entries that were passed, which keep all
-/// rules, if it breaks one. `Mem` if a moment is beyond all time, a number has no room, or if there is no
-/// memory for a walk.
+/// rules, if it breaks one. `Mem` if a moment overflows, a number has no room, or if there is no memory for a
+/// walk.
 fn broken(past: &Passed<'_>, e: Entry) -> Result<Option<u8>, Mem>
     requires fits { fits_entry past.now.machine e ≡ true }
     requires kept { KeepsEach past.now.machine (past_of past.now) }
