@@ -1,6 +1,18 @@
-//! Bursts: the actors' turns on worker threads, between the caller's own rounds. In a round each actor that
-//! may have something to do has one try. A stretch is rounds, up to a number. A round that made no entry ends
-//! it too: then an actor that it left out makes one after all, time jumps, or the run is over.
+//! How a run goes to its end: in rounds by the calling thread, and in bursts on worker threads between them.
+//!
+//! A run plays a machine. Its actors are the scripts, the autosleep work, the asynchronous devices and the
+//! timers of the sources. Each step that they make is recorded as an entry: of the journal, which is the
+//! core's list, or of the history of a source.
+//!
+//! A turn is one try of an actor: it makes its next entry of the journal or its next call on a source, or it
+//! has to wait. A round is one turn of each actor that is not known to wait. A stretch is rounds by the
+//! calling thread, up to a given number or to a round that makes no entry. After such a round all actors are
+//! looked at. If one can go on, it makes an entry; else time jumps to the next moment for which somebody
+//! waits; else the run is over.
+//!
+//! A burst deals the actors out to worker threads, which make turns at the same time; a stretch of one round
+//! follows it. A job says what an actor does next. In a burst each job is a task, and so is each source's
+//! timer: what workers make turns of, and no `task_struct`.
 
 ghost use Rattle.std.specs.Prelude.{◌≡◌, ◌≤◌, IfOk};
 ghost use Rattle.world_workers.specs.declared.fault.RunFault.TheVariants as fault;
@@ -23,27 +35,31 @@ use wait_queues::Waiters;
 use wakeup_source::MOST_ENTRIES;
 use world_workers::{Burst, BurstContents, BurstPlan, RunFault, make_burst};
 
-/// The most entries that a log has, whatever the accepted machine is (`end_laws`, `all_logs_are_bounded`). A
-/// log is the core's journal with the histories of the sources merged in.
+/// The most entries that a log has, whatever machine the reader of machine files accepts. The crate
+/// `end_laws` proves the number (`all_logs_are_bounded`); it comes of the limits of machine files and of
+/// histories. A log is the core's journal with the histories of the sources merged in.
 const MOST_LOG: u64 = 37_585_025;
 
-/// What stays of a run while its core, its sources and its jobs are in a burst. A job says what a script, the
-/// autosleep work or a device does next. In a burst each job is a task, and so is each source's timer.
+/// The part of a run that the calling thread keeps during a burst: the workers have its core, its sources and
+/// its jobs.
 #[derive(Drop)]
 struct RunInBurst<'m> {
     machine: &'m Machine,
-    /// The event word. The core and each source have a seat at it: the right to look at it, and for a source
-    /// to step it.
+    /// The event word (`combined_event_count`, and `pm_abort_suspend` for hard events): one atomic that all
+    /// threads share. The core and each source have a seat at this table (`event_word`): the core may load
+    /// the word by its seat, and a source may also add to it.
     table: EventTable,
-    /// The last stamp that anybody made before the burst. A stamp is the position of the event word that an
-    /// entry saw, and a tick. A tick is no time, but a number: it rises from entry to entry in the journal,
-    /// in each source's history, and over one actor's entries. Each entry that a task makes has a later tick
-    /// than the floor.
+    /// The last stamp that anybody made before the burst. Each entry has a stamp, by which all are merged
+    /// into one log. `pos` counts the steps of the event word (each change is one) as the entry's maker saw
+    /// it. `tick` is no time, but a logical clock: it rises from entry to entry of the journal, of each
+    /// history, and of each actor. The entries of the burst have later ticks than the floor.
     floor: Stamp,
+    /// Who waits, and so gets no turn in rounds until something may have ended the wait.
     waiters: Waiters,
 }
 
-/// A run after rounds or a burst, and what came of them: how it is over, if it is, or why it gives no log.
+/// A run after stretches or a burst, and what came of them: it goes on (`Ok(None)`), it is over, and how
+/// (`Ok(Some)`), or it gives no log (`Err`).
 #[derive(Drop)]
 struct Advance<'m> {
     run: Run<'m>,
@@ -54,11 +70,12 @@ struct Advance<'m> {
 #[derive(Drop)]
 struct AfterBurst<'m> {
     run: Run<'m>,
-    /// How many calls on sources were made, but for those of the busiest task.
+    /// How many calls on sources the tasks made, but for those of the task that made most. By it `Pace`
+    /// decides whether more bursts pay: the calls of one task no second thread makes faster.
     other_calls: u64,
     /// How many tasks there were.
     task_count: usize,
-    /// Why a task stopped, if one did.
+    /// Why a task stopped, if one did: a source is full, or memory ran out.
     stop: Option<RunFault>,
 }
 
@@ -67,8 +84,9 @@ impl<'m> RunInBurst<'m> {
     ghost use Rattle.machine_rounds.specs.BurstsOf.{IsRunInBurst, IsBack, IsJoined, entries_of};
     ghost use Rattle.machine_rounds.specs.Runs.{entries_made};
 
-    /// Makes the burst: the tasks run on worker threads, and all that went in comes back. The gate sees each
-    /// turn; a test waits in it, to bring turns into an order.
+    /// Makes the burst: the tasks run on worker threads, and all that went in comes back. `gate` is told of
+    /// each turn. A test waits in it, to bring turns into an order; the program's gate does nothing
+    /// (`OpenGate`).
     fn run_tasks<R: Threads + Wait + Sync, G: Gate + Sync>(
         &self,
         rt: &R,
@@ -94,7 +112,7 @@ impl<'m> RunInBurst<'m> {
     }
 
     /// Puts the run together again from what came back from a burst. `floor` is the last stamp that anybody
-    /// made. Everybody who waits is to be asked again.
+    /// made. All who wait get turns again: in a burst nobody keeps account of what ends their waits.
     fn joined(
         self,
         core: SeatedCore<'m>,
@@ -124,8 +142,8 @@ impl<'m> RunInBurst<'m> {
         }
     }
 
-    /// Turns the tasks of a burst, of which there were that many, back into jobs, raises the floor to what they
-    /// know, and puts the run together.
+    /// Turns the tasks of a burst back into jobs, raises the floor to the greatest of their stamps, and puts
+    /// the run together. `task_count`, the number of tasks, is passed on. `Mem` if there is no memory.
     fn come_back(
         self,
         alloc: Global,
@@ -150,6 +168,7 @@ impl<'m> RunInBurst<'m> {
         } = contents;
         let floor = highest_of(&tasks, self.floor);
         let Ok(jobs) = Jobs::of_tasks(alloc, tasks, self.machine.actors.len()) else {
+            // `drop_for_mem` drops these, and answers `Mem`.
             return Err(drop_for_mem((self, core, sources)));
         };
         Ok(AfterBurst {
@@ -160,7 +179,7 @@ impl<'m> RunInBurst<'m> {
         })
     }
 
-    /// Makes the burst of these parts, and gives the run after it.
+    /// Makes a burst of `contents`, and puts the run together after it. `Mem` if there is no memory.
     fn run_on<R: Threads + Wait + Sync, G: Gate + Sync>(
         self,
         rt: &R,
@@ -186,7 +205,8 @@ impl<'m> RunInBurst<'m> {
 impl<'m> AfterBurst<'m> {
     ghost use Rattle.machine_rounds.specs.Runs.{AfterStretches};
 
-    /// The pace notes what the burst by that many workers came to, and the run goes on by a round.
+    /// Tells `pace`, which decides between rounds and bursts, what the burst by so many `workers` came to.
+    /// Then the run goes on by a stretch of one round.
     fn go_on<R: Wait>(self, rt: &R, pace: &mut Pace, workers: u8) -> Advance<'m>
         ensures machine { result.run.machine ≡ self.entry.run.machine }
         ensures after { AfterStretches 1 self.entry.run result.run result.outcome }
@@ -209,9 +229,9 @@ impl<'m> Run<'m> {
     ghost use Rattle.machine_rounds.specs.BurstsOf.{IsRunInBurst, entries_of};
     ghost use Rattle.machine_rounds.specs.Runs.{AfterStretches, Fails, IsRefused, IsRun, entries_made};
 
-    /// The parts that go into a burst, and what stays. The journal is so short that no job's count of turns
-    /// overflows in the burst: each turn that a job has counted made an entry of the journal, and a burst adds
-    /// 1,000 at most (`MOST_TURNS`). `Mem` if there is no memory.
+    /// The parts that go into a burst, and what stays. The journal has to be short, so that no job's count of
+    /// turns overflows in the burst. A job counts only turns that made an entry of the journal, and a burst
+    /// adds 1,000 at most (`MOST_TURNS`). `Mem` if there is no memory.
     fn take_apart(self, alloc: Global) -> Result<(RunInBurst<'m>, BurstContents<'m>), Mem>
         requires { length self.journal + 1000 < 2 ^ 63 }
         ensures machine { IfOk result (λ contents. contents.0.machine.now ≡ self.entry.machine) }
@@ -246,8 +266,8 @@ impl<'m> Run<'m> {
         Ok((during, contents))
     }
 
-    /// A burst by that many workers: each actor, and each source's timer, makes turns while it can, 1,000 at
-    /// most. `Mem` if there is no memory.
+    /// A burst by so many `workers`. Each goes round its part of the tasks until a round makes no entry, or
+    /// 1,000 times. `Mem` if there is no memory.
     fn burst<R: Threads + Wait + Sync, G: Gate + Sync>(
         self,
         rt: &R,
@@ -259,6 +279,7 @@ impl<'m> Run<'m> {
         ensures machine { IfOk result (λ after. after.run.machine ≡ self.entry.machine) }
         ensures grown { IfOk result (λ after. entries_made self.entry ≤ entries_made after.run) }
     {
+        // Only for the proof: from here on it is known that the journal is short.
         self.entries_are_few();
         let Ok((during, contents)) = self.take_apart(alloc) else {
             return Err(Mem);
@@ -266,7 +287,8 @@ impl<'m> Run<'m> {
         during.run_on(rt, alloc, contents, workers, gate)
     }
 
-    /// Whether that source's history has fewer than the four free places that a call may need.
+    /// Whether the history of `source` has fewer than four free places. A call may need four: for its note,
+    /// and for three steps of the event word.
     fn is_full(&self, source: u32) -> bool
         ensures { OnTrue result (IsRefused self.now (fault.SourceFull source)) }
     {
@@ -276,7 +298,8 @@ impl<'m> Run<'m> {
         }
     }
 
-    /// Whether a task may have stopped for that: it was out of memory, or met a source that is full.
+    /// Whether a task may have stopped for `fault`: for want of memory always, for a full source if that
+    /// source is full.
     fn is_refused(&self, fault: RunFault) -> bool
         ensures { OnTrue result (IsRefused self.now fault) }
     {
@@ -286,8 +309,8 @@ impl<'m> Run<'m> {
         }
     }
 
-    /// The fault of the run, if a task stopped. A full source is looked at again, since no clause speaks of
-    /// `stop`.
+    /// The fault that ends the run, if a task stopped. No clause of `make_burst` speaks of `stop`, so a full
+    /// source is looked at again here. It is full still, since a history only grows: no fault is lost.
     fn refused(&self, stop: Option<RunFault>) -> Option<RunFault>
         ensures { IfSome result (IsRefused self.now) }
     {
@@ -297,7 +320,7 @@ impl<'m> Run<'m> {
         }
     }
 
-    /// Makes that many stretches of the caller's own rounds. Answers how the run is over, if it is.
+    /// Makes so many `stretches`, all by the calling thread. Answers how the run is over, if it is.
     fn alone<R: Wait>(&mut self, rt: &R, stretches: u32) -> Result<Option<EndOfRun>, RunFault>
         ensures machine { self.new.machine ≡ self.old.machine }
         ensures after { AfterStretches stretches self.old self.new result }
@@ -310,8 +333,8 @@ impl<'m> Run<'m> {
         Ok(None)
     }
 
-    /// Makes that many stretches of the caller's own rounds. `alone` changes the run in place, since it is large
-    /// and most stretches make a few entries.
+    /// As `alone`, for a caller that has the run by value. `alone` changes it in place, since the run is
+    /// large and most stretches make a few entries: so it is moved once for all of them.
     fn advance_alone<R: Wait>(self, rt: &R, stretches: u32) -> Advance<'m>
         ensures machine { result.run.machine ≡ self.entry.machine }
         ensures after { AfterStretches stretches self.entry result.run result.outcome }
@@ -321,8 +344,8 @@ impl<'m> Run<'m> {
         Advance { run, outcome }
     }
 
-    /// After a burst a round of the caller's own, unless a task of it stopped. Answers how the run is over, if
-    /// it is.
+    /// Makes a stretch of one round, unless a task of the burst stopped. Answers how the run is over, if it
+    /// is.
     fn round_after_burst<R: Wait>(
         &mut self,
         rt: &R,
@@ -337,7 +360,7 @@ impl<'m> Run<'m> {
         }
     }
 
-    /// A burst, and then a round of the caller's own.
+    /// A burst, and then a stretch of one round.
     fn advance_by_burst<R: Threads + Wait + Sync, G: Gate + Sync>(
         self,
         rt: &R,
@@ -355,8 +378,8 @@ impl<'m> Run<'m> {
         Ok(after.go_on(rt, pace, workers))
     }
 
-    /// Brings the run on, by as many stretches of the caller's own rounds as the pace wants, else by a burst:
-    /// it makes an entry at least, or the run is over.
+    /// Brings the run on: by as many stretches of the calling thread as `pace` says, or, if it says none, by
+    /// a burst. Either way an entry is made at least, or the run is over or gives no log.
     fn advance<R: Threads + Wait + Sync, G: Gate + Sync>(
         self,
         rt: &R,
@@ -375,7 +398,8 @@ impl<'m> Run<'m> {
         }
     }
 
-    /// Shows that a run has made no more entries than a log has at most. The function changes nothing.
+    /// For proofs: a run has made no more entries than a log has at most (the clause spells `MOST_LOG`). The
+    /// function does nothing.
     fn entries_are_few(&self)
         ensures { entries_made self.now ≤ 37585025 }
     {
@@ -383,9 +407,9 @@ impl<'m> Run<'m> {
         let _ = &self.machine;
     }
 
-    /// The log of the whole run. If `workers` is 1 the calling thread makes all rounds itself, else bursts come
-    /// between them. Each pass of the loop makes an entry or ends the run, so there are no more passes than
-    /// entries: `MOST_LOG` at most.
+    /// The log of the whole run. If `workers` is 1 the calling thread makes all rounds itself, else bursts
+    /// come between them. Each pass of the loop makes an entry or ends the run, and no run has more entries
+    /// than a log has at most.
     pub fn to_end<R: Threads + Wait + Sync, G: Gate + Sync>(
         self,
         rt: &R,
@@ -409,6 +433,7 @@ impl<'m> Run<'m> {
                 Err(fault) => return Err(next.into_fault(rt, alloc, fault)),
             }
         }
+        // Only for the proof: so many passes would have made more entries than a log has.
         run.entries_are_few();
         unreachable!()
     }
