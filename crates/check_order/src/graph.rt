@@ -7,10 +7,10 @@ ghost use Rattle.check_order.specs.Graphs.{HaveRoom};
 use crate::links::{place_of, push_consumers, push_suppliers};
 use crate::order::{move_to_end, registered};
 use crate::shown::ShownRows;
-use crate::tables::{children, longer_if, parent_rows};
+use crate::tables::{children, longer_if};
 use crate::walk::visit_below;
 use device_rows::Rows;
-use sleep_base::Mem;
+use sleep_base::{Mem, drop_for_mem};
 use sleep_model::Link;
 use std::alloc::Global;
 use std::marker::Model;
@@ -265,17 +265,32 @@ fn without_links(alloc: Global, parents: &[Option<u32>]) -> Result<DeviceGraph, 
     ensures { IfOk result (λ t. t ≡ record { parents = parents.now; links = [] }) }
 {
     let hanging = children(alloc, parents)?;
-    let parent_rows = parent_rows(alloc, parents)?;
-    let below = ShownRows::of_rows(alloc, &hanging)?;
-    let above = ShownRows::of_rows(alloc, &parent_rows)?;
+    let Ok(below) = ShownRows::of_rows(alloc, &hanging) else {
+        return Err(drop_for_mem(hanging));
+    };
+    let Ok(above) = ShownRows::of_parents(alloc, parents) else {
+        return Err(drop_for_mem((hanging, below)));
+    };
+    let Ok(supplied) = Rows::with_rows(alloc, parents.len()) else {
+        return Err(drop_for_mem((hanging, below, above)));
+    };
+    let Ok(consumed) = Rows::with_rows(alloc, parents.len()) else {
+        return Err(drop_for_mem((hanging, below, above, supplied)));
+    };
+    let Ok(order) = registered(alloc, parents.len() as u32) else {
+        return Err(drop_for_mem((hanging, below, above, supplied, consumed)));
+    };
+    let Ok(parents) = Vec::from_slice(alloc, parents) else {
+        return Err(drop_for_mem((hanging, below, above, supplied, consumed, order)));
+    };
     Ok(DeviceGraph {
-        parents: Vec::from_slice(alloc, parents)?,
+        parents,
         links: Vec::new(alloc),
         hanging,
-        supplied: Rows::with_rows(alloc, parents.len())?,
-        consumed: Rows::with_rows(alloc, parents.len())?,
+        supplied,
+        consumed,
         below,
         above,
-        order: registered(alloc, parents.len() as u32)?,
+        order,
     })
 }

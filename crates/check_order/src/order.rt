@@ -27,11 +27,12 @@ fn with_last(alloc: Global, order: &[u32], marks: &Flags, devices: &[u32]) -> Re
     ensures { IfOk result (λ v. v.items
         ≡ filter (λ d. not (slice_index_or marks.now d false)) order.now ++ devices.now) }
 {
-    let mut moved = Vec::new(alloc);
+    let mut moved = Vec::with_capacity(alloc, order.len())?;
     for device in order {
-        if !marks.is_set(*device) {
-            moved.push(*device)?;
+        if marks.is_set(*device) {
+            continue;
         }
+        moved.push_reserved(*device);
     }
     moved.extend_from_slice(devices)?;
     Ok(moved)

@@ -1,5 +1,6 @@
 //! The rows of devices that readers see: what is active below and above each.
 
+use crate::tables::parent_rows;
 use device_rows::Rows;
 use sleep_base::Mem;
 use std::alloc::Global;
@@ -20,7 +21,7 @@ impl Model for ShownRows {
 }
 
 impl ShownRows {
-    ghost use Rattle.std.specs.Prelude.{◌≡◌, ◌<◌, ◌^◌, [], IfOk, length, slice_index_or, slice_set};
+    ghost use Rattle.std.specs.Prelude.{◌≡◌, ◌<◌, ◌^◌, [], IfOk, length, map, option_to_list, slice_index_or, slice_set};
 
     /// The same rows. `Mem` if there is no memory for them.
     pub(crate) fn of_rows(alloc: Global, table: &Rows) -> Result<ShownRows, Mem>
@@ -33,6 +34,17 @@ impl ShownRows {
             rows.push(row)?;
         }
         Ok(ShownRows { rows })
+    }
+
+    /// The parent of each device, as a row. `Mem` if there is no memory for them.
+    pub(crate) fn of_parents(alloc: Global, parents: &[Option<u32>]) -> Result<ShownRows, Mem>
+        requires { length parents.now < 2 ^ 32 }
+        ensures { IfOk result (λ t. t ≡ map option_to_list parents.now) }
+    {
+        let rows = parent_rows(alloc, parents)?;
+        let shown = ShownRows::of_rows(alloc, &rows);
+        drop(rows);
+        shown
     }
 
     /// The numbers of a row; none if there is no such row.
