@@ -8,7 +8,7 @@ ghost use Rattle.check_sources.specs.Classes.{meant};
 use crate::journal::JournalState;
 use check_account::{time_after, word_after};
 use check_sources::{Callers, EntryClass, SourceAccounts, class_of};
-use sleep_base::Mem;
+use sleep_base::{Mem, drop_for_mem};
 use sleep_model::{Entry, EventNow, Machine};
 use std::alloc::Global;
 
@@ -61,9 +61,13 @@ impl<'m> PastState<'m> {
         ensures { IfOk result (λ k. Holds machine.now [] k) }
     {
         let sources = SourceAccounts::new(alloc, machine.sources.len() + 1)?;
-        let calls = Callers::new(alloc, machine)?;
+        let Ok(calls) = Callers::new(alloc, machine) else {
+            return Err(drop_for_mem(sources));
+        };
         // The largest comes last, with no exit after it.
-        let journal = JournalState::new(alloc, machine)?;
+        let Ok(journal) = JournalState::new(alloc, machine) else {
+            return Err(drop_for_mem((sources, calls)));
+        };
         Ok(PastState {
             word: EventNow {
                 inpr: 0,
