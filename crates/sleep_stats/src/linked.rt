@@ -1,6 +1,6 @@
 //! The links at a log's end.
 
-ghost use Rattle.std.specs.Prelude.{◌≡◌, ◌++◌, ◌∷◌, [], IfOk, OnOk, List};
+ghost use Rattle.std.specs.Prelude.{◌≡◌, ◌++◌, ◌∷◌, [], map, IfOk, OnOk, List};
 ghost use Rattle.indexmap.specs.IndexMap.{get};
 ghost use Rattle.sleep_model.specs.declared.entry.Entry.{Entry};
 ghost use Rattle.sleep_model.specs.Accepted.{IsAccepted};
@@ -162,16 +162,29 @@ fn with_last(states: &IndexMap<Ends, bool>, link: Link) -> Link
     }
 }
 
+/// These links, each in the state that was last set of it. `Mem` if there is no memory for the list.
+fn in_last_states(
+    alloc: Global,
+    links: &[Link],
+    states: &IndexMap<Ends, bool>,
+) -> Result<Vec<Link>, Mem>
+    ensures { (entries : List Entry) → AreLast entries (get ⟦<Ends as PartialEq>⟧.eq states.now)
+        → IfOk result (λ v. v.items ≡ map (with_last entries) links.now) }
+{
+    let mut last = Vec::with_capacity(alloc, links.len())?;
+    for link in links {
+        last.push(with_last(states, *link))?;
+    }
+    Ok(last)
+}
+
 /// The links at a log's end, the oldest first.
 fn last_links(alloc: Global, machine: &Machine, log: &Log) -> Result<Vec<Link>, Mem>
     ensures { IfOk result (λ v. v.items ≡ last_links machine.now log.now) }
 {
     let added = added_links(alloc, machine, log)?;
     let states = last_states(alloc, log)?;
-    let mut links = Vec::with_capacity(alloc, added.len())?;
-    for link in &added {
-        links.push(with_last(&states, *link))?;
-    }
+    let links = in_last_states(alloc, &added, &states)?;
     Ok(links)
 }
 

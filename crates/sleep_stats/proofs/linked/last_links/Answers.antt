@@ -1,18 +1,11 @@
--- Proof that the loop of `last_links` keeps its invariant.
-use Rattle.std.proofs.Common.{◌++◌, ◌∷◌, ◌∙◌, [], List, false, map, take, get_or, sym, ap}
-use Rattle.std.proofs.lemmas.List.{map-append, take_more}
+-- Proof that `last_links` gives each link its last state.
+use Rattle.std.proofs.Common.{◌∙◌, List, map, ap}
 use Rattle.sleep_model.specs.declared.machine.Link.{Link}
 use Rattle.sleep_stats.specs.Linked.{with_last}
 use Rattle.sleep_stats.proofs.linked.last_links.Goals as goal
 
-pub loop-link-preserved : goal.loop-link-preserved
-loop-link-preserved c =
-    let f = with_last c.args.log.now.entries in
-    let xs = c.deref-link-items.result.now in
-    let i = c.loop-link.link-index in
-    let d : Link = record { supplier = 0; consumer = 0; active = false } in
-    let made = c.with_last.ensures c.args.log.now.entries c.in_ok-states.ensures in
-    c.in_ok-push.ensures.items
-    ∙ (ap (λ (ys : List Link). ys ++ c.with_last.result ∷ []) c.loop-link.invariant
-    ∙ (ap (λ (y : Link). map f (take i xs) ++ y ∷ []) made
-    ∙ (sym (map-append f (take i xs) (get_or xs i d ∷ [])) ∙ ap (map f) (sym (take_more xs i d c.loop-link-test.true)))))
+pub returns : goal.returns
+returns c =
+    let entries = c.args.log.now.entries in
+    c.in_ok-links.ensures entries c.in_ok-states.ensures
+    ∙ ap (λ (ls : List Link). map (with_last entries) ls) (c.deref.ensures.value ∙ c.in_ok-added.ensures)
