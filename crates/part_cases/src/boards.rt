@@ -230,8 +230,9 @@ fn flags_in(alloc: Global, text: &str) -> Result<Vec<bool>, Mem> {
 fn wired(alloc: Global, text: &str) -> Result<Board, Mem> {
     let (parents, rest) = cut(text, ',');
     let (asynchronous, list) = cut(rest, ',');
+    let flags = flags_in(alloc, asynchronous)?;
     let links = linked(alloc, parents, list)?;
-    Board::wired(alloc, links, flags_in(alloc, asynchronous)?)
+    Board::wired(alloc, links, flags)
 }
 
 /// A board with its flags.

@@ -134,12 +134,18 @@ pub fn entries(alloc: Global, lines: &str, out: &mut Out) {
     answer_lines(&mut case, lines, out);
 }
 
+/// Adds an entry of a line.
+fn push_line(entries: &mut EntryList, line: &str) -> Result<(), Mem> {
+    let kind = kind_of(line).ok_or(Mem)?;
+    entries.push(entry_at(0, 0, Actor::Script(0), kind))?;
+    Ok(())
+}
+
 /// A log with an entry of each line.
 fn log_of(alloc: Global, lines: &str) -> Result<Log, Mem> {
     let mut entries = EntryList::new(alloc);
     for line in lines.split('\n') {
-        let kind = kind_of(line).ok_or(Mem)?;
-        entries.push(entry_at(0, 0, Actor::Script(0), kind))?;
+        push_line(&mut entries, line)?;
     }
     Ok(Log {
         entries,

@@ -129,17 +129,28 @@ fn say_log(log: Result<EntryList, Mem>, out: &mut Out) {
     }
 }
 
+/// Says what a call on these lists answers.
+fn say_call(
+    alloc: Global,
+    word: &str,
+    journal: &[JournalEntry],
+    histories: &[SourceList],
+    out: &mut Out,
+) {
+    match word {
+        "rises" => out.say(one(ReplyWord::Flag(rises(journal)))),
+        "merged" => say_log(merged(alloc, journal, histories), out),
+        "merged_kept" => say_log(merged_preserved(alloc, journal, histories), out),
+        _ => out.say(NO_CALL),
+    }
+}
+
 impl MergeCase {
-    /// Says what a call on these lists answers.
+    /// Says what a call on the lists answers.
     fn call(&self, word: &str, out: &mut Out) -> Result<(), Mem> {
         let journal = self.journal()?;
         let histories = self.histories()?;
-        match word {
-            "rises" => out.say(one(ReplyWord::Flag(rises(&journal)))),
-            "merged" => say_log(merged(self.alloc, &journal, &histories), out),
-            "merged_kept" => say_log(merged_preserved(self.alloc, &journal, &histories), out),
-            _ => out.say(NO_CALL),
-        }
+        say_call(self.alloc, word, &journal, &histories, out);
         drop(histories);
         Ok(())
     }

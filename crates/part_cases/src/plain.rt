@@ -78,17 +78,27 @@ fn flags_reply(flags: DeviceFlags) -> CaseReply {
     )
 }
 
-/// Says the index of each key, the first words, among the others after a bar; `-` for one that is not there.
+/// The index of a key among others; `-` if it is not there.
+fn place_word(index: &KeyIndex<u32>, key: u32) -> ReplyWord {
+    match index.place(&key) {
+        Some(place) => size(place),
+        None => ReplyWord::Nothing,
+    }
+}
+
+/// Says the index of each of these keys.
+fn say_each_place(index: &KeyIndex<u32>, keys: &[u32], out: &mut Out) {
+    for key in keys {
+        out.say(one(place_word(index, *key)));
+    }
+}
+
+/// Says the index of each key, the first words, among the others after a bar.
 fn say_places(alloc: Global, text: &str, out: &mut Out) -> Result<(), Mem> {
     let (asked, keys) = cut(text, '|');
+    let asked = numbers_in(alloc, asked)?;
     let index = KeyIndex::new(alloc, numbers_in(alloc, keys)?)?;
-    for key in asked.split(' ') {
-        let place = index.place(&key.parse::<u32>().unwrap_or(0));
-        out.say(one(match place {
-            Some(place) => size(place),
-            None => ReplyWord::Nothing,
-        }));
-    }
+    say_each_place(&index, &asked, out);
     Ok(())
 }
 

@@ -104,9 +104,10 @@ fn notifiers_of(alloc: Global, text: &str) -> Result<Vec<Notifier>, Mem> {
 /// A machine of that number of processors, with notifiers of these priorities.
 fn machine_of(alloc: Global, text: &str) -> Result<Machine, Mem> {
     let (cpus, priorities) = cut(text, ' ');
+    let notifiers = notifiers_of(alloc, priorities)?;
     let mut machine = empty_machine(alloc);
     machine.cpus = cpus.parse::<u32>().unwrap_or(1);
-    machine.notifiers = ListOf::of_vec(notifiers_of(alloc, priorities)?);
+    machine.notifiers = ListOf::of_vec(notifiers);
     Ok(machine)
 }
 

@@ -160,15 +160,18 @@ fn answer_value(value: &Value<'_>, line: &str, out: &mut Out) {
     }
 }
 
+/// Answers the lines about a value.
+fn answer_values(value: &Value<'_>, lines: &str, out: &mut Out) {
+    for line in lines.split('\n') {
+        answer_value(value, line, out);
+    }
+}
+
 /// Answers the lines about what a text spells.
 pub fn values(alloc: Global, text: &str, lines: &str, out: &mut Out) {
     let mut scratch = Scratch::new(alloc);
     match read_value(alloc, text.as_bytes(), &mut scratch) {
-        Ok(Some(value)) => {
-            for line in lines.split('\n') {
-                answer_value(&value, line, out);
-            }
-        }
+        Ok(Some(value)) => answer_values(&value, lines, out),
         _ => out.lack(),
     }
 }
