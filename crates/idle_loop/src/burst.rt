@@ -12,7 +12,7 @@ use crate::entry::IdleSizes;
 use crate::gate_log::GateLog;
 use crate::roles::Role;
 use crate::worker::{IdlePass, IdleWorker, IdleWorld, taken};
-use sleep_base::Mem;
+use sleep_base::{Mem, drop_for_mem};
 use sleep_pool::burst;
 use std::alloc::Global;
 use std::sync::Wait;
@@ -40,15 +40,17 @@ fn with_passes<'t>(
     requires few { length roles.items ≤ 17 }
     ensures { IfOk result (λ workers. AreNewWorkers 0 roles.entry.items passes.items workers.items) }
 {
-    let mut workers = Vec::with_capacity(alloc, roles.len())?;
+    let Ok(mut workers) = Vec::with_capacity(alloc, roles.len()) else {
+        return Err(drop_for_mem((roles, passes)));
+    };
     for (role, pass) in roles.into_iter().zip(passes) {
         let who = workers.len() as u32;
-        workers.push(IdleWorker {
+        workers.push_reserved(IdleWorker {
             who,
             pass: Some(pass),
             role,
             left: TURNS,
-        })?;
+        });
     }
     Ok(workers)
 }
@@ -61,8 +63,12 @@ fn split<'t>(
     requires { HavePasses workers.items }
     ensures { IfOk result (λ roles. AreSplit workers.entry.items roles.0.items roles.1.items) }
 {
-    let mut roles = Vec::with_capacity(alloc, workers.len())?;
-    let mut passes = Vec::with_capacity(alloc, workers.len())?;
+    let Ok(mut roles) = Vec::with_capacity(alloc, workers.len()) else {
+        return Err(drop_for_mem(workers));
+    };
+    let Ok(mut passes) = Vec::with_capacity(alloc, workers.len()) else {
+        return Err(drop_for_mem((workers, roles)));
+    };
     for worker in workers {
         let IdleWorker {
             who: _,
@@ -70,8 +76,8 @@ fn split<'t>(
             role,
             left: _,
         } = worker;
-        roles.push(role)?;
-        passes.push(taken(&mut pass))?;
+        roles.push_reserved(role);
+        passes.push_reserved(taken(&mut pass));
     }
     Ok((roles, passes))
 }
@@ -91,9 +97,15 @@ fn began<'t>(
     ensures long { IfOk result (λ made. length made.1.items ≡ sizes.wakers + 1) }
 {
     let WorkerPool { gate_log, roles } = pool;
-    let gate_logs = vec![in alloc; gate_log]?;
-    let (locks, passes) = LockTable::new(alloc, gate_logs, sizes.wakers + 1)?;
-    let workers = with_passes(alloc, roles, passes)?;
+    let Ok(gate_logs) = vec![in alloc; gate_log] else {
+        return Err(drop_for_mem(roles));
+    };
+    let Ok((locks, passes)) = LockTable::new(alloc, gate_logs, sizes.wakers + 1) else {
+        return Err(drop_for_mem(roles));
+    };
+    let Ok(workers) = with_passes(alloc, roles, passes) else {
+        return Err(drop_for_mem(locks));
+    };
     Ok((locks, workers))
 }
 

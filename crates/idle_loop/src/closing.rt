@@ -20,7 +20,7 @@ use crate::merge::merge_idle;
 use crate::roles::{Role, Waker};
 use event_word::{EventSeat, EventTable, LookSeat, TableLook, close};
 use idle_gate::IdleState;
-use sleep_base::Mem;
+use sleep_base::{Mem, drop_for_mem};
 use std::alloc::Global;
 use std::sync::Wait;
 
@@ -71,12 +71,16 @@ fn wakers_of(alloc: Global, roles: Vec<Role<'_>>) -> Result<(Vec<EventSeat>, Vec
     requires { AreWakes roles.items }
     ensures { IfOk result (λ off. AreOff roles.entry.items off.0.items off.1.items) }
 {
-    let mut seats = Vec::with_capacity(alloc, roles.len())?;
-    let mut ranks = Vec::with_capacity(alloc, roles.len())?;
+    let Ok(mut seats) = Vec::with_capacity(alloc, roles.len()) else {
+        return Err(drop_for_mem(roles));
+    };
+    let Ok(mut ranks) = Vec::with_capacity(alloc, roles.len()) else {
+        return Err(drop_for_mem((roles, seats)));
+    };
     for role in roles {
         let waker = waker_of(role);
-        seats.push(waker.seat.off())?;
-        ranks.push(waker.ranks)?;
+        seats.push_reserved(waker.seat.off());
+        ranks.push_reserved(waker.ranks);
     }
     Ok((seats, ranks))
 }

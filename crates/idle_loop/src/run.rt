@@ -6,7 +6,7 @@ ghost use Rattle.event_word.specs.Lists.{tokens};
 ghost use Rattle.event_word.specs.Seats.{AreNew};
 ghost use Rattle.idle_loop.specs.IdleLogs.{IsIdleRun};
 ghost use Rattle.idle_loop.specs.Sizes.{AreSizes};
-ghost use Rattle.idle_loop.specs.WorkerPools.{AreRoles};
+ghost use Rattle.idle_loop.specs.WorkerPools.{AreRoles, IsWorkerPool};
 ghost use Rattle.idle_loop.specs.Ends.{AreDone, IsIdle, IsRunLeft, IsDone};
 
 use crate::burst::{WorkerPool, go_on};
@@ -16,7 +16,7 @@ use crate::gate_log::GateLog;
 use crate::roles::{Role, Waker};
 use event_word::{EventSeat, EventTable, LookSeat};
 use idle_gate::{IdleState, WakerNow};
-use sleep_base::Mem;
+use sleep_base::{Mem, drop_for_mem};
 use std::alloc::Global;
 use std::sync::Wait;
 use std::thread::Threads;
@@ -35,19 +35,24 @@ fn roles_of<'t>(
     ensures long { IfOk result (λ roles. length roles.items ≡ sizes.wakers + 1) }
     ensures roles { IfOk result (λ roles. AreRoles sizes table.now.cells.shared.table_id [] 0 roles.items) }
 {
-    let mut roles = Vec::with_capacity(alloc, seats.len())?;
+    let Ok(mut roles) = Vec::with_capacity(alloc, seats.len() + 1) else {
+        return Err(drop_for_mem((seats, look)));
+    };
     for seat in seats {
-        roles.push(Role::Wakes(Waker {
+        let Ok(ranks) = Vec::with_capacity(alloc, sizes.events as usize) else {
+            return Err(drop_for_mem((roles, seat, look)));
+        };
+        roles.push_reserved(Role::Wakes(Waker {
             seat: seat.on(table),
             now: WakerNow {
                 wakes: 0,
                 owes: false,
             },
             least: 0,
-            ranks: Vec::with_capacity(alloc, sizes.events as usize)?,
-        }))?;
+            ranks,
+        }));
     }
-    roles.push(Role::Idles(look.on(table)))?;
+    roles.push_reserved(Role::Idles(look.on(table)));
     Ok(roles)
 }
 
@@ -84,6 +89,29 @@ fn has_nothing(sizes: IdleSizes, gate_log: &GateLog<24>) -> bool
     }
 }
 
+/// The gate, and what is each worker's own, before all steps.
+fn first_pool<'t>(
+    alloc: Global,
+    sizes: IdleSizes,
+    table: &'t EventTable,
+    seats: Vec<EventSeat>,
+    look: LookSeat,
+) -> Result<WorkerPool<'t>, Mem>
+    requires sizes { AreSizes sizes }
+    requires look { look.token.table_id ≡ table.now.cells.shared.table_id }
+    requires seats { AreNew look.token (tokens seats.items) }
+    requires count { length seats.items ≡ sizes.wakers }
+    ensures { IfOk result (IsWorkerPool sizes table.now.cells.shared.table_id) }
+{
+    let Ok(gate_log) = GateLog::new(alloc, sizes) else {
+        return Err(drop_for_mem((seats, look)));
+    };
+    let Ok(roles) = roles_of(alloc, sizes, table, seats, look) else {
+        return Err(drop_for_mem(gate_log));
+    };
+    Ok(WorkerPool { gate_log, roles })
+}
+
 /// Bursts, up to the end of the run.
 fn to_end<R: Threads + Wait + Sync>(
     rt: &R,
@@ -101,10 +129,7 @@ fn to_end<R: Threads + Wait + Sync>(
     requires count { length seats.items ≡ sizes.wakers }
     ensures { IfOk result (IsRunLeft sizes table.now.cells.shared.table_id) }
 {
-    let mut pool = WorkerPool {
-        gate_log: GateLog::new(alloc, sizes)?,
-        roles: roles_of(alloc, sizes, table, seats, look)?,
-    };
+    let mut pool = first_pool(alloc, sizes, table, seats, look)?;
     for _ in rt.forever() {
         if are_done(sizes, &pool.roles) && has_nothing(sizes, &pool.gate_log) {
             return leave(rt, alloc, pool);
