@@ -5,7 +5,6 @@ use idle_loop::{IdleEntry, IdleKind, IdleLog, IdleSizes, merge_idle, run_idle};
 use sleep_base::Mem;
 use std::alloc::Global;
 use std::sync::Wait;
-use std::test::Fail;
 use std::thread::Threads;
 
 fn entry(hard: u32, who: u32, what: IdleKind) -> IdleEntry
@@ -14,15 +13,8 @@ fn entry(hard: u32, who: u32, what: IdleKind) -> IdleEntry
     IdleEntry { hard, who, what }
 }
 
-/// The journal of a run, without its hard events, merges with them to the run's log.
-#[test]
-fn a_run_taken_apart_merges_again(rt: HostRuntime) -> Result<(), Fail> {
-    let sizes = IdleSizes {
-        wakers: 1,
-        events: 2,
-        sessions: 1,
-    };
-    let log = run_idle(&rt, rt.alloc(), sizes, 1)?;
+/// Whether the journal of a run with two hard events, without these, merges with them to that log.
+fn merges_to(alloc: Global, log: &IdleLog) -> Result<bool, Mem> {
     let journal = [
         entry(1, 1, IdleKind::Begin),
         entry(1, 0, IdleKind::Wake),
@@ -31,9 +23,27 @@ fn a_run_taken_apart_merges_again(rt: HostRuntime) -> Result<(), Fail> {
         entry(2, 1, IdleKind::Leave),
         entry(2, 1, IdleKind::TryBusy),
     ];
-    let merged = merge_idle(rt.alloc(), &journal, &[0, 0])?;
-    assert!(rt; merged.as_slice() == log.entries.as_slice());
-    Ok(())
+    let merged = merge_idle(alloc, &journal, &[0, 0])?;
+    Ok(merged.as_slice() == log.entries.as_slice())
+}
+
+/// Whether a run of one waker with two hard events merges again.
+fn merges_again<R: Threads + Wait + Sync>(rt: &R, alloc: Global) -> Result<bool, Mem> {
+    let sizes = IdleSizes {
+        wakers: 1,
+        events: 2,
+        sessions: 1,
+    };
+    let log = run_idle(rt, alloc, sizes, 1)?;
+    let merged = merges_to(alloc, &log);
+    drop(log);
+    merged
+}
+
+/// The journal of a run, without its hard events, merges with them to the run's log.
+#[test]
+fn a_run_taken_apart_merges_again(rt: HostRuntime) {
+    assert!(rt; merges_again(&rt, rt.alloc()) == Ok(true));
 }
 
 /// How many entries of a kind the log has.
@@ -53,7 +63,9 @@ fn is_whole<R: Threads + Wait + Sync>(rt: &R, alloc: Global) -> Result<bool, Mem
         sessions: 50,
     };
     let log = run_idle(rt, alloc, sizes, 4)?;
-    Ok(count(&log, IdleKind::Hard) == 800 && count(&log, IdleKind::Wake) == 800)
+    let whole = count(&log, IdleKind::Hard) == 800 && count(&log, IdleKind::Wake) == 800;
+    drop(log);
+    Ok(whole)
 }
 
 /// Four workers, again and again: each waker makes all its hard events and wakes.

@@ -3,10 +3,10 @@ ghost use Rattle.std.specs.Prelude.{◌≡◌, ◌≤◌, ◌++◌, [], ◌∷�
 ghost use Rattle.turn_lock.specs.Passes.{IsPass, AreAll, first_of};
 ghost use Rattle.turn_lock.specs.Passing.{tokens};
 
+use sleep_base::{Mem, drop_for_mem};
 use std::alloc::{AllocError, Global};
 use std::sync::atomic::{AtomicU64, Ordering};
 use std::sync::{Barrier, Wait};
-use std::test::Fail;
 use std::thread;
 use std::thread::Threads;
 use turn_lock::{Booked, LockTable, Pass, SharedLocks, give, take};
@@ -92,10 +92,18 @@ fn meeting<R: Threads + Wait + Sync>(
     Ok(thread::map_vec(rt, passes, &one)?.len())
 }
 
+/// How many workers held one of two objects while the other one was held.
+fn overlapping<R: Threads + Wait + Sync>(rt: &R, alloc: Global) -> Result<usize, Mem> {
+    let (locks, passes) = LockTable::new(alloc, objects(alloc, 2)?, 2)?;
+    let Ok(held) = meeting(rt, &locks, passes) else {
+        return Err(drop_for_mem(locks));
+    };
+    drop(locks);
+    Ok(held)
+}
+
 /// Two workers hold an object each at the same time.
 #[test]
-fn two_workers_overlap(rt: HostRuntime) -> Result<(), Fail> {
-    let (locks, passes) = LockTable::new(rt.alloc(), objects(rt.alloc(), 2)?, 2)?;
-    assert!(rt; meeting(&rt, &locks, passes)? == 2);
-    Ok(())
+fn two_workers_overlap(rt: HostRuntime) {
+    assert!(rt; overlapping(&rt, rt.alloc()) == Ok(2));
 }

@@ -5,9 +5,9 @@ ghost use Rattle.turn_lock.specs.Passing.{tokens};
 
 use crate::list_tests::PassHolder;
 use crate::lock_tests::{NumberList, objects};
+use sleep_base::{Mem, drop_for_mem};
 use std::alloc::{AllocError, Global};
 use std::sync::Wait;
-use std::test::Fail;
 use std::thread::Threads;
 use std::{mem, thread};
 use turn_lock::{LockTable, Made, Pass, SharedLocks, close_locks};
@@ -61,15 +61,19 @@ fn burst<R: Threads + Wait + Sync>(
 fn split(
     alloc: Global,
     workers: Vec<PassHolder>,
-) -> Result<(Vec<Pass<NumberList>>, Vec<Vec<Made<u32>>>), AllocError>
+) -> Result<(Vec<Pass<NumberList>>, Vec<Vec<Made<u32>>>), Mem>
     ensures passes { IfOk result (λ parts. parts.0.items ≡ map (λ w. w.pass) workers.items) }
 {
-    let mut passes = Vec::with_capacity(alloc, workers.len())?;
-    let mut lists = Vec::with_capacity(alloc, workers.len())?;
+    let Ok(mut passes) = Vec::with_capacity(alloc, workers.len()) else {
+        return Err(drop_for_mem(workers));
+    };
+    let Ok(mut lists) = Vec::with_capacity(alloc, workers.len()) else {
+        return Err(drop_for_mem((workers, passes)));
+    };
     for worker in workers {
         let PassHolder { pass, made } = worker;
-        passes.push(pass)?;
-        lists.push(made)?;
+        passes.push_reserved(pass);
+        lists.push_reserved(made);
     }
     Ok((passes, lists))
 }
@@ -131,23 +135,27 @@ fn counted<R: Threads + Wait + Sync>(
     alloc: Global,
     workers: u32,
     turns: u32,
-) -> Result<Option<(usize, usize)>, Fail>
+) -> Result<Option<(usize, usize)>, Mem>
     requires { (1 ≤ workers) × (workers ≤ 2000) }
 {
     let (locks, passes) = LockTable::new(alloc, objects(alloc, 2)?, workers)?;
-    let workers = burst(rt, alloc, &locks, passes, turns)?;
-    let (passes, lists) = split(alloc, workers)?;
-    let mut values = close_locks(alloc, locks, passes)?;
+    let Ok(workers) = burst(rt, alloc, &locks, passes, turns) else {
+        return Err(drop_for_mem(locks));
+    };
+    let Ok((passes, lists)) = split(alloc, workers) else {
+        return Err(drop_for_mem(locks));
+    };
+    let Ok(mut values) = close_locks(alloc, locks, passes) else {
+        return Err(drop_for_mem(lists));
+    };
     let counted = counted_in(&mut values, &lists);
-    drop(values);
-    drop(lists);
+    drop((values, lists));
     Ok(counted)
 }
 
 /// Four workers lose nothing, nor do sixteen.
 #[test]
-fn many_workers_lose_nothing(rt: HostRuntime) -> Result<(), Fail> {
-    assert!(rt; counted(&rt, rt.alloc(), 4, 2500)? == Some((5000, 5000)));
-    assert!(rt; counted(&rt, rt.alloc(), 16, 625)? == Some((5008, 4992)));
-    Ok(())
+fn many_workers_lose_nothing(rt: HostRuntime) {
+    assert!(rt; counted(&rt, rt.alloc(), 4, 2500) == Ok(Some((5000, 5000))));
+    assert!(rt; counted(&rt, rt.alloc(), 16, 625) == Ok(Some((5008, 4992))));
 }

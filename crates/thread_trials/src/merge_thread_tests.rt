@@ -1,12 +1,12 @@
 //! The log that is merged of what several workers made.
 use log_merge::{merge, rises};
+use sleep_base::{Mem, drop_for_mem};
 use sleep_model::{
     Actor, Entry, EntryList, EntryReader, EventNow, Kind, ListOf, SourceEntry, SourceList, Stamp,
 };
 use std::alloc::{AllocError, Global};
 use std::sync::atomic::{AtomicU64, Ordering};
 use std::sync::{Barrier, Wait};
-use std::test::Fail;
 use std::thread;
 use std::thread::Threads;
 
@@ -57,16 +57,23 @@ fn history(alloc: Global, next: &AtomicU64, worker: usize, steps: u64) -> Vec<So
     entries
 }
 
-/// The one log of what the workers made.
-fn log_of(alloc: Global, made: Vec<Vec<SourceEntry>>) -> Result<EntryList, Fail> {
-    let mut histories: Vec<SourceList> = Vec::with_capacity(alloc, made.len())?;
+/// What the workers made, as histories of sources.
+fn histories_of(alloc: Global, made: Vec<Vec<SourceEntry>>) -> Result<Vec<SourceList>, Mem> {
+    let Ok(mut histories) = Vec::with_capacity(alloc, made.len()) else {
+        return Err(drop_for_mem(made));
+    };
     for history in made {
-        histories.push(ListOf::of_vec(history))?;
+        histories.push_reserved(ListOf::of_vec(history));
     }
-    if !rises(&[]) {
-        return Err("a journal that does not rise".into());
-    }
-    Ok(merge(alloc, &[], &histories)?)
+    Ok(histories)
+}
+
+/// The one log of what the workers made.
+fn log_of(alloc: Global, made: Vec<Vec<SourceEntry>>) -> Result<EntryList, Mem> {
+    let histories = histories_of(alloc, made)?;
+    let log = merge(alloc, &[], &histories);
+    drop(histories);
+    log
 }
 
 /// The histories of that number of workers, each in a thread of its own.
@@ -87,17 +94,19 @@ fn is_merged<R: Threads + Sync>(
     alloc: Global,
     workers: usize,
     steps: u64,
-) -> Result<bool, Fail> {
-    let made = burst(rt, alloc, workers, steps)?;
-    Ok(is_in_order(&log_of(alloc, made)?, 10_000))
+) -> Result<bool, Mem> {
+    let log = log_of(alloc, burst(rt, alloc, workers, steps)?)?;
+    let in_order = is_in_order(&log, 10_000);
+    drop(log);
+    Ok(in_order)
 }
 
-/// Four workers, and sixteen.
+/// Four workers, and sixteen. They have no journal, and one without entries rises.
 #[test]
-fn the_steps_of_many_workers_stand_by_position(rt: HostRuntime) -> Result<(), Fail> {
-    assert!(rt; is_merged(&rt, rt.alloc(), 4, 2500)?);
-    assert!(rt; is_merged(&rt, rt.alloc(), 16, 625)?);
-    Ok(())
+fn the_steps_of_many_workers_stand_by_position(rt: HostRuntime) {
+    assert!(rt; rises(&[]));
+    assert!(rt; is_merged(&rt, rt.alloc(), 4, 2500) == Ok(true));
+    assert!(rt; is_merged(&rt, rt.alloc(), 16, 625) == Ok(true));
 }
 
 /// A step, and a second one once the other worker has made its first.
@@ -139,13 +148,22 @@ fn are_of_two(reader: &mut EntryReader<'_>) -> bool {
     }
 }
 
+/// Whether a log has four entries, of which the first two are of two actors, and so are the last two.
+fn overlaps(log: &EntryList) -> bool {
+    let mut reader = log.reader();
+    are_of_two(&mut reader) && are_of_two(&mut reader) && reader.next().is_none()
+}
+
+/// Whether the steps of two workers overlap in their one log.
+fn are_overlapping<R: Threads + Wait + Sync>(rt: &R, alloc: Global) -> Result<bool, Mem> {
+    let log = log_of(alloc, met(rt, alloc)?)?;
+    let both = overlaps(&log);
+    drop(log);
+    Ok(both)
+}
+
 /// Two workers overlap: in the one log the first steps of both come before the second ones.
 #[test]
-fn two_workers_overlap(rt: HostRuntime) -> Result<(), Fail> {
-    let log = log_of(rt.alloc(), met(&rt, rt.alloc())?)?;
-    let mut reader = log.reader();
-    assert!(rt; are_of_two(&mut reader));
-    assert!(rt; are_of_two(&mut reader));
-    assert!(rt; reader.next().is_none());
-    Ok(())
+fn two_workers_overlap(rt: HostRuntime) {
+    assert!(rt; are_overlapping(&rt, rt.alloc()) == Ok(true));
 }

@@ -5,10 +5,10 @@ ghost use Rattle.event_word.specs.Lists.{tokens};
 
 use crate::word_table_tests::{step, word};
 use event_word::{EventSeat, EventTable, Events, LookSeat};
+use sleep_base::{Mem, drop_for_mem};
 use sleep_model::EventNow;
-use std::alloc::AllocError;
+use std::alloc::{AllocError, Global};
 use std::sync::{Barrier, Wait};
-use std::test::Fail;
 use std::thread;
 use std::thread::Threads;
 
@@ -45,11 +45,18 @@ fn meeting<R: Threads + Wait + Sync>(
     Ok(seen)
 }
 
+/// Whether each of two workers that overlap sees the events of both in progress.
+fn see_both<R: Threads + Wait + Sync>(rt: &R, alloc: Global) -> Result<bool, Mem> {
+    let (table, seats, look) = EventTable::new(alloc, 2)?;
+    let Ok(seen) = meeting(rt, &table, &look, seats) else {
+        return Err(drop_for_mem((table, look)));
+    };
+    drop((table, look));
+    Ok(seen.as_slice() == [word(2, 0, 0), word(2, 0, 0)].as_slice())
+}
+
 /// Two workers overlap: each sees the events of both in progress.
 #[test]
-fn two_workers_overlap(rt: HostRuntime) -> Result<(), Fail> {
-    let (table, seats, look) = EventTable::new(rt.alloc(), 2)?;
-    let seen = meeting(&rt, &table, &look, seats)?;
-    assert!(rt; seen.as_slice() == [word(2, 0, 0), word(2, 0, 0)].as_slice());
-    Ok(())
+fn two_workers_overlap(rt: HostRuntime) {
+    assert!(rt; see_both(&rt, rt.alloc()) == Ok(true));
 }

@@ -5,10 +5,10 @@ ghost use Rattle.event_word.specs.Lists.{tokens};
 
 use crate::word_table_tests::step;
 use event_word::{EventSeat, EventTable, Events, LookSeat, close};
+use sleep_base::{Mem, drop_for_mem};
 use sleep_model::pos;
 use std::alloc::{AllocError, Global};
 use std::sync::Wait;
-use std::test::Fail;
 use std::thread;
 use std::thread::Threads;
 
@@ -92,14 +92,12 @@ fn count(times: &mut Vec<u32>, positions: &Vec<u64>, later: bool) {
 
 /// The seats of all workers, in order. Counts the positions that they found, and forgets those of a worker
 /// that looked back.
-fn gathered(
-    alloc: Global,
-    done: Vec<Done>,
-    times: &mut Vec<u32>,
-) -> Result<Vec<EventSeat>, AllocError>
+fn gathered(alloc: Global, done: Vec<Done>, times: &mut Vec<u32>) -> Result<Vec<EventSeat>, Mem>
     ensures { IfOk result (λ seats. tokens seats.items ≡ map (λ d. d.seat.token) done.items) }
 {
-    let mut seats = Vec::with_capacity(alloc, done.len())?;
+    let Ok(mut seats) = Vec::with_capacity(alloc, done.len()) else {
+        return Err(drop_for_mem(done));
+    };
     for one in done {
         let Done {
             seat,
@@ -107,7 +105,7 @@ fn gathered(
             later,
         } = one;
         count(times, &positions, later);
-        seats.push(seat)?;
+        seats.push_reserved(seat);
     }
     Ok(seats)
 }
@@ -129,21 +127,25 @@ fn each_once<R: Threads + Wait + Sync>(
     alloc: Global,
     workers: u32,
     turns: u32,
-) -> Result<bool, Fail>
+) -> Result<bool, Mem>
     requires workers { (1 ≤ workers) × (workers ≤ 256) }
     requires turns { turns ≤ 10000 }
 {
-    let (table, seats, look) = EventTable::new(alloc, workers)?;
-    let done = burst(rt, alloc, &table, &look, seats, turns)?;
     let mut times = vec![in alloc; 0; 10_000]?;
-    let seats = gathered(alloc, done, &mut times)?;
+    let (table, seats, look) = EventTable::new(alloc, workers)?;
+    let Ok(done) = burst(rt, alloc, &table, &look, seats, turns) else {
+        return Err(drop_for_mem((table, look)));
+    };
+    let Ok(seats) = gathered(alloc, done, &mut times) else {
+        return Err(drop_for_mem((table, look)));
+    };
     let now = close(table, seats, look)?;
     Ok(pos(now) == 10_000 && are_once(&times))
 }
 
 /// Four workers find each position once, and so do sixteen.
 #[test]
-fn many_workers_find_each_position_once(rt: HostRuntime) -> Result<(), Fail> {
-    assert!(rt; each_once(&rt, rt.alloc(), 4, 2500)? && each_once(&rt, rt.alloc(), 16, 625)?);
-    Ok(())
+fn many_workers_find_each_position_once(rt: HostRuntime) {
+    assert!(rt; each_once(&rt, rt.alloc(), 4, 2500) == Ok(true));
+    assert!(rt; each_once(&rt, rt.alloc(), 16, 625) == Ok(true));
 }
