@@ -90,64 +90,96 @@ impl<'m> Run<'m> {
         }
     }
 
-    /// The first device from a number on that may have something to do.
+    /// The first script from a number on that may have something to do.
     #[inline(always)]
-    fn next_device(&self, from: u32) -> Option<Actor>
-        ensures { IfSome result (IsActor self.now.machine) }
-    {
-        let devices = self.machine.devices.len() as u32;
-        match self.waiters.next_device(from, devices) {
-            Some(device) => Some(Actor::Dev(device)),
-            None => None,
-        }
-    }
-
-    /// The first that may have something to do of the scripts from a number on, the autosleep work and the
-    /// devices.
-    #[inline(always)]
-    fn next_from(&self, script: u32) -> Option<Actor>
-        ensures { IfSome result (IsActor self.now.machine) }
+    fn next_script(&self, from: u32) -> Option<u32>
+        ensures { IfSome result (λ n. n < length self.now.machine.actors) }
     {
         let scripts = self.machine.actors.len() as u32;
-        match self.waiters.next_script(script, scripts) {
-            Some(script) => Some(Actor::Script(script)),
-            None if self.waiters.asks_auto() => Some(Actor::Auto),
-            None => self.next_device(0),
-        }
+        self.waiters.next_script(from, scripts)
     }
 
-    /// The next after an actor that may have something to do.
+    /// The first device from a number on that may have something to do.
     #[inline(always)]
-    fn next_after(&self, who: Actor) -> Option<Actor>
-        requires { IsActor self.now.machine who }
-        ensures { IfSome result (IsActor self.now.machine) }
+    fn next_device(&self, from: u32) -> Option<u32>
+        ensures { IfSome result (λ n. n < length self.now.machine.devices) }
     {
-        match who {
-            Actor::Script(script) => self.next_from(script.saturating_add(1)),
-            Actor::Dev(device) => self.next_device(device.saturating_add(1)),
-            _ => self.next_device(0),
+        let devices = self.machine.devices.len() as u32;
+        self.waiters.next_device(from, devices)
+    }
+
+    /// The tries of the scripts that may have something to do, in order. If one of them is the only actor that
+    /// may, it is asked on: each such try is a round of its own. Whether entries were made.
+    #[inline(always)]
+    fn ask_scripts<R: Wait>(&mut self, rt: &R) -> Result<bool, RunFault>
+        ensures machine { self.new.machine ≡ self.old.machine }
+        ensures after { AfterTry self.old self.new result }
+    {
+        let mut made = false;
+        let mut next = self.next_script(0);
+        for _ in 0..u64::MAX {
+            let Some(script) = next else {
+                break;
+            };
+            let who = Actor::Script(script);
+            made = self.ask_once(rt, who)? | made;
+            if !self.waiters.is_alone(who) {
+                next = self.next_script(script.saturating_add(1));
+            }
         }
+        Ok(made)
+    }
+
+    /// The tries of the autosleep work, while it may have something to do and nobody else. Whether entries were
+    /// made.
+    #[inline(never)]
+    fn ask_auto<R: Wait>(&mut self, rt: &R) -> Result<bool, RunFault>
+        ensures machine { self.new.machine ≡ self.old.machine }
+        ensures after { AfterTry self.old self.new result }
+    {
+        let mut made = false;
+        for _ in 0..u64::MAX {
+            made = self.ask_once(rt, Actor::Auto)? | made;
+            if !self.waiters.is_alone(Actor::Auto) {
+                break;
+            }
+        }
+        Ok(made)
+    }
+
+    /// The tries of the devices that may have something to do, in order. Whether entries were made.
+    #[inline(always)]
+    fn ask_devices<R: Wait>(&mut self, rt: &R) -> Result<bool, RunFault>
+        ensures machine { self.new.machine ≡ self.old.machine }
+        ensures after { AfterTry self.old self.new result }
+    {
+        let mut made = false;
+        let mut next = self.next_device(0);
+        for _ in 0..u64::MAX {
+            let Some(device) = next else {
+                break;
+            };
+            made = self.ask_once(rt, Actor::Dev(device))? | made;
+            next = self.next_device(device.saturating_add(1));
+        }
+        Ok(made)
     }
 
     /// The tries of the scripts, the autosleep work and the devices that may have something to do, in order.
-    /// If there is only one it is asked on: each such try is a round of its own. Whether entries were made.
+    /// Whether entries were made.
     #[inline(always)]
     fn ask_actors<R: Wait>(&mut self, rt: &R) -> Result<bool, RunFault>
         ensures machine { self.new.machine ≡ self.old.machine }
         ensures after { AfterTry self.old self.new result }
     {
-        let mut made = false;
-        let mut next = self.next_from(0);
-        for _ in 0..u64::MAX {
-            let Some(who) = next else {
-                break;
-            };
-            made = self.ask_once(rt, who)? | made;
-            if !self.waiters.is_alone(who) {
-                next = self.next_after(who);
-            }
-        }
-        Ok(made)
+        let by_script = self.ask_scripts(rt)?;
+        let by_task = if self.waiters.asks_auto() {
+            self.ask_auto(rt)? | by_script
+        } else {
+            by_script
+        };
+        let by_actor = self.ask_devices(rt)? | by_task;
+        Ok(by_actor)
     }
 
     /// The try of a source's timer: it makes a call if its moment has come.
