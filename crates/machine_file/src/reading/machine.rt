@@ -22,8 +22,8 @@ use crate::reading::scripts::scripts_in;
 use crate::rules::cycles::{Linking, linking_of};
 use borrowed_json::Value;
 use file_rules::{
-    Broken, EndNumbers, Known, LinkEnds, Member, Place, end_broken, ends_in, form_broken, is_second,
-    items, last_broken, numbers_in, operation_broken, reply_broken, thing_broken,
+    Broken, EndNumbers, Known, LinkEnds, Member, Place, end_broken, ends_in, form_broken,
+    is_second, items, last_broken, numbers_in, operation_broken, reply_broken, thing_broken,
 };
 use sleep_base::{Mem, drop_for_mem};
 use sleep_model::{Answer, Script};
