@@ -1,6 +1,7 @@
 //! The order of the stages of an attempt, and where each leads if it fails (`enter_state`,
-//! `suspend_devices_and_enter`, `suspend_enter`). It is the definition `row` of `sleep_model`, in Rust. An
-//! attempt is one try to suspend, a call of `enter_state`.
+//! `suspend_devices_and_enter`, `suspend_enter`). This is the definition `row` of `sleep_model`, in Rust. An
+//! attempt is one try to suspend, a call of `enter_state`. The journal lists the steps of a machine, each as
+//! one entry. `PlatDo` is a step of `suspend_ops` on the way down, `PlatUndo` one on the way up.
 
 ghost use Rattle.std.specs.Prelude.{◌≡◌};
 ghost use Rattle.sleep_model.specs.Table.{next_stage, by_case, after_failure};
@@ -8,8 +9,9 @@ ghost use Rattle.sleep_model.specs.Table.{next_stage, by_case, after_failure};
 use sleep_model::{Group, Phase, PlatDo, PlatUndo, Stage, Thaw};
 
 /// Picks a column of the table of an attempt: `next` is what follows a stage, `failed` is the stage that its
-/// failure leads to. Both are the same if a stage does not fail, or if its failure changes nothing. It is a
-/// macro so that each row stands once, with both columns, and each function matches over one of them.
+/// failure leads to. Both are the same if a stage does not fail, or if its failure does not change what
+/// follows. It is a macro so that each row stands once, with both columns, and each function matches over one
+/// of them.
 macro_rules! table {
     (@next $from:expr; $($stage:pat => $next:expr, $failed:expr;)*) => {
         match $from { $($stage => $next,)* }
@@ -50,8 +52,9 @@ macro_rules! table {
             Stage::Thaws(Thaw::All) => Stage::NotifiesPost, Stage::NotifiesPost;
             Stage::NotifiesPost => Stage::Ends, Stage::Ends;
             Stage::Ends => Stage::Ends, Stage::Ends;
-            // The core never comes to these two rows: the way down has three phases, and so has the way up.
-            // The match has to be total, and the definition `row` gives the columns. It says who reads them.
+            // No attempt comes to these two rows: the way down has three phases, and so has the way up. They
+            // are here since the match has to be total. The definition `row` says who reads the row of
+            // `Downs(_)`. There `Ups _` is the row of Resume, which has a row of its own here.
             Stage::Downs(_) => Stage::PlatformDo(PlatDo::PrepareLate), Stage::PlatformUndo(PlatUndo::Recover);
             Stage::Ups(_) => Stage::Completes, Stage::Completes;
         }
@@ -72,8 +75,8 @@ pub(crate) fn after_failure(stage: Stage) -> Stage
     table!(failed of stage)
 }
 
-/// The stage after one that is over: the next, or, if it `fails`, the one that its failure leads to. The
-/// stage after any one entry is `stage_after` (`path.rt`), which goes by this.
+/// The stage after one that is over: the next, or, if it `fails`, the one that its failure leads to. For an
+/// entry of the journal that ends a stage, `stage_after` (`path.rt`) calls this.
 pub(crate) fn after_stage(stage: Stage, fails: bool) -> Stage
     ensures { result ≡ by_case fails (after_failure stage) (next_stage stage) }
 {
@@ -84,8 +87,8 @@ pub(crate) fn after_stage(stage: Stage, fails: bool) -> Stage
     }
 }
 
-/// The stage after one of several entries of a stage, such as one notifier's: the same, or, if the entry
-/// `fails`, the one that its failure leads to.
+/// The stage after one of several entries of a stage, such as one notifier's. It is the same stage, or, if
+/// the step that the entry records `fails`, the one that the stage's failure leads to.
 pub(crate) fn within_stage(stage: Stage, fails: bool) -> Stage
     ensures { result ≡ by_case fails (after_failure stage) stage }
 {
