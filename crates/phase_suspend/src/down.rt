@@ -1,9 +1,10 @@
 //! What the walk of a phase on the way down does next, and what a device does (`dpm_suspend`,
 //! `__device_suspend`). The phases are suspend, late and noirq. No callback is called here: each function
-//! decides which step comes next. The core records the step as one entry of the journal, the list of a
-//! machine's steps; `Kind` says which step it is. A `Due` is what is due of somebody: one entry, a wait with
-//! its cause (`Why`), or nothing. The subordinates of a device are its children, and its consumers by links
-//! that are not `DL_STATE_DORMANT`.
+//! decides which step comes next. The core (`sleep_core`) records the step as one entry of the journal, the
+//! list of a machine's steps; `Kind` says which step it is. A `Due` is what somebody has to do next: make one
+//! entry, wait, with the cause (`Why`), or nothing. The subordinates of a device are its children, and its
+//! consumers by links that are not `DL_STATE_DORMANT`. An attempt is one try to suspend, a call of
+//! `enter_state`.
 ghost use Rattle.std.specs.Prelude.{◌≡◌, None};
 ghost use Rattle.sleep_model.specs.Devices.{unless_failed};
 ghost use Rattle.sleep_model.specs.Walk.{or_else};
@@ -14,21 +15,22 @@ use device_rows::Flags;
 use sleep_base::Errno;
 use sleep_model::{Due, Kind, Phase, SkipCause, Why};
 
-/// The errors of the phase under way, by which its walk and its devices go on (`drivers/base/power/main.c`,
-/// `async_error`, `error`).
+/// The errors of the phase under way, which decide how its walk and its devices go on
+/// (`drivers/base/power/main.c`, `async_error`, `error`).
 #[derive(Clone, Copy)]
 pub struct Down {
     /// The last error: of any device's callback, or `EBUSY` of a wakeup that was found.
     pub async_error: Option<Errno>,
     /// The error of the synchronous device's callback that failed, if one did. Then `async_error` is set,
-    /// too, and the walk ends by that.
+    /// too, and that is what ends the walk.
     pub error: Option<Errno>,
 }
 
 /// What a phase on the way down looks at.
 #[derive(Clone, Copy)]
 pub struct DownEnv<'a> {
-    /// The state of each device in the phases (`struct dev_pm_info`).
+    /// The state of each device in the phases (`struct dev_pm_info`). A `Board` is a board of such states,
+    /// and no circuit board.
     pub board: &'a Board,
     /// Which devices' `prepare` answered 1 in this attempt: they ask for direct-complete. It answers 0, 1 or
     /// an error here; in the kernel any number above 0 asks.
@@ -60,9 +62,9 @@ fn is_direct(env: &DownEnv<'_>, p: Phase, device: u32) -> bool
     }
 }
 
-/// The entry of a device that waits for no other, if there is no error. It is skipped if a wakeup is pending
-/// and the phase checks for one, as suspend and late do; else it is skipped as direct-complete, or its
-/// callback begins.
+/// The entry of a device that waits for no other, if there is no error. The device is skipped if a wakeup is
+/// pending and the phase checks for one, as suspend and late do. Else it is skipped as direct-complete, or
+/// its callback begins.
 fn begin_or_skip(env: &DownEnv<'_>, p: Phase, device: u32) -> Kind
     ensures { (down : Down) → result ≡ begin_or_skip_on (down_state down env.now) p device }
 {
@@ -87,10 +89,10 @@ impl Down {
     }
 
     /// What the walk of a phase on the way down does next while it runs no callback (`dpm_suspend`,
-    /// `dpm_suspend_late`, `dpm_noirq_suspend_devices`). It goes from the last device to the first. It
-    /// schedules an asynchronous one. For a synchronous one it waits for its subordinates, then skips it or
-    /// begins its callback. After an error, or after the last device, it waits for all that were scheduled,
-    /// and ends.
+    /// `dpm_suspend_late`, `dpm_noirq_suspend_devices`). It begins with the last device of the order, and
+    /// ends with the first. It schedules an asynchronous one. For a synchronous one it waits for its
+    /// subordinates, then skips it or begins its callback. After an error, or when no device is left, it
+    /// waits for all that were scheduled, and ends.
     pub fn walk_due(&self, env: &DownEnv<'_>, p: Phase) -> Due
         ensures { result ≡ walk_down_due_on (down_state self.now env.now) p }
     {
@@ -100,8 +102,8 @@ impl Down {
         }
     }
 
-    /// What a device does next on the way down (`__device_suspend`), in its own work or inside the walk. It
-    /// waits for its subordinates. Then it is skipped (after an error, for a pending wakeup, or as
+    /// What a device does next on the way down (`__device_suspend`), in its own async work or inside the
+    /// walk. It waits for its subordinates. Then it is skipped (after an error, for a pending wakeup, or as
     /// direct-complete), or its callback begins.
     pub fn device_due(&self, env: &DownEnv<'_>, p: Phase, device: u32) -> Due
         ensures { result ≡ scheduled_down_on (down_state self.now env.now) p device }
@@ -112,7 +114,7 @@ impl Down {
         }
     }
 
-    /// The entry of a device that waits for no other: after an error it is skipped.
+    /// The entry of a device that waits for no other. After an error the device is skipped.
     fn device_step(&self, env: &DownEnv<'_>, p: Phase, device: u32) -> Kind
         ensures { result ≡ unless_failed self.now.async_error p device
             (begin_or_skip_on (down_state self.now env.now) p device) }
@@ -136,8 +138,8 @@ impl Down {
         }
     }
 
-    /// The end of the walk, after all that were scheduled are done: `waits_down` is the first that is not
-    /// (`async_synchronize_full`).
+    /// The end of the walk, after all that were scheduled are done. `waits_down` answers the first that is
+    /// scheduled and not done (`async_synchronize_full`).
     fn walk_end(&self, env: &DownEnv<'_>, p: Phase) -> Due
         ensures { result ≡ walk_end_on (down_state self.now env.now) p }
     {
