@@ -1,14 +1,16 @@
 //! What the maker of the open attempt does next, stage by stage (`kernel/power/suspend.c`). An attempt is one
-//! try to suspend; its maker is the task inside `enter_state`: the one that wrote the state, or the autosleep
-//! work.
+//! try to suspend. Its maker is the task inside `enter_state`: the one that wrote `/sys/power/state`, or the
+//! kernel thread that runs the autosleep work.
 //!
 //! The core calls no driver and drives no hardware. It decides which step the maker makes next, and records
 //! it as one entry of the journal, the list of a machine's steps; `Kind` says which step it is. The error
 //! that a callback would return comes from the description of the machine (`Machine`; `What` names the
-//! callback). A `Due` is what is due of somebody: one entry, a wait with its cause (`Why`), or nothing.
+//! callback). A `Due` is what somebody has to do next: make one entry, wait, with the cause (`Why`), or
+//! nothing.
 //!
-//! `now` is no time: it is the event word (`combined_event_count`, and `pm_abort_suspend` for hard events) as
-//! it was read before this step. Sources may have changed it since.
+//! The parameter `now` is no time: it is the event word (`combined_event_count`, and `pm_abort_suspend` for
+//! hard events) as it was read before this step. Sources may have changed it since. In a contract `self.now`
+//! is no event word, but what the reference `self` points to.
 
 ghost use Rattle.std.specs.Prelude.{◌≡◌, ◌≤◌, ◌^◌};
 ghost use Rattle.sleep_model.specs.declared.progress.Due.TheVariants.{Makes};
@@ -57,9 +59,10 @@ impl<'m> Core<'m> {
     }
 
     /// What a freeze of `group` that began at `since`, in ms, does next. A `Round` is what one look of the
-    /// freezer at the group finds (`try_to_freeze_tasks`). `Late`: the freeze has timed out. `Again`: tasks
-    /// are left, and the freeze times out at `until`. It does not say which task is the first one left: that
-    /// is a search, and only the entry that ends a freeze needs it (`woken_end`).
+    /// freezer at the group finds (one pass of the loop of `try_to_freeze_tasks`). `Late`, which is no phase
+    /// here: the freeze has timed out. `Again`: tasks are left, and the freeze times out at `until`. `Again`
+    /// does not say which task is the first one left: that is a search, and only the entry that ends a freeze
+    /// needs it (`woken_end`).
     fn froze_due(&self, now: EventNow, group: Group, since: u64) -> Due
         requires { since ≤ 2 ^ 63 }
         ensures { result ≡ froze_due (entries self.now.past) now group since (left self.now.machine group (entries self.now.past)) }
@@ -79,7 +82,7 @@ impl<'m> Core<'m> {
         }
     }
 
-    /// The next step of a freeze of a group: it asks the group's tasks, then waits for them.
+    /// The next step of a freeze of a group: it asks the group's tasks to freeze, then waits for them.
     fn freeze_due(&self, now: EventNow, group: Group) -> Due
         ensures { result ≡ freeze_due self.now.machine (entries self.now.past) now group (freeze_since (entries self.now.past)) }
     {
@@ -97,8 +100,9 @@ impl<'m> Core<'m> {
     }
 
     /// The entry by which the next processor is stopped. If a wakeup is pending it is `CpuBusy`: the
-    /// processor stays on, and the stage fails. The history's `platform` keeps which processors are off, and
-    /// which notifiers are owed the news that the attempt is over.
+    /// processor stays on, and the stage fails. `self.history` is the journal, with what is read from it,
+    /// which each entry brings up to date. Its `platform` keeps which processors are off, and which notifiers
+    /// are owed `PM_POST_SUSPEND`.
     fn cpu_off_due(&self, now: EventNow) -> Due
         ensures { result ≡ if_left (cpu_kind (pending (entries self.now.past) now)) (next_cpu_off self.now.machine (entries self.now.past)) }
     {
@@ -120,10 +124,11 @@ impl<'m> Core<'m> {
         }
     }
 
-    /// What ends the machine's sleep: a step of the event word since `Enter`, else the alarm, which the
-    /// description sets. A step is an event's start, its finish or a hard event; `pos` counts them. Interrupt
-    /// lines, timers and `nofreeze` tasks make steps while the machine sleeps. In the kernel hardware ends
-    /// the sleep, and the word has no part in it.
+    /// What ends the machine's sleep: a change of the event word since `Enter` (a step of the word), else the
+    /// alarm, which the description sets. A step is an event's start, its finish or a hard event; `pos`
+    /// counts them. In this model interrupt lines, timers and the calls of `nofreeze` tasks on sources go on
+    /// during the sleep, and make such steps. In the kernel none of them runs then: hardware ends the sleep,
+    /// and the word has no part in it.
     fn wakes_due(&self, now: EventNow, sleep: Sleep) -> Due
         requires { sleep.since ≤ 2 ^ 63 }
         ensures { result ≡ wakes_due self.now.machine (entries self.now.past) now sleep }
@@ -138,7 +143,7 @@ impl<'m> Core<'m> {
     }
 
     /// The entry `Enter`, the last test before `suspend_ops->enter`: if a wakeup is pending (`busy`), the
-    /// machine does not sleep. If it sleeps, what wakes it.
+    /// machine does not sleep. If it sleeps (`sleep()` is what is known of a sleep under way), what wakes it.
     fn enter_due(&self, now: EventNow) -> Due
         ensures { result ≡ enter_due self.now.machine (entries self.now.past) now (sleep_of (entries self.now.past)) }
     {
@@ -213,8 +218,8 @@ impl<'m> Core<'m> {
     }
 
     /// The maker's next step at a stage, or else at the one after it. One look ahead is enough: no two stages
-    /// in a row have nothing to do. It is not inlined: `due_of`, which calls it, answers the phases of
-    /// devices itself, and these have most entries.
+    /// in a row have nothing to do. It is not inlined: `due_of`, which calls it, works out the steps of the
+    /// devices' phases without it, and these have most entries.
     #[inline(never)]
     pub(crate) fn stage_or_next(&self, now: EventNow, stage: Stage) -> Due
         requires { FitsPhase stage }
