@@ -1,18 +1,30 @@
-//! How a run goes to its end: in rounds by the calling thread, and in bursts on worker threads between them.
+//! How the simulation of a machine goes to its end, on one thread or on several. The kernel has nothing like
+//! it, so these are the words of this file, each before its first use:
 //!
-//! A run plays a machine. Its actors are the scripts, the autosleep work, the asynchronous devices and the
-//! timers of the sources. Each step that they make is recorded as an entry: of the journal, which is the
-//! core's list, or of the history of a source.
-//!
-//! A turn is one try of an actor: it makes its next entry of the journal or its next call on a source, or it
-//! has to wait. A round is one turn of each actor that is not known to wait. A stretch is rounds by the
-//! calling thread, up to a given number or to a round that makes no entry. After such a round all actors are
-//! looked at. If one can go on, it makes an entry; else time jumps to the next moment for which somebody
-//! waits; else the run is over.
-//!
-//! A burst deals the actors out to worker threads, which make turns at the same time; a stretch of one round
-//! follows it. A job says what an actor does next. In a burst each job is a task, and so is each source's
-//! timer: what workers make turns of, and no `task_struct`.
+//! - A machine is a computer that suspends, as a file describes it (`Machine`); a run is its simulation.
+//! - A source is a wakeup source of the machine (`struct wakeup_source`).
+//! - A call on a source is `__pm_stay_awake`, `__pm_relax`, `pm_wakeup_ws_event`, or `pm_wakeup_timer_fn` of
+//!   its timer.
+//! - A script lists the operations of a process, of a kernel thread or of an interrupt line.
+//! - An actor is a script, the autosleep work item, an asynchronous device, or the timer of a source.
+//! - An entry records one step of an actor.
+//! - The core decides all steps but the calls on sources; its journal lists the entries of these steps.
+//! - The history of a source lists the entries of the calls on it.
+//! - The log of a run is the journal with the histories of all sources merged in.
+//! - A try of an actor makes its next call on a source, or else its next entry of the journal; or it finds
+//!   that the actor has to wait.
+//! - A round is one try of each actor that is not known to wait.
+//! - A stretch is rounds by the calling thread: up to a given number, or up to one that makes no entry,
+//!   neither in the journal nor in a history.
+//! - After a round without an entry the stretch ends with one look at all actors, those too that are known to
+//!   wait. If any can make an entry, the first of them does. If none can, and nothing is left to do, the run
+//!   is finished. If none can, and nobody waits for a moment of time, it is stuck. Else time jumps to the
+//!   next such moment; the jump is an entry of the journal, too.
+//! - A job says what an actor does next.
+//! - A task is a job or the timer of a source; here it is no `task_struct`.
+//! - A worker is a thread that makes the tries of its share of the tasks.
+//! - In a burst all workers make tries at the same time, and the core and each source have a lock each. A
+//!   stretch of one round follows each burst.
 
 ghost use Rattle.std.specs.Prelude.{◌≡◌, ◌≤◌, IfOk};
 ghost use Rattle.world_workers.specs.declared.fault.RunFault.TheVariants as fault;
@@ -35,9 +47,9 @@ use wait_queues::Waiters;
 use wakeup_source::MOST_ENTRIES;
 use world_workers::{Burst, BurstContents, BurstPlan, RunFault, make_burst};
 
-/// The most entries that a log has, whatever machine the reader of machine files accepts. The crate
-/// `end_laws` proves the number (`all_logs_are_bounded`); it comes of the limits of machine files and of
-/// histories. A log is the core's journal with the histories of the sources merged in.
+/// The most entries that a log has, for any machine that the reader of machine files accepts. The crate
+/// `end_laws` proves the number (`all_logs_are_bounded`); it follows from the limits of machine files and of
+/// histories.
 const MOST_LOG: u64 = 37_585_025;
 
 /// The part of a run that the calling thread keeps during a burst: the workers have its core, its sources and
@@ -46,20 +58,20 @@ const MOST_LOG: u64 = 37_585_025;
 struct RunInBurst<'m> {
     machine: &'m Machine,
     /// The event word (`combined_event_count`, and `pm_abort_suspend` for hard events): one atomic that all
-    /// threads share. The core and each source have a seat at this table (`event_word`): the core may load
-    /// the word by its seat, and a source may also add to it.
+    /// threads share. An `EventTable` has no rows: the core and each source have a seat at it, which is a
+    /// handle. By its seat the core may load the word, and a source may also add to it.
     table: EventTable,
-    /// The last stamp that anybody made before the burst. Each entry has a stamp, by which all are merged
-    /// into one log. `pos` counts the steps of the event word (each change is one) as the entry's maker saw
-    /// it. `tick` is no time, but a logical clock: it rises from entry to entry of the journal, of each
-    /// history, and of each actor. The entries of the burst have later ticks than the floor.
+    /// Each entry has a stamp, by which all are merged into one log. `pos` is how many steps of the event
+    /// word (each change is one) the actor had seen. `tick` is no time, but a logical clock: it rises from
+    /// entry to entry of the journal, of each history, and of each actor. The floor is the last stamp before
+    /// the burst: the entries of the burst have later ticks.
     floor: Stamp,
-    /// Who waits, and so gets no turn in rounds until something may have ended the wait.
+    /// Who is known to wait: a round passes over these, until something may have ended the wait.
     waiters: Waiters,
 }
 
-/// A run after stretches or a burst, and what came of them: it goes on (`Ok(None)`), it is over, and how
-/// (`Ok(Some)`), or it gives no log (`Err`).
+/// A run after stretches or a burst, and what came of them. It goes on (`Ok(None)`); it is over, and how
+/// (`Ok(Some)`); or it gives no log, since a source is full or memory ran out (`Err`).
 #[derive(Drop)]
 struct Advance<'m> {
     run: Run<'m>,
@@ -70,8 +82,9 @@ struct Advance<'m> {
 #[derive(Drop)]
 struct AfterBurst<'m> {
     run: Run<'m>,
-    /// How many calls on sources the tasks made, but for those of the task that made most. By it `Pace`
-    /// decides whether more bursts pay: the calls of one task no second thread makes faster.
+    /// How many calls on sources the tasks made, but for those of the task that made most. By it `Pace`,
+    /// which decides between rounds and bursts, judges whether more bursts pay: a second thread cannot speed
+    /// up the calls of one task.
     other_calls: u64,
     /// How many tasks there were.
     task_count: usize,
@@ -85,8 +98,8 @@ impl<'m> RunInBurst<'m> {
     ghost use Rattle.machine_rounds.specs.Runs.{entries_made};
 
     /// Makes the burst: the tasks run on worker threads, and all that went in comes back. `gate` is told of
-    /// each turn. A test waits in it, to bring turns into an order; the program's gate does nothing
-    /// (`OpenGate`).
+    /// each try. In tests of this project it blocks, to force an order of tries; in the program it does
+    /// nothing (`OpenGate`). `rt` is the runtime, which makes threads and lets them wait; it is no real time.
     fn run_tasks<R: Threads + Wait + Sync, G: Gate + Sync>(
         &self,
         rt: &R,
@@ -111,8 +124,9 @@ impl<'m> RunInBurst<'m> {
         make_burst(rt, alloc, &plan, contents)
     }
 
-    /// Puts the run together again from what came back from a burst. `floor` is the last stamp that anybody
-    /// made. All who wait get turns again: in a burst nobody keeps account of what ends their waits.
+    /// Puts the run together again from what came back from a burst. `floor` is the last stamp of all, those
+    /// of the burst among them. Nobody is known to wait any more: in a burst nobody keeps account of what
+    /// ends a wait.
     fn joined(
         self,
         core: SeatedCore<'m>,
@@ -142,8 +156,8 @@ impl<'m> RunInBurst<'m> {
         }
     }
 
-    /// Turns the tasks of a burst back into jobs, raises the floor to the greatest of their stamps, and puts
-    /// the run together. `task_count`, the number of tasks, is passed on. `Mem` if there is no memory.
+    /// Makes the tasks of a burst jobs again, raises the floor to the greatest of their stamps, and puts the
+    /// run together. `task_count`, the number of tasks, is passed on. `Mem` if there is no memory.
     fn come_back(
         self,
         alloc: Global,
@@ -205,8 +219,8 @@ impl<'m> RunInBurst<'m> {
 impl<'m> AfterBurst<'m> {
     ghost use Rattle.machine_rounds.specs.Runs.{AfterStretches};
 
-    /// Tells `pace`, which decides between rounds and bursts, what the burst by so many `workers` came to.
-    /// Then the run goes on by a stretch of one round.
+    /// Tells `pace` what the burst by `workers` workers came to. Then the run goes on by a stretch of one
+    /// round.
     fn go_on<R: Wait>(self, rt: &R, pace: &mut Pace, workers: u8) -> Advance<'m>
         ensures machine { result.run.machine ≡ self.entry.run.machine }
         ensures after { AfterStretches 1 self.entry.run result.run result.outcome }
@@ -229,9 +243,10 @@ impl<'m> Run<'m> {
     ghost use Rattle.machine_rounds.specs.BurstsOf.{IsRunInBurst, entries_of};
     ghost use Rattle.machine_rounds.specs.Runs.{AfterStretches, Fails, IsRefused, IsRun, entries_made};
 
-    /// The parts that go into a burst, and what stays. The journal has to be short, so that no job's count of
-    /// turns overflows in the burst. A job counts only turns that made an entry of the journal, and a burst
-    /// adds 1,000 at most (`MOST_TURNS`). `Mem` if there is no memory.
+    /// What stays with the calling thread, and the parts that go into a burst. The journal has to be short,
+    /// so that no job's count of its entries of the journal overflows in the burst. In a burst a task has at
+    /// most 1,000 tries (`MOST_TURNS`; a worker's turn is a try), and each makes one such entry at most.
+    /// `Mem` if there is no memory.
     fn take_apart(self, alloc: Global) -> Result<(RunInBurst<'m>, BurstContents<'m>), Mem>
         requires { length self.journal + 1000 < 2 ^ 63 }
         ensures machine { IfOk result (λ contents. contents.0.machine.now ≡ self.entry.machine) }
@@ -266,8 +281,9 @@ impl<'m> Run<'m> {
         Ok((during, contents))
     }
 
-    /// A burst by so many `workers`. Each goes round its part of the tasks until a round makes no entry, or
-    /// 1,000 times. `Mem` if there is no memory.
+    /// A burst by `workers` workers. Each makes the tries of its share of the tasks again and again: until
+    /// all of them make no entry in any list, until a task stops, or 1,000 times. `Mem` if there is no
+    /// memory.
     fn burst<R: Threads + Wait + Sync, G: Gate + Sync>(
         self,
         rt: &R,
@@ -287,8 +303,8 @@ impl<'m> Run<'m> {
         during.run_on(rt, alloc, contents, workers, gate)
     }
 
-    /// Whether the history of `source` has fewer than four free places. A call may need four: for its note,
-    /// and for three steps of the event word.
+    /// Whether the history of `source` has fewer than four free places. A call may need four: for the entry
+    /// of the call itself, and for those of three steps of the event word.
     fn is_full(&self, source: u32) -> bool
         ensures { OnTrue result (IsRefused self.now (fault.SourceFull source)) }
     {
@@ -298,8 +314,8 @@ impl<'m> Run<'m> {
         }
     }
 
-    /// Whether a task may have stopped for `fault`: for want of memory always, for a full source if that
-    /// source is full.
+    /// Whether a task may have stopped for `fault`: for a full source, which refuses a call, only if that
+    /// source is full; for want of memory always.
     fn is_refused(&self, fault: RunFault) -> bool
         ensures { OnTrue result (IsRefused self.now fault) }
     {
@@ -320,7 +336,7 @@ impl<'m> Run<'m> {
         }
     }
 
-    /// Makes so many `stretches`, all by the calling thread. Answers how the run is over, if it is.
+    /// Makes `stretches` stretches, all by the calling thread. Returns how the run is over, if it is.
     fn alone<R: Wait>(&mut self, rt: &R, stretches: u32) -> Result<Option<EndOfRun>, RunFault>
         ensures machine { self.new.machine ≡ self.old.machine }
         ensures after { AfterStretches stretches self.old self.new result }
@@ -344,7 +360,7 @@ impl<'m> Run<'m> {
         Advance { run, outcome }
     }
 
-    /// Makes a stretch of one round, unless a task of the burst stopped. Answers how the run is over, if it
+    /// Makes a stretch of one round, unless a task of the burst stopped. Returns how the run is over, if it
     /// is.
     fn round_after_burst<R: Wait>(
         &mut self,
@@ -378,8 +394,9 @@ impl<'m> Run<'m> {
         Ok(after.go_on(rt, pace, workers))
     }
 
-    /// Brings the run on: by as many stretches of the calling thread as `pace` says, or, if it says none, by
-    /// a burst. Either way an entry is made at least, or the run is over or gives no log.
+    /// Moves the run on: by as many stretches of the calling thread as `pace` says (`alone` is their number
+    /// here), or, if it says none, by a burst. Either way at least one entry is made, or the run is over or
+    /// gives no log.
     fn advance<R: Threads + Wait + Sync, G: Gate + Sync>(
         self,
         rt: &R,
