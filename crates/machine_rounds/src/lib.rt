@@ -1,4 +1,4 @@
-//! A run of a machine, as far as it has come: rounds over its actors, bursts of their turns on threads
+//! A run of a machine, as far as it has come: rounds over its actors, bursts of their tries on threads
 //! between the rounds, jumps of time, and at the end the log of every step. `wait_queues` says whom a round
 //! asks. `sleep_run` makes a whole run of it.
 //!
