@@ -1,16 +1,18 @@
-//! What the maker of an attempt does next (`kernel/power/suspend.c`). An attempt is one try to suspend; its
-//! maker is the task inside `enter_state`: the one that wrote the state, or the autosleep work. The checker
-//! of logs does not trust the core: it works out by itself which step the maker has to make next. So this
-//! repeats `sleep_core/src/attempt.rt` on purpose.
+//! What the maker of an attempt does next (`kernel/power/suspend.c`). An attempt is one try to suspend, and
+//! is open until its entry `Over`. Its maker is the task inside `enter_state`: the one that wrote
+//! `/sys/power/state`, or the kernel thread that runs the autosleep work. The checker of logs does not trust
+//! the core: it works out by itself which step the maker has to make next. So this repeats
+//! `sleep_core/src/attempt.rt` on purpose.
 //!
-//! `past` is what the checker knows of the entries of a log that it has passed. Each entry is one step of the
-//! machine, and its `Kind` says which. A `Due` is what is due of somebody: one entry, a wait with its cause,
-//! or nothing. `now` is no time: it is the event word after these entries (`combined_event_count`, and
-//! `pm_abort_suspend` for hard events).
+//! `past` is what the checker knows of the entries of a log that it has checked so far (`Passed`); all of
+//! them keep its rules. Each entry is one step of the machine, and its `Kind` says which. A `Due` is what
+//! somebody has to do next: make one entry, wait, with the cause, or nothing. `now` is no time: it is the
+//! event word after these entries (`combined_event_count`, and `pm_abort_suspend` for hard events).
 //!
-//! `Mem` is also the answer to a sum of times that overflows (`later_by`). No log comes to that: the passed
-//! entries are legal, so they are few, and no jump of time is longer than a day (in `end_laws`:
-//! `all_logs_are_bounded`, `next_moments_are_bounded`).
+//! `Mem` is elsewhere the error of memory that ran out. Here it stands only for a sum of times that overflows
+//! (`later_by`). No log leads to that. The entries so far are legal, and a legal log has a bounded number of
+//! entries. Time passes only in jumps to the next moment for which somebody waits, and none is longer than a
+//! day. (In `end_laws`: `all_logs_are_bounded`, `next_moments_are_bounded`.)
 
 ghost use Rattle.std.specs.Prelude.{◌≡◌, IfOk};
 ghost use Rattle.sleep_model.specs.declared.progress.Stage.TheVariants.{Notifies, NotifiesPost, StartsCpus, StartsSyscore, StopsCpus, StopsSyscore};
@@ -26,8 +28,8 @@ use check_past::Passed;
 use sleep_base::Mem;
 use sleep_model::{Due, EventNow, Group, Kind, Stage, What};
 
-/// The next step of a freeze of a group: it asks the group's tasks, then waits for them. `Mem` if the moment
-/// at which it gives up overflows.
+/// The next step of a freeze of a group: it asks the group's tasks to freeze, then waits for them. `Mem` if
+/// the moment at which it gives up overflows.
 fn freeze_due(past: &Passed<'_>, now: EventNow, group: Group) -> Result<Due, Mem>
     ensures { IfOk result (λ d. d ≡ freeze_due past.now.machine (journal_of past.now) now group
         (freeze_since (journal_of past.now))) }
@@ -39,7 +41,8 @@ fn freeze_due(past: &Passed<'_>, now: EventNow, group: Group) -> Result<Due, Mem
 }
 
 /// The entry `Enter`, the last test before `suspend_ops->enter`: if a wakeup is pending (`busy`), the machine
-/// does not sleep. If it sleeps, what wakes it. `Mem` if the alarm's moment overflows.
+/// does not sleep. If it sleeps (`sleep()` is what is known of a sleep under way), what wakes it. `Mem` if
+/// the alarm's moment overflows.
 fn enter_due(past: &Passed<'_>, now: EventNow) -> Result<Due, Mem>
     ensures { IfOk result (λ d. d ≡ enter_due past.now.machine (journal_of past.now) now (sleep_of (journal_of past.now))) }
 {
