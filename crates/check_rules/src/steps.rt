@@ -1,12 +1,15 @@
-//! The rule of steps: an entry of the journal is one that its actor can make at the point to which it has
-//! come. The journal lists the steps of a machine, each as one entry; the `Kind` of an entry says which step
-//! it is. An actor is a script (of a task or of an interrupt line), the autosleep work, an asynchronous
-//! device, the timer of a source, or time.
+//! The rule of steps, a rule of the checker of logs: an entry of the journal is one that its actor can make
+//! at the point it has reached. The journal lists the steps of a machine, each as one entry; the `Kind` of an
+//! entry says which step it is. An actor is a script (of a task or of an interrupt line), the autosleep work,
+//! an asynchronous device, the timer of a source, or time.
 //!
-//! The maker of an attempt is the task inside `enter_state`. Of its entries only the kind is looked at here:
-//! `path.rt` and `walk.rt` look at their order. `reads.rt` looks at what reads and writes answer. `now` is no
-//! time: it is the event word before the entry (`combined_event_count`, and `pm_abort_suspend` for hard
-//! events).
+//! `past` is what the checker knows of the entries before this one, all of which keep its rules (`Passed`).
+//! `now` is no time: it is the event word before the entry (`combined_event_count`, and `pm_abort_suspend`
+//! for hard events).
+//!
+//! An attempt is one try to suspend, and is open until its entry `Over`. Its maker is the task inside
+//! `enter_state`. Of the maker's entries only the kind is looked at here: `path.rt` and `walk.rt` look at
+//! their order. `reads.rt` looks at what reads and writes answer.
 
 ghost use Rattle.std.specs.Prelude.{◌≡◌, ◌↔◌, true, IsTrue, IfOk, option_copied, slice_get};
 ghost use Rattle.rule_definitions.specs.Steps.{IsDeviceStep, IsLinkOf, IsLinkStateOf, IsMakerStep, IsOfAutosleep, IsOfOp, IsPostOf, IsRequestOf, IsScriptStep, IsStep, IsWorkStep, KeepsSteps, is_of_state_write};
@@ -30,7 +33,8 @@ fn is_of_count_read(kind: Kind) -> bool
     matches!(kind, Kind::ReadWait | Kind::Read(_) | Kind::ReadIntr)
 }
 
-/// Whether the entry belongs to a write to `/sys/power/wakeup_count`.
+/// Whether the entry belongs to a write to `/sys/power/wakeup_count`. `SaveWait`: the write waits for
+/// `autosleep_lock`.
 fn is_of_count_save(kind: Kind) -> bool
     ensures { result ≡ is_of_count_save kind }
 {
@@ -38,8 +42,8 @@ fn is_of_count_save(kind: Kind) -> bool
 }
 
 /// Whether the entry belongs to a write to `/sys/power/state`, up to the beginning of its attempt.
-/// `StateUnsaved`: the script did not write, since it is to write only after a write to `wakeup_count` that
-/// succeeded, and its last one did not, or there was none.
+/// `StateWait`: the write waits for `autosleep_lock`. `StateUnsaved`: the script left the write out, since it
+/// was told to write only if its last write to `wakeup_count` succeeded.
 fn is_of_state_write(kind: Kind) -> bool
     ensures { result ≡ is_of_state_write kind }
 {
@@ -72,8 +76,7 @@ fn is_post_of(mark: u32, kind: Kind) -> bool
     matches!(kind, Kind::Post(other) if other == mark)
 }
 
-/// Whether the entry is a request for a runtime status of `device`: suspended or active, as `to_suspended`
-/// says.
+/// Whether the entry is a request that `device` become runtime suspended or active, as `to_suspended` says.
 fn is_request_of(device: u32, to_suspended: bool, kind: Kind) -> bool
     ensures { IsTrue result ↔ IsRequestOf device to_suspended kind }
 {
@@ -104,8 +107,9 @@ fn is_link_state_of(supplier: u32, consumer: u32, active: bool, kind: Kind) -> b
 }
 
 /// Whether the entry belongs to `op`, or is the exit if no operation is left (`None`). `position.waits` says
-/// whether the operation has begun; `makes`, whether `kind` is the entry that is due. `SleepD` is a sleep in
-/// `TASK_UNINTERRUPTIBLE`. `Mem` if the end of a sleep overflows.
+/// whether the operation has begun, by an entry that is not its last: a wait, a sleep, or `AutoSet`. `makes`
+/// says whether `kind` is the entry that is due. `SleepD` is a sleep in `TASK_UNINTERRUPTIBLE`. `Pass`: the
+/// task goes on past a `try_to_freeze`. `Mem` if the end of a sleep overflows.
 fn is_of_op(
     past: &Passed<'_>,
     position: ScriptPosition,
@@ -147,7 +151,7 @@ fn is_of_op(
 }
 
 /// Whether the entry belongs to the operation, or says that the task was frozen at it (`Frozen`), if a task
-/// that is asked may freeze there (`freezes_at`).
+/// that is asked to freeze may do so there (`freezes_at`).
 fn is_step(
     past: &Passed<'_>,
     user: bool,
@@ -168,8 +172,8 @@ fn is_step(
     }
 }
 
-/// Whether the entry is a step of script i, which is there and has not exited. A machine's `actors` are its
-/// scripts.
+/// Whether the entry is a step of script i, which is there and has not exited. The field `actors` of a
+/// machine has only its scripts; `script.kind` says of which kind of task a script is.
 fn is_script_step(past: &Passed<'_>, i: u32, kind: Kind) -> Result<bool, Mem>
     ensures { IfOk result (λ b. IsTrue b ↔ IsScriptStep past.now.machine (journal_of past.now)
         (position_of past.now.machine (journal_of past.now) i) (op_of past.now.machine (journal_of past.now) i)
@@ -194,16 +198,17 @@ fn is_script_step(past: &Passed<'_>, i: u32, kind: Kind) -> Result<bool, Mem>
     }
 }
 
-/// Whether the entry is one of the autosleep work in that state. The work is `try_to_suspend`: `Reading` and
-/// `Looking` are its two calls of `pm_get_wakeup_count`, `Saving` is `pm_save_wakeup_count`, `Attempting` is
-/// the test of `autosleep_state` and `pm_suspend`. `Napping` is its sleep of half a second, and `Closing` is
-/// `queue_up_suspend_work`. While `Resting` it does not run; it may if it is queued, `auto_cycles` times at
-/// most (`may_run`).
+/// Whether the entry is one of the autosleep work in the state `work`. The work is `try_to_suspend`:
+/// `Reading` and `Looking` are its two calls of `pm_get_wakeup_count`, `Saving` is `pm_save_wakeup_count`.
+/// `Attempting` is the test of `autosleep_state`, and then `pm_suspend`. `Napping` is its sleep of half a
+/// second, and `Closing` is `queue_up_suspend_work`. While `Resting` it does not run; it may if it is queued
+/// (`may_run`). It runs `auto_cycles` times at most, a number in the description of the machine; the kernel
+/// has no such bound.
 ///
-/// `AutoRun` begins the work, `AutoAfter` has the second count, `AutoAgain` queues the work anew, and
-/// `AutoOff` ends it because autosleep is off. (`AutoSet`, `AutoDone` and `AutoBad` are entries of a write to
-/// autosleep.) That an attempt needs autosleep on is a rule of `reads.rt`. `Mem` if the end of its sleep
-/// overflows.
+/// `AutoRun` begins the work. `AutoSaved` and `AutoUnsaved` say that `pm_save_wakeup_count` answered true or
+/// false. `AutoAfter` has the second count, `AutoAgain` queues the work anew, and `AutoOff` ends it because
+/// autosleep is off. (`AutoSet`, `AutoDone` and `AutoBad` are entries of a write to `/sys/power/autosleep`.)
+/// That an attempt needs autosleep on is a rule of `reads.rt`. `Mem` if the end of its sleep overflows.
 fn is_work_step(past: &Passed<'_>, now: EventNow, work: Work, kind: Kind) -> Result<bool, Mem>
     ensures { IfOk result (λ b. IsTrue b ↔ IsWorkStep past.now.machine (journal_of past.now) now work kind) }
 {
@@ -224,7 +229,7 @@ fn is_work_step(past: &Passed<'_>, now: EventNow, work: Work, kind: Kind) -> Res
     }
 }
 
-/// Whether the entry is one of an asynchronous device whose work is in that state.
+/// Whether the entry is one of an asynchronous device whose own work is in the state `work`.
 fn is_device_step(device: u32, work: AsyncWork, kind: Kind) -> bool
     ensures { IsTrue result ↔ IsDeviceStep device work kind }
 {
@@ -269,9 +274,9 @@ fn is_maker_step(past: &Passed<'_>, kind: Kind) -> bool
     }
 }
 
-/// Whether an entry of the journal is the next step of `who`, or, if `who` makes the open attempt, any step
-/// of an attempt (`kernel/power/main.c`, `autosleep.c`, `suspend.c`, `drivers/base/power/main.c`). `Mem` if
-/// the end of a sleep overflows.
+/// Whether an entry keeps the rule of steps. It is the next step of `who`, or, if `who` makes the open
+/// attempt, any step of an attempt (`kernel/power/main.c`, `autosleep.c`, `suspend.c`,
+/// `drivers/base/power/main.c`). `Mem` if the end of a sleep overflows.
 pub fn keeps_steps(past: &Passed<'_>, now: EventNow, who: Actor, kind: Kind) -> Result<bool, Mem>
     ensures { IfOk result (λ b. IsTrue b ↔ KeepsSteps past.now.machine (journal_of past.now) now who kind) }
 {
