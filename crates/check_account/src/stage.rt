@@ -6,7 +6,7 @@ ghost use Rattle.sleep_model.specs.Table.{after_done, next_stage, stage_after_do
 use sleep_base::Errno;
 use sleep_model::{FrozeEnd, Group, Kind, Phase, PlatDo, PlatUndo, Stage, Thaw};
 
-/// The first if there is no error, else the second.
+/// The stage `good` if there is no error, else the stage `failed`.
 fn by_error(r: Option<Errno>, good: Stage, failed: Stage) -> Stage
     ensures { result ≡ by_error r good failed }
 {
@@ -16,14 +16,14 @@ fn by_error(r: Option<Errno>, good: Stage, failed: Stage) -> Stage
     }
 }
 
-/// The first if it is so, else the second.
+/// The stage `here` if it is `so`, else the stage `there`.
 fn by_case(so: bool, here: Stage, there: Stage) -> Stage
     ensures { result ≡ by_case so here there }
 {
     if so { here } else { there }
 }
 
-/// The first if a freeze left no task, else the second.
+/// The stage `good` if a freeze left no task, else the stage `failed`.
 fn by_froze(end: FrozeEnd, good: Stage, failed: Stage) -> Stage
     ensures { result ≡ by_froze end good failed }
 {
