@@ -1,7 +1,9 @@
 -- The table of an attempt: the stage under way, what follows it, and what a failure leads to (kernel/power/suspend.c).
 -- An attempt is one try to suspend, a call of enter_state; the open attempt is the one that is under way.
--- The journal lists the steps of a machine, each as one entry; the Kind of an entry says which step it is.
--- The table is of PM_SUSPEND_MEM by suspend_ops. It leaves out s2idle, suspend_again, pm_test, consoles, GFP masks and the sync of files.
+-- A machine is the computer that suspends. The journal lists its steps, each as one entry; the Kind of an entry says which step it is.
+-- The table is for PM_SUSPEND_MEM, with suspend_ops. It leaves out s2idle, suspend_again, pm_test, consoles, GFP masks and the sync of
+-- files.
+-- Names in brackets at the end of a comment are the kernel's functions that do the same.
 use Rattle.std.specs.Prelude.{Bool, true, false, if◌then◌else◌, List, [], ◌∷◌, Option, Some, None}
 use Rattle.sleep_base.specs.declared.errno.Errno.{Errno}
 use Rattle.sleep_model.specs.declared.entry.Entry.{Entry}
@@ -34,14 +36,16 @@ pub record Row : Type 0 where
 abbrev pub may_fail : Stage → Stage → Row
 may_fail next failed = record { next = next; failed = failed }
 
--- a stage that does not fail, or whose failure changes nothing: `next` is in both columns
+-- a stage that does not fail, or whose failure does not change what follows: `next` is in both columns
 abbrev pub always : Stage → Row
 always next = record { next = next; failed = next }
 
--- the table. Downs p and Ups p are phase p of the devices' way down and of their way up. If the phases late and noirq fail, they resume
--- what they suspended. PlatformDo is begin, prepare or prepare_late of suspend_ops, and PlatformUndo is recover, wake, finish or end.
--- PrepareLate comes after noirq. ChecksWakeup is the test with which syscore_suspend begins; Enters begins with the test after
--- syscore_suspend. ClearsEventsCheck sets events_check_enabled to false. The comments of the type Stage name the kernel's function of each
+-- the table. A stage has the name of what it does: Downs p takes the devices down by phase p, and Ups p takes them up by phase p. If the
+-- phases late and noirq fail, they resume what they suspended. PlatformDo is begin, prepare or prepare_late of suspend_ops. These are
+-- down.Begin, down.Prepare and down.PrepareLate in the rows, and no phases of devices. PlatformUndo is recover, wake, finish or end of
+-- suspend_ops; all but recover come after a success, too. PrepareLate comes after noirq: platform_suspend_prepare_noirq calls it.
+-- ChecksWakeup is the test with which syscore_suspend begins; Enters begins with the test after syscore_suspend. ClearsEventsCheck sets
+-- events_check_enabled to false. The comments of the type Stage name the kernel's function of each stage
 -- (enter_state, suspend_devices_and_enter, suspend_enter, dpm_suspend_late, dpm_suspend_noirq, platform_suspend_prepare_noirq)
 abbrev pub row : Stage → Row
 row stage.Notifies = may_fail (stage.Freezes group.User) stage.NotifiesPost
@@ -76,8 +80,9 @@ row (stage.Thaws thaw.Kernel) = always (stage.Thaws thaw.All)
 row (stage.Thaws thaw.All) = always stage.NotifiesPost
 row stage.NotifiesPost = always stage.Ends
 row stage.Ends = always stage.Ends
--- no attempt comes to this row: Prepare and the two syscore phases have stages of their own. No code reads its first column. The checker's
--- code reads the second: it asks failed_phase of Prepare (check_account). So the second is the same as in the row of Prepares
+-- no attempt comes to this row. Prepare, Complete and the two syscore phases have stages of their own; ResumeNoirq, Early and Resume are
+-- phases of Ups. No code reads the first column, which is arbitrary. The code of the checker of logs (check_account) calls failed_phase of
+-- Prepare, and so reads the second. So the second is the same as in the row of Prepares
 row (stage.Downs _) = may_fail (stage.PlatformDo down.PrepareLate) (stage.PlatformUndo undo.Recover)
 
 -- ---- the columns of the table, for each sort of stage
@@ -114,7 +119,7 @@ stage_after_platform_up step = (row (stage.PlatformUndo step)).next
 abbrev pub stage_after_thaw : Thaw → Stage
 stage_after_thaw those = (row (stage.Thaws those)).next
 
--- after a step of the platform that failed (suspend_devices_and_enter, suspend_enter)
+-- after a failed step of the platform (suspend_devices_and_enter, suspend_enter)
 abbrev pub failed_platform_down : PlatDo → Stage
 failed_platform_down step = (row (stage.PlatformDo step)).failed
 
@@ -129,23 +134,24 @@ failed_phase p = (row (stage.Downs p)).failed
 
 -- ---- the stage after an entry
 
--- the first if there is no error, else the second
+-- the stage `good` if there is no error, else the stage `failed`
 abbrev pub by_error : Option Errno → Stage → Stage → Stage
 by_error None good failed = good
 by_error (Some r) good failed = failed
 
--- the first if a freeze froze all its tasks, else the second
+-- the stage `good` if a freeze froze all its tasks, else the stage `failed`
 abbrev pub by_froze : FrozeEnd → Stage → Stage → Stage
 by_froze AllFrozen good failed = good
 by_froze _ good failed = failed
 
--- the first if the condition holds, else the second
+-- the stage `here` if the condition holds, else the stage `there`
 abbrev pub by_case : Bool → Stage → Stage → Stage
 by_case true here there = here
 by_case false here there = there
 
--- the stage after a phase that is done. The two syscore phases have no entry Done: their rows only make the function total. Such a phase
--- ends at the entry of an operation that fails, else at the entry after the last operation's: Enter on the way down, Irqs on the way up
+-- the stage after a phase that is done. The two syscore phases have no entry Done: their equations here only make the function total. On
+-- the way down such a phase ends at the entry of an operation that fails, else at Enter, the entry after the last operation's. On the way
+-- up no operation fails, and the phase ends at Irqs
 -- (suspend_devices_and_enter, suspend_enter)
 abbrev pub after_done : Phase → Option Errno → Stage
 after_done phase.Prepare r = by_error r (next_stage stage.Prepares) (after_failure stage.Prepares)
@@ -155,11 +161,14 @@ after_done phase.Complete r = next_stage stage.Completes
 after_done p r = if is_down p then by_error r (stage_after_down p) (failed_phase p) else stage_after_up p
 
 -- in the entries below n is the number of an attempt, x of a notifier or a syscore operation, k of a processor; r is an error, or none.
--- guarded is the saved count by which the attempt's tests go, if events_check_enabled was true as it began
+-- guarded is saved_count, if events_check_enabled was true as the attempt began: pm_wakeup_pending compares with it. busy and CpuBusy: a
+-- wakeup is pending (EBUSY). Of three stages the entry has another name: SyscoreCheck of ChecksWakeup, Clear of ClearsEventsCheck, Over of
+-- Ends
 
 -- the stage of the open attempt after an entry of the journal. An entry of one device, and one that is not made for the attempt, such as a
--- read of the count, does not change it. Nor does that of one notifier, processor or syscore operation that succeeds: the stage changes at
--- the first entry of the next stage
+-- read of wakeup_count, does not change it. Nor does that of one notifier, processor or syscore operation that succeeds. If all succeed,
+-- such a stage is left at the first entry of the next stage. If that entry is the only one of the next stage, it ends that stage, too. So
+-- Irqs off leads from StopsCpus to ChecksWakeup: no entry leads to StopsIrqs
 -- (enter_state, suspend_devices_and_enter, suspend_enter)
 abbrev pub stage_after : Kind → Option Stage → Option Stage
 stage_after (kind.Attempt n guarded) before = Some stage.Notifies
@@ -184,7 +193,7 @@ stage_after (kind.NotifyPost x) before = Some stage.NotifiesPost
 stage_after (kind.Over n r) before = None
 stage_after _ before = before
 
--- the stage of the open attempt, if one is open (enter_state)
+-- the stage of the open attempt, if one is open; the list has the newest entry first (enter_state)
 abbrev pub stage_of : List Entry → Option Stage
 stage_of [] = None
 stage_of (e ∷ past) = stage_after e.kind (stage_of past)
