@@ -58,7 +58,7 @@ froze_due past now g since (x ∷ rest) =
     else if pending past now then Makes (kind.Froze g (froze.Wakeup (length (x ∷ rest)) x))
     else Waits (why.Tasks (length (x ∷ rest)) (gives_up_at since))
 
--- a freeze of a group: it asks the group's tasks, then waits for them (freeze_processes, freeze_kernel_threads)
+-- a freeze of a group: it asks the group's tasks to freeze, then waits for them (freeze_processes, freeze_kernel_threads)
 abbrev pub freeze_due : Machine → List Entry → EventNow → Group → Option ℕ → Due
 freeze_due m past now g None = Makes (kind.Freeze g)
 freeze_due m past now g (Some since) = froze_due past now g since (left m g past)

@@ -39,7 +39,7 @@ abbrev pub is_device : Actor → Bool
 is_device (actor.Dev d) = true
 is_device _ = false
 
--- the first if the entry is an asynchronous device's own, else the second (own)
+-- `own` if the entry is an asynchronous device's own, else `other` (own)
 abbrev pub unless_own : {A : Type 0} → Bool → A → A → A
 unless_own true own other = own
 unless_own false own other = other
