@@ -22,15 +22,15 @@ pub struct Down {
     /// The last error: of any device's callback, or `EBUSY` of a wakeup that was found.
     pub async_error: Option<Errno>,
     /// The error of the synchronous device's callback that failed, if one did. Then `async_error` is set,
-    /// too, and that is what ends the walk.
+    /// too, so the walk tests only `async_error`; `dpm_suspend` tests both.
     pub error: Option<Errno>,
 }
 
 /// What a phase on the way down looks at.
 #[derive(Clone, Copy)]
 pub struct DownEnv<'a> {
-    /// The state of each device in the phases (`struct dev_pm_info`). A `Board` is a board of such states,
-    /// and no circuit board.
+    /// The state of each device in the phases (`struct dev_pm_info`). A `Board` is a table of these states:
+    /// one for each device and each pair of phases, such as suspend and resume.
     pub board: &'a Board,
     /// Which devices' `prepare` answered 1 in this attempt: they ask for direct-complete. It answers 0, 1 or
     /// an error here; in the kernel any number above 0 asks.
@@ -89,10 +89,10 @@ impl Down {
     }
 
     /// What the walk of a phase on the way down does next while it runs no callback (`dpm_suspend`,
-    /// `dpm_suspend_late`, `dpm_noirq_suspend_devices`). It begins with the last device of the order, and
-    /// ends with the first. It schedules an asynchronous one. For a synchronous one it waits for its
-    /// subordinates, then skips it or begins its callback. After an error, or when no device is left, it
-    /// waits for all that were scheduled, and ends.
+    /// `dpm_suspend_late`, `dpm_noirq_suspend_devices`). It begins with the last device of the order
+    /// (`dpm_list`), and ends with the first. It schedules an asynchronous one. For a synchronous one it
+    /// waits for its subordinates, then skips it or begins its callback. After an error, or when no device is
+    /// left, it waits for all that were scheduled, and ends.
     pub fn walk_due(&self, env: &DownEnv<'_>, p: Phase) -> Due
         ensures { result ≡ walk_down_due_on (down_state self.now env.now) p }
     {
