@@ -100,9 +100,10 @@ impl<'m> Core<'m> {
     }
 
     /// The entry by which the next processor is stopped. If a wakeup is pending it is `CpuBusy`: the
-    /// processor stays on, and the stage fails. `self.history` is the journal, with what is read from it,
-    /// which each entry brings up to date. Its `platform` keeps which processors are off, and which notifiers
-    /// are owed `PM_POST_SUSPEND`.
+    /// processor stays on, and the stage fails. `self.history` is the journal, no source's history, together
+    /// with values worked out from the journal. Each entry updates these values. One of them is `platform`,
+    /// here not `suspend_ops`: it has the processors that are off, and the notifiers that are owed
+    /// `PM_POST_SUSPEND`.
     fn cpu_off_due(&self, now: EventNow) -> Due
         ensures { result ≡ if_left (cpu_kind (pending (entries self.now.past) now)) (next_cpu_off self.now.machine (entries self.now.past)) }
     {
@@ -124,10 +125,10 @@ impl<'m> Core<'m> {
         }
     }
 
-    /// What ends the machine's sleep: a change of the event word since `Enter` (a step of the word), else the
-    /// alarm, which the description sets. A step is an event's start, its finish or a hard event; `pos`
-    /// counts them. In this model interrupt lines, timers and the calls of `nofreeze` tasks on sources go on
-    /// during the sleep, and make such steps. In the kernel none of them runs then: hardware ends the sleep,
+    /// What ends the machine's sleep: a change of the event word since `Enter`, else the alarm, which the
+    /// description sets. Such a change is an event's start, its finish or a hard event; `pos` counts these
+    /// changes. In this model interrupt lines, timers and the calls of `nofreeze` tasks on sources go on
+    /// during the sleep, and change the word. In the kernel none of them runs then: hardware ends the sleep,
     /// and the word has no part in it.
     fn wakes_due(&self, now: EventNow, sleep: Sleep) -> Due
         requires { sleep.since ≤ 2 ^ 63 }
