@@ -6,21 +6,24 @@
 //! - A call on a source is `__pm_stay_awake`, `__pm_relax`, `pm_wakeup_ws_event`, or `pm_wakeup_timer_fn` of
 //!   its timer.
 //! - A script lists the operations of a process, of a kernel thread or of an interrupt line.
-//! - An actor is a script, the autosleep work item, an asynchronous device, or the timer of a source.
+//! - An actor is a script, the autosleep work item, an asynchronous device, the timer of a source, or time.
 //! - An entry records one step of an actor.
-//! - The core decides all steps but the calls on sources; its journal lists the entries of these steps.
-//! - The history of a source lists the entries of the calls on it.
+//! - The core decides what an actor does next, unless it is a call on a source. Its journal lists the entries
+//!   of all steps but such calls.
+//! - The history of a source lists the entries of the calls on it, and of the changes of the event word that
+//!   these calls make (`combined_event_count`, `pm_abort_suspend`).
+//! - A source is full if its history has fewer than four free places.
 //! - The log of a run is the journal with the histories of all sources merged in.
 //! - A try of an actor makes its next call on a source, or else its next entry of the journal; or it finds
-//!   that the actor has to wait.
+//!   that the actor has to wait. Time has no tries.
 //! - A round is one try of each actor that is not known to wait.
 //! - A stretch is rounds by the calling thread: up to a given number, or up to one that makes no entry,
 //!   neither in the journal nor in a history.
 //! - After a round without an entry the stretch ends with one look at all actors, those too that are known to
 //!   wait. If any can make an entry, the first of them does. If none can, and nothing is left to do, the run
 //!   is finished. If none can, and nobody waits for a moment of time, it is stuck. Else time jumps to the
-//!   next such moment; the jump is an entry of the journal, too.
-//! - A job says what an actor does next.
+//!   next such moment. The jump is an entry of the journal, too, and time makes it.
+//! - A job says what a script, the autosleep work item or a device does next. A timer needs none.
 //! - A task is a job or the timer of a source; here it is no `task_struct`.
 //! - A worker is a thread that makes the tries of its share of the tasks.
 //! - In a burst all workers make tries at the same time, and the core and each source have a lock each. A
@@ -156,8 +159,8 @@ impl<'m> RunInBurst<'m> {
         }
     }
 
-    /// Makes the tasks of a burst jobs again, raises the floor to the greatest of their stamps, and puts the
-    /// run together. `task_count`, the number of tasks, is passed on. `Mem` if there is no memory.
+    /// Converts the tasks of a burst back into jobs, raises the floor to the greatest of their stamps, and
+    /// puts the run together. `task_count`, the number of tasks, is passed on. `Mem` if there is no memory.
     fn come_back(
         self,
         alloc: Global,
@@ -245,8 +248,9 @@ impl<'m> Run<'m> {
 
     /// What stays with the calling thread, and the parts that go into a burst. The journal has to be short,
     /// so that no job's count of its entries of the journal overflows in the burst. In a burst a task has at
-    /// most 1,000 tries (`MOST_TURNS`; a worker's turn is a try), and each makes one such entry at most.
-    /// `Mem` if there is no memory.
+    /// most 1,000 tries, and each makes one such entry at most. `MOST_TURNS` of `world_workers` bounds the
+    /// turns of a `Worker`, which has one task; a turn is one try of that task at most. `Mem` if there is no
+    /// memory.
     fn take_apart(self, alloc: Global) -> Result<(RunInBurst<'m>, BurstContents<'m>), Mem>
         requires { length self.journal + 1000 < 2 ^ 63 }
         ensures machine { IfOk result (λ contents. contents.0.machine.now ≡ self.entry.machine) }
@@ -281,9 +285,9 @@ impl<'m> Run<'m> {
         Ok((during, contents))
     }
 
-    /// A burst by `workers` workers. Each makes the tries of its share of the tasks again and again: until
-    /// all of them make no entry in any list, until a task stops, or 1,000 times. `Mem` if there is no
-    /// memory.
+    /// A burst by `workers` workers. Each goes over its share of the tasks again and again, with at most one
+    /// try of each task in a pass. It ends after a pass that makes no entry in any list, when a task stops,
+    /// or after 1,000 passes. `Mem` if there is no memory.
     fn burst<R: Threads + Wait + Sync, G: Gate + Sync>(
         self,
         rt: &R,
@@ -304,7 +308,7 @@ impl<'m> Run<'m> {
     }
 
     /// Whether the history of `source` has fewer than four free places. A call may need four: for the entry
-    /// of the call itself, and for those of three steps of the event word.
+    /// of the call itself, and for three changes of the event word (start, hard event, finish).
     fn is_full(&self, source: u32) -> bool
         ensures { OnTrue result (IsRefused self.now (fault.SourceFull source)) }
     {
@@ -314,8 +318,8 @@ impl<'m> Run<'m> {
         }
     }
 
-    /// Whether a task may have stopped for `fault`: for a full source, which refuses a call, only if that
-    /// source is full; for want of memory always.
+    /// Whether a task may have stopped for `fault`, since a call on a source was refused. For `SourceFull`
+    /// that source has to be full. Memory may have run out always, so `Mem` is taken as it is.
     fn is_refused(&self, fault: RunFault) -> bool
         ensures { OnTrue result (IsRefused self.now fault) }
     {
@@ -325,8 +329,9 @@ impl<'m> Run<'m> {
         }
     }
 
-    /// The fault that ends the run, if a task stopped. No clause of `make_burst` speaks of `stop`, so a full
-    /// source is looked at again here. It is full still, since a history only grows: no fault is lost.
+    /// The fault that ends the run, if a task stopped: the cause for which a call was refused. No clause of
+    /// `make_burst` speaks of `stop`, so a full source is looked at again here. It is full still, since a
+    /// history only grows: no fault is lost.
     fn refused(&self, stop: Option<RunFault>) -> Option<RunFault>
         ensures { IfSome result (IsRefused self.now) }
     {
@@ -424,9 +429,10 @@ impl<'m> Run<'m> {
         let _ = &self.machine;
     }
 
-    /// The log of the whole run. If `workers` is 1 the calling thread makes all rounds itself, else bursts
-    /// come between them. Each pass of the loop makes an entry or ends the run, and no run has more entries
-    /// than a log has at most.
+    /// The log of the whole run. Its journal and histories are still apart (`ApartLog`), and are merged
+    /// later. If `workers` is 1 the calling thread makes all rounds itself, else bursts come between them.
+    /// Each pass of the loop makes an entry or ends the run, and no run has more entries than a log has at
+    /// most.
     pub fn to_end<R: Threads + Wait + Sync, G: Gate + Sync>(
         self,
         rt: &R,
