@@ -1,7 +1,7 @@
 //! The rule of steps, a rule of the checker of logs: an entry of the journal is one that its actor can make
-//! at the point it has reached. The journal lists the steps of a machine, each as one entry; the `Kind` of an
-//! entry says which step it is. An actor is a script (of a task or of an interrupt line), the autosleep work,
-//! an asynchronous device, the timer of a source, or time.
+//! at the point it has reached. The journal lists the steps of a machine, each as one entry, but for the
+//! calls on sources. The `Kind` of an entry says which step it is. An actor is a script (of a task or of an
+//! interrupt line), the autosleep work, an asynchronous device, the timer of a source, or time.
 //!
 //! `past` is what the checker knows of the entries before this one, all of which keep its rules (`Passed`).
 //! `now` is no time: it is the event word before the entry (`combined_event_count`, and `pm_abort_suspend`
@@ -106,10 +106,10 @@ fn is_link_state_of(supplier: u32, consumer: u32, active: bool, kind: Kind) -> b
     }
 }
 
-/// Whether the entry belongs to `op`, or is the exit if no operation is left (`None`). `position.waits` says
-/// whether the operation has begun, by an entry that is not its last: a wait, a sleep, or `AutoSet`. `makes`
-/// says whether `kind` is the entry that is due. `SleepD` is a sleep in `TASK_UNINTERRUPTIBLE`. `Pass`: the
-/// task goes on past a `try_to_freeze`. `Mem` if the end of a sleep overflows.
+/// Whether the entry belongs to `op`, or is the exit if no operation is left (`None`). `position.waits`: the
+/// operation has made its first entry, a wait, a sleep, or `AutoSet`, and has not made its last. `makes` says
+/// whether `kind` is the entry that is due. `SleepD` is a sleep in `TASK_UNINTERRUPTIBLE`. `Pass`: the task
+/// goes on past a `try_to_freeze`. `Mem` if the end of a sleep overflows.
 fn is_of_op(
     past: &Passed<'_>,
     position: ScriptPosition,
@@ -200,15 +200,16 @@ fn is_script_step(past: &Passed<'_>, i: u32, kind: Kind) -> Result<bool, Mem>
 
 /// Whether the entry is one of the autosleep work in the state `work`. The work is `try_to_suspend`:
 /// `Reading` and `Looking` are its two calls of `pm_get_wakeup_count`, `Saving` is `pm_save_wakeup_count`.
-/// `Attempting` is the test of `autosleep_state`, and then `pm_suspend`. `Napping` is its sleep of half a
-/// second, and `Closing` is `queue_up_suspend_work`. While `Resting` it does not run; it may if it is queued
-/// (`may_run`). It runs `auto_cycles` times at most, a number in the description of the machine; the kernel
-/// has no such bound.
+/// `Attempting` comes after a count that is saved: if `autosleep_state` is `PM_SUSPEND_ON`, the work returns
+/// at once, else it calls `pm_suspend`. `Napping` is its sleep of half a second, and `Closing` is
+/// `queue_up_suspend_work`. While `Resting` it does not run; it may if it is queued (`may_run`). It runs
+/// `auto_cycles` times at most, a number in the description of the machine; the kernel has no such bound.
 ///
 /// `AutoRun` begins the work. `AutoSaved` and `AutoUnsaved` say that `pm_save_wakeup_count` answered true or
-/// false. `AutoAfter` has the second count, `AutoAgain` queues the work anew, and `AutoOff` ends it because
-/// autosleep is off. (`AutoSet`, `AutoDone` and `AutoBad` are entries of a write to `/sys/power/autosleep`.)
-/// That an attempt needs autosleep on is a rule of `reads.rt`. `Mem` if the end of its sleep overflows.
+/// false. `AutoAfter` has the second count, and `AutoAgain` queues the work anew. `AutoOff` ends it because
+/// autosleep is off: it is that return, or a `queue_up_suspend_work` that queues nothing. (`AutoSet`,
+/// `AutoDone` and `AutoBad` are entries of a write to `/sys/power/autosleep`.) `reads.rt` has the rule that
+/// the work makes an attempt only if autosleep is on. `Mem` if the end of its sleep overflows.
 fn is_work_step(past: &Passed<'_>, now: EventNow, work: Work, kind: Kind) -> Result<bool, Mem>
     ensures { IfOk result (λ b. IsTrue b ↔ IsWorkStep past.now.machine (journal_of past.now) now work kind) }
 {
@@ -287,8 +288,9 @@ pub fn keeps_steps(past: &Passed<'_>, now: EventNow, who: Actor, kind: Kind) -> 
         Actor::Script(i) => is_script_step(past, i, kind),
         Actor::Auto => is_work_step(past, now, past.work(), kind),
         Actor::Dev(d) => Ok(is_device_step(d, async_work(past, d), kind)),
-        // The entries of a timer are calls on its source, and those of time, which moves the clock if nobody
-        // can go on, are jumps. `entries.rt` looks at both; no entry of the journal is theirs.
+        // A timer makes only calls on its source, which the journal does not list. Time makes only jumps,
+        // which move the clock if nobody can go on. A jump is an entry of the journal, too. `entries.rt`
+        // looks at calls and jumps itself, so what comes here is another entry, which neither can make.
         Actor::Timer(_) | Actor::Time => Ok(false),
     }
 }
