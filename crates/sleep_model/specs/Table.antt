@@ -3,7 +3,7 @@
 -- A machine is the computer that suspends. The journal lists its steps, each as one entry; the Kind of an entry says which step it is.
 -- The table is for PM_SUSPEND_MEM, with suspend_ops. It leaves out s2idle, suspend_again, pm_test, consoles, GFP masks and the sync of
 -- files.
--- Names in brackets at the end of a comment are the kernel's functions that do the same.
+-- Names in brackets at the end of a comment are the kernel's functions that do the same, and once a label (Recover_platform).
 use Rattle.std.specs.Prelude.{Bool, true, false, if◌then◌else◌, List, [], ◌∷◌, Option, Some, None}
 use Rattle.sleep_base.specs.declared.errno.Errno.{Errno}
 use Rattle.sleep_model.specs.declared.entry.Entry.{Entry}
@@ -81,8 +81,9 @@ row (stage.Thaws thaw.All) = always stage.NotifiesPost
 row stage.NotifiesPost = always stage.Ends
 row stage.Ends = always stage.Ends
 -- no attempt comes to this row. Prepare, Complete and the two syscore phases have stages of their own; ResumeNoirq, Early and Resume are
--- phases of Ups. No code reads the first column, which is arbitrary. The code of the checker of logs (check_account) calls failed_phase of
--- Prepare, and so reads the second. So the second is the same as in the row of Prepares
+-- phases of Ups. No code reads the first column, which is arbitrary. A log is the journal with the entries of the wakeup sources merged in.
+-- The code of the checker of logs (check_account) calls failed_phase of Prepare, and so reads the second. So the second is the same as in
+-- the row of Prepares
 row (stage.Downs _) = may_fail (stage.PlatformDo down.PrepareLate) (stage.PlatformUndo undo.Recover)
 
 -- ---- the columns of the table, for each sort of stage
@@ -162,8 +163,8 @@ after_done p r = if is_down p then by_error r (stage_after_down p) (failed_phase
 
 -- in the entries below n is the number of an attempt, x of a notifier or a syscore operation, k of a processor; r is an error, or none.
 -- guarded is saved_count, if events_check_enabled was true as the attempt began: pm_wakeup_pending compares with it. busy and CpuBusy: a
--- wakeup is pending (EBUSY). Of three stages the entry has another name: SyscoreCheck of ChecksWakeup, Clear of ClearsEventsCheck, Over of
--- Ends
+-- wakeup is pending (EBUSY). by_event: a change of the event word (combined_event_count, pm_abort_suspend) ended the sleep, and not the
+-- alarm. SyscoreCheck is the entry of the stage ChecksWakeup, Clear of ClearsEventsCheck, Over of Ends
 
 -- the stage of the open attempt after an entry of the journal. An entry of one device, and one that is not made for the attempt, such as a
 -- read of wakeup_count, does not change it. Nor does that of one notifier, processor or syscore operation that succeeds. If all succeed,
