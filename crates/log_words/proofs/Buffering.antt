@@ -1,5 +1,5 @@
 -- The buffer after more was put into it.
-use Rattle.std.proofs.Common.{ap, sym, refl, ◌≡◌, ◌<◌, ◌≤◌, ◌+◌, ◌∷◌, [], ◌++◌, ◌∙◌, ℕ, List, length, length-set, set, take, drop, append_assoc, arith}
+use Rattle.std.proofs.Common.{ap, sym, refl, ◌≡◌, ◌<◌, ◌≤◌, ◌+◌, ◌-◌, ◌∷◌, [], ◌++◌, ◌∙◌, ℕ, List, length, length-set, set, take, drop, append_assoc, arith}
 use Rattle.std.proofs.Math.Seq.{take-append-add}
 use Rattle.std.proofs.lemmas.List.{length-take-le, take-append-drop, take-append-le, take_at, take_more_set}
 use Rattle.std.proofs.lemmas.Slice.{take-put_mid}
@@ -16,6 +16,21 @@ buffered_room buffer room used len k within few =
     let cut : take (used + len) (put_mid used k buffer room) ≡ take used buffer ++ take len (room ++ post_of used k buffer) =
     ap (λ (n : ℕ). take (n + len) (put_mid used k buffer room)) (sym before) ∙ take-append-add (take used buffer) (room ++ post_of used k buffer) len in
     cut ∙ ap (λ (t : List ℕ). take used buffer ++ t) (take-append-le len room (post_of used k buffer) few)
+
+-- the first bytes of a room are those of its first part, if it has them
+pub of_head : (room : List ℕ) (len many : ℕ) → many ≤ length room → len ≤ many → take len (take many room) ≡ take len room
+of_head room len many within few =
+    let long : length (take many room) ≡ many = length-take-le many room within in
+    sym (take-append-le len (take many room) (drop many room) (omega (arith, long, few))) ∙ ap (take len) (take-append-drop many room)
+
+-- and else all of that part, and bytes of the other
+pub of_both : (room : List ℕ) (len many : ℕ) → many ≤ length room → many ≤ len → take many (take many room) ++ take (len - many) (drop many room) ≡ take len room
+of_both room len many within more =
+    let head : List ℕ = take many room in
+    let tail : List ℕ = drop many room in
+    let long : length head + (len - many) ≡ len = omega (arith, length-take-le many room within, more) in
+    ap (λ (t : List ℕ). t ++ take (len - many) tail) (of_head room many many within (omega arith))
+    ∙ (sym (take-append-add head tail (len - many)) ∙ (ap (λ (n : ℕ). take n (head ++ tail)) long ∙ ap (take len) (take-append-drop many room)))
 
 -- digits that were put there, with what followed them before
 pub held_digits : (old new digits rest : List ℕ) (used : ℕ) → used ≤ length old → take used new ≡ take used old → drop used new ≡ digits ++ rest → take (used + length digits) new ≡ take used old ++ digits

@@ -127,8 +127,8 @@ impl ByteBuffer {
         ensures few { length self.new ≤ length self.old + 112 }
     {
         let room = &mut self.room;
-        let end = copy_room(room, self.used, front.room(), front.len());
-        self.used = copy_room(room, end, maker.room(), maker.len());
+        let end = front.put_after(room, self.used);
+        self.used = maker.put_after(room, end);
     }
 
     /// Puts a verb and a name after the others, and what follows the name.
@@ -140,7 +140,7 @@ impl ByteBuffer {
     {
         let room = &mut self.room;
         let end = copy_room(room, self.used, verb.room(), verb.len());
-        let end = copy_room(room, end, name.room(), name.len());
+        let end = name.put_after(room, end);
         self.used = copy_room(room, end, last.room(), last.len());
     }
 
@@ -164,7 +164,7 @@ impl ByteBuffer {
         ensures text { self.new ≡ self.old ++ text.now }
         ensures few { length self.new ≤ length self.old + 56 }
     {
-        self.used = copy_room(&mut self.room, self.used, text.room(), text.len());
+        self.used = text.put_after(&mut self.room, self.used);
     }
 
     /// Puts a line of these pieces after the others.
@@ -181,11 +181,11 @@ impl ByteBuffer {
         ensures few { length self.new ≤ length self.old + 216 }
     {
         let room = &mut self.room;
-        let end = copy_room(room, self.used, front.room(), front.len());
-        let end = copy_room(room, end, maker.room(), maker.len());
+        let end = front.put_after(room, self.used);
+        let end = maker.put_after(room, end);
         let end = copy_room(room, end, words.verb.room(), words.verb.len());
         let end = copy_room(room, end, words.phase.room(), words.phase.len());
-        let end = copy_room(room, end, device.room(), device.len());
+        let end = device.put_after(room, end);
         self.used = copy_room(room, end, words.ending.room(), words.ending.len());
     }
 }

@@ -1,7 +1,8 @@
 //! Short texts that are copied with all of their room, since a copy of a known size costs least.
 
-ghost use Rattle.std.specs.Prelude.{take};
+ghost use Rattle.std.specs.Prelude.{◌≡◌, drop, take};
 
+use crate::buffer::copy_room;
 use crate::digits::{put_byte, put_decimal};
 use crate::number_text::NumberText;
 use std::marker::Model;
@@ -74,21 +75,31 @@ impl ShortText {
         &self.room[..self.len]
     }
 
-    /// The text with all of its room after it.
+    /// Puts the text after the first bytes of a buffer, and answers where it ends.
     #[inline(always)]
-    pub fn room(&self) -> &[u8; 56]
-        ensures text { take (length self.now) result.now ≡ self.now }
-        ensures len { length result.now ≡ 56 }
+    pub fn put_after(&self, buffer: &mut [u8], used: usize) -> usize
+        requires { used + 56 ≤ length buffer.old }
+        ensures text { take result buffer.new ≡ take used buffer.old ++ self.now }
+        ensures end { result ≤ used + 56 }
     {
-        &self.room
+        let (head, tail) = split_room(&self.room);
+        let end = copy_room(buffer, used, head, self.len.min(16));
+        // Few texts have more bytes.
+        if self.len <= 16 {
+            return end;
+        }
+        copy_room(buffer, end, tail, self.len - 16)
     }
+}
 
-    /// How long the text is.
-    #[inline(always)]
-    pub fn len(&self) -> usize
-        ensures len { result ≡ length self.now }
-        ensures most { result ≤ 56 }
-    {
-        self.len
+/// The first 16 bytes of a room, and the others.
+#[inline(always)]
+fn split_room(room: &[u8; 56]) -> (&[u8; 16], &[u8; 40])
+    ensures head { result.0.now ≡ take 16 room.now }
+    ensures tail { result.1.now ≡ drop 16 room.now }
+{
+    match (room.first_chunk::<16>(), room.last_chunk::<40>()) {
+        (Some(head), Some(tail)) => (head, tail),
+        _ => unreachable!(),
     }
 }
