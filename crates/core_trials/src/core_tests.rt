@@ -4,7 +4,7 @@ ghost use Rattle.std.specs.Prelude.{◌≡◌, ◌≤◌, reverse, true};
 ghost use Rattle.sleep_model.specs.Accepted.{IsAccepted};
 ghost use Rattle.sleep_model.specs.Order.{parents_of};
 ghost use Rattle.sleep_core.specs.Cores.{IsActor};
-ghost use Rattle.sleep_core.specs.Histories.{last_stamp};
+ghost use Rattle.core_history.specs.Histories.{last_stamp};
 
 use crate::moving::MovingWord;
 use device_links::Links;

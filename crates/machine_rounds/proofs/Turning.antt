@@ -10,7 +10,7 @@ use Rattle.sleep_model.specs.Merge.{next_position}
 use Rattle.sleep_state.specs.JournalRooms.{entries}
 use Rattle.event_word.specs.Seats.{AreAllSeats, source_count}
 use Rattle.sleep_core.specs.Cores.{CoreState, IsActor, core_after}
-use Rattle.sleep_core.specs.Histories.{last_stamp}
+use Rattle.core_history.specs.Histories.{last_stamp}
 use Rattle.sleep_script.proofs.Following.{turns_few}
 use Rattle.run_objects.specs.Objects.{SeatedCoreState, seats_of, sources_of}
 use Rattle.sleep_laws.proofs.Ending.{and_right}

@@ -16,7 +16,7 @@ use Rattle.sleep_core.specs.declared.turns.CoreFault.{CoreFault}
 use Rattle.sleep_core.specs.declared.turns.CoreTurn.{CoreTurn}
 use Rattle.sleep_core.specs.declared.turns.CoreTurn.TheVariants.{Did, NotYet, Done}
 use Rattle.sleep_core.specs.Cores.{CoreState, made_entry}
-use Rattle.sleep_core.specs.Histories.{last_stamp}
+use Rattle.core_history.specs.Histories.{last_stamp}
 use Rattle.sleep_core.specs.Turned.{AfterTurn}
 use Rattle.run_laws.specs.ClosedOver.{has_position}
 use Rattle.run_laws.specs.Seated.{StampsAreSeen, sees}

@@ -6,7 +6,7 @@ use Rattle.event_word.specs.Seats.{WordToken, IsLook, IsSourceSeat, IsUntouched,
 use Rattle.wakeup_source.specs.Called.{SourceView, viewed_source}
 use Rattle.wakeup_source.specs.SourceStates.{IsSettled, SourceState, new_source}
 use Rattle.sleep_core.specs.Cores.{CoreState}
-use Rattle.sleep_core.specs.Histories.{last_stamp}
+use Rattle.core_history.specs.Histories.{last_stamp}
 use Rattle.run_laws.specs.Seated.{StampsAreSeen, IsFresh, IsSeated}
 
 -- a wakeup source, and its seat (struct wakeup_source, combined_event_count)

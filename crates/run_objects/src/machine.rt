@@ -12,7 +12,7 @@ ghost use Rattle.sleep_state.specs.JournalRooms.{entries};
 ghost use Rattle.event_word.specs.Looks.{GrewTo};
 ghost use Rattle.event_word.specs.Seats.{floor_of, looked_of, source_count};
 ghost use Rattle.sleep_core.specs.Cores.{IsActor, jump_entry, next_stamp, core_after};
-ghost use Rattle.sleep_core.specs.Histories.{last_stamp};
+ghost use Rattle.core_history.specs.Histories.{last_stamp};
 ghost use Rattle.sleep_core.specs.Turned.{AfterTurn};
 ghost use Rattle.run_objects.specs.Objects.{IsSeatedCore};
 

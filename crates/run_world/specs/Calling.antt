@@ -16,7 +16,7 @@ use Rattle.sleep_core.specs.declared.turns.CoreFault.{CoreFault}
 use Rattle.sleep_core.specs.declared.turns.CoreTurn.{CoreTurn}
 use Rattle.sleep_core.specs.declared.turns.CoreTurn.TheVariants.{NotYet}
 use Rattle.sleep_core.specs.Cores.{CoreState}
-use Rattle.sleep_core.specs.Histories.{last_stamp}
+use Rattle.core_history.specs.Histories.{last_stamp}
 use Rattle.sleep_core.specs.Turned.{AfterTurn}
 use Rattle.wakeup_source.specs.declared.call_by.CallBy.{CallBy}
 use Rattle.wakeup_source.specs.declared.fault.SourceFault.{SourceFault}

@@ -27,7 +27,7 @@ use Rattle.sleep_core.specs.declared.turns.CoreFault.{CoreFault}
 use Rattle.sleep_core.specs.declared.turns.CoreTurn.{CoreTurn}
 use Rattle.sleep_core.specs.declared.turns.CoreTurn.TheVariants.{Did, NotYet, Done}
 use Rattle.sleep_core.specs.Cores.{made_entry, next_stamp}
-use Rattle.sleep_core.specs.Histories.{last_stamp}
+use Rattle.core_history.specs.Histories.{last_stamp}
 use Rattle.wakeup_source.specs.declared.call_by.CallBy.{CallBy}
 use Rattle.wakeup_source.specs.declared.fault.SourceFault.{SourceFault}
 use Rattle.wakeup_source.specs.Called.{Calls, SourceView}

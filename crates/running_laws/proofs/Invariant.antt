@@ -3,7 +3,7 @@ use Rattle.std.proofs.Common.{◌≡◌, ◌≤◌, ◌<◌, ◌+◌, ◌∙◌,
 use Rattle.log_merge.proofs.Reading.{both_left}
 use Rattle.log_merge.specs.Remainders.{unstamped}
 use Rattle.run_laws.proofs.Lists.{all_head}
-use Rattle.sleep_core.specs.Histories.{last_stamp}
+use Rattle.core_history.specs.Histories.{last_stamp}
 use Rattle.sleep_model.specs.Merge.{next_position}
 use Rattle.std.specs.List.{list_all}
 use Rattle.std.proofs.lemmas.Bool.Decides.{nat_tests}

@@ -20,7 +20,7 @@ use Rattle.sleep_model.specs.Sources.{expiry}
 use Rattle.sleep_model.specs.Word.{position}
 use Rattle.sleep_state.specs.JournalRooms.{entries}
 use Rattle.sleep_core.specs.Cores.{IsActor, jump_entry, made_entry, next_stamp}
-use Rattle.sleep_core.specs.Histories.{last_stamp}
+use Rattle.core_history.specs.Histories.{last_stamp}
 use Rattle.sleep_script.specs.Jobs.{IsJobOf, JobState, after_turn}
 use Rattle.sleep_script.proofs.Following.{other_entry, own_entry}
 use Rattle.wakeup_source.specs.SourceStates.{SourceState}

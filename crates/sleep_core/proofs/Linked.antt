@@ -34,7 +34,7 @@ use Rattle.sleep_laws.proofs.Passing.{device_phases}
 use Rattle.sleep_laws.proofs.DevicePhases.{DevicePhases}
 use Rattle.async_board.specs.Boards.{BoardState, first_board}
 use Rattle.async_board.specs.AtPoints.{board_at}
-use Rattle.sleep_core.specs.Histories.{Changes, Settles}
+use Rattle.core_history.specs.Histories.{Changes, Settles}
 
 -- an accepted machine has few devices
 pub few_parents : (m : Machine) → IsAccepted m → length (parents_of m.devices) ≤ 1024

@@ -18,7 +18,7 @@ use Rattle.sleep_model.specs.Path.{attempts, is_same}
 use Rattle.fit_laws.proofs.Planning.{reports_made, calls_counted}
 use Rattle.sleep_state.specs.JournalRooms.{entries}
 use Rattle.sleep_core.specs.Cores.{IsActor}
-use Rattle.sleep_core.specs.Histories.{HistoryState, IsOfNone, after_entry}
+use Rattle.core_history.specs.Histories.{HistoryState, IsOfNone, after_entry}
 use Rattle.sleep_core.specs.Reports.{ReportCounts, reported_by, grown_at, counts_after, counts_of}
 use Rattle.sleep_core.proofs.Growing.{none_more}
 

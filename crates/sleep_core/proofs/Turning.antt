@@ -33,8 +33,8 @@ use Rattle.room_laws.proofs.Needing.{none_needed, due_own_spends, due_attempt_ne
 use Rattle.sleep_state.specs.JournalRooms.{entries}
 use Rattle.sleep_core.specs.CoreFields.{SleptEarly, FrozeEarly, IsCore}
 use Rattle.sleep_core.specs.Cores.{CoreState, IsActor}
-use Rattle.sleep_core.specs.Histories.{HistoryState, Admits, EntryHasRoom, IsOfDevice, room_for, after_entry}
-use Rattle.sleep_core.specs.Numbered.{NumbersStayInRange, IsCounted}
+use Rattle.core_history.specs.Histories.{HistoryState, Admits, EntryHasRoom, IsOfDevice, room_for, after_entry}
+use Rattle.core_history.specs.Numbered.{NumbersStayInRange, IsCounted}
 
 -- ---- what is due is of the journal
 

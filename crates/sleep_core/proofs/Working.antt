@@ -14,7 +14,7 @@ use Rattle.sleep_model.specs.Autosleep.{auto_save, work, work_due}
 use Rattle.sleep_model.specs.Lock.{holder, is_on}
 use Rattle.sleep_model.specs.Numbers.{time_of}
 use Rattle.autosleep_loop.specs.Autosleeps.{saving_due, turn_at, turn_due}
-use Rattle.sleep_core.specs.Histories.{autosleep_of}
+use Rattle.core_history.specs.Histories.{autosleep_of}
 use Rattle.sleep_core.specs.Steps.{next_attempt}
 
 by_holder : (now : EventNow) (c : ℕ) (o : Option Actor) → saving_due now c o ≡ (if is_none o then Makes (auto_save now c) else Waits why.LockHeld)

@@ -11,7 +11,7 @@ use Rattle.room_laws.specs.AttemptRoom.{needed}
 use Rattle.sleep_state.specs.JournalRooms.{entries}
 use Rattle.sleep_core.specs.declared.state.Core.TheInside.{Inside}
 use Rattle.sleep_core.specs.Cores.{CoreState}
-use Rattle.sleep_core.specs.Histories.{HistoryState}
+use Rattle.core_history.specs.Histories.{HistoryState}
 use Rattle.sleep_core.specs.Reports.{counts_of}
 
 -- a machine that sleeps does so since an early moment

@@ -11,7 +11,7 @@ use Rattle.sleep_model.specs.declared.word.Stamp.{Stamp}
 use Rattle.sleep_model.specs.Numbers.{time_of}
 use Rattle.sleep_model.specs.Word.{position}
 use Rattle.sleep_state.specs.JournalRooms.{entries}
-use Rattle.sleep_core.specs.Histories.{last_stamp}
+use Rattle.core_history.specs.Histories.{last_stamp}
 
 -- the machine that a core runs, and its journal, the newest entry first
 pub record CoreState : Type 0 where

@@ -1,10 +1,6 @@
 -- The definitions of this crate.
-pub mod Components
 pub mod CoreFields
 pub mod Cores
-pub mod Histories
-pub mod HistoryFields
-pub mod Numbered
 pub mod ReportFields
 pub mod Reports
 pub mod Seen

@@ -211,10 +211,7 @@ impl<'m> Core<'m> {
             Stage::ClearsEventsCheck => Due::Makes(Kind::Clear),
             Stage::Thaws(those) => Due::Makes(Kind::Thaw(those)),
             Stage::NotifiesPost => self.notify_post_due(),
-            Stage::Ends => Due::Makes(Kind::Over {
-                n: self.attempts(),
-                r: self.history.attempt().error(),
-            }),
+            Stage::Ends => Due::Makes(self.history.over()),
         }
     }
 

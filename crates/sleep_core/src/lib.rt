@@ -6,14 +6,12 @@
 //! found only if none has. By the clauses of `Core::turn`, `jump`, `due`, `calls_due`, `enabled`,
 //! `next_time`, `next_slept`, `whole`, `is_open`, `is_stopped`, `into_journal`.
 //!
-//! Begin reading in `src/turns.rt`, `src/due.rt`, `src/history.rt`.
+//! Begin reading in `src/turns.rt`, `src/due.rt`, `src/state.rt`.
 #![tactic(auto)]
 
 mod attempt;
 mod auto;
-mod components;
 mod due;
-mod history;
 mod linking;
 mod outside;
 mod pending;

@@ -17,7 +17,7 @@ ghost use Rattle.async_board.specs.AtPoints.{board_at};
 ghost use Rattle.sleep_core.specs.Seen.{is_scheduled, is_rescheduled, is_ready_on};
 ghost use Rattle.script_plan.specs.Plans.{calls_before};
 ghost use Rattle.sleep_core.specs.Cores.{IsActor, core_after, next_stamp, jump_entry};
-ghost use Rattle.sleep_core.specs.Histories.{last_stamp};
+ghost use Rattle.core_history.specs.Histories.{last_stamp};
 
 use crate::state::Core;
 use sleep_base::Mem;

@@ -3,9 +3,9 @@
 ghost use Rattle.std.specs.Prelude.{◌≡◌, map, IfOk};
 ghost use Rattle.sleep_model.specs.Runtime.{may_wake};
 
-use crate::history::History;
 use crate::reports::Reports;
 use crate::state::Core;
+use core_history::History;
 use device_links::Links;
 use device_rows::Flags;
 use machine_plans::MachinePlans;

@@ -1,8 +1,8 @@
 //! The core of system sleep for one machine, and what its parts read of it.
-use crate::history::History;
 use crate::reports::Reports;
 use async_board::Board;
 use autosleep_loop::is_actor;
+use core_history::History;
 use device_rows::Flags;
 use machine_plans::{MachinePlans, PlannedAnswers};
 use script_plan::Plan;
@@ -81,7 +81,7 @@ impl<'m> Core<'m> {
     pub(crate) fn pending(&self, now: EventNow) -> bool
         ensures { result ≡ pending (entries self.now.past) now }
     {
-        self.history.guard().is_pending(now)
+        self.history.is_pending(now)
     }
 
     /// The time of the last jump, in ms.
@@ -175,7 +175,7 @@ impl<'m> Core<'m> {
     }
 
     /// What becomes of a freeze of the group that goes on since then.
-    #[tactic(auto, using(crate::proofs::Freezing::left_is))]
+    #[tactic(auto, using(core_history::proofs::Freezing::left_is))]
     pub(crate) fn round(&self, group: Group, since: u64) -> Round
         requires { since ≤ 2 ^ 63 }
         ensures { result ≡ round_of since (time_of (entries self.now.past)) (left self.now.machine group (entries self.now.past)) }
@@ -184,7 +184,7 @@ impl<'m> Core<'m> {
     }
 
     /// The tasks that a freeze of the group still waits for.
-    #[tactic(auto, using(crate::proofs::Freezing::left_is))]
+    #[tactic(auto, using(core_history::proofs::Freezing::left_is))]
     pub(crate) fn left(&self, group: Group) -> Left
         ensures { IsLeft result (left self.now.machine group (entries self.now.past)) }
     {

@@ -16,9 +16,9 @@ ghost use Rattle.sleep_state.specs.TaskStates.{MarksAreSmall};
 ghost use Rattle.sleep_model.specs.Word.{position};
 ghost use Rattle.sleep_state.specs.JournalRooms.{entries};
 ghost use Rattle.sleep_core.specs.Cores.{IsActor, core_after, next_stamp, jump_entry};
-ghost use Rattle.sleep_core.specs.Histories.{IsOfDevice, IsOfNone, last_stamp};
+ghost use Rattle.core_history.specs.Histories.{IsOfDevice, IsOfNone, last_stamp};
 ghost use Rattle.event_word.specs.Looks.{IsShown, GrewTo};
-ghost use Rattle.sleep_core.specs.Numbered.{NumbersStayInRange, IsCounted};
+ghost use Rattle.core_history.specs.Numbered.{NumbersStayInRange, IsCounted};
 ghost use Rattle.sleep_core.specs.Turned.{AfterTurn};
 
 use crate::state::Core;

@@ -1,6 +1,6 @@
 -- The invariant of the loop of `run`.
 use Rattle.std.proofs.Common.{◌≡◌, ◌≤◌}
-use Rattle.sleep_core.specs.Histories.{last_stamp}
+use Rattle.core_history.specs.Histories.{last_stamp}
 use Rattle.core_trials.proofs.core_tests.run.Given as goal
 
 abbrev pub invariant-loop : goal.invariant-loop

@@ -5,7 +5,7 @@ use Rattle.sleep_model.specs.Numbers.{time_of}
 use Rattle.sleep_model.specs.Runtime.{may_wake}
 use Rattle.sleep_state.specs.JournalRooms.{entries}
 use Rattle.sleep_core.specs.Cores.{CoreState}
-use Rattle.sleep_core.specs.Histories.{HistoryState}
+use Rattle.core_history.specs.Histories.{HistoryState}
 use Rattle.sleep_core.proofs.Reporting.{counts_more}
 use Rattle.sleep_core.proofs.Turning.{core_jumped}
 use Rattle.sleep_core.proofs.state.Core.jump.Goals as goal

@@ -10,7 +10,7 @@ use Rattle.sleep_model.specs.Calls.{calls_due, report_calls}
 use Rattle.sleep_model.specs.Path.{attempts}
 use Rattle.sleep_state.specs.JournalRooms.{entries}
 use Rattle.sleep_core.specs.Cores.{CoreState, IsActor}
-use Rattle.sleep_core.specs.Histories.{HistoryState}
+use Rattle.core_history.specs.Histories.{HistoryState}
 use Rattle.sleep_core.specs.Reports.{reported_by, counts_after}
 use Rattle.sleep_core.proofs.Reporting.{reported_few, counts_more}
 use Rattle.sleep_core.proofs.Turning.{core_device, device_room}

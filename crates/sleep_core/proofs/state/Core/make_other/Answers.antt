@@ -6,7 +6,7 @@ use Rattle.sleep_model.specs.declared.entry.JournalEntry.{JournalEntry}
 use Rattle.sleep_model.specs.declared.progress.Due.TheVariants.{Makes}
 use Rattle.sleep_model.specs.declared.machine.Machine.{Machine}
 use Rattle.sleep_model.specs.Runtime.{may_wake}
-use Rattle.sleep_core.specs.Histories.{HistoryState, Settles}
+use Rattle.core_history.specs.Histories.{HistoryState, Settles}
 use Rattle.sleep_model.specs.Devices.{is_device}
 use Rattle.sleep_model.specs.Due.{due}
 use Rattle.sleep_model.specs.Numbers.{time_of}
@@ -14,7 +14,7 @@ use Rattle.sleep_model.specs.Path.{is_actor, maker}
 use Rattle.sleep_state.specs.JournalRooms.{entries}
 use Rattle.sleep_core.specs.Cores.{CoreState, IsActor}
 use Rattle.sleep_core.specs.CoreFields.{IsCore}
-use Rattle.sleep_core.specs.Numbered.{NumbersStayInRange}
+use Rattle.core_history.specs.Numbered.{NumbersStayInRange}
 use Rattle.sleep_core.specs.Reports.{counts_of}
 use Rattle.sleep_core.proofs.Linked.{settles}
 use Rattle.sleep_core.proofs.Reporting.{counts_same}

@@ -3,7 +3,7 @@ use Rattle.std.proofs.Common.{◌≡◌, ◌∙◌, [], map, length, ap, ap₂, 
 use Rattle.sleep_model.specs.declared.machine.Machine.{Machine}
 use Rattle.sleep_model.specs.Runtime.{may_wake}
 use Rattle.sleep_core.specs.CoreFields.{IsCore}
-use Rattle.sleep_core.specs.Histories.{HistoryState}
+use Rattle.core_history.specs.Histories.{HistoryState}
 use Rattle.sleep_core.specs.Reports.{none_reported, counts_of}
 use Rattle.sleep_state.specs.JournalRooms.{entries}
 use Rattle.sleep_core.proofs.Turning.{core_empty}
