@@ -1,6 +1,6 @@
 //! Tests of bursts of workers on threads.
 
-ghost use Rattle.std.specs.Prelude.{◌≡◌, ◌≤◌, ◌+◌, length, IfOk, reverse};
+ghost use Rattle.std.specs.Prelude.{◌≡◌, ◌≤◌, [], length, IfOk, reverse};
 ghost use Rattle.sleep_model.specs.Accepted.{IsAccepted};
 ghost use Rattle.sleep_model.specs.Numbers.{time_of};
 ghost use Rattle.sleep_model.specs.Order.{parents_of};
@@ -66,34 +66,23 @@ fn more_tasks<'m>(alloc: Global, plans: &'m MachinePlans<'_>) -> Result<Vec<Task
     Ok(tasks)
 }
 
-/// The contents of a machine's first burst with these tasks, and the table of its seats.
-fn first_contents<'m>(
-    alloc: Global,
-    plans: &'m MachinePlans<'_>,
-    links: Links,
-    tasks: Vec<Task<'m>>,
-) -> Result<(EventTable, BurstContents<'m>), Mem>
+/// The tasks of a machine of one script and at most one source, before anything was done. `Mem` also of
+/// another machine.
+fn tasks_of<'m>(alloc: Global, plans: &'m MachinePlans<'_>) -> Result<Vec<Task<'m>>, Mem>
     requires accepted { IsAccepted plans.now }
-    requires links { links ≡ record { parents = parents_of plans.now.devices; links = reverse plans.now.links } }
-    requires tasks { AreTasksIn plans.now tasks.items }
-    ensures ready { IfOk result (λ made. AreReady plans.now made.0.cells.shared.table_id made.1.core made.1.sources.items made.1.tasks.items) }
-    ensures timely { IfOk result (λ made. AreTimely (time_of (entries made.1.core.core.past)) made.1.sources.items) }
-    ensures tasks { IfOk result (λ made. made.1.tasks.items ≡ tasks.entry.items) }
+    ensures in_all { IfOk result (λ tasks. AreTasksIn plans.now tasks.items) }
+    ensures turns { IfOk result (λ tasks. HaveTurns tasks.items) }
+    ensures count { IfOk result (λ tasks. (1 ≤ length tasks.items) × (length tasks.items ≤ 4)) }
 {
-    let count = plans.machine().sources.len() as u32 + 1;
-    let Ok((table, sources, look)) = seated_sources(alloc, count) else {
-        return Err(drop_for_mem((links, tasks)));
-    };
-    let Ok(core) = Core::new(alloc, plans, links) else {
-        return Err(drop_for_mem((table, sources, look, tasks)));
-    };
-    let core = SeatedCore::new(core, look);
-    let contents = BurstContents {
-        core,
-        sources,
-        tasks,
-    };
-    Ok((table, contents))
+    let machine = plans.machine();
+    if machine.actors.len() != 1 {
+        return Err(Mem);
+    }
+    if machine.sources.len() == 1 {
+        more_tasks(alloc, plans)
+    } else {
+        few_tasks(alloc, plans)
+    }
 }
 
 /// How many turns did something in a burst, which is let go.
@@ -106,35 +95,61 @@ fn did_in(made: Result<Burst<'_>, Mem>) -> Result<u64, Mem> {
     Ok(did)
 }
 
-/// How many turns of two workers did something in a machine's first burst.
-fn first_burst<'m, R: Threads + Sync + Wait>(
+/// How many turns of two workers did something in the first burst with these contents.
+fn did_at<'m, R: Threads + Sync + Wait>(
     rt: &R,
     alloc: Global,
-    plans: &'m MachinePlans<'_>,
-    links: Links,
-    tasks: Vec<Task<'m>>,
+    machine: &'m Machine,
+    table: &EventTable,
+    contents: BurstContents<'m>,
 ) -> Result<u64, Mem>
-    requires accepted { IsAccepted plans.now }
-    requires links { links ≡ record { parents = parents_of plans.now.devices; links = reverse plans.now.links } }
-    requires tasks { AreTasksIn plans.now tasks.items }
-    requires turns { HaveTurns tasks.items }
-    requires count { (1 ≤ length tasks.items) × (length tasks.items ≤ 2000) }
+    requires accepted { IsAccepted machine.now }
+    requires ready { AreReady machine.now table.now.cells.shared.table_id contents.core contents.sources.items contents.tasks.items }
+    requires timely { AreTimely (time_of (entries contents.core.core.past)) contents.sources.items }
+    requires turns { HaveTurns contents.tasks.items }
+    requires count { (1 ≤ length contents.tasks.items) × (length contents.tasks.items ≤ 4) }
 {
-    let (table, contents) = first_contents(alloc, plans, links, tasks)?;
     let plan = BurstPlan {
         gate: &OpenGate,
-        table: &table,
-        machine: plans.machine(),
+        table,
+        machine,
         workers: 2,
     };
-    let did = did_in(make_burst(rt, alloc, &plan, contents));
+    did_in(make_burst(rt, alloc, &plan, contents))
+}
+
+/// How many turns did something in the first burst of a machine with that core and these tasks.
+#[tactic(auto, using(crate::proofs::Firsts::uncalled_timely))]
+fn seated_burst<'m, R: Threads + Sync + Wait>(
+    rt: &R,
+    alloc: Global,
+    machine: &'m Machine,
+    core: Core<'m>,
+    tasks: Vec<Task<'m>>,
+) -> Result<u64, Mem>
+    requires accepted { IsAccepted machine.now }
+    requires core { core ≡ record { machine = machine.now; past = [] } }
+    requires tasks { AreTasksIn machine.now tasks.items }
+    requires turns { HaveTurns tasks.items }
+    requires count { (1 ≤ length tasks.items) × (length tasks.items ≤ 4) }
+{
+    let count = machine.sources.len() as u32 + 1;
+    let Ok((table, sources, look)) = seated_sources(alloc, count) else {
+        return Err(drop_for_mem((core, tasks)));
+    };
+    let core = SeatedCore::new(core, look);
+    let contents = BurstContents {
+        core,
+        sources,
+        tasks,
+    };
+    let did = did_at(rt, alloc, machine, &table, contents);
     drop(table);
     did
 }
 
-/// How many turns did something in the first burst over the plans of a machine of one script and at most one
-/// source.
-fn burst_over<R: Threads + Sync + Wait>(
+/// How many turns did something in the first burst over the plans of a machine.
+fn first_burst<R: Threads + Sync + Wait>(
     rt: &R,
     alloc: Global,
     plans: &MachinePlans<'_>,
@@ -142,21 +157,17 @@ fn burst_over<R: Threads + Sync + Wait>(
 ) -> Result<u64, Mem>
     requires accepted { IsAccepted plans.now }
     requires links { links ≡ record { parents = parents_of plans.now.devices; links = reverse plans.now.links } }
-    requires one { length plans.now.actors ≡ 1 }
 {
-    if plans.machine().sources.len() == 1 {
-        let Ok(tasks) = more_tasks(alloc, plans) else {
-            return Err(drop_for_mem(links));
-        };
-        return first_burst(rt, alloc, plans, links, tasks);
-    }
-    let Ok(tasks) = few_tasks(alloc, plans) else {
+    let Ok(tasks) = tasks_of(alloc, plans) else {
         return Err(drop_for_mem(links));
     };
-    first_burst(rt, alloc, plans, links, tasks)
+    let Ok(core) = Core::new(alloc, plans, links) else {
+        return Err(drop_for_mem(tasks));
+    };
+    seated_burst(rt, alloc, plans.machine(), core, tasks)
 }
 
-/// How many turns did something in the first burst of a machine of one script and at most one source.
+/// How many turns did something in the first burst of a machine.
 fn burst_of<R: Threads + Sync + Wait>(
     rt: &R,
     alloc: Global,
@@ -166,13 +177,10 @@ fn burst_of<R: Threads + Sync + Wait>(
     requires accepted { IsAccepted machine.now }
     requires links { links ≡ record { parents = parents_of machine.now.devices; links = reverse machine.now.links } }
 {
-    if machine.actors.len() != 1 {
-        return Err(drop_for_mem(links));
-    }
     let Ok(plans) = MachinePlans::new(alloc, machine) else {
         return Err(drop_for_mem(links));
     };
-    let did = burst_over(rt, alloc, &plans, links);
+    let did = first_burst(rt, alloc, &plans, links);
     drop(plans);
     did
 }

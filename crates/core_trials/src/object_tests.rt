@@ -10,7 +10,6 @@ use sleep_base::Mem;
 use sleep_model::{Actor, SourceCall, Stamp};
 use std::alloc::Global;
 use std::sync::Wait;
-use std::test::Fail;
 use wakeup_source::{CallBy, SourceFault};
 
 const TASK: Actor = Actor::Script(0);
@@ -47,41 +46,30 @@ fn one_source(alloc: Global) -> Result<(EventTable, SeatedSource, LookSeat), Mem
     Ok((table, source, look))
 }
 
-/// The end of an event at that moment, if it comes by itself by then.
-fn expire<R: Wait>(
-    rt: &R,
-    table: &EventTable,
-    source: &mut SeatedSource,
-    now: u64,
-) -> Result<Stamp, Fail>
+/// The end of an event at that moment. `None` if it does not come by itself by then, or is refused.
+fn expire<R: Wait>(rt: &R, table: &EventTable, source: &mut SeatedSource, now: u64) -> Option<Stamp>
     requires table { source.old.seat.table_id ≡ table.now.cells.shared.table_id }
     requires time { latest (unstamped_source source.old.source.past) ≤ now }
     requires small { now ≤ 2 ^ 63 }
 {
-    let Some(end) = source.source().due() else {
-        return Err("nothing ends by itself".into());
-    };
+    let end = source.source().due()?;
     if now < end {
-        return Err("the event goes on".into());
+        return None;
     }
-    Ok(source.call(rt, table, at(now), SourceCall::Expire)?)
+    source.call(rt, table, at(now), SourceCall::Expire).ok()
 }
 
 /// Each call once: what the caller then knows of each.
-fn call_each<R: Wait>(
-    rt: &R,
-    table: &EventTable,
-    source: &mut SeatedSource,
-) -> Result<[Stamp; 5], Fail>
+fn call_each<R: Wait>(rt: &R, table: &EventTable, source: &mut SeatedSource) -> Option<[Stamp; 5]>
     requires table { source.old.seat.table_id ≡ table.now.cells.shared.table_id }
     requires time { latest (unstamped_source source.old.source.past) ≤ 0 }
 {
-    let awake = source.call(rt, table, at(0), SourceCall::Awake)?;
-    let relaxed = source.call(rt, table, at(1), SourceCall::Relax)?;
-    let hard = source.call(rt, table, at(2), HARD)?;
-    let long = source.call(rt, table, at(3), LONG)?;
+    let awake = source.call(rt, table, at(0), SourceCall::Awake).ok()?;
+    let relaxed = source.call(rt, table, at(1), SourceCall::Relax).ok()?;
+    let hard = source.call(rt, table, at(2), HARD).ok()?;
+    let long = source.call(rt, table, at(3), LONG).ok()?;
     let expired = expire(rt, table, source, 8)?;
-    Ok([awake, relaxed, hard, long, expired])
+    Some([awake, relaxed, hard, long, expired])
 }
 
 /// What a caller knows after each of those calls.
@@ -93,35 +81,54 @@ const KNOWN: [Stamp; 5] = [
     Stamp { pos: 7, tick: 12 },
 ];
 
-/// Each call moves the word by its steps, and has a tick for each entry.
-#[test]
-fn each_call_goes_through_the_seat(rt: HostRuntime) -> Result<(), Fail> {
-    let (table, mut source, _look) = one_source(rt.alloc())?;
-    let stamps = call_each(&rt, &table, &mut source)?;
-    assert!(rt; stamps == KNOWN);
-    Ok(())
-}
-
-/// Hard events, four entries each, as many as it has room for.
-fn fill<R: Wait>(rt: &R, table: &EventTable, source: &mut SeatedSource) -> Result<(), Fail>
+/// Hard events, four entries each, as many as it has room for. Whether none is refused.
+fn fill<R: Wait>(rt: &R, table: &EventTable, source: &mut SeatedSource) -> bool
     requires table { source.old.seat.table_id ≡ table.now.cells.shared.table_id }
     requires time { latest (unstamped_source source.old.source.past) ≤ 0 }
     ensures table { source.new.seat.table_id ≡ source.old.seat.table_id }
     ensures time { latest (unstamped_source source.new.source.past) ≤ 0 }
 {
     for _ in 0..15_000u32 {
-        source.call(rt, table, at(0), HARD)?;
+        if source.call(rt, table, at(0), HARD).is_err() {
+            return false;
+        }
     }
-    Ok(())
+    true
+}
+
+/// Whether a source has room for 15,000 hard events, and then refuses a call and stays as it is.
+fn is_full<R: Wait>(rt: &R, table: &EventTable, source: &mut SeatedSource) -> bool
+    requires table { source.old.seat.table_id ≡ table.now.cells.shared.table_id }
+    requires time { latest (unstamped_source source.old.source.past) ≤ 0 }
+{
+    let is_filled = fill(rt, table, source);
+    let refused = source.call(rt, table, at(0), SourceCall::Relax);
+    let made = source.source().history().len();
+    is_filled && refused == Err(SourceFault::Full) && made == 60_000
+}
+
+/// Whether a new source is as its test says: filled, or called once by each call.
+fn is_as_told<R: Wait>(rt: &R, alloc: Global, fills: bool) -> bool {
+    let Ok((table, mut source, look)) = one_source(alloc) else {
+        return false;
+    };
+    let is_so = if fills {
+        is_full(rt, &table, &mut source)
+    } else {
+        call_each(rt, &table, &mut source) == Some(KNOWN)
+    };
+    drop((table, source, look));
+    is_so
+}
+
+/// Each call moves the word by its steps, and has a tick for each entry.
+#[test]
+fn each_call_goes_through_the_seat(rt: HostRuntime) {
+    assert!(rt; is_as_told(&rt, rt.alloc(), false));
 }
 
 /// A source that has room for fewer than four entries is full, and stays as it is.
 #[test]
-fn a_full_source_is_not_called(rt: HostRuntime) -> Result<(), Fail> {
-    let (table, mut source, _look) = one_source(rt.alloc())?;
-    fill(&rt, &table, &mut source)?;
-    let refused = source.call(&rt, &table, at(0), SourceCall::Relax);
-    let made = source.source().history().len();
-    assert!(rt; refused == Err(SourceFault::Full) && made == 60_000);
-    Ok(())
+fn a_full_source_is_not_called(rt: HostRuntime) {
+    assert!(rt; is_as_told(&rt, rt.alloc(), true));
 }
