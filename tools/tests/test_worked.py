@@ -1,6 +1,7 @@
 """Tests of `tools/dev worked`: the crates have the worked logs as the command writes them."""
 
 import functools
+import json
 import pathlib
 import tempfile
 import unittest
@@ -8,10 +9,11 @@ import unittest.mock
 
 from dev_tests import ROOT, WORKED, dev
 from julampok.second import idle, locks
+from julampok.second.rules import without_defaults
 from julampok.second.words import command_of
 from maintain.commands import worked
 from maintain.trials.files import expected
-from maintain.worked import files, idle_cases, judged, link_cases, long_logs, part_cases, reader, rows, tellings
+from maintain.worked import files, formats, idle_cases, judged, link_cases, long_logs, part_cases, reader, rows, tellings
 from maintain.worked.case import Case
 from maintain.worked.entries import entry_term
 from maintain.worked.machine import Machine
@@ -89,6 +91,24 @@ class Cases(unittest.TestCase):
             self.assertEqual(expected(case.data), (case.status, case.out, case.err), case.pieces[:2])
         rules = {int(case.err.split()[2][:-1]) for case in cases}
         self.assertEqual(rules, set(range(1, 25)))
+
+
+    def test_files_that_are_written(self):
+        """What stands in the table by hand is what the second writing writes; and it is written again as it is."""
+        for file, text in formats.by_hand():
+            self.assertEqual(without_defaults(json.loads(file)), json.loads(text), file)
+        calls = [each for each in formats.calls() if each.end == "file"]
+        self.assertTrue(all(each.out == calls[at | 1].pieces[0][0] for at, each in enumerate(calls)))
+
+    def test_a_call(self):
+        case = formats.Call("stream", ((b"{}\n", 2),), b"cut\n", (("write fails", 2),))
+        self.assertEqual(b"".join(rows.call(case, 7)), b"write fails 2\nrepeat 2\ninput 3\n{}\n\nstream 7\n")
+        self.assertEqual(rows.gives(case, 7), b"call 7 out 4\ncut\n")
+
+    def test_bad_lines(self):
+        """The second writing says the same of each log that is none."""
+        for file, log, line in formats.NO_LINES:
+            self.assertEqual(judged.judged(judged.BARE | json.loads(file), log.decode()), (line, 23), log)
 
 
 class CasesOfParts(unittest.TestCase):

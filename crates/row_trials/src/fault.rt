@@ -3,7 +3,7 @@ use sleep_base::{Failed, Mem};
 use std::alloc::{AllocError, AllocFailed};
 
 /// Why the rows end before their end.
-#[derive(Clone, Copy, Debug)]
+#[derive(Clone, Copy)]
 pub(crate) enum RowsFault {
     /// A line is of no form, or what belongs to it is missing.
     Form,

@@ -1,9 +1,9 @@
 //! The lines of a row.
 
-ghost use Rattle.std.specs.Prelude.{◌≤◌, length};
+use crate::library_call::{LibraryCall, LogCall, MachineCall};
 
 /// What a line says of its row.
-#[derive(Clone, Copy, Debug, PartialEq, Eq)]
+#[derive(Clone, Copy)]
 pub(crate) enum RowField {
     Words,
     Repeat,
@@ -19,7 +19,7 @@ pub(crate) enum RowField {
 }
 
 /// What the program does with a whole row, and what is told of it.
-#[derive(Clone, Copy, Debug, PartialEq, Eq)]
+#[derive(Clone, Copy)]
 pub(crate) enum Telling {
     /// It runs, and both texts are told.
     Whole,
@@ -35,56 +35,104 @@ pub(crate) enum Telling {
     Rerun,
     /// It reads the words only.
     Asks,
+    /// It does not run. A library is called, and what that gives is told.
+    Calls(LibraryCall),
 }
 
 /// A line: what it says, and its number.
-#[derive(Clone, Copy, Debug)]
+#[derive(Clone, Copy)]
 pub(crate) struct Line {
     pub(crate) verb: RowField,
     pub(crate) number: usize,
 }
 
 /// How a row ends: what is told of it, and its number.
-#[derive(Clone, Copy, Debug)]
+#[derive(Clone, Copy)]
 pub(crate) struct RowEnd {
     pub(crate) telling: Telling,
     pub(crate) number: usize,
 }
 
-/// What the words before a line's number say.
-fn verb_of(name: &str) -> Option<RowField> {
-    match name {
-        "words" => Some(RowField::Words),
-        "repeat" => Some(RowField::Repeat),
-        "input" => Some(RowField::Input),
-        "chunk" => Some(RowField::Chunk),
-        "write room" => Some(RowField::WriteRoom),
-        "read fails" => Some(RowField::ReadFails),
-        "write fails" => Some(RowField::WriteFails),
-        "error fails" => Some(RowField::ErrorFails),
-        "gate" => Some(RowField::Gate),
-        _ => Some(RowField::End(telling_of(name)?)),
+/// The words before a line's number that say something of its row.
+const FIELDS: [(&str, RowField); 9] = [
+    ("words", RowField::Words),
+    ("repeat", RowField::Repeat),
+    ("input", RowField::Input),
+    ("chunk", RowField::Chunk),
+    ("write room", RowField::WriteRoom),
+    ("read fails", RowField::ReadFails),
+    ("write fails", RowField::WriteFails),
+    ("error fails", RowField::ErrorFails),
+    ("gate", RowField::Gate),
+];
+
+/// The words that end a row of which the program runs, or reads the words.
+const TELLINGS: [(&str, Telling); 7] = [
+    ("row", Telling::Whole),
+    ("sums", Telling::Sums),
+    ("lines", Telling::Lines),
+    ("steps", Telling::Steps),
+    ("judged", Telling::Judged),
+    ("rerun", Telling::Rerun),
+    ("asks", Telling::Asks),
+];
+
+/// The words that end a row with a machine file.
+const MACHINE_CALLS: [(&str, MachineCall); 8] = [
+    ("file", MachineCall::File),
+    ("entries", MachineCall::Entries),
+    ("link entries", MachineCall::LinkEntries),
+    ("finished", MachineCall::Finished),
+    ("stuck", MachineCall::Stuck),
+    ("lists", MachineCall::Lists),
+    ("changes", MachineCall::Changes),
+    ("shared", MachineCall::Shared),
+];
+
+/// The words that end a row with a machine file and a log.
+const LOG_CALLS: [(&str, LogCall); 3] = [
+    ("text", LogCall::Text),
+    ("stream", LogCall::Stream),
+    ("chain", LogCall::Chain),
+];
+
+/// What stands beside that name in a table.
+fn named<T: Copy>(table: &[(&str, T)], name: &str) -> Option<T> {
+    let row = table.iter().find(|row| row.0 == name)?;
+    Some(row.1)
+}
+
+/// The call that the word which ends a row asks for.
+fn call_of(name: &str) -> Option<LibraryCall> {
+    if name == "laws" {
+        return Some(LibraryCall::Laws);
+    }
+    match named(&MACHINE_CALLS, name) {
+        Some(call) => Some(LibraryCall::Machine(call)),
+        None => Some(LibraryCall::Log(named(&LOG_CALLS, name)?)),
     }
 }
 
 /// What is told of a row by the word that ends it.
 fn telling_of(name: &str) -> Option<Telling> {
-    match name {
-        "row" => Some(Telling::Whole),
-        "sums" => Some(Telling::Sums),
-        "lines" => Some(Telling::Lines),
-        "steps" => Some(Telling::Steps),
-        "judged" => Some(Telling::Judged),
-        "rerun" => Some(Telling::Rerun),
-        "asks" => Some(Telling::Asks),
-        _ => None,
+    match named(&TELLINGS, name) {
+        Some(telling) => Some(telling),
+        None => Some(Telling::Calls(call_of(name)?)),
+    }
+}
+
+/// What these words before a line's number say.
+fn field_of(name: &str) -> Option<RowField> {
+    match named(&FIELDS, name) {
+        Some(field) => Some(field),
+        None => Some(RowField::End(telling_of(name)?)),
     }
 }
 
 /// The line that this text is.
 fn line_of(text: &str) -> Option<Line> {
     let (name, number) = text.rsplit_once(' ')?;
-    let verb = verb_of(name)?;
+    let verb = field_of(name)?;
     let number = number.parse::<usize>().ok()?;
     Some(Line { verb, number })
 }

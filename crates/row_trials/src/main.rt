@@ -1,5 +1,5 @@
 //! Rows of the whole program: what it answers to words and an input, over streams that behave as the row
-//! says.
+//! says. Some rows call a library in its place: the readers and writers of machine files and logs.
 //!
 //! Standard input has the rows, a line and what belongs to it after another:
 //!
@@ -17,19 +17,29 @@
 //! - `judged N`: the same, and then `check` judges the log. `rerun N`: the same, and then `run` runs the
 //!   machine that it wrote; what is told is as after `lines`.
 //! - `asks N`: the row is whole, and N is its number. The words are read only.
+//! - `laws N`, `file N`, `text N` and the other words of `src/line.rt`: the row is whole, and N is its number.
+//!   A library is called over the input.
 //!
 //! Standard output has a line for each row: its number, the status, how many bytes of the input were left and
 //! how long both texts are. After the line come the two texts, and whether the gate's counters came to what
-//! its plan says. Of words that are read only it says what they ask for. `tools/dev worked` writes the rows
-//! with what they must give.
+//! its plan says. Of words that are read only it says what they ask for, of a call of a library its number,
+//! how long the text is that it gives, and the text. `tools/dev worked` writes the rows with what they must
+//! give.
 //!
-//! Begin reading in `src/rows.rt`, `src/row.rt`, `src/outcome.rt`, `src/gate.rt`; `stdin`, `stdout`.
+//! Begin reading in `src/rows.rt`, `src/row.rt`, `src/outcome.rt`, `src/formats.rt`, `src/gate.rt`; `stdin`,
+//! `stdout`.
 #![tactic(auto)]
 
+mod calls;
+mod chains;
 mod command;
+mod entries;
 mod fault;
+mod formats;
 mod gate;
+mod library_call;
 mod line;
+mod machines;
 mod outcome;
 mod plans;
 mod row;

@@ -43,7 +43,12 @@ fn source_of(alloc: Global, input: Vec<u8>, streams: Streams) -> Result<MemSourc
 }
 
 /// An empty sink.
-fn sink_of(alloc: Global, room: usize, chunk: usize, fails: usize) -> Result<MemSink, Mem> {
+pub(crate) fn sink_of(
+    alloc: Global,
+    room: usize,
+    chunk: usize,
+    fails: usize,
+) -> Result<MemSink, Mem> {
     let fails = fails_of(alloc, fails)?;
     MemSink::new(alloc, room, chunk.max(1), fails)
 }

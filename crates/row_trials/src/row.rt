@@ -8,7 +8,7 @@ use sleep_base::Mem;
 use std::alloc::Global;
 
 /// How the streams behave. A call whose number is 0 is none.
-#[derive(Clone, Copy, Debug)]
+#[derive(Clone, Copy)]
 pub(crate) struct Streams {
     /// The most bytes that a read or a write takes.
     pub(crate) chunk: usize,

@@ -1,5 +1,6 @@
 //! The rows, one after another.
 
+use crate::calls::told_call;
 use crate::command::told_command;
 use crate::fault::RowsFault;
 use crate::line::{RowEnd, RowField, Telling, cut_line};
@@ -95,6 +96,7 @@ fn report<R: Threads + Wait + Sync>(
         Telling::Asks => told_words(alloc, row, end),
         Telling::Judged => told_verdict(rt, alloc, row, end),
         Telling::Rerun => told_rerun(rt, alloc, row, end),
+        Telling::Calls(call) => told_call(alloc, row, call, end.number),
         _ => told_outcome(rt, alloc, row, end),
     }
 }

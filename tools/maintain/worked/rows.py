@@ -4,13 +4,14 @@ A row has its words, a line each, how its streams behave, the pieces of its inpu
 number, the status, how many bytes of the input are left and how long both texts are, and then the texts. Of a long output, or one
 that several workers write in an order of their own, it says less: a checksum, or how many lines there are.
 
-tools/worked/words.cases has words that are read only, a line each with what they ask for. Of each the program says that.
+tools/worked/words.cases has words that are read only, a line each with what they ask for. Of each the program says that. Calls of
+libraries are rows, too: of each the program says its number, and what the call gives.
 """
 
 import zlib
 
 from maintain.places import WORKED
-from maintain.worked import fronts, generated, judged, long_logs, reader, runs, tellings, workers
+from maintain.worked import formats, fronts, generated, judged, long_logs, reader, runs, tellings, workers
 from maintain.worked.part_cases import cut
 
 NAME = "sleep"  # The word before the others: the program's own.
@@ -18,7 +19,7 @@ NAME = "sleep"  # The word before the others: the program's own.
 
 def cases():
     """Every case."""
-    for module in (runs, tellings, judged, fronts, reader, generated, workers, long_logs):
+    for module in (runs, tellings, judged, fronts, reader, generated, workers, long_logs, formats):
         yield from module.cases()
 
 
@@ -32,6 +33,11 @@ def row(case, number):
     words = words_of(case)
     yield f"words {len(words)}\n".encode()
     yield from (f"{word}\n".encode() for word in words)
+    yield from call(case, number)
+
+
+def call(case, number):
+    """A case or a call as it is read, from its streams on."""
     yield from (f"{what} {count}\n".encode() for what, count in case.streams)
     for piece, times in case.pieces:
         if times > 1:
@@ -60,6 +66,11 @@ def said(case, number):
     return head.encode() + shown + case.err + b"\n" + gate
 
 
+def gives(each, number):
+    """What is said of a call."""
+    return f"call {number} out {len(each.out)}\n".encode() + each.out
+
+
 def asked():
     """Words that are read only, each with what they ask for."""
     for line in WORKED.joinpath("words.cases").read_text(encoding="utf-8").splitlines():
@@ -76,8 +87,10 @@ def asks(words, number):
 
 def files():
     """The two files of the crate, by their paths in it."""
-    every, words = list(enumerate(cases(), 1)), list(enumerate(asked(), 1))
+    every, words, calls = (list(enumerate(each, 1)) for each in (cases(), asked(), formats.calls()))
     rows = [piece for number, case in every for piece in row(case, number)]
-    yield "stdin", b"".join([*rows, *(asks(each, number) for number, (each, _) in words)])
+    called = [piece for number, each in calls for piece in call(each, number)]
+    yield "stdin", b"".join([*rows, *(asks(each, number) for number, (each, _) in words), *called])
     outcomes = [said(case, number) for number, case in every]
-    yield "stdout", b"".join([*outcomes, *(f"asks {number} {answer}\n".encode() for number, (_, answer) in words)])
+    answers = [f"asks {number} {answer}\n".encode() for number, (_, answer) in words]
+    yield "stdout", b"".join([*outcomes, *answers, *(gives(each, number) for number, each in calls)])

@@ -1,4 +1,4 @@
-//! The longest chain of devices at the end of a log.
+//! The longest chain of devices at the end of a log: it is certified, and one that lacks a device is not.
 
 ghost use Rattle.std.specs.Prelude.{◌≡◌, true, None, Some, [], ◌∷◌};
 ghost use Rattle.std.specs.Bool.{OnTrue};
@@ -8,24 +8,12 @@ ghost use Rattle.sleep_model.specs.Order.{parents_of};
 ghost use Rattle.device_links.specs.Passes.{CanBeAdded};
 ghost use Rattle.sleep_stats.specs.Linked.{added_by, added_links};
 
-use log_commands::{read_log_input, stats_of};
 use sleep_base::Mem;
 use sleep_model::{Kind, ListOf, Log, Machine};
 use sleep_stats::{Chain, certified, longest};
 use std::alloc::Global;
 
-/// A device below another, for which a log adds a supplier.
-const LINKED: &str = "\
-{\"version\":1,\"devices\":[{\"name\":\"a\"},{\"name\":\"b\"},{\"name\":\"c\",\"parent\":\"b\"}]}
-0 0/0/0 auto link a b 0
-source autosleep 0 0 0 0 0 0 0
-finished
-";
-
-/// How the command `stats` ends on it.
-const CHAIN: &str = "chain 3 a b c\nlevel a 1\nlevel b 2\nlevel c 3\n";
-
-/// The devices of its longest chain, and the levels of all.
+/// The devices of the longest chain, and the levels of all.
 const DEVICES: [u32; 3] = [0, 1, 2];
 
 const LEVELS: [u32; 3] = [1, 2, 3];
@@ -116,8 +104,8 @@ fn is_cut_sure(alloc: Global, machine: &Machine, log: &Log) -> Result<bool, Mem>
     sure
 }
 
-/// Whether the first is so, and the second is not.
-fn are_distinct(alloc: Global, machine: &Machine, log: &Log) -> bool
+/// Whether the longest chain is that of all three devices and is certified, and that without its middle is not.
+pub(crate) fn is_certified_whole(alloc: Global, machine: &Machine, log: &Log) -> bool
     requires { IsAccepted machine.now }
 {
     if !is_linked(machine, log) {
@@ -125,36 +113,4 @@ fn are_distinct(alloc: Global, machine: &Machine, log: &Log) -> bool
     }
     is_longest_sure(alloc, machine, log) == Ok(true)
         && is_cut_sure(alloc, machine, log) == Ok(false)
-}
-
-/// Whether both are so of the machine and the log of an input.
-fn are_distinct_in(alloc: Global, input: &str) -> bool {
-    match read_log_input(alloc, input.as_bytes()) {
-        Ok(read) => {
-            let are_so = are_distinct(alloc, &read.machine, &read.log);
-            drop(read);
-            are_so
-        }
-        Err(_) => false,
-    }
-}
-
-/// A longest chain is certified, and one without its middle is none.
-#[test]
-fn the_longest_chain_is_certified(rt: HostRuntime) {
-    assert!(rt; are_distinct_in(rt.alloc(), LINKED));
-}
-
-/// Whether the command ends so on an input.
-fn is_written(alloc: Global, input: &str, end: &str) -> bool {
-    match stats_of(alloc, input.as_bytes()) {
-        Ok(text) => text.as_slice().ends_with(end.as_bytes()),
-        Err(_) => false,
-    }
-}
-
-/// The text for it is that for its bytes.
-#[test]
-fn the_longest_chain_is_written(rt: HostRuntime) {
-    assert!(rt; is_written(rt.alloc(), LINKED, CHAIN));
 }
