@@ -1,6 +1,6 @@
 //! What is written for a machine is read back as that machine, and the texts of its logs distinguish them. No
 //! program is mentioned here: the laws are about the definitions that readers and writers of files and logs
-//! meet. `format_trials` tries files and logs both ways.
+//! meet. `row_trials` tries files and logs both ways.
 //!
 //! Promises: The file that is written for a spelled machine is accepted and spells that machine; so is the
 //! file of every generated machine. Version 2 in place of version 1 spells the same machine. A spelled

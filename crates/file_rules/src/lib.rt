@@ -1,6 +1,6 @@
 //! The rules of a machine file: the definitions of the bytes that are accepted and of the machine that they
 //! spell, and the tests of a file's value by these rules. `machine_file` adds the links, and so finds a
-//! cycle. Its tests are in `format_trials`.
+//! cycle. Its tests are rows of `row_trials`.
 //!
 //! Promises: Of each group of rules the first that a file breaks is named, with its first place. The names of
 //! a file's things are known by kind, or the first broken rule on devices is named. A link and an answer pass

@@ -1,6 +1,6 @@
 //! Commands that read a machine with a log of it: `check` judges the log, `stats` says what it counts.
 //!
-//! Its tests are in `format_trials`, and in `row_trials` those of the whole program.
+//! Its tests are rows of `row_trials`.
 //!
 //! Promises: The verdict on a text that is to be a log of a machine. For a machine with its log the text of
 //! the counts, of a longest chain and of all levels; or the first cause that refuses them, the machine's

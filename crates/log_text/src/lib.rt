@@ -1,6 +1,6 @@
 //! The text of a sleep log, written and read: a line for each entry, a line for each wakeup source, and how
 //! the run ended. A log is read only from its own text; of other bytes the first bad line is named. Its tests
-//! are in `format_trials`.
+//! are rows of `row_trials`.
 //!
 //! Promises: The written bytes are the text of the log, or a front of it if a write failed. A log is read
 //! only from its text, and fits the machine. Let the machine's names be spelled as names and different. Then

@@ -1,5 +1,5 @@
 //! The words of a sleep log and the pieces of its lines: verbs, fixed words, numbers in decimal, the front of a
-//! line, and the buffer that they are put into. Its tests are in `format_trials`.
+//! line, and the buffer that they are put into. Its tests are rows of `row_trials`.
 //!
 //! Promises: Each piece puts just its spelling after the bytes of the buffer, and takes no memory. A verb is
 //! found by its word alone. The front of a line is the text of its moment and its word. The words round a

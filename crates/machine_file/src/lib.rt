@@ -1,6 +1,6 @@
 //! Reads and writes a machine file: one JSON object that spells a machine. A file is read if it obeys the 24
 //! rules of the format; else the first rule that it breaks is named, with the first place that breaks it. Its
-//! tests are in `format_trials`, and `row_trials` runs files that break a rule.
+//! tests are rows of `row_trials`.
 //!
 //! Promises: The machine that the bytes spell, with its links; else the first broken rule with its first
 //! place; nothing but out of memory refuses a file that breaks none. The written bytes are the text that the
