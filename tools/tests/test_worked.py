@@ -14,7 +14,7 @@ from julampok.second.words import command_of
 from maintain.commands import worked
 from maintain.trials.files import expected
 from maintain.worked import files, formats, idle_cases, judged, link_cases, long_logs, part_cases, reader, rows, tellings
-from maintain.worked.case import Case
+from maintain.worked.case import Call, Case
 from maintain.worked.entries import entry_term
 from maintain.worked.machine import Machine
 from maintain.worked.table import ENTRIES, LAWS, LOGS, MACHINES, MODULES
@@ -101,7 +101,7 @@ class Cases(unittest.TestCase):
         self.assertTrue(all(each.out == calls[at | 1].pieces[0][0] for at, each in enumerate(calls)))
 
     def test_a_call(self):
-        case = formats.Call("stream", ((b"{}\n", 2),), b"cut\n", (("write fails", 2),))
+        case = Call("stream", ((b"{}\n", 2),), b"cut\n", (("write fails", 2),))
         self.assertEqual(b"".join(rows.call(case, 7)), b"write fails 2\nrepeat 2\ninput 3\n{}\n\nstream 7\n")
         self.assertEqual(rows.gives(case, 7), b"call 7 out 4\ncut\n")
 

@@ -1,6 +1,6 @@
 //! The lines of a row.
 
-use crate::library_call::{LibraryCall, LogCall, MachineCall};
+use crate::library_call::{CoreCall, LibraryCall, LogCall, MachineCall, QuietEnd};
 
 /// What a line says of its row.
 #[derive(Clone, Copy)]
@@ -96,6 +96,28 @@ const LOG_CALLS: [(&str, LogCall); 3] = [
     ("chain", LogCall::Chain),
 ];
 
+/// The words that end a row with a machine file, of which only one actor has turns.
+const CORE_CALLS: [(&str, CoreCall); 9] = [
+    ("quiet", CoreCall::Quiet),
+    ("at table", CoreCall::AtTable),
+    ("plain", CoreCall::Plain),
+    ("guarded", CoreCall::Guarded),
+    ("hard", CoreCall::Hard),
+    ("asleep", CoreCall::Ends(QuietEnd::Asleep)),
+    ("stopped", CoreCall::Ends(QuietEnd::Stopped)),
+    ("one stopped", CoreCall::Ends(QuietEnd::OneStopped)),
+    ("waits", CoreCall::Waits),
+];
+
+/// The words that end other rows with a call of a library.
+const OTHER_CALLS: [(&str, LibraryCall); 5] = [
+    ("laws", LibraryCall::Laws),
+    ("burst", LibraryCall::Burst),
+    ("sent", LibraryCall::Sent),
+    ("seat", LibraryCall::Seat),
+    ("full seat", LibraryCall::FullSeat),
+];
+
 /// What stands beside that name in a table.
 fn named<T: Copy>(table: &[(&str, T)], name: &str) -> Option<T> {
     let row = table.iter().find(|row| row.0 == name)?;
@@ -104,12 +126,15 @@ fn named<T: Copy>(table: &[(&str, T)], name: &str) -> Option<T> {
 
 /// The call that the word which ends a row asks for.
 fn call_of(name: &str) -> Option<LibraryCall> {
-    if name == "laws" {
-        return Some(LibraryCall::Laws);
+    if let Some(call) = named(&OTHER_CALLS, name) {
+        return Some(call);
     }
-    match named(&MACHINE_CALLS, name) {
-        Some(call) => Some(LibraryCall::Machine(call)),
-        None => Some(LibraryCall::Log(named(&LOG_CALLS, name)?)),
+    if let Some(call) = named(&MACHINE_CALLS, name) {
+        return Some(LibraryCall::Machine(call));
+    }
+    match named(&LOG_CALLS, name) {
+        Some(call) => Some(LibraryCall::Log(call)),
+        None => Some(LibraryCall::Core(named(&CORE_CALLS, name)?)),
     }
 }
 

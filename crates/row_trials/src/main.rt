@@ -1,5 +1,6 @@
 //! Rows of the whole program: what it answers to words and an input, over streams that behave as the row
-//! says. Some rows call a library in its place: the readers and writers of machine files and logs.
+//! says. Some rows call a library in its place: the readers and writers of machine files and logs, the core
+//! over an event word that others move, a source's calls through its seat, and a burst of workers on threads.
 //!
 //! Standard input has the rows, a line and what belongs to it after another:
 //!
@@ -30,20 +31,25 @@
 //! `stdout`.
 #![tactic(auto)]
 
+mod alone;
 mod calls;
 mod chains;
 mod command;
 mod entries;
 mod fault;
+mod first_burst;
 mod formats;
 mod gate;
 mod library_call;
 mod line;
 mod machines;
+mod moving;
 mod outcome;
 mod plans;
 mod row;
 mod rows;
+mod seats;
+mod sent;
 mod text;
 
 use rows::run_rows;

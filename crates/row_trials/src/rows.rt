@@ -96,7 +96,7 @@ fn report<R: Threads + Wait + Sync>(
         Telling::Asks => told_words(alloc, row, end),
         Telling::Judged => told_verdict(rt, alloc, row, end),
         Telling::Rerun => told_rerun(rt, alloc, row, end),
-        Telling::Calls(call) => told_call(alloc, row, call, end.number),
+        Telling::Calls(call) => told_call(rt, alloc, row, call, end.number),
         _ => told_outcome(rt, alloc, row, end),
     }
 }

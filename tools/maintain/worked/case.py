@@ -40,6 +40,16 @@ class Case:
         return 0
 
 
+@dataclass(frozen=True)
+class Call:
+    """A call of a library: the word that ends its row, its input in pieces, what it gives, and how the row's streams behave."""
+
+    end: str
+    pieces: tuple
+    out: bytes
+    streams: tuple = ()
+
+
 def many(byte, count):
     """The pieces of so many of one byte, 256 at a time."""
     return ((byte * 256, count // 256), (byte, count % 256))

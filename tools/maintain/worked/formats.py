@@ -6,12 +6,11 @@ and the files of the machines stand here.
 """
 
 import json
-from dataclasses import dataclass
 
 from julampok.second.rules import compact, without_defaults
 from julampok.second.stats_logs import expected
 from maintain.places import WORKED
-from maintain.worked.case import Case
+from maintain.worked.case import Call, Case
 from maintain.worked.judged import rows_of
 from maintain.worked.logs import text_of
 
@@ -156,16 +155,6 @@ SHARED = b"""{"version":1,"devices":[{"name":"nic"}],"sources":["lan","lid"],
 {"op":"post","mark":"b"}]}],
         "answers":[{"what":"device","name":"nic","phase":"late","reports":[{"call":"event","source":"lid","ms":9,"hard":true},\
 {"call":"relax","source":"lan"}]}]}"""
-
-
-@dataclass(frozen=True)
-class Call:
-    """A call of a reader or a writer: the word that ends its row, its input in pieces, what it gives, and the streams of the row."""
-
-    end: str
-    pieces: tuple
-    out: bytes
-    streams: tuple = ()
 
 
 def by_hand():

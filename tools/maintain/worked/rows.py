@@ -11,7 +11,7 @@ libraries are rows, too: of each the program says its number, and what the call 
 import zlib
 
 from maintain.places import WORKED
-from maintain.worked import formats, fronts, generated, judged, long_logs, reader, runs, tellings, workers
+from maintain.worked import formats, fronts, generated, judged, long_logs, reader, runs, tellings, turns, workers
 from maintain.worked.part_cases import cut
 
 NAME = "sleep"  # The word before the others: the program's own.
@@ -66,6 +66,12 @@ def said(case, number):
     return head.encode() + shown + case.err + b"\n" + gate
 
 
+def called():
+    """Every call of a library."""
+    for module in (formats, turns):
+        yield from module.calls()
+
+
 def gives(each, number):
     """What is said of a call."""
     return f"call {number} out {len(each.out)}\n".encode() + each.out
@@ -87,10 +93,10 @@ def asks(words, number):
 
 def files():
     """The two files of the crate, by their paths in it."""
-    every, words, calls = (list(enumerate(each, 1)) for each in (cases(), asked(), formats.calls()))
+    every, words, calls = (list(enumerate(each, 1)) for each in (cases(), asked(), called()))
     rows = [piece for number, case in every for piece in row(case, number)]
-    called = [piece for number, each in calls for piece in call(each, number)]
-    yield "stdin", b"".join([*rows, *(asks(each, number) for number, (each, _) in words), *called])
+    made = [piece for number, each in calls for piece in call(each, number)]
+    yield "stdin", b"".join([*rows, *(asks(each, number) for number, (each, _) in words), *made])
     outcomes = [said(case, number) for number, case in every]
     answers = [f"asks {number} {answer}\n".encode() for number, (_, answer) in words]
     yield "stdout", b"".join([*outcomes, *answers, *(gives(each, number) for number, each in calls)])

@@ -1,4 +1,4 @@
-//! Tests of the core's turns, one actor at a time, over an event word that others move.
+//! The core's turns of only one actor, over an event word that others move.
 
 ghost use Rattle.std.specs.Prelude.{◌≡◌, ◌≤◌, reverse, true};
 ghost use Rattle.sleep_model.specs.Accepted.{IsAccepted};
@@ -6,6 +6,7 @@ ghost use Rattle.sleep_model.specs.Order.{parents_of};
 ghost use Rattle.sleep_core.specs.Cores.{IsActor};
 ghost use Rattle.core_history.specs.Histories.{last_stamp};
 
+use crate::library_call::{CoreCall, QuietEnd};
 use crate::moving::MovingWord;
 use device_links::Links;
 use event_word::{EventTable, Events, PlainEvents};
@@ -17,23 +18,7 @@ use sleep_model::{Actor, Kind, Machine, Stamp, Why};
 use std::alloc::Global;
 use std::sync::Wait;
 
-/// A parent and its child, and a task that reads the count, saves it and writes mem.
-const FAMILY: &str =
-    r#"{"version": 1, "devices": [{"name": "p"}, {"name": "c", "parent": "p"}], "actors": [{"name": "w", "kind": "user", "script": [{"op": "read"}, {"op": "save"}, {"op": "state", "text": "mem"}]}]}"#;
-
-/// A task that sleeps, one that waits for a mark, and an asynchronous device.
-const WAITERS: &str =
-    r#"{"version": 1, "devices": [{"name": "d", "async": true}], "actors": [{"name": "s", "kind": "user", "script": [{"op": "sleep", "ms": 5}]}, {"name": "m", "kind": "user", "script": [{"op": "wait", "mark": "a"}]}, {"name": "p", "kind": "user", "script": [{"op": "post", "mark": "b"}]}]}"#;
-
-/// A task that sleeps.
-const SLEEPER: &str =
-    r#"{"version": 1, "actors": [{"name": "s", "kind": "user", "script": [{"op": "sleep", "ms": 5}]}]}"#;
-
-/// A task that posts a mark and exits.
-const POSTER: &str =
-    r#"{"version": 1, "actors": [{"name": "p", "kind": "user", "script": [{"op": "post", "mark": "a"}]}]}"#;
-
-const MANAGER: Actor = Actor::Script(0);
+const FIRST: Actor = Actor::Script(0);
 
 const START: Stamp = Stamp { pos: 0, tick: 0 };
 
@@ -196,10 +181,10 @@ fn run_alone<R: Wait, E: Events>(
     rt: &R,
     alloc: Global,
     events: &mut E,
-    file: &str,
+    file: &[u8],
     who: Actor,
 ) -> Option<Alone> {
-    let Ok(ReadMachine { machine, links }) = read_machine(alloc, file.as_bytes()) else {
+    let Ok(ReadMachine { machine, links }) = read_machine(alloc, file) else {
         return None;
     };
     let alone = run_one(rt, alloc, events, &machine, links, who);
@@ -207,72 +192,43 @@ fn run_alone<R: Wait, E: Events>(
     alone
 }
 
-/// What only the manager of the family makes, with that word.
-fn family<R: Wait, E: Events>(rt: &R, alloc: Global, events: &mut E) -> Option<Alone> {
-    run_alone(rt, alloc, events, FAMILY, MANAGER)
-}
-
 /// What only an actor of a machine makes, if no event comes.
-fn quiet<R: Wait>(rt: &R, alloc: Global, file: &str, who: Actor) -> Option<Alone> {
+fn quiet<R: Wait>(rt: &R, alloc: Global, file: &[u8], who: Actor) -> Option<Alone> {
     run_alone(rt, alloc, &mut PlainEvents::new(), file, who)
 }
 
-/// Whether an attempt under that word enters, and is not given up; or is given up, and does not enter.
-fn goes<R: Wait, E: Events>(rt: &R, alloc: Global, events: &mut E, enters: bool) -> bool {
-    match family(rt, alloc, events) {
+/// Whether an attempt of the first script under that word enters, and is not given up; or is given up, and
+/// does not enter.
+fn goes<R: Wait, E: Events>(
+    rt: &R,
+    alloc: Global,
+    events: &mut E,
+    file: &[u8],
+    enters: bool,
+) -> bool {
+    match run_alone(rt, alloc, events, file, FIRST) {
         Some(alone) => alone.turns.entered == enters && alone.turns.was_busy != enters,
         None => false,
     }
 }
 
-/// Without events the attempt enters. Events that begin and end between any two turns: the save fails, and
-/// the attempt, which no count guards, enters. Such events after a save that was answered: the attempt is
-/// given up. Hard events between any two turns: the attempt is given up, whether a count guards it or not.
-#[test]
-fn an_attempt_enters_or_is_given_up(rt: HostRuntime) {
-    let alloc = rt.alloc();
-    assert!(rt; goes(&rt, alloc, &mut PlainEvents::new(), true), "quiet");
-    assert!(rt;
-        goes(&rt, alloc, &mut MovingWord::new(0, false), true),
-        "plain"
-    );
-    assert!(rt;
-        goes(&rt, alloc, &mut MovingWord::new(3, false), false),
-        "guarded"
-    );
-    assert!(rt;
-        goes(&rt, alloc, &mut MovingWord::new(0, true), false),
-        "hard"
-    );
-}
-
 /// Whether an attempt under that word enters, by as many entries as without events.
-fn is_plain<R: Wait, E: Events>(rt: &R, alloc: Global, events: &mut E) -> bool {
-    match (family(rt, alloc, events), quiet(rt, alloc, FAMILY, MANAGER)) {
+fn is_plain<R: Wait, E: Events>(rt: &R, alloc: Global, events: &mut E, file: &[u8]) -> bool {
+    let alone = run_alone(rt, alloc, events, file, FIRST);
+    match (alone, quiet(rt, alloc, file, FIRST)) {
         (Some(alone), Some(plain)) => alone.turns.entered && alone.count == plain.count,
         _ => false,
     }
 }
 
 /// Whether an attempt that looks at a table of the event word does.
-fn is_plain_at_table<R: Wait>(rt: &R, alloc: Global) -> bool {
+fn is_plain_at_table<R: Wait>(rt: &R, alloc: Global, file: &[u8]) -> bool {
     let Ok((table, seats, look)) = EventTable::new(alloc, 1) else {
         return false;
     };
-    let is_so = is_plain(rt, alloc, &mut look.on(&table));
+    let is_so = is_plain(rt, alloc, &mut look.on(&table), file);
     drop((table, seats));
     is_so
-}
-
-/// A look at the table of the event word serves the core as the plain counter does.
-#[test]
-fn a_quiet_attempt_enters_over_the_table(rt: HostRuntime) {
-    assert!(rt; is_plain_at_table(&rt, rt.alloc()));
-}
-
-/// What the turn was that made no entry.
-fn last_turn<R: Wait>(rt: &R, alloc: Global, file: &str, who: Actor) -> Option<CoreTurn> {
-    quiet(rt, alloc, file, who)?.turns.last
 }
 
 /// Whether the machine sleeps till its alarm, and all is not over before that.
@@ -284,39 +240,20 @@ fn sleeps(slept: &Alone) -> bool {
         && !slept.are_stopped
 }
 
-/// Whether the family does after the manager's turns.
-fn family_sleeps<R: Wait>(rt: &R, alloc: Global) -> bool {
-    match quiet(rt, alloc, FAMILY, MANAGER) {
-        Some(alone) => sleeps(&alone),
-        None => false,
-    }
-}
-
-/// The machine sleeps till its alarm, and all is not over before that.
-#[test]
-fn a_machine_sleeps_till_its_alarm(rt: HostRuntime) {
-    assert!(rt; family_sleeps(&rt, rt.alloc()));
-}
-
 /// Whether the first script is stopped, and all are or not. It has not slept, and no attempt is open.
-fn is_stopped<R: Wait>(rt: &R, alloc: Global, file: &str, are_stopped: bool) -> bool {
-    match quiet(rt, alloc, file, MANAGER) {
-        Some(alone) => {
-            alone.are_stopped == are_stopped
-                && alone.is_stopped
-                && !alone.is_open
-                && alone.slept.is_none()
-        }
-        None => false,
-    }
+fn is_stopped(alone: &Alone, are_stopped: bool) -> bool {
+    alone.are_stopped == are_stopped && alone.is_stopped && !alone.is_open && alone.slept.is_none()
 }
 
-/// A script is stopped that sleeps on or has exited, and so are all if each is. None of those has slept, and
-/// no attempt is open.
-#[test]
-fn scripts_are_stopped(rt: HostRuntime) {
-    for (file, are_stopped) in [(SLEEPER, true), (POSTER, true), (WAITERS, false)] {
-        assert!(rt; is_stopped(&rt, rt.alloc(), file, are_stopped), "{file}");
+/// Whether the first script comes to what it should, if no event comes.
+fn comes_to<R: Wait>(rt: &R, alloc: Global, file: &[u8], end: QuietEnd) -> bool {
+    let Some(alone) = quiet(rt, alloc, file, FIRST) else {
+        return false;
+    };
+    match end {
+        QuietEnd::Asleep => sleeps(&alone),
+        QuietEnd::Stopped => is_stopped(&alone, true),
+        QuietEnd::OneStopped => is_stopped(&alone, false),
     }
 }
 
@@ -341,11 +278,30 @@ fn is_its_wait(who: Actor, last: Option<CoreTurn>) -> bool {
     }
 }
 
-/// What an actor waits for that can do nothing: the end of its sleep, a mark, its turn in a phase, or work;
-/// and nothing is due of one that has exited.
-#[test]
-fn actors_say_what_they_wait_for(rt: HostRuntime) {
+/// Whether each actor of the waiters does: an actor that can do nothing waits for the end of its sleep, a mark,
+/// its turn in a phase, or work; and nothing is due of one that has exited.
+fn are_their_waits<R: Wait>(rt: &R, alloc: Global, file: &[u8]) -> bool {
     for who in &ACTORS {
-        assert!(rt; is_its_wait(*who, last_turn(&rt, rt.alloc(), WAITERS, *who)));
+        let last = match quiet(rt, alloc, file, *who) {
+            Some(alone) => alone.turns.last,
+            None => None,
+        };
+        if !is_its_wait(*who, last) {
+            return false;
+        }
+    }
+    true
+}
+
+/// Whether the core does what the row asks.
+pub(crate) fn is_so<R: Wait>(rt: &R, alloc: Global, file: &[u8], call: CoreCall) -> bool {
+    match call {
+        CoreCall::Quiet => goes(rt, alloc, &mut PlainEvents::new(), file, true),
+        CoreCall::AtTable => is_plain_at_table(rt, alloc, file),
+        CoreCall::Plain => goes(rt, alloc, &mut MovingWord::new(0, false), file, true),
+        CoreCall::Guarded => goes(rt, alloc, &mut MovingWord::new(3, false), file, false),
+        CoreCall::Hard => goes(rt, alloc, &mut MovingWord::new(0, true), file, false),
+        CoreCall::Ends(end) => comes_to(rt, alloc, file, end),
+        CoreCall::Waits => are_their_waits(rt, alloc, file),
     }
 }

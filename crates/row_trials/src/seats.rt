@@ -1,4 +1,4 @@
-//! Tests of a source's calls through its seat at the event word.
+//! A source's calls through its seat at the event word.
 
 ghost use Rattle.std.specs.Prelude.{◌≡◌, ◌≤◌, ◌^◌, IfOk};
 ghost use Rattle.event_word.specs.Seats.{IsSeatOf};
@@ -107,8 +107,9 @@ fn is_full<R: Wait>(rt: &R, table: &EventTable, source: &mut SeatedSource) -> bo
     is_filled && refused == Err(SourceFault::Full) && made == 60_000
 }
 
-/// Whether a new source is as its test says: filled, or called once by each call.
-fn is_as_told<R: Wait>(rt: &R, alloc: Global, fills: bool) -> bool {
+/// Whether a new source takes as many calls as it has room for, and then none; or each call once. Each call
+/// moves the word by its steps, and has a tick for each entry.
+pub(crate) fn takes_calls<R: Wait>(rt: &R, alloc: Global, fills: bool) -> bool {
     let Ok((table, mut source, look)) = one_source(alloc) else {
         return false;
     };
@@ -119,16 +120,4 @@ fn is_as_told<R: Wait>(rt: &R, alloc: Global, fills: bool) -> bool {
     };
     drop((table, source, look));
     is_so
-}
-
-/// Each call moves the word by its steps, and has a tick for each entry.
-#[test]
-fn each_call_goes_through_the_seat(rt: HostRuntime) {
-    assert!(rt; is_as_told(&rt, rt.alloc(), false));
-}
-
-/// A source that has room for fewer than four entries is full, and stays as it is.
-#[test]
-fn a_full_source_is_not_called(rt: HostRuntime) {
-    assert!(rt; is_as_told(&rt, rt.alloc(), true));
 }

@@ -1,4 +1,4 @@
-//! Tests of bursts of workers on threads.
+//! The first burst of a machine, by two workers on threads.
 
 ghost use Rattle.std.specs.Prelude.{◌≡◌, ◌≤◌, [], length, IfOk, reverse};
 ghost use Rattle.sleep_model.specs.Accepted.{IsAccepted};
@@ -22,14 +22,6 @@ use std::alloc::Global;
 use std::sync::Wait;
 use std::thread::Threads;
 use world_workers::{Burst, BurstContents, BurstPlan, make_burst};
-
-/// A task that puts the machine to sleep.
-const ATTEMPT: &str =
-    r#"{"version":1,"actors":[{"name":"w","kind":"user","script":[{"op":"read"},{"op":"save"},{"op":"state","text":"mem"}]}]}"#;
-
-/// An interrupt that makes two calls on a source.
-const LID: &str =
-    r#"{"version":1,"sources":["lid"],"actors":[{"name":"k","kind":"irq","script":[{"op":"awake","source":"lid"},{"op":"relax","source":"lid"}]}]}"#;
 
 /// The tasks of a machine of one script and no source, before anything was done.
 fn few_tasks<'m>(alloc: Global, plans: &'m MachinePlans<'_>) -> Result<Vec<Task<'m>>, Mem>
@@ -185,24 +177,16 @@ fn burst_of<R: Threads + Sync + Wait>(
     did
 }
 
-/// Whether so many turns did something in the first burst of a file's machine.
-fn does<R: Threads + Sync + Wait>(rt: &R, alloc: Global, file: &str, turns: u64) -> bool {
-    let Ok(ReadMachine { machine, links }) = read_machine(alloc, file.as_bytes()) else {
-        return false;
+/// How many turns did something in the first burst of a file's machine.
+pub(crate) fn did_first<R: Threads + Sync + Wait>(
+    rt: &R,
+    alloc: Global,
+    file: &[u8],
+) -> Result<u64, Mem> {
+    let Ok(ReadMachine { machine, links }) = read_machine(alloc, file) else {
+        return Err(Mem);
     };
     let did = burst_of(rt, alloc, &machine, links);
     drop(machine);
-    did == Ok(turns)
-}
-
-/// A task makes its whole attempt up to the sleep: seventeen entries.
-#[test]
-fn an_attempt_in_a_burst(rt: HostRuntime) {
-    assert!(rt; does(&rt, rt.alloc(), ATTEMPT, 17));
-}
-
-/// An interrupt makes its two calls, and its exit.
-#[test]
-fn two_calls_in_a_burst(rt: HostRuntime) {
-    assert!(rt; does(&rt, rt.alloc(), LID, 3));
+    did
 }

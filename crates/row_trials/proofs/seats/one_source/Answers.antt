@@ -1,7 +1,7 @@
 -- Proof by hand of `one_source`: what it returns, by the lemmas of `Ones`.
 use Rattle.std.proofs.Common.{◌≡◌, length, arith}
-use Rattle.core_trials.proofs.Ones.{first}
-use Rattle.core_trials.proofs.object_tests.one_source.Goals as goal
+use Rattle.row_trials.proofs.Ones.{first}
+use Rattle.row_trials.proofs.seats.one_source.Goals as goal
 
 pub returns-clause-source : goal.returns-clause-source
 returns-clause-source c =

@@ -1,3 +1,0 @@
--- The lemmas of this crate, by file.
-pub mod Firsts
-pub mod Ones

@@ -1,1 +1,0 @@
--- This crate has no definitions of its own.
