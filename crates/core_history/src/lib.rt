@@ -1,5 +1,5 @@
 //! The history of a machine: its journal, and what the definitions read from it, which each entry brings up to
-//! date. The core decides what is due, and only its history writes. Its tests are in `core_trials`.
+//! date. The core decides what is due, and only its history writes. Its tests are rows of `row_trials`.
 //!
 //! Promises: Each component of the history is what the definitions read from the entries: the guard, the open
 //! attempt, the devices, the tasks, the freezer, the autosleep work, the notifiers and the syscore operations.

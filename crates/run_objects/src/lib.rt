@@ -1,8 +1,8 @@
 //! The objects of a run: the machine's core and each wakeup source, each with the seat by which it looks at
 //! the event word that all of them share (`drivers/base/power/wakeup.c`, `combined_event_count`). What an
 //! object has between its calls is all that its next caller knows, so a run can have each under a lock of its
-//! own. At the end the seats come back to their table, and what they did gives the word. Its tests are in
-//! `core_trials`.
+//! own. At the end the seats come back to their table, and what they did gives the word. Its tests are
+//! rows of `row_trials`.
 //!
 //! Promises: A wakeup source with its seat makes a whole call by the steps of that seat. Its history gains
 //! the call's note and each step of it, and `Full` comes exactly if fewer than four places are left. The

@@ -2,7 +2,7 @@
 //! machine and each wakeup source. Each is under a lock of its own, so that a report on a source waits for no
 //! turn of the machine. A call takes one lock, and its pass knows what it made there. What a worker does in
 //! this world is a task: the job of an actor, or the timer of a source. What its acts and a whole burst come
-//! to is defined here. Its tests are in `core_trials`.
+//! to is defined here. Its tests are rows of `row_trials`.
 //!
 //! Promises: A report adds only to its source, and a turn only to the machine's journal. A call that answers
 //! a stamp has added just its entries, at the end of its object's list, and its pass made just these, each

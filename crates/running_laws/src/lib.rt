@@ -1,6 +1,6 @@
 //! The invariant of a run: every turn, call and jump preserves it, and so does every burst, since a burst is
 //! serial. At a run's end it yields one legal log (own: Linux keeps no such log). It has no tests:
-//! `row_trials` runs whole machines, `core_trials` bursts.
+//! `row_trials` runs whole machines and first bursts.
 //!
 //! Promises: The run's invariant: each turn of an actor, each whole call on a source, each expiry and each
 //! jump of time preserves it. A run has made at most as many entries as a log has. With the closed table of

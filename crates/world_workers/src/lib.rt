@@ -1,6 +1,6 @@
 //! The workers of a burst: each makes turns of a task of its own in the world that all share, with a pass of
 //! its own (own: Linux has its scheduler). What a worker did in a burst is a chain of acts of its task, and
-//! its pass made just what they added. Its tests are in `core_trials`.
+//! its pass made just what they added. Its tests are rows of `row_trials`.
 //!
 //! Promises: A worker's turn is one act of its task: nothing, the turn of the machine that a job wants, the
 //! call on a source that it wants, or the expiry of a timer. The task notes what was made, and the pass made
