@@ -1,4 +1,4 @@
 -- The lemmas of this crate, by file.
-pub mod Chains
+pub mod AddedLink
 pub mod Firsts
 pub mod Ones

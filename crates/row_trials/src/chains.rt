@@ -59,7 +59,7 @@ fn adds_one(log: &Log) -> bool
 
 /// Whether the machine is that of those devices and the log adds that link: then the links at its end are
 /// these.
-#[tactic(auto, using(crate::proofs::Chains::stand))]
+#[tactic(auto, using(crate::proofs::AddedLink::stand))]
 fn is_linked(machine: &Machine, log: &Log) -> bool
     ensures { OnTrue result (CanBeAdded (parents_of machine.now.devices) (added_links machine.now log.now)) }
 {

@@ -111,7 +111,6 @@ fn did_at<'m, R: Threads + Sync + Wait>(
 }
 
 /// How many turns did something in the first burst of a machine with that core and these tasks.
-#[tactic(auto, using(crate::proofs::Firsts::uncalled_timely))]
 fn seated_burst<'m, R: Threads + Sync + Wait>(
     rt: &R,
     alloc: Global,
