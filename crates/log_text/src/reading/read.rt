@@ -55,17 +55,18 @@ fn read_entries<'a>(
     Ok((entries, left, number))
 }
 
-/// The statistics of the source of that name at the beginning of a text, and what follows
-/// their line.
+/// The statistics of the source of that name at the beginning of a text, what follows their line, and the
+/// number of the line there.
 fn read_source<'a>(
     reader: &mut LineReader,
     name: &[u8],
     bytes: &'a [u8],
     number: u32,
-) -> Result<(Stats, &'a [u8]), LogFault>
+) -> Result<(Stats, &'a [u8], u32), LogFault>
     ensures text { IfOk result (λ r. bytes.now ≡ source_line name.now r.0 ++ r.1.now) }
     ensures fits { IfOk result (λ r. fits_stats r.0 ≡ true) }
     ensures lines { IfOk result (λ r. lines bytes.now ≡ source_line name.now r.0 ∷ lines r.1.now) }
+    ensures number { IfOk result (λ r. r.2 ≡ number + 1) }
     ensures line { IfErr result (λ e. AtLine e (λ n. n ≡ number)) }
     ensures fault { IfErr result (λ e. AtLine e (λ _. IsNoSource name.now (lines bytes.now))) }
 {
@@ -74,7 +75,7 @@ fn read_source<'a>(
     }
     let (line, after_piece) = first_line(bytes);
     match reader.source(name, line)? {
-        Some(stats) => Ok((stats, after_piece)),
+        Some(stats) => Ok((stats, after_piece, next_number(number)?)),
         None => Err(LogFault::Line(number)),
     }
 }
@@ -96,23 +97,23 @@ fn read_sources<'a>(
     ensures fault { IfErr result (λ e. AtLine e (IsBadSource machine.now (source_names machine.now) (lines bytes.now) first)) }
 {
     let names = machine.sources.as_slice();
-    let mut all = Vec::new(alloc);
+    let mut all = Vec::with_capacity(alloc, names.len() + 1)?;
     let mut left = bytes;
     let mut number = first;
     for i in 0..names.len() {
         match read_source(reader, names[i].bytes(), left, number) {
-            Ok((stats, after_piece)) => {
-                all.push(stats)?;
-                number = next_number(number)?;
+            Ok((stats, after_piece, following)) => {
+                all.push_reserved(stats);
                 left = after_piece;
+                number = following;
             }
             Err(fault) => return Err(fault),
         }
     }
     match read_source(reader, AUTOSLEEP.as_bytes(), left, number) {
-        Ok((stats, after_piece)) => {
-            all.push(stats)?;
-            Ok((all, after_piece, next_number(number)?))
+        Ok((stats, after_piece, following)) => {
+            all.push_reserved(stats);
+            Ok((all, after_piece, following))
         }
         Err(fault) => Err(fault),
     }

@@ -1,5 +1,5 @@
 -- Proof by hand of `read_sources`: its loop and what it returns, by the lemmas of `Loops`.
-use Rattle.std.proofs.Common.{◌≡◌, ◌∙◌, ℕ, List, ◌≤◌, ◌<◌, ◌++◌, ◌∷◌, [], ap, subst, length, get_or, arith}
+use Rattle.std.proofs.Common.{◌≡◌, ◌∙◌, ℕ, List, ◌≤◌, ◌<◌, ◌++◌, ◌∷◌, ap, subst, length, get_or, arith}
 use Rattle.sleep_model.specs.Text.{source_line}
 use Rattle.log_text.specs.Faults.{AtLine, IsNoSource}
 use Rattle.log_text.specs.Grammar.{lines}
@@ -13,10 +13,9 @@ loop-i-preserved c =
     let within : c.loop-i.i < length m.sources = let l = ap length c.as_slice-names.ensures in omega arith in
     let at : name ≡ get_or m.sources c.loop-i.i name = cc in
     let v = c.loop-i.invariant in
-    let items : c.push.new.self.items ≡ c.loop-i.all.items ++ c.in-Ok.stats ∷ [] = c.in_ok-push-in-Ok.ensures.items in
-    rw items
-    (one_source m c.loop-i.i name within at c.loop-i.all.items c.in-Ok.stats c.args.bytes.now c.loop-i.left.now c.in-Ok.after_piece.now c.args.first c.loop-i.number c.in_ok-number-in-Ok.number
-    v.0 v.1 v.2 v.3 c.in-Ok.ensures.text c.in-Ok.ensures.lines c.in-Ok.ensures.fits c.in_ok-number-in-Ok.ensures)
+    let one = one_source m c.loop-i.i name within at c.loop-i.all.items c.in-Ok.stats c.args.bytes.now c.loop-i.left.now c.in-Ok.after_piece.now c.args.first c.loop-i.number c.in-Ok.following
+    v.0 v.1 v.2 v.3 c.in-Ok.ensures.text c.in-Ok.ensures.lines c.in-Ok.ensures.fits c.in-Ok.ensures.number in
+    rw c.push_reserved.ensures.items (one.0, one.1, one.2, one.3, c.push_reserved.ensures.capacity ∙ v.4)
 
 pub returns-in-Err-clause-fault : goal.returns-in-Err-clause-fault
 returns-in-Err-clause-fault c =
@@ -34,7 +33,7 @@ returns-in-Ok-read_source-clause-text c =
     let l = ap length c.as_slice-names.ensures in
     let end : length m.sources ≤ c.loop-i.i = omega arith in
     let most : c.loop-i.i ≤ length m.sources = omega arith in
-    rw c.in_ok-push-in-Ok-read_source.ensures.items
+    rw c.push_reserved-in-Ok-read_source.ensures.items
     (last_source_text m c.loop-i.i end c.loop-i.all.items c.args.bytes.now c.loop-i.left.now c.args.first c.loop-i.number v.0 v.1 v.3 most c.in-Ok-read_source.stats c.in-Ok-read_source.after_piece.now
     (c.in-Ok-read_source.ensures.text ∙ ap (λ (name : List ℕ). source_line name c.in-Ok-read_source.stats ++ c.in-Ok-read_source.after_piece.now) c.as_bytes.ensures.value))
 
@@ -45,9 +44,9 @@ returns-in-Ok-read_source-clause-bad c =
     let l = ap length c.as_slice-names.ensures in
     let end : length m.sources ≤ c.loop-i.i = omega arith in
     last_source_bad m c.loop-i.i end c.loop-i.all.items c.args.bytes.now c.loop-i.left.now c.args.first c.loop-i.number v.0 v.1 v.3 c.in-Ok-read_source.stats c.in-Ok-read_source.after_piece.now
-    c.in_ok-next_number-in-Ok-read_source.field-0
+    c.in-Ok-read_source.following
     (c.in-Ok-read_source.ensures.lines ∙ ap (λ (name : List ℕ). source_line name c.in-Ok-read_source.stats ∷ lines c.in-Ok-read_source.after_piece.now) c.as_bytes.ensures.value)
-    c.in-Ok-read_source.ensures.fits c.in_ok-next_number-in-Ok-read_source.ensures
+    c.in-Ok-read_source.ensures.fits c.in-Ok-read_source.ensures.number
 
 pub returns-clause-fault : goal.returns-clause-fault
 returns-clause-fault c =

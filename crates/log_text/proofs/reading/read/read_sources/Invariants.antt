@@ -1,5 +1,5 @@
 -- The invariant of the loop of `read_sources`.
-use Rattle.std.proofs.Common.{◌≡◌, ◌++◌, ◌∷◌, [], ℕ, true, length, take, drop, codes}
+use Rattle.std.proofs.Common.{◌≡◌, ◌++◌, ◌∷◌, [], ℕ, ◌+◌, true, length, vec_capacity, take, drop, codes}
 use Rattle.std.specs.List.{list_all}
 use Rattle.sleep_model.specs.Fits.{fits_stats}
 use Rattle.sleep_model.specs.Text.{source_lines, source_names}
@@ -13,3 +13,4 @@ invariant-loop-i l =
     × (length l.all.items ≡ l.i)
     × (list_all fits_stats l.all.items ≡ true)
     × ((n : ℕ) → IsBadSource l.machine (drop l.i l.machine.sources ++ codes "autosleep" ∷ []) (lines l.left) l.number n → IsBadSource l.machine (source_names l.machine) (lines l.bytes) l.first n)
+    × (vec_capacity l.all ≡ length l.machine.sources + 1)
