@@ -1,6 +1,6 @@
 //! The names of a machine's things, by the kind of thing.
 
-ghost use Rattle.std.specs.Prelude.{◌≡◌, ◌++◌, ◌∷◌, [], IfOk, codes, map};
+ghost use Rattle.std.specs.Prelude.{◌≡◌, ◌++◌, ◌∷◌, [], ℕ, List, IfOk, codes, map};
 ghost use Rattle.log_text.specs.MachineNames.{HasNames};
 
 use sleep_base::Mem;
@@ -36,15 +36,15 @@ impl<T: OfNames> ByKind<T> {
     pub fn of(alloc: Global, machine: &Machine) -> Result<Self, Mem>
         ensures { IfOk result (λ k. HasNames machine.now (T.listed k.devices) (T.listed k.syscore) (T.listed k.notifiers) (T.listed k.sources) (T.listed k.marks) (T.listed k.scripts)) }
     {
-        let devices = T::of_names(alloc, names_of_devices(alloc, machine.devices.as_slice())?)?;
-        let syscore = T::of_names(alloc, names_of(alloc, machine.syscore.as_slice())?)?;
-        let notifiers = T::of_names(
+        let devices = made_of(alloc, names_of_devices(alloc, machine.devices.as_slice()))?;
+        let syscore = made_of(alloc, names_of(alloc, machine.syscore.as_slice()))?;
+        let notifiers = made_of(
             alloc,
-            names_of_notifiers(alloc, machine.notifiers.as_slice())?,
+            names_of_notifiers(alloc, machine.notifiers.as_slice()),
         )?;
-        let sources = T::of_names(alloc, names_of_sources(alloc, machine.sources.as_slice())?)?;
-        let marks = T::of_names(alloc, names_of(alloc, machine.marks.as_slice())?)?;
-        let scripts = T::of_names(alloc, names_of_scripts(alloc, machine.actors.as_slice())?)?;
+        let sources = made_of(alloc, names_of_sources(alloc, machine.sources.as_slice()))?;
+        let marks = made_of(alloc, names_of(alloc, machine.marks.as_slice()))?;
+        let scripts = made_of(alloc, names_of_scripts(alloc, machine.actors.as_slice()))?;
         Ok(ByKind {
             devices,
             syscore,
@@ -53,6 +53,16 @@ impl<T: OfNames> ByKind<T> {
             marks,
             scripts,
         })
+    }
+}
+
+/// What is made of these names, if there was memory for them.
+fn made_of<T: OfNames>(alloc: Global, names: Result<Vec<Name>, Mem>) -> Result<T, Mem>
+    ensures { (l : List (List ℕ)) → IfOk names (λ v. v.items ≡ l) → IfOk result (λ made. T.listed made ≡ l) }
+{
+    match names {
+        Ok(names) => T::of_names(alloc, names),
+        Err(fault) => Err(fault),
     }
 }
 
