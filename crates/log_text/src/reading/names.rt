@@ -102,7 +102,7 @@ fn names_of_scripts(alloc: Global, scripts: &[Script]) -> Result<Vec<Name>, Mem>
 }
 
 /// The sources' names, in order, `autosleep` last.
-pub fn names_of_sources(alloc: Global, sources: &[Name]) -> Result<Vec<Name>, Mem>
+fn names_of_sources(alloc: Global, sources: &[Name]) -> Result<Vec<Name>, Mem>
     ensures { IfOk result (λ v. v.items ≡ sources.now ++ codes "autosleep" ∷ []) }
 {
     let mut names = Vec::from_slice(alloc, sources)?;

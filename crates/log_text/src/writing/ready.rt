@@ -1,16 +1,16 @@
 //! A machine with names that are ready to be copied.
 
-ghost use Rattle.std.specs.Prelude.{◌≡◌, ◌≤◌, ◌++◌, [], ℕ, IfOk, length, slice_get, codes};
+ghost use Rattle.std.specs.Prelude.{◌≡◌, ◌≤◌, ◌++◌, [], ℕ, IfOk, length, slice_get};
 ghost use Rattle.std.specs.Option.{ForSome};
 ghost use Rattle.sleep_model.specs.declared.entry.Actor.TheVariants as actor;
-ghost use Rattle.sleep_model.specs.Text.{device_name, name_in, script_text, source_names, space};
+ghost use Rattle.sleep_model.specs.Text.{name_in, script_text, source_names, space};
 ghost use Rattle.log_words.specs.Front.{maker_text};
 ghost use Rattle.log_text.specs.Named.{device_names, notifier_names, script_names};
 
-use crate::reading::names::{ByKind, OfNames, names_of_sources};
+use crate::reading::names::{ByKind, OfNames};
 use log_words::{ShortText, script_word};
 use sleep_base::{Mem, drop_for_mem};
-use sleep_model::{Actor, Device, Machine, Name, Script};
+use sleep_model::{Actor, Machine, Name, Script};
 use std::alloc::Global;
 use std::marker::Model;
 
@@ -52,11 +52,12 @@ impl<'a> ReadyNames<'a> {
     pub fn new(alloc: Global, machine: &'a Machine) -> Result<Self, Mem>
         ensures { IfOk result (λ r. r ≡ machine.now) }
     {
-        let actors = makers_of(alloc, machine)?;
-        let Ok(names) = ByKind::of(alloc, machine) else {
-            return Err(drop_for_mem(actors));
+        let names = ByKind::<Vec<ShortText>>::of(alloc, machine)?;
+        let devices = names.devices.as_slice();
+        let sources = names.sources.as_slice();
+        let Ok((makers, scripts, timers)) = makers_of(alloc, machine, devices, sources) else {
+            return Err(drop_for_mem(names));
         };
-        let (makers, scripts, timers) = actors;
         Ok(ReadyNames {
             machine,
             none: ShortText::of(b""),
@@ -194,11 +195,10 @@ fn name_text(name: &Name) -> Result<ShortText, Mem>
 
 /// Who makes an entry, of that kind and that name, with the space after it. `Mem` if the name has more bytes
 /// than a name may have.
-fn maker(kind: &[u8], name: &Name) -> Result<ShortText, Mem>
+fn maker(kind: &[u8], name: &[u8]) -> Result<ShortText, Mem>
     requires { length kind.now ≤ 6 }
     ensures { IfOk result (λ t. t ≡ (kind.now ++ name.now) ++ space) }
 {
-    let name = name.bytes();
     if name.len() > LONGEST {
         return Err(Mem);
     }
@@ -208,32 +208,27 @@ fn maker(kind: &[u8], name: &Name) -> Result<ShortText, Mem>
     Ok(text)
 }
 
-/// Devices, scripts and the timers of sources as who makes an entry.
-fn makers_of(alloc: Global, machine: &Machine) -> Result<ThreeTexts, Mem>
+/// Devices, scripts and the timers of sources as who makes an entry, by the names of devices and sources.
+fn makers_of(
+    alloc: Global,
+    machine: &Machine,
+    devices: &[ShortText],
+    sources: &[ShortText],
+) -> Result<ThreeTexts, Mem>
+    requires devices { devices.now ≡ device_names machine.now }
+    requires sources { sources.now ≡ source_names machine.now }
     ensures makers { IfOk result (λ t. (i : ℕ) → ForSome (slice_get t.0.items i) (λ t. t ≡ maker_text machine.now (actor.Dev i))) }
     ensures scripts { IfOk result (λ t. (i : ℕ) → ForSome (slice_get t.1.items i) (λ t. t ≡ maker_text machine.now (actor.Script i))) }
     ensures timers { IfOk result (λ t. (i : ℕ) → ForSome (slice_get t.2.items i) (λ t. t ≡ maker_text machine.now (actor.Timer i))) }
 {
-    let makers = device_makers(alloc, machine.devices.as_slice())?;
+    let makers = makers_named(alloc, b"dev:", devices)?;
     let Ok(scripts) = script_makers(alloc, machine.actors.as_slice()) else {
         return Err(drop_for_mem(makers));
     };
-    let Ok(timers) = timer_makers(alloc, machine) else {
+    let Ok(timers) = makers_named(alloc, b"timer:", sources) else {
         return Err(drop_for_mem((makers, scripts)));
     };
     Ok((makers, scripts, timers))
-}
-
-/// Devices as who makes an entry. `Mem` also if a name has more bytes than a name may have.
-fn device_makers(alloc: Global, devices: &[Device]) -> Result<Vec<ShortText>, Mem>
-    ensures { IfOk result (λ v. (i : ℕ) → ForSome (slice_get v.items i)
-        (λ t. t ≡ (codes "dev:" ++ device_name (slice_get devices.now i)) ++ space)) }
-{
-    let mut texts = Vec::with_capacity(alloc, devices.len())?;
-    for device in devices {
-        texts.push(maker(b"dev:", &device.name)?)?;
-    }
-    Ok(texts)
 }
 
 /// Scripts as who makes an entry. `Mem` also if a name has more bytes than a name may have.
@@ -244,28 +239,21 @@ fn script_makers(alloc: Global, scripts: &[Script]) -> Result<Vec<ShortText>, Me
     let mut texts = Vec::with_capacity(alloc, scripts.len())?;
     for script in scripts {
         let word = script_word(script.kind).as_bytes();
-        texts.push(maker(word, &script.name)?)?;
+        texts.push(maker(word, script.name.bytes())?)?;
     }
     Ok(texts)
 }
 
-/// The timers of sources as who makes an entry. `Mem` also if a name has more bytes than a name may have.
-fn timer_makers(alloc: Global, machine: &Machine) -> Result<Vec<ShortText>, Mem>
-    ensures { IfOk result (λ v. (i : ℕ) → ForSome (slice_get v.items i) (λ t. t ≡ maker_text machine.now (actor.Timer i))) }
-{
-    let names = names_of_sources(alloc, machine.sources.as_slice())?;
-    timer_texts(alloc, names.as_slice())
-}
-
-/// The timers of sources of these names as who makes an entry. `Mem` also if a name has more bytes than a
+/// Things of that kind and of these names as who makes an entry. `Mem` also if a name has more bytes than a
 /// name may have.
-fn timer_texts(alloc: Global, names: &[Name]) -> Result<Vec<ShortText>, Mem>
+fn makers_named(alloc: Global, kind: &[u8], names: &[ShortText]) -> Result<Vec<ShortText>, Mem>
+    requires { length kind.now ≤ 6 }
     ensures { IfOk result (λ v. (i : ℕ) → ForSome (slice_get v.items i)
-        (λ t. t ≡ (codes "timer:" ++ name_in (slice_get names.now i)) ++ space)) }
+        (λ t. t ≡ (kind.now ++ name_in (slice_get names.now i)) ++ space)) }
 {
     let mut texts = Vec::with_capacity(alloc, names.len())?;
     for name in names {
-        texts.push(maker(b"timer:", name)?)?;
+        texts.push(maker(kind, name.as_bytes())?)?;
     }
     Ok(texts)
 }

@@ -1,7 +1,7 @@
--- Proof by hand of `timer_texts`: its loop.
+-- Proof by hand of `makers_named`: its loop.
 use Rattle.std.proofs.Common.{arith}
 use Rattle.std.proofs.lemmas.Grind.{common_steps}
-use Rattle.log_text.proofs.writing.ready.timer_texts.Goals as goal
+use Rattle.log_text.proofs.writing.ready.makers_named.Goals as goal
 
 pub loop-name-preserved : goal.loop-name-preserved
 loop-name-preserved c = grind (arith, common_steps)
