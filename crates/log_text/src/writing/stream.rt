@@ -10,7 +10,7 @@ use crate::writing::log::{put_end, put_sources};
 use crate::writing::ready::ReadyNames;
 use crate::writing::writer::{LINE, LineWriter};
 use log_words::{ByteBuffer, LineFront};
-use sleep_base::{ByteSink, Failed, Mem, write_all};
+use sleep_base::{ByteSink, Failed, Mem, drop_for_mem, write_all};
 use sleep_model::{EntryList, Log, Machine};
 use std::alloc::Global;
 use std::marker::Model;
@@ -44,7 +44,9 @@ impl<'a> LogText<'a> {
         ensures { IfOk result (λ t. t ≡ text machine.now log.now) }
     {
         let names = ReadyNames::new(alloc, machine)?;
-        let closing = closing_lines(alloc, &names, log)?;
+        let Ok(closing) = closing_lines(alloc, &names, log) else {
+            return Err(drop_for_mem(names));
+        };
         Ok(LogText {
             names,
             entries: &log.entries,
