@@ -2,7 +2,7 @@
 
 ghost use Rattle.std.specs.Prelude.{◌≡◌};
 
-use crate::phase_states::{move_state, none_prepared};
+use crate::phase_states::{move_state, two_unprepared};
 use phase_table::Phase;
 use sleep_base::Mem;
 use sleep_model::{Kind, PhaseState};
@@ -53,17 +53,22 @@ impl PairStates {
     pub fn new(alloc: Global, count: usize) -> Result<Self, Mem>
         ensures { IfOk result (λ b. b ≡ pairs_of count []) }
     {
+        let (prepare, suspend) = two_unprepared(alloc, count)?;
+        let (late, noirq) = two_unprepared(alloc, count)?;
+        let (syscore, syscore_resume) = two_unprepared(alloc, count)?;
+        let (resume_noirq, early) = two_unprepared(alloc, count)?;
+        let (resume, complete) = two_unprepared(alloc, count)?;
         Ok(PairStates {
-            prepare: none_prepared(alloc, count)?,
-            suspend: none_prepared(alloc, count)?,
-            late: none_prepared(alloc, count)?,
-            noirq: none_prepared(alloc, count)?,
-            syscore: none_prepared(alloc, count)?,
-            syscore_resume: none_prepared(alloc, count)?,
-            resume_noirq: none_prepared(alloc, count)?,
-            early: none_prepared(alloc, count)?,
-            resume: none_prepared(alloc, count)?,
-            complete: none_prepared(alloc, count)?,
+            prepare,
+            suspend,
+            late,
+            noirq,
+            syscore,
+            syscore_resume,
+            resume_noirq,
+            early,
+            resume,
+            complete,
         })
     }
 

@@ -39,6 +39,13 @@ fn skipped_for(cause: SkipCause) -> PhaseState
     }
 }
 
+/// Whether both are the same phase.
+fn is_phase(phase: Phase, wanted: Phase) -> bool
+    ensures { result ≡ is_phase phase wanted }
+{
+    phase == wanted
+}
+
 /// One for that phase, one for its mirror, another for any other.
 fn by_phase(
     pair: Phase,
@@ -49,9 +56,9 @@ fn by_phase(
 ) -> PhaseState
     ensures { result ≡ by_phase pair phase down up other }
 {
-    if phase == pair {
+    if is_phase(phase, pair) {
         down
-    } else if phase == pair.mirror() {
+    } else if is_phase(phase, pair.mirror()) {
         up
     } else {
         other
@@ -129,17 +136,29 @@ pub(crate) fn is_of_task(kind: Kind) -> bool
 }
 
 /// No device is prepared. `Mem` if there is no memory for the list.
-pub(crate) fn none_prepared(alloc: Global, count: usize) -> Result<Vec<PhaseState>, Mem>
+fn none_prepared(alloc: Global, count: usize) -> Result<Vec<PhaseState>, Mem>
     ensures { IfOk result (λ v. v.items ≡ replicate count state.Unprepared) }
 {
     Ok(vec![in alloc; PhaseState::Unprepared; count]?)
+}
+
+/// Two lists in which no device is prepared. `Mem` if there is no memory for them.
+pub(crate) fn two_unprepared(
+    alloc: Global,
+    count: usize,
+) -> Result<(Vec<PhaseState>, Vec<PhaseState>), Mem>
+    ensures { IfOk result (λ p. (p.0.items ≡ replicate count state.Unprepared) × (p.1.items ≡ replicate count state.Unprepared)) }
+{
+    let one = none_prepared(alloc, count)?;
+    let other = none_prepared(alloc, count)?;
+    Ok((one, other))
 }
 
 /// Whether a phase is that one or its mirror.
 fn is_of_pair(pair: Phase, phase: Phase) -> bool
     ensures { result ≡ (is_phase phase pair || is_phase phase (mirror pair)) }
 {
-    phase == pair || phase == pair.mirror()
+    is_phase(phase, pair) || is_phase(phase, pair.mirror())
 }
 
 /// Whether an entry may move its device in that phase and its mirror.
