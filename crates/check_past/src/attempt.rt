@@ -90,35 +90,35 @@ impl<'m> Passed<'m> {
     pub fn journal_time(&self) -> u64
         ensures { result ≡ time_of (journal_of self.now) }
     {
-        self.past_state.journal.attempt.time()
+        self.attempt_account().time()
     }
 
     /// The count in force, if there is one (`events_check_enabled`, `saved_count`).
     pub fn in_force(&self) -> Option<u32>
         ensures { result ≡ in_force (journal_of self.now) }
     {
-        self.past_state.journal.attempt.in_force()
+        self.attempt_account().in_force()
     }
 
     /// Whether a wakeup is pending at that word (`pm_wakeup_pending`).
     pub fn is_pending(&self, now: EventNow) -> bool
         ensures { result ≡ pending (journal_of self.now) now }
     {
-        self.past_state.journal.attempt.is_pending(now)
+        self.attempt_account().is_pending(now)
     }
 
     /// How many attempts were begun.
     pub fn attempts(&self) -> u32
         ensures { result ≡ attempts (journal_of self.now) }
     {
-        self.past_state.journal.attempt.attempts()
+        self.attempt_account().attempts()
     }
 
     /// Who makes the open attempt, if one is open.
     pub fn maker(&self) -> Option<Actor>
         ensures { result ≡ maker (journal_of self.now) }
     {
-        self.past_state.journal.attempt.maker()
+        self.attempt_account().maker()
     }
 
     /// Whether that actor makes the open attempt (`system_transition_mutex`).
@@ -132,35 +132,35 @@ impl<'m> Passed<'m> {
     pub fn stage(&self) -> Option<Stage>
         ensures { result ≡ stage_of (journal_of self.now) }
     {
-        self.past_state.journal.attempt.stage()
+        self.attempt_account().stage()
     }
 
     /// The error of the open attempt's step that failed.
     pub fn failed(&self) -> Option<Errno>
         ensures { result ≡ failed (journal_of self.now) }
     {
-        self.past_state.journal.attempt.failed()
+        self.attempt_account().failed()
     }
 
     /// Whether the open attempt has entered sleep.
     pub fn entered(&self) -> bool
         ensures { result ≡ entered (journal_of self.now) }
     {
-        self.past_state.journal.attempt.entered()
+        self.attempt_account().entered()
     }
 
     /// Since when a freeze goes on, in ms, if one does (`try_to_freeze_tasks`).
     pub fn freeze_since(&self) -> Option<u64>
         ensures { result ≡ freeze_since (journal_of self.now) }
     {
-        self.past_state.journal.attempt.freeze_since()
+        self.attempt_account().freeze_since()
     }
 
     /// The machine's sleep, if it sleeps (`suspend_enter`).
     pub fn sleep(&self) -> Option<Sleep>
         ensures { result ≡ sleep_of (journal_of self.now) }
     {
-        self.past_state.journal.attempt.sleep()
+        self.attempt_account().sleep()
     }
 
     /// Whether the machine sleeps.
@@ -174,48 +174,48 @@ impl<'m> Passed<'m> {
     pub fn callback(&self) -> Option<Callback>
         ensures { result ≡ callback (journal_of self.now) }
     {
-        self.past_state.journal.attempt.callback()
+        self.attempt_account().callback()
     }
 
     /// The error of the open phase (`async_error`).
     pub fn phase_failed(&self) -> Option<Errno>
         ensures { result ≡ phase_failed (journal_of self.now) }
     {
-        self.past_state.journal.attempt.phase_failed()
+        self.attempt_account().phase_failed()
     }
 
     /// The error of a synchronous device's callback in the open phase.
     pub fn own_error(&self) -> Option<Errno>
         ensures { result ≡ own_error (journal_of self.now) }
     {
-        self.past_state.journal.attempt.own_error()
+        self.attempt_account().own_error()
     }
 
     /// Whether suspend has skipped a device as direct-complete, and resume is not done since.
     pub fn disabled_by_direct(&self) -> bool
         ensures { result ≡ disabled_by_direct (journal_of self.now) }
     {
-        self.past_state.journal.attempt.disabled_by_direct()
+        self.attempt_account().disabled_by_direct()
     }
 
     /// Whether late has taken a device, and early is not done since.
     pub fn disabled_by_late(&self) -> bool
         ensures { result ≡ disabled_by_late (journal_of self.now) }
     {
-        self.past_state.journal.attempt.disabled_by_late()
+        self.attempt_account().disabled_by_late()
     }
 
     /// Whether interrupts are off.
     pub fn irqs_off(&self) -> bool
         ensures { result ≡ irqs_off (journal_of self.now) }
     {
-        self.past_state.journal.attempt.irqs_off()
+        self.attempt_account().irqs_off()
     }
 
     /// Whether that step of the platform is owed its undo.
     pub fn owes_platform(&self, step: PlatDo) -> bool
         ensures { result ≡ owes_platform step (journal_of self.now) }
     {
-        self.past_state.journal.attempt.owes_platform(step)
+        self.attempt_account().owes_platform(step)
     }
 }

@@ -21,7 +21,7 @@ impl<'m> Passed<'m> {
     pub fn state(&self, phase: Phase, device: u32) -> PhaseState
         ensures { result ≡ state_in self.now.machine (journal_of self.now) phase device }
     {
-        self.past_state.journal.devices.state(phase, device)
+        self.device_account().state(phase, device)
     }
 
     /// The state of each device in a phase and its mirror.
@@ -29,70 +29,70 @@ impl<'m> Passed<'m> {
     pub fn phase_states(&self, phase: Phase) -> &[PhaseState]
         ensures { result.now ≡ phase_states (length self.now.machine.devices) phase (journal_of self.now) }
     {
-        self.past_state.journal.devices.phase_states(phase)
+        self.device_account().phase_states(phase)
     }
 
     /// Which devices answered 1 to their last prepare (`power.direct_complete`).
     pub fn asks_direct(&self) -> &Flags
         ensures { result.now ≡ asks_direct (length self.now.machine.devices) (journal_of self.now) }
     {
-        self.past_state.journal.devices.asks_direct()
+        self.device_account().asks_direct()
     }
 
     /// Which devices are runtime suspended (`power.runtime_status`).
     pub fn statuses(&self) -> &Flags
         ensures { result.now ≡ statuses self.now.machine.devices (journal_of self.now) }
     {
-        self.past_state.journal.devices.statuses()
+        self.device_account().statuses()
     }
 
     /// Which notifiers are owed their post (`PM_POST_SUSPEND`).
     pub fn notified_flags(&self) -> &Flags
         ensures { result.now ≡ notified_flags self.now.machine (journal_of self.now) }
     {
-        self.past_state.journal.devices.notified()
+        self.device_account().notified()
     }
 
     /// Which processors are off (`frozen_cpus`).
     pub fn cpus_off(&self) -> &Flags
         ensures { result.now ≡ cpus_off self.now.machine.cpus (journal_of self.now) }
     {
-        self.past_state.journal.devices.cpus_off()
+        self.device_account().cpus_off()
     }
 
     /// Which syscore operations are suspended (`syscore_ops_list`).
     pub fn stopped(&self) -> &Flags
         ensures { result.now ≡ stopped (length self.now.machine.syscore) (journal_of self.now) }
     {
-        self.past_state.journal.devices.stopped()
+        self.device_account().stopped()
     }
 
     /// The devices in their order (`dpm_list`).
     pub fn order(&self) -> &[u32]
         ensures { result.now ≡ order self.now.machine (journal_of self.now) }
     {
-        self.past_state.journal.graph.order()
+        self.device_graph().order()
     }
 
     /// What must sleep before a device does (`dpm_wait_for_subordinate`).
     pub fn below(&self, device: u32) -> &[u32]
         ensures { result.now ≡ below self.now.machine (journal_of self.now) device }
     {
-        self.past_state.journal.graph.below(device)
+        self.device_graph().below(device)
     }
 
     /// What must be awake before a device is (`dpm_wait_for_superior`).
     pub fn above(&self, device: u32) -> &[u32]
         ensures { result.now ≡ above self.now.machine (journal_of self.now) device }
     {
-        self.past_state.journal.graph.above(device)
+        self.device_graph().above(device)
     }
 
     /// Whether there is a link between these two, active or dormant.
     pub fn is_linked(&self, supplier: u32, consumer: u32) -> bool
         ensures { result ≡ is_linked (links_at self.now.machine (journal_of self.now)) supplier consumer }
     {
-        self.past_state.journal.graph.is_linked(supplier, consumer)
+        self.device_graph().is_linked(supplier, consumer)
     }
 
     /// Whether a walk down from the consumer, over children and all links, meets the supplier
@@ -103,10 +103,7 @@ impl<'m> Passed<'m> {
         ensures { IfOk result (λ b. b ≡ is_dependent (parents_of self.now.machine.devices)
             (links_at self.now.machine (journal_of self.now)) consumer supplier) }
     {
-        self.past_state
-            .journal
-            .graph
-            .is_dependent(consumer, supplier)
+        self.device_graph().is_dependent(consumer, supplier)
     }
 
     /// Whether a device is asynchronous (`power.async_suspend`).

@@ -6,6 +6,8 @@ use crate::journal::JournalState;
 use crate::order::call_order;
 use crate::past_state::PastState;
 use crate::walks::any_async;
+use check_account::{AttemptAccount, DeviceAccount, TaskAccount};
+use check_order::DeviceGraph;
 use check_sources::{Callers, SourceAccounts};
 use sleep_base::Mem;
 use sleep_model::{Entry, EntryList, EventNow, Machine};
@@ -54,6 +56,7 @@ impl<'m> Passed<'m> {
     ghost use Rattle.std.specs.List.{list_all};
     ghost use Rattle.sleep_model.specs.Accepted.{IsAccepted};
     ghost use Rattle.sleep_model.specs.Fits.{fits_entry};
+    ghost use Rattle.check_account.specs.Accounts.{attempt_of, devices_of, tasks_of};
     ghost use Rattle.check_order.specs.Graphs.{IsGraph};
     ghost use Rattle.check_past.specs.JournalStates.{MayAdd, state_of};
     ghost use Rattle.check_past.specs.Passing.{journal_of, past_of};
@@ -103,6 +106,38 @@ impl<'m> Passed<'m> {
         })
     }
 
+    /// What the passed entries leave of the open attempt.
+    #[inline(always)]
+    pub(crate) fn attempt_account(&self) -> &AttemptAccount
+        ensures { result.now ≡ attempt_of (journal_of self.now) }
+    {
+        &self.past_state.journal.attempt
+    }
+
+    /// What they leave of the tasks.
+    #[inline(always)]
+    pub(crate) fn task_account(&self) -> &TaskAccount
+        ensures { result.now ≡ tasks_of self.now.machine (journal_of self.now) }
+    {
+        &self.past_state.journal.tasks
+    }
+
+    /// What they leave of the devices.
+    #[inline(always)]
+    pub(crate) fn device_account(&self) -> &DeviceAccount
+        ensures { result.now ≡ devices_of self.now.machine (journal_of self.now) }
+    {
+        &self.past_state.journal.devices
+    }
+
+    /// The devices' parents and links that they leave.
+    #[inline(always)]
+    pub(crate) fn device_graph(&self) -> &DeviceGraph
+        ensures { result.now ≡ (state_of self.now.machine (journal_of self.now)).graph }
+    {
+        &self.past_state.journal.graph
+    }
+
     /// The machine is one as files spell it.
     pub fn is_accepted(&self)
         ensures { IsAccepted self.now.machine }
@@ -121,6 +156,6 @@ impl<'m> Passed<'m> {
     pub fn is_graph(&self)
         ensures { IsGraph (state_of self.now.machine (journal_of self.now)).graph }
     {
-        self.past_state.journal.graph.is_graph()
+        self.device_graph().is_graph()
     }
 }

@@ -66,21 +66,21 @@ impl<'m> Passed<'m> {
     pub fn freezing(&self, script: u32) -> Freezing
         ensures { result ≡ freezing self.now.machine script (journal_of self.now) }
     {
-        self.past_state.journal.tasks.freezing(script)
+        self.task_account().freezing(script)
     }
 
     /// What the freezer has come to with each script.
     pub fn freezings(&self) -> &[Freezing]
         ensures { result.now ≡ freezings self.now.machine.actors (journal_of self.now) }
     {
-        self.past_state.journal.tasks.freezings()
+        self.task_account().freezings()
     }
 
     /// The position of a script.
     pub fn position(&self, script: u32) -> ScriptPosition
         ensures { result ≡ position_of self.now.machine (journal_of self.now) script }
     {
-        self.past_state.journal.tasks.position(script)
+        self.task_account().position(script)
     }
 
     /// The operation of a script that is under way, if one is left.
@@ -104,7 +104,7 @@ impl<'m> Passed<'m> {
     pub fn have_all_exited(&self) -> bool
         ensures { result ≡ have_all_exited self.now.machine (journal_of self.now) }
     {
-        self.past_state.journal.tasks.all_exited()
+        self.task_account().all_exited()
     }
 
     /// Whether every script has made its exit, and no attempt is open.
@@ -119,7 +119,7 @@ impl<'m> Passed<'m> {
     pub fn left(&self, group: Group) -> UnfrozenTasks
         ensures { result ≡ left_is (left self.now.machine group (journal_of self.now)) }
     {
-        let tasks = &self.past_state.journal.tasks;
+        let tasks = self.task_account();
         left_among(
             group,
             self.machine.actors.as_slice(),
@@ -132,35 +132,34 @@ impl<'m> Passed<'m> {
     pub fn raised(&self, mark: u32) -> u32
         ensures { result ≡ mark_at (raised (length self.now.machine.marks) (journal_of self.now)) mark }
     {
-        self.past_state.journal.tasks.raised(mark)
+        self.task_account().raised(mark)
     }
 
     /// Who holds the autosleep lock (`pm_autosleep_lock`).
     pub fn holder(&self) -> Option<Actor>
         ensures { result ≡ holder (journal_of self.now) }
     {
-        self.past_state.journal.tasks.holder()
+        self.task_account().holder()
     }
 
     /// Whether autosleep is on (`pm_autosleep_state`).
     pub fn autosleep_is_on(&self) -> bool
         ensures { result ≡ is_on (journal_of self.now) }
     {
-        self.past_state.journal.tasks.autosleep_is_on()
+        self.task_account().autosleep_is_on()
     }
 
     /// The state of the autosleep work (`try_to_suspend`).
     pub fn work(&self) -> Work
         ensures { result ≡ work (journal_of self.now) }
     {
-        self.past_state.journal.tasks.work()
+        self.task_account().work()
     }
 
     /// Whether the autosleep work may run (`queue_up_suspend_work`).
     pub fn may_run(&self) -> bool
         ensures { result ≡ may_run self.now.machine (journal_of self.now) }
     {
-        self.past_state.journal.tasks.is_queued()
-            && self.past_state.journal.tasks.runs() < self.machine.auto_cycles
+        self.task_account().is_queued() && self.task_account().runs() < self.machine.auto_cycles
     }
 }
