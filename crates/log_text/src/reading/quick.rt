@@ -307,8 +307,9 @@ pub fn kind_first<'a>(
     ensures text { IfSome result (λ r. text.now ≡ body machine_names.now r.0 ++ newline ++ r.1.now) }
     ensures fits { IfSome result (λ r. fits_kind machine_names.now r.0 ≡ true) }
 {
-    match device_kind_first(machine_names, last, text) {
-        None => source_kind_first(machine_names, last, text),
-        found => found,
+    if let Some((kind, rest)) = device_kind_first(machine_names, last, text) {
+        return Some((kind, rest));
     }
+    let (kind, rest) = source_kind_first(machine_names, last, text)?;
+    Some((kind, rest))
 }

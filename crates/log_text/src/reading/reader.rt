@@ -165,13 +165,12 @@ impl LineReader {
         ensures fits { IfOk result (λ o. IfSome o (λ r. fits_kind machine_names.now r.0 ≡ true)) }
     {
         let last = self.last;
-        match kind_first(machine_names, &last, text) {
-            None => self.other_first(machine_names, text),
-            Some((kind, rest)) => {
-                self.last = self.order.with_kind(last, kind);
-                Ok(Some((kind, rest)))
-            }
-        }
+        let Some((kind, rest)) = kind_first(machine_names, &last, text) else {
+            // Unpacked apart, so that what most lines say is not read and written once more.
+            return Ok(self.other_first(machine_names, text)?);
+        };
+        self.last = self.order.with_kind(last, kind);
+        Ok(Some((kind, rest)))
     }
 
     /// The entry of a text's first line after its front, and what follows the line.
@@ -260,10 +259,11 @@ impl LineReader {
         ensures none { IfOk result (λ o. IfNone o (AreNamed machine_names.now → (n bad : ℕ) →
             IsBadSource machine_names.now (source_names machine_names.now) (lines text.now) n bad → IsBadEntry machine_names.now (lines text.now) n bad)) }
     {
-        match self.entry_first(machine_names, text)? {
-            None => self.entry_of_line(machine_names, text),
-            Some((entry, rest)) => Ok(Some((entry, rest))),
-        }
+        let Some((entry, rest)) = self.entry_first(machine_names, text)? else {
+            // Unpacked apart, as above.
+            return Ok(self.entry_of_line(machine_names, text)?);
+        };
+        Ok(Some((entry, rest)))
     }
 
     /// Whether the statistics of the source of that name spell the line.
