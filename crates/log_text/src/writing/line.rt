@@ -101,6 +101,16 @@ fn put_event(out: &mut ByteBuffer, source: &ShortText, ms: u32, hard: bool)
     out.put_numbered(&Piece::none(), u64::from(ms), &last);
 }
 
+/// Writes a verb and the name of a source, to the end of the line.
+#[inline(always)]
+fn put_of_source(out: &mut ByteBuffer, verb: Piece, source: &ShortText)
+    requires room { length out.old + 88 ≤ 32768 }
+    ensures text { out.new ≡ out.old ++ (verb ++ source.now ++ newline) }
+    ensures few { length out.new ≤ length out.old + 88 }
+{
+    out.put_named(&verb, source, &Piece::newline());
+}
+
 /// Writes what an entry says, to the end of its line: of sleeping, of sources and of time what is ready, else
 /// part by part.
 #[inline(always)]
@@ -117,26 +127,18 @@ fn put_rest(out: &mut ByteBuffer, names: &ReadyNames, entry: Entry)
         ),
         Kind::Slept => out.put_piece(&Piece::of(b"slept\n          ", 6)),
         Kind::Event { source, ms, hard } => put_event(out, names.source(source), ms, hard),
-        Kind::Expire(index) => out.put_named(
-            &Piece::of(b"expire          ", 7),
-            names.source(index),
-            &Piece::newline(),
-        ),
-        Kind::Start(index) => out.put_named(
-            &Piece::of(b"start           ", 6),
-            names.source(index),
-            &Piece::newline(),
-        ),
-        Kind::Finish(index) => out.put_named(
-            &Piece::of(b"finish          ", 7),
-            names.source(index),
-            &Piece::newline(),
-        ),
-        Kind::Hard(index) => out.put_named(
-            &Piece::of(b"hard            ", 5),
-            names.source(index),
-            &Piece::newline(),
-        ),
+        Kind::Expire(index) => {
+            put_of_source(out, Piece::of(b"expire          ", 7), names.source(index))
+        }
+        Kind::Start(index) => {
+            put_of_source(out, Piece::of(b"start           ", 6), names.source(index))
+        }
+        Kind::Finish(index) => {
+            put_of_source(out, Piece::of(b"finish          ", 7), names.source(index))
+        }
+        Kind::Hard(index) => {
+            put_of_source(out, Piece::of(b"hard            ", 5), names.source(index))
+        }
         Kind::Jump => out.put_piece(&Piece::of(b"jump\n           ", 5)),
         _ => put_entry_text(out, names, entry.kind),
     }
