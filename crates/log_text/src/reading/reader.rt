@@ -216,12 +216,9 @@ impl LineReader {
         ensures text { IfOk result (λ o. IfSome o (λ r. text.now ≡ entry_line machine_names.now r.0 ++ r.1.now)) }
         ensures fits { IfOk result (λ o. IfSome o (λ r. fits_entry machine_names.now r.0 ≡ true)) }
     {
-        let Some(made) = self.after_front(text) else {
-            return Ok(None);
-        };
-        match self.made_first(machine_names, made)? {
+        match self.after_front(text) {
             None => Ok(None),
-            Some((entry, rest)) => Ok(Some((entry, rest))),
+            Some(made) => self.made_first(machine_names, made),
         }
     }
 
