@@ -7,7 +7,7 @@ ghost use Rattle.log_text.specs.Referred.{referred};
 use crate::writing::ready::ReadyNames;
 use crate::writing::writer::{LineWriter, put_entry};
 use log_words::LineFront;
-use sleep_base::Mem;
+use sleep_base::{Mem, drop_for_mem};
 use sleep_model::{Machine, SourceEntry};
 use std::alloc::Global;
 
@@ -42,7 +42,13 @@ pub fn write_entries(
 {
     let room = entries.len().saturating_mul(USUAL_LINE);
     let mut out = LineWriter::with_room(alloc, room)?;
-    let names = ReadyNames::new(alloc, machine)?;
-    put_referred(&mut out, &names, entries)?;
-    out.into_vec()
+    let Ok(names) = ReadyNames::new(alloc, machine) else {
+        return Err(drop_for_mem(out));
+    };
+    let written = put_referred(&mut out, &names, entries);
+    drop(names);
+    match written {
+        Ok(()) => out.into_vec(),
+        Err(Mem) => Err(drop_for_mem(out)),
+    }
 }
