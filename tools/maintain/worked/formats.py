@@ -7,7 +7,7 @@ and the files of the machines stand here.
 
 import json
 
-from julampok.second.rules import compact, without_defaults
+from julampok.second.rules import compact, first_broken, without_defaults
 from julampok.second.stats_logs import expected
 from maintain.places import WORKED
 from maintain.worked.case import Call, Case
@@ -167,7 +167,8 @@ def second():
     """The files of examples/ and tools/worked whose machines are accepted, each with what the second writing writes."""
     for path in [*sorted(EXAMPLES.rglob("*.json")), *sorted(WORKED.rglob("*.json"))]:
         tree = json.loads(text_of(path))
-        yield compact(tree), compact(without_defaults(tree), sort_keys=True)
+        if first_broken(tree) is None:
+            yield compact(tree), compact(without_defaults(tree), sort_keys=True)
 
 
 def written():
