@@ -157,11 +157,16 @@ impl<'m> Callers<'m> {
         ensures { IfOk result (λ c. c ≡ record { machine = machine.now; state = callers_of machine.now [] }) }
     {
         let places = actor_count(machine);
+        let made = vec![in alloc; 0; places]?;
+        let turns = vec![in alloc; 0; places]?;
+        let later = none_owed(alloc, places)?;
+        // The largest comes last, with no exit after it.
+        let plans = Plans::new(alloc, machine)?;
         Ok(Callers {
-            plans: Plans::new(alloc, machine)?,
-            made: vec![in alloc; 0; places]?,
-            turns: vec![in alloc; 0; places]?,
-            later: none_owed(alloc, places)?,
+            plans,
+            made,
+            turns,
+            later,
         })
     }
 
