@@ -173,20 +173,21 @@ fn task_due(
 fn script_due(past: &Passed<'_>, now: EventNow, i: u32) -> Result<Due, Mem>
     ensures { IfOk result (λ d. d ≡ script_due past.now.machine (journal_of past.now) now i) }
 {
+    let Some(script) = past.machine().actors.as_slice().get(i as usize) else {
+        return Ok(Due::Nothing);
+    };
     let position = past.position(i);
-    match past.machine().actors.as_slice().get(i as usize) {
-        Some(script) if !position.exited => {
-            task_due(
-                past,
-                now,
-                past.freezing(i),
-                script.kind,
-                position,
-                past.operation(i),
-            )
-        }
-        _ => Ok(Due::Nothing),
+    if position.exited {
+        return Ok(Due::Nothing);
     }
+    task_due(
+        past,
+        now,
+        past.freezing(i),
+        script.kind,
+        position,
+        past.operation(i),
+    )
 }
 
 /// What is due of an actor that sees that word: the open attempt's maker follows the table; a script its
