@@ -154,13 +154,13 @@ impl<'m> Run<'m> {
         ensures after { AfterTry self.old self.new result }
     {
         let mut made = false;
-        let mut next = self.next_device(0);
+        let mut from = 0;
         for _ in 0..u64::MAX {
-            let Some(device) = next else {
-                break;
+            let Some(device) = self.next_device(from) else {
+                return Ok(made);
             };
             made = self.ask_once(rt, Actor::Dev(device))? | made;
-            next = self.next_device(device.saturating_add(1));
+            from = device.saturating_add(1);
         }
         Ok(made)
     }
