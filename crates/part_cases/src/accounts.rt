@@ -3,20 +3,21 @@
 ghost use Rattle.std.specs.Bool.{OnTrue};
 ghost use Rattle.sleep_state.specs.TaskStates.{PositionIsSmall, MarksAreSmall};
 
-use crate::asked::{ReplyWord, Words, cut, found};
+use crate::asked::{Words, found, number_of};
 use crate::kinds::entry_of;
-use crate::parts::{CaseRunner, answer_all, reply_to};
-use crate::reply::{
-    CaseReply, NO_CALL, NO_REPLY, Out, error, four, maybe, maybe_long, number, one, size,
-};
+use crate::machines::DEVICE_FLAGS;
+use crate::parts::CaseRunner;
+use crate::reply::{CaseReply, Out, ReplyWord};
+use bitflags::Flags;
 use sleep_base::Mem;
-use sleep_model::{Actor, Device, DeviceFlags, Kind, Name};
+use sleep_model::{Actor, Device, DeviceFlags, Kind, Name, ScriptPosition};
 use sleep_state::{Devices, Tasks};
 use std::alloc::Global;
 
-/// A question about devices.
+/// A question about devices, or an entry.
 #[derive(Clone, Copy)]
-enum AccountQuestion {
+pub enum DeviceCall {
+    Note,
     Callback,
     Failed,
     OwnError,
@@ -26,77 +27,58 @@ enum AccountQuestion {
     ByLate,
 }
 
-const VERBS: [(&str, AccountQuestion); 7] = [
-    ("callback", AccountQuestion::Callback),
-    ("failed", AccountQuestion::Failed),
-    ("own_error", AccountQuestion::OwnError),
-    ("asks_direct", AccountQuestion::AsksDirect),
-    ("suspended", AccountQuestion::Suspended),
-    ("by_direct", AccountQuestion::ByDirect),
-    ("by_late", AccountQuestion::ByLate),
+/// The verb of each call.
+pub const DEVICE_CALLS: [(&str, DeviceCall); 8] = [
+    ("note", DeviceCall::Note),
+    ("callback", DeviceCall::Callback),
+    ("failed", DeviceCall::Failed),
+    ("own_error", DeviceCall::OwnError),
+    ("asks_direct", DeviceCall::AsksDirect),
+    ("suspended", DeviceCall::Suspended),
+    ("by_direct", DeviceCall::ByDirect),
+    ("by_late", DeviceCall::ByLate),
 ];
 
-/// The reply to a question about devices.
-fn reply_of(devices: &Devices, verb: AccountQuestion, words: Words) -> CaseReply {
-    let device = words.number(0);
-    one(match verb {
-        AccountQuestion::Callback => ReplyWord::Flag(devices.callback().is_some()),
-        AccountQuestion::Failed => error(devices.failed()),
-        AccountQuestion::OwnError => error(devices.own_error()),
-        AccountQuestion::AsksDirect => ReplyWord::Flag(devices.asks_direct().is_set(device)),
-        AccountQuestion::Suspended => ReplyWord::Flag(devices.statuses().is_set(device)),
-        AccountQuestion::ByDirect => ReplyWord::Flag(devices.disabled_by_direct()),
-        AccountQuestion::ByLate => ReplyWord::Flag(devices.disabled_by_late()),
-    })
-}
-
-/// Notes an entry.
-fn note(devices: &mut Devices, text: &str) -> CaseReply {
-    match entry_of(text) {
-        Some((who, kind)) => {
-            devices.note(kind, who);
-            NO_REPLY
-        }
-        None => NO_CALL,
-    }
-}
-
-impl CaseRunner for Devices {
+impl CaseRunner<DeviceCall> for Devices {
     /// Answers a question about devices, or notes an entry.
-    fn answer(&mut self, line: &str, out: &mut Out) {
-        out.say(reply_to!(self, line, VERBS, reply_of, note));
+    fn answer(&mut self, call: DeviceCall, rest: &str, out: &mut Out) -> CaseReply {
+        let word = match call {
+            DeviceCall::Note => {
+                let (who, kind) = entry_of(rest, out);
+                self.note(kind, who);
+                return CaseReply::Nothing;
+            }
+            DeviceCall::Callback => ReplyWord::Flag(self.callback().is_some()),
+            DeviceCall::Failed => ReplyWord::Error(self.failed()),
+            DeviceCall::OwnError => ReplyWord::Error(self.own_error()),
+            DeviceCall::AsksDirect => ReplyWord::Flag(self.asks_direct().is_set(number_of(rest))),
+            DeviceCall::Suspended => ReplyWord::Flag(self.statuses().is_set(number_of(rest))),
+            DeviceCall::ByDirect => ReplyWord::Flag(self.disabled_by_direct()),
+            DeviceCall::ByLate => ReplyWord::Flag(self.disabled_by_late()),
+        };
+        CaseReply::One(word)
     }
 }
-
-const FLAGS: [(&str, DeviceFlags); 3] = [
-    ("async", DeviceFlags::ASYNC),
-    ("wakeup", DeviceFlags::WAKEUP),
-    ("runtime_suspended", DeviceFlags::RUNTIME_SUSPENDED),
-];
 
 /// The first state of devices with these flags.
-fn preserved_of(alloc: Global, text: &str) -> Result<Devices, Mem> {
+pub fn devices_of(alloc: Global, text: &str) -> Result<Devices, Mem> {
     let name = Name::of_bytes(b"d").ok_or(Mem)?;
     let mut devices = Vec::new(alloc);
     for word in text.split(' ') {
         devices.push(Device {
             name,
             parent: None,
-            flags: found(&FLAGS, word).ok_or(Mem)?,
+            flags: found(&DEVICE_FLAGS, word).unwrap_or(DeviceFlags::empty()),
         })?;
     }
     Devices::new(alloc, &devices)
 }
 
-/// Answers the lines of devices.
-pub fn devices(alloc: Global, text: &str, lines: &str, out: &mut Out) {
-    answer_all(preserved_of(alloc, text), lines, out);
-}
-
-/// A question about tasks.
+/// A question about tasks, or an entry.
 #[derive(Clone, Copy)]
-enum TaskQuestion {
-    ScriptPosition,
+pub enum TaskCall {
+    Note,
+    Position,
     Raised,
     AllExited,
     LeastEnd,
@@ -104,36 +86,25 @@ enum TaskQuestion {
     NextSlept,
 }
 
-const ASKS: [(&str, TaskQuestion); 6] = [
-    ("seat", TaskQuestion::ScriptPosition),
-    ("raised", TaskQuestion::Raised),
-    ("all_exited", TaskQuestion::AllExited),
-    ("least_end", TaskQuestion::LeastEnd),
-    ("are_still", TaskQuestion::AreStopped),
-    ("next_slept", TaskQuestion::NextSlept),
+/// The verb of each call.
+pub const TASK_CALLS: [(&str, TaskCall); 7] = [
+    ("note", TaskCall::Note),
+    ("seat", TaskCall::Position),
+    ("raised", TaskCall::Raised),
+    ("all_exited", TaskCall::AllExited),
+    ("least_end", TaskCall::LeastEnd),
+    ("are_still", TaskCall::AreStopped),
+    ("next_slept", TaskCall::NextSlept),
 ];
 
 /// How many steps and turns of a script are made, whether it waits, and what it read last.
-fn position_reply(tasks: &Tasks, script: u32) -> CaseReply {
-    let position = tasks.position(script);
-    four(
-        size(position.done),
-        size(position.turns),
+fn position_reply(position: ScriptPosition) -> CaseReply {
+    CaseReply::Four(
+        ReplyWord::Size(position.done),
+        ReplyWord::Size(position.turns),
         ReplyWord::Flag(position.waits),
-        maybe(position.last_read),
+        ReplyWord::Maybe(position.last_read),
     )
-}
-
-/// The reply to a question about tasks.
-fn task_reply(tasks: &Tasks, asks: TaskQuestion, words: Words) -> CaseReply {
-    match asks {
-        TaskQuestion::ScriptPosition => position_reply(tasks, words.number(0)),
-        TaskQuestion::Raised => one(number(tasks.raised(words.number(0)))),
-        TaskQuestion::AllExited => one(ReplyWord::Flag(tasks.all_exited())),
-        TaskQuestion::LeastEnd => one(maybe_long(tasks.least_end())),
-        TaskQuestion::AreStopped => one(ReplyWord::Flag(tasks.are_stopped(words.long(0)))),
-        TaskQuestion::NextSlept => one(maybe(tasks.next_slept(words.maybe(0), words.long(1)))),
-    }
 }
 
 /// Whether few steps of a script are made.
@@ -159,35 +130,31 @@ fn is_few(tasks: &Tasks, kind: Kind) -> bool
     }
 }
 
-/// Notes an entry of an actor.
-fn noted(tasks: &mut Tasks, who: Actor, kind: Kind) -> CaseReply {
+/// Notes an entry of a text.
+fn note(tasks: &mut Tasks, text: &str, out: &mut Out) -> CaseReply {
+    let (who, kind) = entry_of(text, out);
     if !is_small(tasks, who) || !is_few(tasks, kind) {
-        return NO_CALL;
+        return out.lack();
     }
     tasks.note(who, kind);
-    NO_REPLY
+    CaseReply::Nothing
 }
 
-/// The same by a text.
-fn note_task(tasks: &mut Tasks, text: &str) -> CaseReply {
-    match entry_of(text) {
-        Some((who, kind)) => noted(tasks, who, kind),
-        None => NO_CALL,
-    }
-}
-
-impl CaseRunner for Tasks {
+impl CaseRunner<TaskCall> for Tasks {
     /// Answers a question about tasks, or notes an entry.
-    fn answer(&mut self, line: &str, out: &mut Out) {
-        out.say(reply_to!(self, line, ASKS, task_reply, note_task));
+    fn answer(&mut self, call: TaskCall, rest: &str, out: &mut Out) -> CaseReply {
+        let words = Words::of(rest);
+        let word = match call {
+            TaskCall::Note => return note(self, rest, out),
+            TaskCall::Position => return position_reply(self.position(words.number(0))),
+            TaskCall::Raised => ReplyWord::Number(self.raised(words.number(0))),
+            TaskCall::AllExited => ReplyWord::Flag(self.all_exited()),
+            TaskCall::LeastEnd => ReplyWord::MaybeLong(self.least_end()),
+            TaskCall::AreStopped => ReplyWord::Flag(self.are_stopped(words.long(0))),
+            TaskCall::NextSlept => {
+                ReplyWord::Maybe(self.next_slept(words.maybe(0), words.long(1)))
+            }
+        };
+        CaseReply::One(word)
     }
-}
-
-/// Answers the lines of tasks.
-pub fn tasks(alloc: Global, words: Words, lines: &str, out: &mut Out) {
-    answer_all(
-        Tasks::new(alloc, words.number(0) as usize, words.number(1) as usize),
-        lines,
-        out,
-    );
 }

@@ -1,22 +1,22 @@
 //! The states of devices, and what the phases make of them: `board PARENT .., ASYNC .., SUPPLIER CONSUMER ..`
 //! with the parent of each device, whether it is asynchronous, and active links.
 
-use crate::asked::{ReplyWord, Words, cut, found};
-use crate::boards_due::asked_reply;
+use crate::asked::{Words, cut};
+use crate::boards_due::{DueCall, due_of, request_word};
+use crate::entry_replies::due_reply;
 use crate::kinds::kind_of;
-use crate::links::parents_in;
-use crate::parts::{CaseRunner, answer_all};
-use crate::reply::{CaseReply, NO_REPLY, Out, maybe, noted, one, two};
+use crate::links::{link_of, linked};
+use crate::parts::CaseRunner;
+use crate::reply::{CaseReply, Out, ReplyWord};
 use async_board::{
     Board, board_agrees, is_direct_complete, is_down_in, is_not_down, is_not_up, is_prepared,
     is_ready, is_taken,
 };
-use device_links::Links;
 use device_rows::Flags;
 use phase_prepare::prepare_follows;
 use phase_resume::up_follows;
 use phase_suspend::down_follows;
-use sleep_base::Mem;
+use sleep_base::{Mem, drop_for_mem};
 use sleep_model::{Link, PhaseState};
 use std::alloc::Global;
 
@@ -30,7 +30,7 @@ pub struct BoardCase {
 
 /// The device that a board finds, in a phase if the question is of one.
 #[derive(Clone, Copy)]
-enum Next {
+pub enum Next {
     Prepared,
     Completed,
     Down,
@@ -42,16 +42,53 @@ enum Next {
     WaitsAbove,
 }
 
-const NEXT: [(&str, Next); 9] = [
-    ("prepared", Next::Prepared),
-    ("completed", Next::Completed),
-    ("down", Next::Down),
-    ("waits_down", Next::WaitsDown),
-    ("to_schedule", Next::ToSchedule),
-    ("up", Next::Up),
-    ("waits_up", Next::WaitsUp),
-    ("waits_below", Next::WaitsBelow),
-    ("waits_above", Next::WaitsAbove),
+/// A call on a board, or a question.
+#[derive(Clone, Copy)]
+pub enum BoardCall {
+    Next(Next),
+    Due(DueCall),
+    Request,
+    Free,
+    PhaseState,
+    Asynchronous,
+    AllDirect,
+    Laws,
+    Link,
+    SetLink,
+    Note,
+}
+
+/// The verb of each call.
+pub const BOARD_CALLS: [(&str, BoardCall); 26] = [
+    ("prepared", BoardCall::Next(Next::Prepared)),
+    ("completed", BoardCall::Next(Next::Completed)),
+    ("down", BoardCall::Next(Next::Down)),
+    ("waits_down", BoardCall::Next(Next::WaitsDown)),
+    ("to_schedule", BoardCall::Next(Next::ToSchedule)),
+    ("up", BoardCall::Next(Next::Up)),
+    ("waits_up", BoardCall::Next(Next::WaitsUp)),
+    ("waits_below", BoardCall::Next(Next::WaitsBelow)),
+    ("waits_above", BoardCall::Next(Next::WaitsAbove)),
+    ("prepare_due", BoardCall::Due(DueCall::Prepare)),
+    ("complete_due", BoardCall::Due(DueCall::Complete)),
+    ("walk_down", BoardCall::Due(DueCall::WalkDown)),
+    ("device_down", BoardCall::Due(DueCall::DeviceDown)),
+    ("failed_walk_down", BoardCall::Due(DueCall::FailedWalkDown)),
+    (
+        "failed_device_down",
+        BoardCall::Due(DueCall::FailedDeviceDown),
+    ),
+    ("walk_up", BoardCall::Due(DueCall::WalkUp)),
+    ("device_up", BoardCall::Due(DueCall::DeviceUp)),
+    ("request", BoardCall::Request),
+    ("free", BoardCall::Free),
+    ("stand", BoardCall::PhaseState),
+    ("asynchronous", BoardCall::Asynchronous),
+    ("all_direct", BoardCall::AllDirect),
+    ("laws", BoardCall::Laws),
+    ("link", BoardCall::Link),
+    ("set_link", BoardCall::SetLink),
+    ("note", BoardCall::Note),
 ];
 
 /// The device that a board finds.
@@ -70,128 +107,50 @@ fn next_of(board: &Board, next: Next, words: Words) -> Option<u32> {
     }
 }
 
-/// A question about a device.
-#[derive(Clone, Copy)]
-enum BoardQuestion {
-    Free,
-    PhaseState,
-    Asynchronous,
-    AllDirect,
-    Laws,
+/// Proves the laws that the board and the phases agree with the model.
+fn laws() -> CaseReply {
+    board_agrees();
+    prepare_follows();
+    down_follows();
+    up_follows();
+    CaseReply::Nothing
 }
 
-const ASKS: [(&str, BoardQuestion); 5] = [
-    ("free", BoardQuestion::Free),
-    ("stand", BoardQuestion::PhaseState),
-    ("asynchronous", BoardQuestion::Asynchronous),
-    ("all_direct", BoardQuestion::AllDirect),
-    ("laws", BoardQuestion::Laws),
-];
-
-/// What a board says of a device: of `free` whether it waits for none below it and for none above.
-fn reply_of(board: &Board, asks: BoardQuestion, words: Words) -> CaseReply {
+/// Whether a device waits for none below it in a phase, and for none above.
+fn free_reply(board: &Board, words: Words) -> CaseReply {
     let (phase, device) = (words.phase(0), words.number(1));
-    match asks {
-        BoardQuestion::Free => two(
-            ReplyWord::Flag(board.is_free_below(phase, device)),
-            ReplyWord::Flag(board.is_free_above(phase, device)),
-        ),
-        BoardQuestion::PhaseState => one(ReplyWord::Text(state_name(board.state(phase, device)))),
-        BoardQuestion::Asynchronous => one(ReplyWord::Flag(board.is_asynchronous(words.number(0)))),
-        BoardQuestion::AllDirect => one(ReplyWord::Flag(board.all_below_direct_complete(
-            words.number(0),
-        ))),
-        BoardQuestion::Laws => {
-            board_agrees();
-            prepare_follows();
-            down_follows();
-            up_follows();
-            NO_REPLY
-        }
-    }
+    CaseReply::Two(
+        ReplyWord::Flag(board.is_free_below(phase, device)),
+        ReplyWord::Flag(board.is_free_above(phase, device)),
+    )
 }
 
-/// Each state and its name.
-const STATES: [(&str, PhaseState); 10] = [
-    ("unprepared", PhaseState::Unprepared),
-    ("prepared", PhaseState::Prepared),
-    ("scheduled", PhaseState::Scheduled),
-    ("suspending", PhaseState::Suspending),
-    ("failed", PhaseState::Failed),
-    ("direct", PhaseState::Direct),
-    ("suspended", PhaseState::Suspended),
-    ("rescheduled", PhaseState::Rescheduled),
-    ("resuming", PhaseState::Resuming),
-    ("resumed", PhaseState::Resumed),
-];
-
-/// The name of a state.
-fn state_name(state: PhaseState) -> &'static str {
-    match state {
-        PhaseState::Unprepared => "unprepared",
-        PhaseState::Prepared => "prepared",
-        PhaseState::Scheduled => "scheduled",
-        PhaseState::Suspending => "suspending",
-        PhaseState::Failed => "failed",
-        PhaseState::Direct => "direct",
-        PhaseState::Suspended => "suspended",
-        PhaseState::Rescheduled => "rescheduled",
-        PhaseState::Resuming => "resuming",
-        PhaseState::Resumed => "resumed",
-    }
-}
-
-/// A change of a link.
-#[derive(Clone, Copy)]
-enum Change {
-    Link,
-    SetLink,
-}
-
-const CHANGES: [(&str, Change); 2] = [("link", Change::Link), ("set_link", Change::SetLink)];
-
-/// Whether a link is added, or set so.
-fn changed(board: &mut Board, change: Change, words: Words) -> CaseReply {
-    let (supplier, consumer) = (words.number(0), words.number(1));
-    let done = match change {
-        Change::Link => board.add_link(supplier, consumer),
-        Change::SetLink => board.set_link(supplier, consumer, words.flag(2)),
-    };
-    one(ReplyWord::Flag(done.is_ok()))
-}
-
-/// Notes an entry.
-fn note(board: &mut Board, text: &str) -> CaseReply {
-    noted(kind_of(text).map(|kind| board.note(kind)))
-}
-
-/// What is answered to a line that is no question.
-fn change_reply(case: &mut BoardCase, word: &str, rest: &str) -> CaseReply {
-    match found(&CHANGES, word) {
-        Some(change) => changed(&mut case.board, change, Words::of(rest)),
-        None if word == "note" => note(&mut case.board, rest),
-        None => asked_reply(case, word, Words::of(rest)),
-    }
-}
-
-/// What a board answers to a question; none if it is none of these.
-fn question_reply(board: &Board, word: &str, words: Words) -> Option<CaseReply> {
-    if let Some(next) = found(&NEXT, word) {
-        return Some(one(maybe(next_of(board, next, words))));
-    }
-    let asks = found(&ASKS, word)?;
-    Some(reply_of(board, asks, words))
-}
-
-impl CaseRunner for BoardCase {
+impl CaseRunner<BoardCall> for BoardCase {
     /// Answers a question about the board, or changes it.
-    fn answer(&mut self, line: &str, out: &mut Out) {
-        let (word, rest) = cut(line, ' ');
-        let reply = match question_reply(&self.board, word, Words::of(rest)) {
-            Some(reply) => reply,
-            None => change_reply(self, word, rest),
+    fn answer(&mut self, call: BoardCall, rest: &str, out: &mut Out) -> CaseReply {
+        let words = Words::of(rest);
+        let (first, second) = (words.number(0), words.number(1));
+        let word = match call {
+            BoardCall::Next(next) => ReplyWord::Maybe(next_of(&self.board, next, words)),
+            BoardCall::Due(call) => return due_reply(due_of(self, call, words)),
+            BoardCall::Request => request_word(&self.board, words),
+            BoardCall::Free => return free_reply(&self.board, words),
+            BoardCall::PhaseState => {
+                ReplyWord::PhaseState(self.board.state(words.phase(0), second))
+            }
+            BoardCall::Asynchronous => ReplyWord::Flag(self.board.is_asynchronous(first)),
+            BoardCall::AllDirect => ReplyWord::Flag(self.board.all_below_direct_complete(first)),
+            BoardCall::Laws => return laws(),
+            BoardCall::Link => ReplyWord::Flag(self.board.add_link(first, second).is_ok()),
+            BoardCall::SetLink => {
+                ReplyWord::Flag(self.board.set_link(first, second, words.flag(2)).is_ok())
+            }
+            BoardCall::Note => {
+                self.board.note(kind_of(rest, out));
+                return CaseReply::Nothing;
+            }
         };
-        out.say(reply);
+        CaseReply::One(word)
     }
 }
 
@@ -199,22 +158,11 @@ impl CaseRunner for BoardCase {
 fn links_in(alloc: Global, text: &str) -> Result<Vec<Link>, Mem> {
     let mut links = Vec::new(alloc);
     for link in text.split(';') {
-        if let Some((supplier, consumer)) = link.split_once(' ') {
-            links.push(Link {
-                supplier: supplier.parse::<u32>().unwrap_or(0),
-                consumer: consumer.parse::<u32>().unwrap_or(0),
-                active: true,
-            })?;
+        if !link.is_empty() {
+            links.push(link_of(link))?;
         }
     }
     Ok(links)
-}
-
-/// Devices with these parents and links.
-fn linked(alloc: Global, parents: &str, links: &str) -> Result<Links, Mem> {
-    let parents = parents_in(alloc, parents)?;
-    let list = links_in(alloc, links)?;
-    Links::with_links(alloc, &parents, &list)?.ok_or(Mem)
 }
 
 /// Flags that words give.
@@ -230,42 +178,51 @@ fn flags_in(alloc: Global, text: &str) -> Result<Vec<bool>, Mem> {
 fn wired(alloc: Global, text: &str) -> Result<Board, Mem> {
     let (parents, rest) = cut(text, ',');
     let (asynchronous, list) = cut(rest, ',');
-    let flags = flags_in(alloc, asynchronous)?;
-    let links = linked(alloc, parents, list)?;
-    Board::wired(alloc, links, flags)
+    let list = links_in(alloc, list)?;
+    let Ok(flags) = flags_in(alloc, asynchronous) else {
+        return Err(drop_for_mem(list));
+    };
+    match linked(alloc, parents, &list) {
+        Ok(Some(links)) => Board::wired(alloc, links, flags),
+        _ => Err(drop_for_mem(flags)),
+    }
 }
 
 /// A board with its flags.
-fn board_case(alloc: Global, text: &str) -> Result<BoardCase, Mem> {
+pub fn board_case(alloc: Global, text: &str) -> Result<BoardCase, Mem> {
     let all = Flags::of_vec(vec![in alloc; true; 3]?);
     let none = Flags::new(alloc, 3)?;
     let board = wired(alloc, text)?;
     Ok(BoardCase { board, all, none })
 }
 
-/// Answers the lines of a board.
-pub fn boards(alloc: Global, text: &str, lines: &str, out: &mut Out) {
-    answer_all(board_case(alloc, text), lines, out);
-}
+/// The name of each state.
+pub const STATES: [(&str, PhaseState); 10] = [
+    ("unprepared", PhaseState::Unprepared),
+    ("prepared", PhaseState::Prepared),
+    ("scheduled", PhaseState::Scheduled),
+    ("suspending", PhaseState::Suspending),
+    ("failed", PhaseState::Failed),
+    ("direct", PhaseState::Direct),
+    ("suspended", PhaseState::Suspended),
+    ("rescheduled", PhaseState::Rescheduled),
+    ("resuming", PhaseState::Resuming),
+    ("resumed", PhaseState::Resumed),
+];
 
-/// What holds of a state: that it is prepared, ready, not down, down, direct-complete, not up, taken.
-fn state_reply(state: PhaseState) -> [bool; 7] {
-    [
-        is_prepared(state),
-        is_ready(state),
-        is_not_down(state),
-        is_down_in(state),
-        is_direct_complete(state),
-        is_not_up(state),
-        is_taken(state),
-    ]
-}
-
-/// Says what holds of each state.
-pub fn states(lines: &str, out: &mut Out) {
-    for line in lines.split('\n') {
-        if let Some(state) = found(&STATES, line) {
-            out.flags(&state_reply(state));
-        }
+impl CaseRunner<PhaseState> for Global {
+    /// Says what holds of a state: that it is prepared, ready, not down, down, direct-complete, not up, or
+    /// taken.
+    fn answer(&mut self, state: PhaseState, _rest: &str, out: &mut Out) -> CaseReply {
+        out.words(&[
+            ReplyWord::Flag(is_prepared(state)),
+            ReplyWord::Flag(is_ready(state)),
+            ReplyWord::Flag(is_not_down(state)),
+            ReplyWord::Flag(is_down_in(state)),
+            ReplyWord::Flag(is_direct_complete(state)),
+            ReplyWord::Flag(is_not_up(state)),
+            ReplyWord::Flag(is_taken(state)),
+        ]);
+        CaseReply::Nothing
     }
 }

@@ -1,144 +1,105 @@
-//! What entries say, and what is due, as words of an answer.
+//! What entries, stages and actors are, and what is due, as words of an answer.
 
-use crate::asked::ReplyWord;
-use crate::reply::{CaseReply, error, long, maybe, number, one, three, two};
-use sleep_base::Errno;
-use sleep_model::{Due, Kind, PlatDo, PlatUndo, SkipCause, State, Why};
-
-/// A word that an entry begins with.
-fn named(name: &'static str) -> CaseReply {
-    one(ReplyWord::Text(name))
-}
-
-/// The same with a number.
-fn numbered(name: &'static str, found: u32) -> CaseReply {
-    two(ReplyWord::Text(name), number(found))
-}
-
-/// The same with a number and an answer.
-fn answered(name: &'static str, found: u32, r: Option<Errno>) -> CaseReply {
-    three(ReplyWord::Text(name), number(found), error(r))
-}
+use crate::reply::{CaseReply, ReplyWord};
+use crate::spelled::Said;
+use sleep_model::{Actor, Due, Kind, Stage, Thaw, Why};
 
 /// What an entry says.
 pub fn kind_reply(kind: Kind) -> CaseReply {
+    let word = ReplyWord::Kind(kind);
     match kind {
-        Kind::Read(count) => numbered("read", count),
-        Kind::ReadWait => named("read_wait"),
-        Kind::ReadIntr => named("read_intr"),
-        Kind::Saved(count) => numbered("saved", count),
-        Kind::SaveErr(count, error) => answered("save_err", count, Some(error)),
-        Kind::SaveWait(count) => numbered("save_wait", count),
-        Kind::StateWait => named("state_wait"),
-        Kind::StateErr(error) => two(ReplyWord::Text("state_err"), ReplyWord::Error(error)),
-        Kind::AutoSet(State::Mem) => named("auto_set_mem"),
-        Kind::AutoSet(State::Off) => named("auto_set_off"),
-        Kind::AutoDone => named("auto_done"),
-        Kind::AutoBad => named("auto_bad"),
-        Kind::AutoRun => named("auto_run"),
-        Kind::AutoSaved(count) => numbered("auto_saved", count),
-        Kind::SleepD(ms) => two(ReplyWord::Text("sleep_d"), long(ms)),
-        kind => step_reply(kind),
-    }
-}
-
-/// What an entry of an attempt says.
-fn step_reply(kind: Kind) -> CaseReply {
-    match kind {
-        Kind::Attempt { n, guarded } => three(
-            ReplyWord::Text("attempt"),
-            number(n),
-            maybe(guarded),
-        ),
-        Kind::NotifyPrepare(x, r) => answered("notify_prepare", x, r),
-        Kind::NotifyPost(x) => numbered("notify_post", x),
-        Kind::PlatformDo(step, r) => two(ReplyWord::Text(doing(step)), error(r)),
-        Kind::PlatformUndo(step) => named(undoing(step)),
-        Kind::CpuOff(k) => numbered("cpu_off", k),
-        Kind::CpuBusy(k) => numbered("cpu_busy", k),
-        Kind::CpuOn(k) => numbered("cpu_on", k),
-        Kind::SyscoreSuspend(x, r) => answered("syscore_suspend", x, r),
-        Kind::SyscoreResume(x) => numbered("syscore_resume", x),
+        Kind::Read(n)
+        | Kind::Saved(n)
+        | Kind::SaveWait(n)
+        | Kind::AutoSaved(n)
+        | Kind::NotifyPost(n)
+        | Kind::CpuOff(n)
+        | Kind::CpuBusy(n)
+        | Kind::CpuOn(n)
+        | Kind::SyscoreResume(n)
+        | Kind::Complete(n) => CaseReply::Two(word, ReplyWord::Number(n)),
+        Kind::SleepD(ms) => CaseReply::Two(word, ReplyWord::Long(ms)),
+        Kind::StateErr(error) => CaseReply::Two(word, ReplyWord::Error(Some(error))),
+        Kind::PlatformDo(_, r) => CaseReply::Two(word, ReplyWord::Error(r)),
+        Kind::SaveErr(count, error) => {
+            CaseReply::Three(
+                word,
+                ReplyWord::Number(count),
+                ReplyWord::Error(Some(error)),
+            )
+        }
+        Kind::NotifyPrepare(n, r) | Kind::SyscoreSuspend(n, r) => {
+            CaseReply::Three(word, ReplyWord::Number(n), ReplyWord::Error(r))
+        }
+        Kind::Attempt { n, guarded } => {
+            CaseReply::Three(word, ReplyWord::Number(n), ReplyWord::Maybe(guarded))
+        }
         kind => device_reply(kind),
     }
 }
 
-/// What an entry of a device's phase says.
+/// What an entry of a device's phase says; of any other its word.
 fn device_reply(kind: Kind) -> CaseReply {
+    let word = ReplyWord::Kind(kind);
     match kind {
-        Kind::Prepare { device, r } => {
-            three(
-                ReplyWord::Text("prepare"),
-                number(device),
-                ReplyWord::Number(i128::from(r)),
-            )
+        Kind::Prepare { device, r } => CaseReply::Three(
+            word,
+            ReplyWord::Number(device),
+            ReplyWord::Signed(i64::from(r)),
+        ),
+        Kind::Schedule(phase, device) | Kind::Begin(phase, device) | Kind::Skip(phase, device, _) =>
+            { CaseReply::Three(word, ReplyWord::Phase(phase), ReplyWord::Number(device)) }
+        Kind::Done(phase, r) => {
+            CaseReply::Three(word, ReplyWord::Phase(phase), ReplyWord::Error(r))
         }
-        Kind::Complete(device) => numbered("complete", device),
-        Kind::Schedule(phase, device) => three(
-            ReplyWord::Text("schedule"),
-            ReplyWord::Phase(phase),
-            number(device),
-        ),
-        Kind::Begin(phase, device) => three(
-            ReplyWord::Text("begin"),
-            ReplyWord::Phase(phase),
-            number(device),
-        ),
-        Kind::Skip(phase, device, cause) => three(
-            ReplyWord::Text(skipping(cause)),
-            ReplyWord::Phase(phase),
-            number(device),
-        ),
-        Kind::Done(phase, r) => three(ReplyWord::Text("done"), ReplyWord::Phase(phase), error(r)),
-        _ => named("another kind"),
-    }
-}
-
-/// The word of a step of the platform.
-fn doing(step: PlatDo) -> &'static str {
-    match step {
-        PlatDo::Begin => "platform_begin",
-        PlatDo::Prepare => "platform_prepare",
-        PlatDo::PrepareLate => "platform_prepare_late",
-    }
-}
-
-/// The word of an undo of the platform.
-fn undoing(step: PlatUndo) -> &'static str {
-    match step {
-        PlatUndo::Recover => "platform_recover",
-        PlatUndo::Wake => "platform_wake",
-        PlatUndo::Finish => "platform_finish",
-        PlatUndo::End => "platform_end",
-    }
-}
-
-/// The word of a skip, by its cause.
-fn skipping(cause: SkipCause) -> &'static str {
-    match cause {
-        SkipCause::Error => "skip_error",
-        SkipCause::Pending => "skip_pending",
-        SkipCause::Direct => "skip_direct",
-    }
-}
-
-/// What an actor waits for.
-fn why_reply(why: Why) -> CaseReply {
-    let waits = ReplyWord::Text("waits");
-    match why {
-        Why::Device(device) => three(waits, ReplyWord::Text("device"), number(device)),
-        Why::InProgress => two(waits, ReplyWord::Text("in_progress")),
-        Why::LockHeld => two(waits, ReplyWord::Text("lock_held")),
-        Why::NoWork => two(waits, ReplyWord::Text("no_work")),
-        _ => one(waits),
+        _ => CaseReply::One(word),
     }
 }
 
 /// What is due.
 pub fn due_reply(due: Due) -> CaseReply {
+    let waits = ReplyWord::Said(Said::Waits);
     match due {
         Due::Makes(kind) => kind_reply(kind),
-        Due::Waits(why) => why_reply(why),
-        Due::Nothing => named("gone"),
+        Due::Waits(Why::Device(device)) => CaseReply::Three(
+            waits,
+            ReplyWord::Said(Said::Device),
+            ReplyWord::Number(device),
+        ),
+        Due::Waits(Why::InProgress) => CaseReply::Two(waits, ReplyWord::Said(Said::InProgress)),
+        Due::Waits(Why::LockHeld) => CaseReply::Two(waits, ReplyWord::Said(Said::LockHeld)),
+        Due::Waits(Why::NoWork) => CaseReply::Two(waits, ReplyWord::Said(Said::NoWork)),
+        Due::Waits(_) => CaseReply::One(waits),
+        Due::Nothing => CaseReply::One(ReplyWord::Said(Said::Gone)),
+    }
+}
+
+/// The words of a stage, if there is one.
+pub fn stage_reply(stage: Option<Stage>) -> CaseReply {
+    let Some(stage) = stage else {
+        return CaseReply::One(ReplyWord::Nothing);
+    };
+    let word = ReplyWord::Stage(stage);
+    match stage {
+        Stage::Freezes(group) => CaseReply::Two(word, ReplyWord::Group(group)),
+        Stage::PlatformDo(step) => CaseReply::Two(word, ReplyWord::Do(step)),
+        Stage::PlatformUndo(step) => CaseReply::Two(word, ReplyWord::Undo(step)),
+        Stage::Downs(phase) | Stage::Ups(phase) => CaseReply::Two(word, ReplyWord::Phase(phase)),
+        Stage::Thaws(Thaw::All) => CaseReply::Two(word, ReplyWord::Said(Said::All)),
+        Stage::Thaws(Thaw::Kernel) => CaseReply::Two(word, ReplyWord::Said(Said::Kernel)),
+        _ => CaseReply::One(word),
+    }
+}
+
+/// The words of an actor, if there is one.
+pub fn actor_reply(actor: Option<Actor>) -> CaseReply {
+    match actor {
+        Some(who) => match who {
+            Actor::Script(n) | Actor::Dev(n) | Actor::Timer(n) => {
+                CaseReply::Two(ReplyWord::Actor(who), ReplyWord::Number(n))
+            }
+            _ => CaseReply::One(ReplyWord::Actor(who)),
+        },
+        None => CaseReply::One(ReplyWord::Nothing),
     }
 }

@@ -1,125 +1,122 @@
 //! What a freeze asks, and how its rounds go: `freezer KIND ..` with the kind of each task.
 
-use crate::asked::{ReplyWord, Words, cut, found};
+use crate::asked::Words;
 use crate::kinds::entry_of;
-use crate::parts::{CaseRunner, answer_lines, reply_to};
-use crate::reply::{CaseReply, NO_CALL, NO_REPLY, Out, long, maybe, number, three, two};
+use crate::parts::{CaseRunner, answer_all};
+use crate::reply::{CaseReply, Out, ReplyWord};
+use crate::spelled::Said;
 use sleep_base::Mem;
-use sleep_model::{Group, ListOf, Name, Script, TaskKind};
+use sleep_model::{Freezing, Group, ListOf, Name, Script, TaskKind};
 use std::alloc::Global;
 use task_freezer::{Freezer, Left, Round};
 
-/// A question about a freeze.
+/// A question about a freeze, of a group of tasks or of one, or an entry.
 #[derive(Clone, Copy)]
-enum FreezeQuestion {
+enum FreezeCall {
+    Note,
     Freezing,
-    LeftUser,
-    LeftKernel,
-    RoundUser,
-    RoundKernel,
+    Left(Group),
+    Round(Group),
 }
 
-const VERBS: [(&str, FreezeQuestion); 5] = [
-    ("freezing", FreezeQuestion::Freezing),
-    ("left_user", FreezeQuestion::LeftUser),
-    ("left_kernel", FreezeQuestion::LeftKernel),
-    ("round_user", FreezeQuestion::RoundUser),
-    ("round_kernel", FreezeQuestion::RoundKernel),
+/// The verb of each call.
+const FREEZE_CALLS: [(&str, FreezeCall); 6] = [
+    ("note", FreezeCall::Note),
+    ("freezing", FreezeCall::Freezing),
+    ("left_user", FreezeCall::Left(Group::User)),
+    ("left_kernel", FreezeCall::Left(Group::Kernel)),
+    ("round_user", FreezeCall::Round(Group::User)),
+    ("round_kernel", FreezeCall::Round(Group::Kernel)),
 ];
 
+/// How many tasks are left, and the first of them.
 fn left_reply(left: Left) -> CaseReply {
-    two(number(left.count), maybe(left.first))
+    CaseReply::Two(ReplyWord::Number(left.count), ReplyWord::Maybe(left.first))
 }
 
-/// The reply on what becomes of a freeze.
+/// What becomes of a freeze.
 fn round_reply(round: Round) -> CaseReply {
     match round {
-        Round::Again { left, until } => three(ReplyWord::Text("again"), number(left), long(until)),
-        Round::Late { left, first } => three(ReplyWord::Text("late"), number(left), number(first)),
-        Round::AllFrozen => two(ReplyWord::Text("all"), ReplyWord::Text("frozen")),
+        Round::Again { left, until } => CaseReply::Three(
+            ReplyWord::Said(Said::Again),
+            ReplyWord::Number(left),
+            ReplyWord::Long(until),
+        ),
+        Round::Late { left, first } => CaseReply::Three(
+            ReplyWord::Said(Said::Late),
+            ReplyWord::Number(left),
+            ReplyWord::Number(first),
+        ),
+        Round::AllFrozen => CaseReply::One(ReplyWord::Said(Said::AllFrozen)),
     }
 }
 
-/// How a freeze of a group goes on, which began at a time.
-fn round_of(freezer: &Freezer<'_>, group: Group, words: Words) -> CaseReply {
-    let since = words.number(0);
-    round_reply(freezer.round(group, u64::from(since), words.long(1)))
-}
-
 /// Whether a task is asked, and frozen.
-fn freezing_of(freezer: &Freezer<'_>, task: u32) -> CaseReply {
-    let freezing = freezer.freezing(task);
-    two(
+fn freezing_reply(freezing: Freezing) -> CaseReply {
+    CaseReply::Two(
         ReplyWord::Flag(freezing.asked),
         ReplyWord::Flag(freezing.frozen),
     )
 }
 
-/// What a freezer answers to a question.
-fn reply_of(freezer: &Freezer<'_>, verb: FreezeQuestion, words: Words) -> CaseReply {
-    match verb {
-        FreezeQuestion::Freezing => freezing_of(freezer, words.number(0)),
-        FreezeQuestion::LeftUser => left_reply(freezer.left(Group::User)),
-        FreezeQuestion::LeftKernel => left_reply(freezer.left(Group::Kernel)),
-        FreezeQuestion::RoundUser => round_of(freezer, Group::User, words),
-        FreezeQuestion::RoundKernel => round_of(freezer, Group::Kernel, words),
-    }
-}
-
-/// Notes an entry.
-fn note(freezer: &mut Freezer<'_>, text: &str) -> CaseReply {
-    match entry_of(text) {
-        Some((who, kind)) => {
-            freezer.note(who, kind);
-            NO_REPLY
-        }
-        None => NO_CALL,
-    }
-}
-
-impl CaseRunner for Freezer<'_> {
+impl CaseRunner<FreezeCall> for Freezer<'_> {
     /// Answers a question about the freezer, or notes an entry.
-    fn answer(&mut self, line: &str, out: &mut Out) {
-        out.say(reply_to!(self, line, VERBS, reply_of, note));
+    fn answer(&mut self, call: FreezeCall, rest: &str, out: &mut Out) -> CaseReply {
+        let words = Words::of(rest);
+        let first = words.number(0);
+        match call {
+            FreezeCall::Note => {
+                let (who, kind) = entry_of(rest, out);
+                self.note(who, kind);
+                CaseReply::Nothing
+            }
+            FreezeCall::Freezing => freezing_reply(self.freezing(first)),
+            FreezeCall::Left(group) => left_reply(self.left(group)),
+            FreezeCall::Round(group) => {
+                round_reply(self.round(group, u64::from(first), words.long(1)))
+            }
+        }
     }
 }
 
-/// Scripts of these kinds, which have no steps.
+/// A script of this kind, which has no steps.
+fn script_of(alloc: Global, name: Name, kind: TaskKind) -> Script {
+    Script {
+        name,
+        kind,
+        repeat: 1,
+        steps: ListOf::of_vec(Vec::new(alloc)),
+    }
+}
+
+/// Scripts of these kinds.
 fn scripts_of(alloc: Global, text: &str) -> Result<Vec<Script>, Mem> {
     let name = Name::of_bytes(b"w").ok_or(Mem)?;
     let mut scripts = Vec::new(alloc);
     for word in text.split(' ') {
-        let kind = TaskKind::of_bytes(word.as_bytes()).ok_or(Mem)?;
-        scripts.push(Script {
-            name,
-            kind,
-            repeat: 1,
-            steps: ListOf::of_vec(Vec::new(alloc)),
-        })?;
+        let kind = TaskKind::of_bytes(word.as_bytes()).unwrap_or(TaskKind::User);
+        scripts.push(script_of(alloc, name, kind))?;
     }
     Ok(scripts)
 }
 
-/// Answers the lines of a freezer of few scripts.
-fn freeze(alloc: Global, scripts: &[Script], lines: &str, out: &mut Out) -> Result<(), Mem> {
+/// A freezer of few scripts.
+fn freezer_of(alloc: Global, scripts: &[Script]) -> Result<Freezer<'_>, Mem> {
     if scripts.len() > 99 {
         return Err(Mem);
     }
-    let mut freezer = Freezer::new(alloc, scripts)?;
-    answer_lines(&mut freezer, lines, out);
-    drop(freezer);
-    Ok(())
+    Freezer::new(alloc, scripts)
 }
 
 /// Answers the lines of a freezer.
 pub fn freezers(alloc: Global, text: &str, lines: &str, out: &mut Out) {
     match scripts_of(alloc, text) {
         Ok(scripts) => {
-            if freeze(alloc, &scripts, lines, out).is_err() {
-                out.lack();
-            }
+            answer_all(freezer_of(alloc, &scripts), &FREEZE_CALLS, lines, out);
             drop(scripts);
         }
-        Err(_) => out.lack(),
+        Err(_) => {
+            out.lack();
+        }
     }
 }

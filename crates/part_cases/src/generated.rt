@@ -1,48 +1,63 @@
 //! Machines that are made of a seed: `generated SEED DEVICES`.
 
-use crate::asked::{ReplyWord, Words};
-use crate::reply::{NO_CALL, Out, four, maybe, number, one, size, three, two};
+use crate::asked::Words;
+use crate::parts::CaseRunner;
+use crate::reply::{CaseReply, Out, ReplyWord};
+use crate::spelled::Said;
 use sleep_base::Mem;
-use sleep_model::{DeviceFlags, Link, Machine, Op, Script, Step, TaskKind};
+use sleep_model::{Device, DeviceFlags, Link, Machine, Op, Script, Step, TaskKind};
 use sleep_script::generate;
 use std::alloc::Global;
 
+/// What is asked of a machine.
+#[derive(Clone, Copy)]
+pub enum MachineCall {
+    Devices,
+    Links,
+    Tasks,
+    Names,
+    Counts,
+}
+
+/// The verb of each call.
+pub const MACHINE_CALLS: [(&str, MachineCall); 5] = [
+    ("devices", MachineCall::Devices),
+    ("links", MachineCall::Links),
+    ("tasks", MachineCall::Tasks),
+    ("names", MachineCall::Names),
+    ("counts", MachineCall::Counts),
+];
+
 /// Says what each device depends on, and whether it is asynchronous.
-fn say_devices(machine: &Machine, out: &mut Out) {
-    for device in machine.devices.as_slice() {
+fn say_devices(devices: &[Device], out: &mut Out) {
+    for device in devices {
         let is_async = device.flags == DeviceFlags::ASYNC;
-        out.say(two(maybe(device.parent), ReplyWord::Flag(is_async)));
+        out.say(CaseReply::Two(ReplyWord::Maybe(device.parent), ReplyWord::Flag(is_async)));
     }
 }
 
 /// Says the ends of each link, and whether it is active.
 fn say_links(links: &[Link], out: &mut Out) {
     for link in links {
-        let (supplier, consumer) = (number(link.supplier), number(link.consumer));
-        out.say(three(supplier, consumer, ReplyWord::Flag(link.active)));
+        out.say(CaseReply::Three(
+            ReplyWord::Number(link.supplier),
+            ReplyWord::Number(link.consumer),
+            ReplyWord::Flag(link.active),
+        ));
     }
 }
 
-/// Says a step that is a pause, in ms, or an event: its source, its length in ms, and whether it is hard.
-fn say_step(step: &Step, out: &mut Out) {
+/// A step that is a pause, in ms, or an event: its source, its length in ms, and whether it is hard.
+fn step_reply(step: &Step) -> CaseReply {
     match &step.op {
-        Op::Sleep { ms } => out.say(two(ReplyWord::Text("sleep"), number(*ms))),
-        Op::Event { source, ms, hard } => out.say(four(
-            ReplyWord::Text("event"),
-            number(*source),
-            number(*ms),
+        Op::Sleep { ms } => { CaseReply::Two(ReplyWord::Said(Said::Sleep), ReplyWord::Number(*ms)) }
+        Op::Event { source, ms, hard } => CaseReply::Four(
+            ReplyWord::Said(Said::Event),
+            ReplyWord::Number(*source),
+            ReplyWord::Number(*ms),
             ReplyWord::Flag(*hard),
-        )),
-        _ => out.say(one(ReplyWord::Text("another"))),
-    }
-}
-
-/// The kind of a task, if it is one of the generator's.
-fn kind_name(kind: &TaskKind) -> &'static str {
-    match kind {
-        TaskKind::User => "user",
-        TaskKind::Irq => "irq",
-        _ => "another",
+        ),
+        _ => CaseReply::One(ReplyWord::Said(Said::Another)),
     }
 }
 
@@ -51,20 +66,21 @@ fn kind_name(kind: &TaskKind) -> &'static str {
 fn say_task(script: &Script, out: &mut Out) {
     let steps = script.steps.as_slice();
     out.line(script.name.bytes());
-    out.say(three(
-        ReplyWord::Text(kind_name(&script.kind)),
-        number(script.repeat),
-        size(steps.len()),
+    out.say(CaseReply::Three(
+        ReplyWord::TaskKind(script.kind),
+        ReplyWord::Number(script.repeat),
+        ReplyWord::Size(steps.len()),
     ));
     if matches!(script.kind, TaskKind::Irq) {
         for step in steps {
-            say_step(step, out);
+            out.say(step_reply(step));
         }
     }
 }
 
-fn say_tasks(machine: &Machine, out: &mut Out) {
-    for script in machine.actors.as_slice() {
+/// Says each task.
+fn say_tasks(scripts: &[Script], out: &mut Out) {
+    for script in scripts {
         say_task(script, out);
     }
 }
@@ -80,60 +96,46 @@ fn say_names(machine: &Machine, out: &mut Out) {
 }
 
 /// How many devices depend on no other, and how many are asynchronous.
-fn roots_and_async(machine: &Machine) -> (u32, u32) {
+fn roots_and_async(devices: &[Device]) -> (u32, u32) {
     let (mut roots, mut asynchronous) = (0u32, 0u32);
-    for device in machine.devices.as_slice() {
+    for device in devices {
         roots = roots.saturating_add(u32::from(device.parent.is_none()));
         asynchronous = asynchronous.saturating_add(u32::from(device.flags == DeviceFlags::ASYNC));
     }
     (roots, asynchronous)
 }
 
-/// Says how many devices, devices without a parent, asynchronous ones and links a machine has.
-fn say_counts(machine: &Machine, out: &mut Out) {
-    let (roots, asynchronous) = roots_and_async(machine);
-    out.say(four(
-        size(machine.devices.len()),
-        number(roots),
-        number(asynchronous),
-        size(machine.links.len()),
-    ));
+/// How many devices, devices without a parent, asynchronous ones and links a machine has.
+fn counts_reply(devices: &[Device], links: usize) -> CaseReply {
+    let (roots, asynchronous) = roots_and_async(devices);
+    CaseReply::Four(
+        ReplyWord::Size(devices.len()),
+        ReplyWord::Number(roots),
+        ReplyWord::Number(asynchronous),
+        ReplyWord::Size(links),
+    )
 }
 
-/// Answers a line about a machine.
-fn say_of(machine: &Machine, line: &str, out: &mut Out) {
-    match line {
-        "devices" => say_devices(machine, out),
-        "links" => say_links(machine.links.as_slice(), out),
-        "tasks" => say_tasks(machine, out),
-        "names" => say_names(machine, out),
-        "counts" => say_counts(machine, out),
-        _ => out.say(NO_CALL),
-    }
-}
-
-/// Answers each line about a machine.
-fn say_machine(machine: &Machine, lines: &str, out: &mut Out) {
-    for line in lines.split('\n') {
-        say_of(machine, line, out);
+impl CaseRunner<MachineCall> for Machine {
+    /// Answers a line about a machine.
+    fn answer(&mut self, call: MachineCall, _rest: &str, out: &mut Out) -> CaseReply {
+        let devices = self.devices.as_slice();
+        match call {
+            MachineCall::Devices => say_devices(devices, out),
+            MachineCall::Links => say_links(self.links.as_slice(), out),
+            MachineCall::Tasks => say_tasks(self.actors.as_slice(), out),
+            MachineCall::Names => say_names(self, out),
+            MachineCall::Counts => return counts_reply(devices, self.links.len()),
+        }
+        CaseReply::Nothing
     }
 }
 
 /// The machine of a seed with 1 to 1,000 devices.
-fn generated_of(alloc: Global, seed: u64, devices: u32) -> Result<Machine, Mem> {
+pub fn generated(alloc: Global, words: Words) -> Result<Machine, Mem> {
+    let devices = words.number(1);
     if !(1..=1000).contains(&devices) {
         return Err(Mem);
     }
-    generate(alloc, seed, devices)
-}
-
-/// Answers the lines about a machine that is made of a seed.
-pub fn generated(alloc: Global, words: Words, lines: &str, out: &mut Out) {
-    match generated_of(alloc, words.long(0), words.number(1)) {
-        Ok(machine) => {
-            say_machine(&machine, lines, out);
-            drop(machine);
-        }
-        Err(_) => out.lack(),
-    }
+    generate(alloc, words.long(0), devices)
 }

@@ -3,45 +3,57 @@
 ghost use Rattle.std.specs.Bool.{OnTrue};
 ghost use Rattle.idle_loop.specs.Sizes.{AreSizes};
 
-use crate::asked::{ReplyWord, Words, cut};
-use crate::reply::{NO_CALL, Out, number, one, three};
+use crate::asked::Words;
+use crate::parts::CaseRunner;
+use crate::reply::{CaseReply, Out, ReplyWord};
 use idle_loop::{IdleEntry, IdleKind, IdleLog, IdleSizes, run_idle};
 use sleep_base::Mem;
 use std::alloc::Global;
 use std::sync::Wait;
 use std::thread::Threads;
 
-/// The name of a kind of entry.
-fn kind_name(kind: IdleKind) -> &'static str {
-    match kind {
-        IdleKind::Hard => "hard",
-        IdleKind::Begin => "begin",
-        IdleKind::Wake => "wake",
-        IdleKind::TryOk => "try_ok",
-        IdleKind::TryBusy => "try_busy",
-        IdleKind::Leave => "leave",
-    }
+/// A question about a log: its entries, how many are hard events or wakes, whether their number is between
+/// two others, one number of all, or whether the idler sleeps at the end.
+#[derive(Clone, Copy)]
+pub enum IdleCall {
+    Entries,
+    Hards,
+    Wakes,
+    LenWithin,
+    Sum,
+    IsIdle,
 }
 
+/// The verb of each call.
+pub const IDLE_CALLS: [(&str, IdleCall); 6] = [
+    ("entries", IdleCall::Entries),
+    ("hards", IdleCall::Hards),
+    ("wakes", IdleCall::Wakes),
+    ("len_within", IdleCall::LenWithin),
+    ("sum", IdleCall::Sum),
+    ("is_idle", IdleCall::IsIdle),
+];
+
 /// Says each entry: the hard events that it saw, who made it, and what it was.
-fn say_entries(entries: &[IdleEntry], out: &mut Out) {
+fn say_entries(entries: &[IdleEntry], out: &mut Out) -> CaseReply {
     for entry in entries {
-        let kind = ReplyWord::Text(kind_name(entry.what));
-        out.say(three(number(entry.hard), number(entry.who), kind));
+        let (hard, who) = (ReplyWord::Number(entry.hard), ReplyWord::Number(entry.who));
+        out.say(CaseReply::Three(hard, who, ReplyWord::Idle(entry.what)));
     }
+    CaseReply::Nothing
 }
 
 /// How many entries of a kind there are.
-fn count_of(entries: &[IdleEntry], kind: IdleKind) -> ReplyWord {
+fn count_of(entries: &[IdleEntry], kind: IdleKind) -> u32 {
     let mut count = 0u32;
     for entry in entries {
         count = count.saturating_add(u32::from(entry.what == kind));
     }
-    number(count)
+    count
 }
 
 /// One number of all entries, in their order.
-fn sum_of(entries: &[IdleEntry]) -> ReplyWord {
+fn sum_of(entries: &[IdleEntry]) -> u32 {
     let mut sum = 0u32;
     for entry in entries {
         sum = sum
@@ -50,27 +62,26 @@ fn sum_of(entries: &[IdleEntry]) -> ReplyWord {
             .wrapping_add(entry.who.wrapping_mul(8))
             .wrapping_add(entry.what as u32);
     }
-    number(sum)
+    sum
 }
 
-/// Whether there are as many entries as the two numbers say, or between them.
-fn len_within(entries: &[IdleEntry], words: Words) -> ReplyWord {
-    let (least, most) = (words.number(0) as usize, words.number(1) as usize);
-    ReplyWord::Flag(least <= entries.len() && entries.len() <= most)
+/// Whether a number is between the two that words give.
+fn is_within(count: usize, words: Words) -> bool {
+    words.number(0) as usize <= count && count <= words.number(1) as usize
 }
 
-/// Answers a line about a log: its entries, its count of hard events or of wakes, or whether the idler sleeps
-/// at the end.
-fn say_of(log: &IdleLog, line: &str, out: &mut Out) {
-    let (word, rest) = cut(line, ' ');
-    match word {
-        "entries" => say_entries(&log.entries, out),
-        "hards" => out.say(one(count_of(&log.entries, IdleKind::Hard))),
-        "wakes" => out.say(one(count_of(&log.entries, IdleKind::Wake))),
-        "len_within" => out.say(one(len_within(&log.entries, Words::of(rest)))),
-        "sum" => out.say(one(sum_of(&log.entries))),
-        "is_idle" => out.say(one(ReplyWord::Flag(log.idle))),
-        _ => out.say(NO_CALL),
+impl CaseRunner<IdleCall> for IdleLog {
+    /// Answers a question about a log.
+    fn answer(&mut self, call: IdleCall, rest: &str, out: &mut Out) -> CaseReply {
+        let entries = self.entries.as_slice();
+        CaseReply::One(match call {
+            IdleCall::Entries => return say_entries(entries, out),
+            IdleCall::Hards => ReplyWord::Number(count_of(entries, IdleKind::Hard)),
+            IdleCall::Wakes => ReplyWord::Number(count_of(entries, IdleKind::Wake)),
+            IdleCall::LenWithin => ReplyWord::Flag(is_within(entries.len(), Words::of(rest))),
+            IdleCall::Sum => ReplyWord::Number(sum_of(entries)),
+            IdleCall::IsIdle => ReplyWord::Flag(self.idle),
+        })
     }
 }
 
@@ -84,36 +95,18 @@ fn are_sizes(sizes: IdleSizes) -> bool
 }
 
 /// The log of a run of these sizes.
-fn log_of<R: Threads + Wait + Sync>(
-    rt: &R,
-    alloc: Global,
-    sizes: IdleSizes,
-) -> Result<IdleLog, Mem> {
-    if !are_sizes(sizes) {
-        return Err(Mem);
-    }
-    run_idle(rt, alloc, sizes, 1)
-}
-
-/// Answers the lines about the log of a run.
-pub fn idles<R: Threads + Wait + Sync>(
+pub fn idle_log<R: Threads + Wait + Sync>(
     rt: &R,
     alloc: Global,
     words: Words,
-    lines: &str,
-    out: &mut Out,
-) {
+) -> Result<IdleLog, Mem> {
     let sizes = IdleSizes {
         wakers: words.number(0),
         events: words.number(1),
         sessions: words.number(2),
     };
-    match log_of(rt, alloc, sizes) {
-        Ok(log) => {
-            for line in lines.split('\n') {
-                say_of(&log, line, out);
-            }
-        }
-        Err(_) => out.lack(),
+    if !are_sizes(sizes) {
+        return Err(Mem);
     }
+    run_idle(rt, alloc, sizes, 1)
 }

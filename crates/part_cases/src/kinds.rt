@@ -2,13 +2,30 @@
 //! a number in place of each name: `begin late 2`, `save_err 3 EINVAL`, `skip_direct suspend 2`.
 
 use crate::asked::{Words, actor_of, cut, found};
+use crate::reply::Out;
+use sleep_base::Errno;
 use sleep_model::{Actor, FrozeEnd, Group, Kind, Phase, PlatDo, PlatUndo, SkipCause, State, Thaw};
 
 // Any phase.
 const ANY: Phase = Phase::Prepare;
 
+const ATTEMPT: Kind = Kind::Attempt {
+    n: 0,
+    guarded: None,
+};
+
+const RUNTIME: Kind = Kind::RuntimeAsk {
+    device: 0,
+    to_suspended: false,
+    r: None,
+};
+
+const TIMEOUT: FrozeEnd = FrozeEnd::Timeout { left: 0, first: 0 };
+
+const WAKEUP: FrozeEnd = FrozeEnd::Wakeup { left: 0, first: 0 };
+
 /// Each first word, with its kind of entry if all numbers are 0.
-const TASKS: [(&str, Kind); 37] = [
+const KINDS: [(&str, Kind); 70] = [
     ("frozen", Kind::Frozen),
     ("read_wait", Kind::ReadWait),
     ("read", Kind::Read(0)),
@@ -36,7 +53,7 @@ const TASKS: [(&str, Kind); 37] = [
     ("jump", Kind::Jump),
     ("attempt", ATTEMPT),
     ("over", Kind::Over { n: 0, r: None }),
-    ("save_err", Kind::SaveErr(0, sleep_base::Errno::EINVAL)),
+    ("save_err", Kind::SaveErr(0, Errno::EINVAL)),
     ("runtime", RUNTIME),
     ("enter", Kind::Enter { busy: false }),
     ("enter_busy", Kind::Enter { busy: true }),
@@ -46,25 +63,6 @@ const TASKS: [(&str, Kind); 37] = [
     ("freeze_user", Kind::Freeze(Group::User)),
     ("freeze_kernel", Kind::Freeze(Group::Kernel)),
     ("thaw_all", Kind::Thaw(Thaw::All)),
-];
-
-const ATTEMPT: Kind = Kind::Attempt {
-    n: 0,
-    guarded: None,
-};
-
-const RUNTIME: Kind = Kind::RuntimeAsk {
-    device: 0,
-    to_suspended: false,
-    r: None,
-};
-
-const TIMEOUT: FrozeEnd = FrozeEnd::Timeout { left: 0, first: 0 };
-
-const WAKEUP: FrozeEnd = FrozeEnd::Wakeup { left: 0, first: 0 };
-
-/// The same of steps of an attempt.
-const STEPS: [(&str, Kind); 33] = [
     ("notify_prepare", Kind::NotifyPrepare(0, None)),
     ("notify_post", Kind::NotifyPost(0)),
     ("froze_user", Kind::Froze(Group::User, FrozeEnd::AllFrozen)),
@@ -106,38 +104,57 @@ const STEPS: [(&str, Kind); 33] = [
     ("hard", Kind::Hard(0)),
 ];
 
-/// What an entry of that text says.
-pub fn kind_of(text: &str) -> Option<Kind> {
+/// What an entry of that text says. If the text has no form, that is told, and it is a pass.
+pub fn kind_of(text: &str, out: &mut Out) -> Kind {
     let (word, rest) = cut(text, ' ');
-    let kind = found(&TASKS, word).or(found(&STEPS, word))?;
-    Some(filled(kind, Words::of(rest)))
+    match found(&KINDS, word) {
+        Some(kind) => filled(kind, Words::of(rest)),
+        None => {
+            out.lack();
+            Kind::Pass
+        }
+    }
+}
+
+/// An entry's actor and what it says.
+pub fn entry_of(text: &str, out: &mut Out) -> (Actor, Kind) {
+    let (who, kind) = cut(text, ' ');
+    (actor_of(who), kind_of(kind, out))
 }
 
 /// What an entry of a task, of the autosleep work or of a source says with these numbers.
 fn filled(kind: Kind, words: Words) -> Kind {
+    let (n, ms) = (words.number(0), words.long(0));
     match kind {
-        Kind::Read(_) => Kind::Read(words.number(0)),
-        Kind::Saved(_) => Kind::Saved(words.number(0)),
-        Kind::Sleep(_) => Kind::Sleep(words.long(0)),
-        Kind::SleepD(_) => Kind::SleepD(words.long(0)),
-        Kind::Post(_) => Kind::Post(words.number(0)),
-        Kind::Got(_) => Kind::Got(words.number(0)),
-        Kind::AutoSaved(_) => Kind::AutoSaved(words.number(0)),
-        Kind::AutoUnsaved(_) => Kind::AutoUnsaved(words.number(0)),
+        Kind::Read(_) => Kind::Read(n),
+        Kind::Saved(_) => Kind::Saved(n),
+        Kind::Sleep(_) => Kind::Sleep(ms),
+        Kind::SleepD(_) => Kind::SleepD(ms),
+        Kind::Post(_) => Kind::Post(n),
+        Kind::Got(_) => Kind::Got(n),
+        Kind::AutoSaved(_) => Kind::AutoSaved(n),
+        Kind::AutoUnsaved(_) => Kind::AutoUnsaved(n),
         Kind::AutoAfter(_) => Kind::AutoAfter(words.maybe(0)),
-        Kind::Awake(_) => Kind::Awake(words.number(0)),
-        Kind::Relax(_) => Kind::Relax(words.number(0)),
-        Kind::Expire(_) => Kind::Expire(words.number(0)),
-        Kind::Start(_) => Kind::Start(words.number(0)),
-        Kind::Finish(_) => Kind::Finish(words.number(0)),
-        Kind::Hard(_) => Kind::Hard(words.number(0)),
+        Kind::Awake(_) => Kind::Awake(n),
+        Kind::Relax(_) => Kind::Relax(n),
+        Kind::Expire(_) => Kind::Expire(n),
+        Kind::Start(_) => Kind::Start(n),
+        Kind::Finish(_) => Kind::Finish(n),
+        Kind::Hard(_) => Kind::Hard(n),
+        Kind::NotifyPost(_) => Kind::NotifyPost(n),
+        Kind::CpuOff(_) => Kind::CpuOff(n),
+        Kind::CpuBusy(_) => Kind::CpuBusy(n),
+        Kind::CpuOn(_) => Kind::CpuOn(n),
+        Kind::SyscoreResume(_) => Kind::SyscoreResume(n),
+        Kind::Complete(_) => Kind::Complete(n),
         kind => filled_step(kind, words),
     }
 }
 
-/// What another entry says with these numbers.
+/// What another entry says with these words.
 fn filled_step(kind: Kind, words: Words) -> Kind {
-    let (n, r) = (words.number(0), words.error(1));
+    let (n, device) = (words.number(0), words.number(1));
+    let (phase, answer, r) = (words.phase(0), words.error(0), words.error(1));
     match kind {
         Kind::SaveErr(_, error) => Kind::SaveErr(n, r.unwrap_or(error)),
         Kind::RuntimeAsk { .. } => Kind::RuntimeAsk {
@@ -151,49 +168,28 @@ fn filled_step(kind: Kind, words: Words) -> Kind {
         },
         Kind::Over { .. } => Kind::Over { n, r },
         Kind::NotifyPrepare(_, _) => Kind::NotifyPrepare(n, r),
-        Kind::NotifyPost(_) => Kind::NotifyPost(n),
-        Kind::Froze(group, end) => Kind::Froze(group, filled_end(end, words)),
-        Kind::PlatformDo(step, _) => Kind::PlatformDo(step, words.error(0)),
-        Kind::CpuOff(_) => Kind::CpuOff(n),
-        Kind::CpuBusy(_) => Kind::CpuBusy(n),
-        Kind::CpuOn(_) => Kind::CpuOn(n),
-        Kind::SyscoreCheck(_) => Kind::SyscoreCheck(words.error(0)),
+        Kind::Froze(group, end) => Kind::Froze(group, filled_end(end, n, device)),
+        Kind::PlatformDo(step, _) => Kind::PlatformDo(step, answer),
+        Kind::SyscoreCheck(_) => Kind::SyscoreCheck(answer),
         Kind::SyscoreSuspend(_, _) => Kind::SyscoreSuspend(n, r),
-        Kind::SyscoreResume(_) => Kind::SyscoreResume(n),
-        kind => filled_device(kind, words),
+        Kind::Prepare { .. } => Kind::Prepare {
+            device: n,
+            r: words.signed(1),
+        },
+        Kind::Schedule(_, _) => Kind::Schedule(phase, device),
+        Kind::Begin(_, _) => Kind::Begin(phase, device),
+        Kind::End(_, _, _) => Kind::End(phase, device, words.error(2)),
+        Kind::Skip(_, _, cause) => Kind::Skip(phase, device, cause),
+        Kind::Done(_, _) => Kind::Done(phase, r),
+        kind => kind,
     }
 }
 
 /// How a freeze ended, with these numbers.
-fn filled_end(end: FrozeEnd, words: Words) -> FrozeEnd {
-    let (left, first) = (words.number(0), words.number(1));
+fn filled_end(end: FrozeEnd, left: u32, first: u32) -> FrozeEnd {
     match end {
         FrozeEnd::AllFrozen => FrozeEnd::AllFrozen,
         FrozeEnd::Timeout { .. } => FrozeEnd::Timeout { left, first },
         FrozeEnd::Wakeup { .. } => FrozeEnd::Wakeup { left, first },
     }
-}
-
-/// What an entry of a device's phase says with these numbers.
-fn filled_device(kind: Kind, words: Words) -> Kind {
-    let (phase, device) = (words.phase(0), words.number(1));
-    match kind {
-        Kind::Prepare { .. } => Kind::Prepare {
-            device: words.number(0),
-            r: words.signed(1),
-        },
-        Kind::Complete(_) => Kind::Complete(words.number(0)),
-        Kind::Schedule(_, _) => Kind::Schedule(phase, device),
-        Kind::Begin(_, _) => Kind::Begin(phase, device),
-        Kind::End(_, _, _) => Kind::End(phase, device, words.error(2)),
-        Kind::Skip(_, _, cause) => Kind::Skip(phase, device, cause),
-        Kind::Done(_, _) => Kind::Done(phase, words.error(1)),
-        kind => kind,
-    }
-}
-
-/// An entry's actor and what it says.
-pub fn entry_of(text: &str) -> Option<(Actor, Kind)> {
-    let (who, kind) = cut(text, ' ');
-    Some((actor_of(who), kind_of(kind)?))
 }

@@ -1,18 +1,21 @@
-//! Links between devices: `links PARENT ..` with the parent of each device, or `-`.
+//! Links between devices: `links PARENT ..` with the parent of each device, or `-`; and links that are made
+//! at once, `at_once PARENT ..`.
 
 ghost use Rattle.std.specs.Prelude.{◌<◌, IfOk, IfSome};
 ghost use Rattle.sleep_model.specs.Order.{EachAfterParent};
 
-use crate::asked::{ReplyWord, Words, cut, found};
-use crate::parts::{CaseRunner, answer_all};
-use crate::reply::{CaseReply, NO_CALL, Out, one};
+use crate::asked::Words;
+use crate::parts::CaseRunner;
+use crate::reply::{CaseReply, Out, ReplyWord};
+use crate::spelled::Said;
 use device_links::{LinkFault, Links};
 use sleep_base::Mem;
+use sleep_model::Link;
 use std::alloc::Global;
 
 /// A call on links, or a question.
 #[derive(Clone, Copy)]
-enum LinkCall {
+pub enum LinkCall {
     Add,
     Try,
     Tell,
@@ -23,7 +26,8 @@ enum LinkCall {
     Above,
 }
 
-const VERBS: [(&str, LinkCall); 8] = [
+/// The verb of each call.
+pub const LINK_CALLS: [(&str, LinkCall); 8] = [
     ("add", LinkCall::Add),
     ("try", LinkCall::Try),
     ("tell", LinkCall::Tell),
@@ -45,7 +49,7 @@ fn known(parent: Option<u32>, count: usize) -> Option<u32>
 }
 
 /// The parents of devices, which words give.
-pub fn parents_in(alloc: Global, text: &str) -> Result<Vec<Option<u32>>, Mem>
+fn parents_in(alloc: Global, text: &str) -> Result<Vec<Option<u32>>, Mem>
     ensures { IfOk result (λ v. EachAfterParent 0 v.items) }
 {
     let mut parents = Vec::new(alloc);
@@ -56,89 +60,135 @@ pub fn parents_in(alloc: Global, text: &str) -> Result<Vec<Option<u32>>, Mem>
     Ok(parents)
 }
 
-/// Says why a link is refused; of a cycle its path, too.
-fn say_fault(fault: LinkFault, out: &mut Out) {
-    match fault {
-        LinkFault::Cycle(path) => {
-            out.put(b"cycle ");
-            out.list(path.as_slice());
-        }
-        LinkFault::NoDevice => out.put(b"no device\n"),
-        LinkFault::NoLink => out.put(b"no link\n"),
-        LinkFault::TooMany => out.put(b"too many\n"),
-        LinkFault::Twice => out.put(b"twice\n"),
-        LinkFault::Mem => out.lack(),
-    }
-}
-
-/// Says what a call was answered.
-fn say_done(done: Result<(), LinkFault>, out: &mut Out) {
+/// Says what a call was answered: 0, or why a link is refused; of a cycle its path, too.
+fn say_done(done: Result<(), LinkFault>, out: &mut Out) -> CaseReply {
     match done {
-        Ok(()) => out.put(b"0\n"),
-        Err(fault) => say_fault(fault, out),
+        Ok(()) => out.line(b"0"),
+        Err(LinkFault::Cycle(path)) => {
+            out.put(b"cycle ");
+            out.list(path.as_slice())
+        }
+        Err(LinkFault::NoDevice) => out.line(b"no device"),
+        Err(LinkFault::NoLink) => out.line(b"no link"),
+        Err(LinkFault::TooMany) => out.line(b"too many"),
+        Err(LinkFault::Twice) => out.line(b"twice"),
+        Err(LinkFault::Mem) => out.lack(),
     }
 }
 
-/// Adds a link. Whether it is added, or would close a cycle whose path is not named.
-fn tried(links: &mut Links, words: Words) -> CaseReply {
-    match links.add(words.number(0), words.number(1)) {
-        Ok(()) => one(ReplyWord::Number(0)),
-        Err(LinkFault::Cycle(_)) => one(ReplyWord::Text("cycle")),
-        Err(LinkFault::Twice) => one(ReplyWord::Text("twice")),
-        Err(_) => NO_CALL,
+/// Whether a link is added, or would close a cycle whose path is not named.
+fn tried_word(tried: Result<(), LinkFault>) -> ReplyWord {
+    match tried {
+        Ok(()) => ReplyWord::Number(0),
+        Err(LinkFault::Cycle(_)) => ReplyWord::Said(Said::Cycle),
+        Err(LinkFault::Twice) => ReplyWord::Said(Said::Twice),
+        Err(_) => ReplyWord::Nothing,
     }
 }
 
 /// Whether a link that is added may have moved its consumer; `-` if it is refused.
-fn replied(links: &mut Links, words: Words) -> CaseReply {
-    let found = links.add_noting_order(words.number(0), words.number(1), words.flag(2));
-    one(match found {
+fn told_word(told: Result<bool, LinkFault>) -> ReplyWord {
+    match told {
         Ok(moves) => ReplyWord::Flag(moves),
         Err(_) => ReplyWord::Nothing,
-    })
+    }
 }
 
-/// Whether a device depends on another.
-fn depends(links: &Links, words: Words) -> CaseReply {
+/// Whether a device depends on another; `-` of a machine that is too large for the question.
+fn depends(links: &Links, consumer: u32, supplier: u32) -> ReplyWord {
     if links.order().len() > 1024 {
-        return NO_CALL;
+        return ReplyWord::Nothing;
     }
-    one(ReplyWord::Flag(links.is_dependent(words.number(0), words.number(1))))
+    ReplyWord::Flag(links.is_dependent(consumer, supplier))
 }
 
-/// Makes a call, and says what it answers.
-fn say_call(links: &mut Links, verb: LinkCall, words: Words, out: &mut Out) {
-    let (first, second, flag) = (words.number(0), words.number(1), words.flag(2));
-    match verb {
-        LinkCall::Add => say_done(links.add_as(first, second, flag), out),
-        LinkCall::Set => say_done(links.set_active(first, second, flag), out),
-        LinkCall::Try => out.say(tried(links, words)),
-        LinkCall::Tell => out.say(replied(links, words)),
-        LinkCall::Depends => out.say(depends(links, words)),
-        LinkCall::Order => out.list(links.order()),
-        LinkCall::Below => out.list(links.below(first)),
-        LinkCall::Above => out.list(links.above(first)),
-    }
-}
-
-impl CaseRunner for Links {
+impl CaseRunner<LinkCall> for Links {
     /// Answers a call on links.
-    fn answer(&mut self, line: &str, out: &mut Out) {
-        let (word, rest) = cut(line, ' ');
-        match found(&VERBS, word) {
-            Some(verb) => say_call(self, verb, Words::of(rest), out),
-            None => out.say(NO_CALL),
-        }
+    fn answer(&mut self, call: LinkCall, rest: &str, out: &mut Out) -> CaseReply {
+        let words = Words::of(rest);
+        let (first, second, flag) = (words.number(0), words.number(1), words.flag(2));
+        let word = match call {
+            LinkCall::Add => return say_done(self.add_as(first, second, flag), out),
+            LinkCall::Set => return say_done(self.set_active(first, second, flag), out),
+            LinkCall::Order => return out.list(self.order()),
+            LinkCall::Below => return out.list(self.below(first)),
+            LinkCall::Above => return out.list(self.above(first)),
+            LinkCall::Try => tried_word(self.add(first, second)),
+            LinkCall::Tell => told_word(self.add_noting_order(first, second, flag)),
+            LinkCall::Depends => depends(self, first, second),
+        };
+        CaseReply::One(word)
     }
 }
 
 /// Links of devices with these parents, of which none is made yet.
-fn unlinked(alloc: Global, text: &str) -> Result<Links, Mem> {
+pub fn unlinked(alloc: Global, text: &str) -> Result<Links, Mem> {
     let parents = parents_in(alloc, text)?;
     Links::new(alloc, &parents)
 }
 
-/// Answers the lines of links.
-pub fn links(alloc: Global, text: &str, lines: &str, out: &mut Out) {
-    answer_all(unlinked(alloc, text), lines, out);
+/// Links of devices with these parents, made at once; none if one of them is refused.
+pub fn linked(alloc: Global, text: &str, list: &[Link]) -> Result<Option<Links>, Mem> {
+    let parents = parents_in(alloc, text)?;
+    Links::with_links(alloc, &parents, list)
+}
+
+/// Devices, by the words that give their parents, and the links that are to be made at once.
+#[derive(Drop)]
+pub struct AtOnce<'a> {
+    pub alloc: Global,
+    pub parents: &'a str,
+    pub list: Vec<Link>,
+}
+
+/// A link that is to be made; the order that all leave; or only that they are made.
+#[derive(Clone, Copy)]
+pub enum AtOnceCall {
+    Link,
+    Order,
+    Made,
+}
+
+/// The verb of each call.
+pub const AT_ONCE_CALLS: [(&str, AtOnceCall); 3] = [
+    ("link", AtOnceCall::Link),
+    ("order", AtOnceCall::Order),
+    ("made", AtOnceCall::Made),
+];
+
+/// An active link, from the numbers of its supplier and its consumer.
+pub fn link_of(text: &str) -> Link {
+    let words = Words::of(text);
+    Link {
+        supplier: words.number(0),
+        consumer: words.number(1),
+        active: true,
+    }
+}
+
+/// Says the order that links leave, or only that they are made; none are made if one is refused.
+fn say_made(made: Result<Option<Links>, Mem>, in_order: bool, out: &mut Out) -> CaseReply {
+    match made {
+        Ok(Some(links)) => {
+            if in_order {
+                out.list(links.order())
+            } else {
+                out.line(b"made")
+            }
+        }
+        Ok(None) => out.line(b"refused"),
+        Err(_) => out.lack(),
+    }
+}
+
+impl CaseRunner<AtOnceCall> for AtOnce<'_> {
+    /// Takes a link, or makes all of them.
+    fn answer(&mut self, call: AtOnceCall, rest: &str, out: &mut Out) -> CaseReply {
+        let in_order = match call {
+            AtOnceCall::Link => return out.check(self.list.push(link_of(rest))),
+            AtOnceCall::Order => true,
+            AtOnceCall::Made => false,
+        };
+        say_made(linked(self.alloc, self.parents, &self.list), in_order, out)
+    }
 }

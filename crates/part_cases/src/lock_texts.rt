@@ -1,7 +1,8 @@
-//! Lines that lock and unlock names: `lock_lines`. In texts a bar is a newline.
+//! Lines that lock and unlock names: `lock_lines`, with `lines TEXT` and `copies TIMES TEXT`. In texts a bar
+//! is a newline.
 
-use crate::asked::{Words, cut};
-use crate::reply::{Out, number};
+use crate::asked::{cut, number_of};
+use crate::reply::{Out, ReplyWord};
 use crate::sysfs::text_in;
 use lock_commands::{LinesFault, MOST_BYTES, answer_lines};
 use sleep_base::Mem;
@@ -22,14 +23,16 @@ fn say_fault(fault: &LinesFault, out: &mut Out) {
     match fault {
         LinesFault::Line(line) => {
             out.put(b"line ");
-            out.put_word(number(*line));
+            out.word(ReplyWord::Number(*line));
             out.end();
         }
         LinesFault::Full(name) => {
             out.put(b"full ");
             out.line(name.bytes());
         }
-        LinesFault::Mem => out.lack(),
+        LinesFault::Mem => {
+            out.lack();
+        }
     }
 }
 
@@ -41,45 +44,43 @@ fn answered<R: Wait>(rt: &R, alloc: Global, lines: &[u8]) -> Result<Vec<u8>, Lin
     answer_lines(rt, alloc, lines)
 }
 
-/// `lines TEXT`: what these lines are answered.
-fn say_lines<R: Wait>(rt: &R, alloc: Global, text: &str, out: &mut Out) -> Result<(), Mem> {
-    match answered(rt, alloc, &text_in(alloc, text)?) {
-        Ok(reply) => say_text(&reply, out),
-        Err(fault) => say_fault(&fault, out),
-    }
-    Ok(())
-}
-
-/// Copies of a text.
-fn copies(alloc: Global, times: u32, text: &[u8]) -> Result<Vec<u8>, Mem> {
+/// Copies of a text, in which a bar is a newline.
+fn copies(alloc: Global, times: u32, text: &str) -> Result<Vec<u8>, Mem> {
+    let text = text_in(alloc, text)?;
     let mut lines = Vec::new(alloc);
     for _ in 0..times {
-        lines.extend_from_slice(text)?;
+        lines.extend_from_slice(&text)?;
     }
     Ok(lines)
 }
 
-/// `copies TIMES TEXT`: whether so many copies of these lines are answered.
-fn say_copies<R: Wait>(rt: &R, alloc: Global, text: &str, out: &mut Out) -> Result<(), Mem> {
-    let (times, text) = cut(text, ' ');
-    let lines = copies(alloc, Words::of(times).number(0), &text_in(alloc, text)?)?;
-    match answered(rt, alloc, &lines).err() {
-        None => out.line(b"answered"),
-        Some(fault) => say_fault(&fault, out),
+/// Says what these lines are answered, or only that they are.
+fn say_answered<R: Wait>(rt: &R, alloc: Global, lines: &[u8], is_told: bool, out: &mut Out) {
+    match answered(rt, alloc, lines) {
+        Ok(reply) if is_told => say_text(&reply, out),
+        Ok(_) => {
+            out.line(b"answered");
+        }
+        Err(fault) => say_fault(&fault, out),
     }
-    Ok(())
+}
+
+/// Answers a line: the reply to a text, or only whether so many copies of it are answered.
+fn say_line<R: Wait>(rt: &R, alloc: Global, line: &str, out: &mut Out) {
+    let (word, rest) = cut(line, ' ');
+    let is_told = word == "lines";
+    let (times, text) = if is_told { ("1", rest) } else { cut(rest, ' ') };
+    match copies(alloc, number_of(times), text) {
+        Ok(lines) => say_answered(rt, alloc, &lines, is_told, out),
+        Err(_) => {
+            out.lack();
+        }
+    }
 }
 
 /// Says what lines that lock and unlock names are answered.
 pub fn lock_lines<R: Wait>(rt: &R, alloc: Global, lines: &str, out: &mut Out) {
     for line in lines.split('\n') {
-        let (word, text) = cut(line, ' ');
-        let done = match word {
-            "lines" => say_lines(rt, alloc, text, out),
-            _ => say_copies(rt, alloc, text, out),
-        };
-        if done.is_err() {
-            out.lack();
-        }
+        say_line(rt, alloc, line, out);
     }
 }

@@ -1,9 +1,10 @@
 //! The entries of a log, which has a journal and others, and what a log counts: `entries` and `counts`.
 
-use crate::asked::{ReplyWord, Words, cut};
+use crate::asked::Words;
 use crate::kinds::kind_of;
-use crate::parts::{CaseRunner, answer_lines};
-use crate::reply::{CaseReply, NO_CALL, Out, error, four, number, one, size, two};
+use crate::parts::CaseRunner;
+use crate::reply::{CaseReply, Out, ReplyWord};
+use crate::spelled::Said;
 use sleep_base::Mem;
 use sleep_model::{
     Actor, Entry, EntryList, EventNow, Journal, JournalEntry, Kind, ListOf, Log, LogEnd,
@@ -27,15 +28,33 @@ pub fn entry_at(time: u64, hard: u32, actor: Actor, kind: Kind) -> Entry {
     }
 }
 
-/// The entries of a journal, and the others.
-#[derive(Drop)]
-struct EntryCase {
-    alloc: Global,
-    made: Vec<JournalEntry>,
-    others: Vec<OtherEntry>,
+/// An entry of the journal, `made TIME HARD TICK`; another, `other BEFORE TIME`; how many entries the journal
+/// has, and for how many there is room then; `times LAST`, the moments of all in order.
+#[derive(Clone, Copy)]
+pub enum EntryCall {
+    Made,
+    Other,
+    Journal,
+    Times,
 }
 
-/// `made TIME HARD TICK`: an entry of the journal, whose position is that of its hard events.
+/// The verb of each call.
+pub const ENTRY_CALLS: [(&str, EntryCall); 4] = [
+    ("made", EntryCall::Made),
+    ("other", EntryCall::Other),
+    ("journal", EntryCall::Journal),
+    ("times", EntryCall::Times),
+];
+
+/// The entries of a journal, and the others.
+#[derive(Drop)]
+pub struct EntryCase {
+    pub alloc: Global,
+    pub made: Vec<JournalEntry>,
+    pub others: Vec<OtherEntry>,
+}
+
+/// An entry of the journal, whose position is that of its hard events.
 fn made_of(words: Words) -> JournalEntry {
     let hard = words.number(1);
     let stamp = Stamp {
@@ -48,6 +67,14 @@ fn made_of(words: Words) -> JournalEntry {
     }
 }
 
+/// Another entry, before that number of the journal's.
+fn other_of(words: Words) -> OtherEntry {
+    OtherEntry {
+        before: words.number(0) as usize,
+        entry: entry_at(words.long(1), 0, Actor::Auto, Kind::Pass),
+    }
+}
+
 /// Puts entries into a journal that has room for each.
 fn fill(journal: &mut Journal, made: &[JournalEntry]) {
     for one in made {
@@ -57,101 +84,84 @@ fn fill(journal: &mut Journal, made: &[JournalEntry]) {
     }
 }
 
+/// A journal which has these entries, and room for no others.
+fn journal_of(alloc: Global, made: &[JournalEntry]) -> Result<Journal, Mem> {
+    let mut journal = Journal::new(alloc);
+    journal.reserve(made.len())?;
+    fill(&mut journal, made);
+    Ok(journal)
+}
+
 /// Says the time of each entry of a list.
 pub fn say_times(list: &EntryList, out: &mut Out) {
     let mut reader = list.reader();
-    out.put(b"times");
+    out.word(ReplyWord::Said(Said::Times));
     for _ in 0..list.len() {
         if let Some(entry) = reader.next() {
-            out.put(b" ");
-            out.put_word(ReplyWord::Number(i128::from(entry.time)));
+            out.word(ReplyWord::Long(entry.time));
         }
     }
     out.end();
 }
 
 impl EntryCase {
-    /// A journal which has these entries, and room for no others.
-    fn journal(&self) -> Result<Journal, Mem> {
-        let mut journal = Journal::new(self.alloc);
-        journal.reserve(self.made.len())?;
-        fill(&mut journal, &self.made);
-        Ok(journal)
+    /// The list of the journal and the others.
+    fn list(&self) -> Result<EntryList, Mem> {
+        let others = self.others.as_slice().to_vec(self.alloc)?;
+        let journal = journal_of(self.alloc, &self.made)?;
+        Ok(EntryList::of_journal(journal, others))
     }
 
-    /// `journal`: how many entries it has, and for how many there is room then.
-    fn journal_reply(&self) -> Result<CaseReply, Mem> {
-        let journal = self.journal()?;
-        Ok(two(size(journal.len()), size(journal.room())))
-    }
-
-    /// `times LAST`: the moments of all in order, with one more entry at that moment after them.
+    /// Says the moments of all in order, with one more entry at that moment after them.
     fn say_all(&self, last: u64, out: &mut Out) -> Result<(), Mem> {
-        let mut list = EntryList::of_journal(
-            self.journal()?,
-            self.others.as_slice().to_vec(self.alloc)?,
-        );
+        let mut list = self.list()?;
         let pushed = list.push(entry_at(last, 0, Actor::Auto, Kind::Pass));
-        out.say(one(size(list.len())));
+        out.say(CaseReply::One(ReplyWord::Size(list.len())));
         say_times(&list, out);
         drop(list);
         Ok(pushed?)
     }
-
-    /// Makes the call of a line.
-    fn call(&mut self, word: &str, words: Words, out: &mut Out) -> Result<(), Mem> {
-        match word {
-            "made" => self.made.push(made_of(words))?,
-            "other" => self.others.push(OtherEntry {
-                before: words.number(0) as usize,
-                entry: entry_at(words.long(1), 0, Actor::Auto, Kind::Pass),
-            })?,
-            "journal" => out.say(self.journal_reply()?),
-            "times" => self.say_all(words.long(0), out)?,
-            _ => out.say(NO_CALL),
-        }
-        Ok(())
-    }
 }
 
-impl CaseRunner for EntryCase {
+impl CaseRunner<EntryCall> for EntryCase {
     /// Answers a call on entries.
-    fn answer(&mut self, line: &str, out: &mut Out) {
-        let (word, rest) = cut(line, ' ');
-        if self.call(word, Words::of(rest), out).is_err() {
-            out.lack();
+    fn answer(&mut self, call: EntryCall, rest: &str, out: &mut Out) -> CaseReply {
+        let words = Words::of(rest);
+        match call {
+            EntryCall::Made => out.check(self.made.push(made_of(words))),
+            EntryCall::Other => out.check(self.others.push(other_of(words))),
+            EntryCall::Journal => match journal_of(self.alloc, &self.made) {
+                Ok(journal) => CaseReply::Two(
+                    ReplyWord::Size(journal.len()),
+                    ReplyWord::Size(journal.room()),
+                ),
+                Err(_) => out.lack(),
+            },
+            EntryCall::Times => {
+                let done = self.say_all(words.long(0), out);
+                out.check(done)
+            }
         }
     }
-}
-
-/// Answers the lines of the entries of a log.
-pub fn entries(alloc: Global, lines: &str, out: &mut Out) {
-    let mut case = EntryCase {
-        alloc,
-        made: Vec::new(alloc),
-        others: Vec::new(alloc),
-    };
-    answer_lines(&mut case, lines, out);
 }
 
 /// Adds an entry of a line.
-fn push_line(entries: &mut EntryList, line: &str) -> Result<(), Mem> {
-    let kind = kind_of(line).ok_or(Mem)?;
-    entries.push(entry_at(0, 0, Actor::Script(0), kind))?;
-    Ok(())
+fn push_line(entries: &mut EntryList, line: &str, out: &mut Out) {
+    let entry = entry_at(0, 0, Actor::Script(0), kind_of(line, out));
+    out.check(entries.push(entry));
 }
 
 /// A log with an entry of each line.
-fn log_of(alloc: Global, lines: &str) -> Result<Log, Mem> {
+fn log_of(alloc: Global, lines: &str, out: &mut Out) -> Log {
     let mut entries = EntryList::new(alloc);
     for line in lines.split('\n') {
-        push_line(&mut entries, line)?;
+        push_line(&mut entries, line, out);
     }
-    Ok(Log {
+    Log {
         entries,
         stats: ListOf::of_vec(Vec::new(alloc)),
         end: LogEnd::Finished,
-    })
+    }
 }
 
 /// What a log counts, if it has few entries.
@@ -162,13 +172,13 @@ fn counted(log: &Log) -> Option<Counts> {
 /// A device whose callback failed.
 fn last_reply(last: Option<LastDev>) -> CaseReply {
     match last {
-        Some(last) => four(
-            ReplyWord::Text("device"),
-            number(last.device),
+        Some(last) => CaseReply::Four(
+            ReplyWord::Said(Said::Device),
+            ReplyWord::Number(last.device),
             ReplyWord::Phase(last.phase),
-            ReplyWord::Error(last.error),
+            ReplyWord::Error(Some(last.error)),
         ),
-        None => one(ReplyWord::Nothing),
+        None => CaseReply::One(ReplyWord::Nothing),
     }
 }
 
@@ -187,21 +197,20 @@ fn say_counts(counts: &Counts, out: &mut Out) {
         counts.failed_resume_noirq,
     ]);
     let errnos = &counts.last_errnos;
-    out.say(two(error(errnos.newest), error(errnos.older)));
+    out.say(CaseReply::Two(
+        ReplyWord::Error(errnos.newest),
+        ReplyWord::Error(errnos.older),
+    ));
     out.say(last_reply(counts.last_devs.newest));
     out.say(last_reply(counts.last_devs.older));
 }
 
 /// Says what a log of an entry a line counts.
 pub fn counts(alloc: Global, lines: &str, out: &mut Out) {
-    match log_of(alloc, lines) {
-        Ok(log) => {
-            let counts = counted(&log);
-            drop(log);
-            if let Some(counts) = counts {
-                say_counts(&counts, out);
-            }
-        }
-        Err(_) => out.lack(),
+    let log = log_of(alloc, lines, out);
+    let counts = counted(&log);
+    drop(log);
+    if let Some(counts) = counts {
+        say_counts(&counts, out);
     }
 }

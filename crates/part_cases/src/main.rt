@@ -1,13 +1,12 @@
 //! Tries the parts of the core, of a run and of the program by cases. Each line of its input is a call of a
 //! part, and each line of its output is what that call answers.
 //!
-//! Begin reading in `tools/worked/parts/`; `src/core_parts.rt`, `src/other_parts.rt`.
+//! Begin reading in `tools/worked/parts/`; `src/heads.rt`.
 #![tactic(auto)]
 
 mod accounts;
 mod answers;
 mod asked;
-mod at_once;
 mod autosleeps;
 mod boards;
 mod boards_due;
@@ -16,6 +15,7 @@ mod entry_replies;
 mod freezers;
 mod generated;
 mod guards;
+mod heads;
 mod idles;
 mod kinds;
 mod links;
@@ -31,6 +31,7 @@ mod plain;
 mod plans;
 mod platforms;
 mod reply;
+mod spelled;
 mod streams;
 mod syscores;
 mod sysfs;
@@ -39,8 +40,7 @@ mod trees;
 mod values;
 
 use asked::cut;
-use core_parts::answer_core_part;
-use other_parts::answer_other_part;
+use heads::answer_part;
 use reply::Out;
 use sleep_base::{StdSink, StdSource, read_all, write_all};
 use std::alloc::Global;
@@ -52,13 +52,11 @@ use std::thread::Threads;
 const MOST: u32 = 1 << 24;
 
 /// Answers the lines of all parts. An empty line ends a part.
-fn answer_all<R: Threads + Wait + Sync>(rt: &R, alloc: Global, text: &str, out: &mut Out) {
+fn answer_parts<R: Threads + Wait + Sync>(rt: &R, alloc: Global, text: &str, out: &mut Out) {
     for part in text.split("\n\n") {
         let (head, lines) = cut(part, '\n');
         out.line(head.as_bytes());
-        if !answer_core_part(alloc, head, lines, out) {
-            answer_other_part(rt, alloc, head, lines, out);
-        }
+        answer_part(rt, alloc, head, lines, out);
         out.end();
     }
 }
@@ -74,7 +72,7 @@ fn answer_input<R: Threads + Wait + Sync>(
         return false;
     };
     let mut out = Out::new(alloc);
-    answer_all(rt, alloc, text.trim_end(), &mut out);
+    answer_parts(rt, alloc, text.trim_end(), &mut out);
     write_all(sink, out.bytes()).is_ok() && !out.is_short()
 }
 

@@ -1,11 +1,11 @@
 //! The one log of a journal and the sources' histories: `merge`, with `at LIST TIME POS TICK ENTRY` for each
 //! entry, of the journal if the list is 0, else of that history of seven.
 
-use crate::asked::{ReplyWord, Words, cut};
+use crate::asked::{Words, after};
 use crate::kinds::entry_of;
 use crate::logs::{entry_at, say_times};
-use crate::parts::{CaseRunner, answer_lines};
-use crate::reply::{NO_CALL, Out, one};
+use crate::parts::CaseRunner;
+use crate::reply::{CaseReply, Out, ReplyWord};
 use log_merge::{merge, merge_journal, rises};
 use sleep_base::Mem;
 use sleep_model::{
@@ -13,9 +13,26 @@ use sleep_model::{
 };
 use std::alloc::Global;
 
+/// An entry, or a call on all so far.
+#[derive(Clone, Copy)]
+pub enum MergeCall {
+    At,
+    Rises,
+    Merged,
+    MergedKept,
+}
+
+/// The verb of each call.
+pub const MERGE_CALLS: [(&str, MergeCall); 4] = [
+    ("at", MergeCall::At),
+    ("rises", MergeCall::Rises),
+    ("merged", MergeCall::Merged),
+    ("merged_kept", MergeCall::MergedKept),
+];
+
 /// An entry of a list, with its stamp.
 #[derive(Clone, Copy)]
-struct StampedEntry {
+pub struct StampedEntry {
     list: u32,
     stamp: Stamp,
     entry: Entry,
@@ -23,33 +40,23 @@ struct StampedEntry {
 
 /// The entries of the journal and of all histories.
 #[derive(Drop)]
-struct MergeCase {
-    alloc: Global,
-    made: Vec<StampedEntry>,
-}
-
-/// The text after that number of words.
-fn after(text: &str, words: u32) -> &str {
-    let mut rest = text;
-    for _ in 0..words {
-        rest = cut(rest, ' ').1;
-    }
-    rest
+pub struct MergeCase {
+    pub alloc: Global,
+    pub made: Vec<StampedEntry>,
 }
 
 /// The entry that a line gives.
-fn made_of(text: &str) -> Option<StampedEntry> {
+fn made_of(text: &str, out: &mut Out) -> StampedEntry {
     let words = Words::of(text);
-    let (actor, kind) = entry_of(after(text, 4))?;
-    let stamp = Stamp {
-        pos: words.long(2),
-        tick: words.long(3),
-    };
-    Some(StampedEntry {
+    let (actor, kind) = entry_of(after(text, 4), out);
+    StampedEntry {
         list: words.number(0),
-        stamp,
+        stamp: Stamp {
+            pos: words.long(2),
+            tick: words.long(3),
+        },
         entry: entry_at(words.long(1), 0, actor, kind),
-    })
+    }
 }
 
 impl MergeCase {
@@ -119,11 +126,11 @@ fn merged_preserved(
 }
 
 /// Says the times of a log, and lets it go.
-fn say_log(log: Result<EntryList, Mem>, out: &mut Out) {
+fn say_log(log: Result<EntryList, Mem>, out: &mut Out) -> CaseReply {
     match log {
         Ok(log) => {
             say_times(&log, out);
-            drop(log);
+            CaseReply::Nothing
         }
         Err(_) => out.lack(),
     }
@@ -132,55 +139,37 @@ fn say_log(log: Result<EntryList, Mem>, out: &mut Out) {
 /// Says what a call on these lists answers.
 fn say_call(
     alloc: Global,
-    word: &str,
+    call: MergeCall,
     journal: &[JournalEntry],
     histories: &[SourceList],
     out: &mut Out,
-) {
-    match word {
-        "rises" => out.say(one(ReplyWord::Flag(rises(journal)))),
-        "merged" => say_log(merged(alloc, journal, histories), out),
-        "merged_kept" => say_log(merged_preserved(alloc, journal, histories), out),
-        _ => out.say(NO_CALL),
+) -> CaseReply {
+    match call {
+        MergeCall::Merged => say_log(merged(alloc, journal, histories), out),
+        MergeCall::MergedKept => say_log(merged_preserved(alloc, journal, histories), out),
+        _ => CaseReply::One(ReplyWord::Flag(rises(journal))),
     }
 }
 
 impl MergeCase {
     /// Says what a call on the lists answers.
-    fn call(&self, word: &str, out: &mut Out) -> Result<(), Mem> {
+    fn call(&self, call: MergeCall, out: &mut Out) -> Result<CaseReply, Mem> {
         let journal = self.journal()?;
         let histories = self.histories()?;
-        say_call(self.alloc, word, &journal, &histories, out);
-        drop(histories);
-        Ok(())
-    }
-
-    /// Adds an entry.
-    fn add(&mut self, text: &str) -> Result<(), Mem> {
-        self.made.push(made_of(text).ok_or(Mem)?)?;
-        Ok(())
+        Ok(say_call(self.alloc, call, &journal, &histories, out))
     }
 }
 
-impl CaseRunner for MergeCase {
+impl CaseRunner<MergeCall> for MergeCase {
     /// Takes an entry, or answers a call.
-    fn answer(&mut self, line: &str, out: &mut Out) {
-        let (word, rest) = cut(line, ' ');
-        let done = match word {
-            "at" => self.add(rest),
-            _ => self.call(word, out),
-        };
-        if done.is_err() {
-            out.lack();
+    fn answer(&mut self, call: MergeCall, rest: &str, out: &mut Out) -> CaseReply {
+        if matches!(call, MergeCall::At) {
+            let made = made_of(rest, out);
+            return out.check(self.made.push(made));
+        }
+        match self.call(call, out) {
+            Ok(reply) => reply,
+            Err(_) => out.lack(),
         }
     }
-}
-
-/// Answers the lines of a merge.
-pub fn merges(alloc: Global, lines: &str, out: &mut Out) {
-    let mut case = MergeCase {
-        alloc,
-        made: Vec::new(alloc),
-    };
-    answer_lines(&mut case, lines, out);
 }

@@ -1,115 +1,94 @@
-//! The parts of the outside, of the model, of scripts and logs, and of suspend-to-idle, by the first word of
-//! a head.
+//! The parts of the outside, and of scripts, logs and machines.
 
-use crate::answers::answers;
-use crate::asked::{Words, cut, found};
-use crate::autosleeps::autosleeps;
-use crate::generated::generated;
-use crate::idles::idles;
-use crate::lock_texts::lock_lines;
-use crate::logs::{counts, entries};
-use crate::merges::merges;
-use crate::plain::plain;
+use crate::answers::{ANSWER_CALLS, AnswerCase};
+use crate::asked::Words;
+use crate::generated::{MACHINE_CALLS, generated};
+use crate::logs::{ENTRY_CALLS, EntryCase, counts};
+use crate::merges::{MERGE_CALLS, MergeCase};
+use crate::parts::{answer_all, answer_lines};
+use crate::plain::PLAIN_CALLS;
 use crate::plans::plans;
 use crate::reply::Out;
-use crate::streams::{sinks, sources, whole};
-use crate::sysfs::sysfs;
-use crate::values::{json, values};
+use crate::streams::{SINK_CALLS, SOURCE_CALLS, WHOLE_CALLS, sink_of, source_of};
+use crate::values::{JSON_CALLS, values};
 use std::alloc::Global;
-use std::sync::Wait;
-use std::thread::Threads;
 
-/// A part that takes nothing but memory.
+/// Bytes, and what they spell.
 #[derive(Clone, Copy)]
-enum Subject {
+pub enum OutsidePart {
     Source,
     Sink,
+    Whole,
     Plain,
     Json,
     Value,
+}
+
+/// Answers the lines of a part of the outside.
+pub fn answer_outside(
+    mut alloc: Global,
+    part: OutsidePart,
+    text: &str,
+    lines: &str,
+    out: &mut Out,
+) {
+    let words = Words::of(text);
+    let (first, second) = (words.number(0), words.number(1));
+    match part {
+        OutsidePart::Source => {
+            answer_all(source_of(alloc, text, first), &SOURCE_CALLS, lines, out);
+        }
+        OutsidePart::Sink => {
+            let sink = sink_of(alloc, first, second, words.long(2));
+            answer_all(sink, &SINK_CALLS, lines, out);
+        }
+        OutsidePart::Whole => answer_lines(&mut alloc, &WHOLE_CALLS, lines, out),
+        OutsidePart::Plain => answer_lines(&mut alloc, &PLAIN_CALLS, lines, out),
+        OutsidePart::Json => answer_lines(&mut alloc, &JSON_CALLS, lines, out),
+        OutsidePart::Value => values(alloc, text, lines, out),
+    }
+}
+
+/// Scripts, logs and machines.
+#[derive(Clone, Copy)]
+pub enum ScriptPart {
+    Answers,
+    Plan,
+    Generated,
     Entries,
     Counts,
-    Answers,
-    Autosleep,
-    Sysfs,
-    Generated,
-    Plan,
     Merge,
-    Whole,
 }
 
-const SUBJECTS: [(&str, Subject); 14] = [
-    ("source", Subject::Source),
-    ("sink", Subject::Sink),
-    ("plain", Subject::Plain),
-    ("json", Subject::Json),
-    ("value", Subject::Value),
-    ("entries", Subject::Entries),
-    ("counts", Subject::Counts),
-    ("answers", Subject::Answers),
-    ("autosleep", Subject::Autosleep),
-    ("sysfs", Subject::Sysfs),
-    ("generated", Subject::Generated),
-    ("plan", Subject::Plan),
-    ("merge", Subject::Merge),
-    ("whole", Subject::Whole),
-];
-
-/// Answers the lines of a part whose head is a text.
-fn answer_text(alloc: Global, part: Subject, text: &str, lines: &str, out: &mut Out) {
+/// Answers the lines of a part about scripts, logs and machines.
+pub fn answer_scripts(alloc: Global, part: ScriptPart, text: &str, lines: &str, out: &mut Out) {
     match part {
-        Subject::Source => sources(alloc, text, lines, out),
-        Subject::Sink => sinks(alloc, Words::of(text), lines, out),
-        Subject::Value => values(alloc, text, lines, out),
-        Subject::Generated => generated(alloc, Words::of(text), lines, out),
-        Subject::Plan => plans(alloc, text, lines, out),
-        part => answer_plain(alloc, part, lines, out),
-    }
-}
-
-/// Answers the lines of a part whose head is a word.
-fn answer_plain(alloc: Global, part: Subject, lines: &str, out: &mut Out) {
-    match part {
-        Subject::Plain => plain(alloc, lines, out),
-        Subject::Json => json(alloc, lines, out),
-        Subject::Entries => entries(alloc, lines, out),
-        Subject::Counts => counts(alloc, lines, out),
-        Subject::Answers => answers(alloc, lines, out),
-        Subject::Autosleep => autosleeps(lines, out),
-        Subject::Sysfs => sysfs(alloc, lines, out),
-        Subject::Merge => merges(alloc, lines, out),
-        Subject::Whole => whole(alloc, lines, out),
-        _ => out.lack(),
-    }
-}
-
-/// A part that waits or starts threads.
-fn answer_running<R: Threads + Wait + Sync>(
-    rt: &R,
-    alloc: Global,
-    head: &str,
-    lines: &str,
-    out: &mut Out,
-) {
-    let (name, rest) = cut(head, ' ');
-    match name {
-        "lock_lines" => lock_lines(rt, alloc, lines, out),
-        "idle" => idles(rt, alloc, Words::of(rest), lines, out),
-        _ => out.line(b"no part"),
-    }
-}
-
-/// Answers the lines of one of these parts.
-pub fn answer_other_part<R: Threads + Wait + Sync>(
-    rt: &R,
-    alloc: Global,
-    head: &str,
-    lines: &str,
-    out: &mut Out,
-) {
-    let (name, rest) = cut(head, ' ');
-    match found(&SUBJECTS, name) {
-        Some(part) => answer_text(alloc, part, rest, lines, out),
-        None => answer_running(rt, alloc, head, lines, out),
+        ScriptPart::Answers => {
+            let answers = Vec::new(alloc);
+            answer_all(Ok(AnswerCase { alloc, answers }), &ANSWER_CALLS, lines, out);
+        }
+        ScriptPart::Plan => plans(alloc, text, lines, out),
+        ScriptPart::Generated => {
+            answer_all(
+                generated(alloc, Words::of(text)),
+                &MACHINE_CALLS,
+                lines,
+                out,
+            );
+        }
+        ScriptPart::Entries => {
+            let (made, others) = (Vec::new(alloc), Vec::new(alloc));
+            let case = EntryCase {
+                alloc,
+                made,
+                others,
+            };
+            answer_all(Ok(case), &ENTRY_CALLS, lines, out);
+        }
+        ScriptPart::Counts => counts(alloc, lines, out),
+        ScriptPart::Merge => {
+            let made = Vec::new(alloc);
+            answer_all(Ok(MergeCase { alloc, made }), &MERGE_CALLS, lines, out);
+        }
     }
 }

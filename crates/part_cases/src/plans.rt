@@ -4,13 +4,27 @@
 ghost use Rattle.std.specs.Prelude.{◌≡◌, length, IfOk};
 ghost use Rattle.sleep_model.specs.Scripts.{operations};
 
-use crate::asked::{ReplyWord, cut};
+use crate::asked::number_of;
 use crate::parts::{CaseRunner, answer_lines};
-use crate::reply::{CaseReply, NO_CALL, Out, number, one};
+use crate::reply::{CaseReply, Out, ReplyWord};
+use crate::spelled::Said;
 use script_plan::Plan;
 use sleep_base::Mem;
 use sleep_model::{ListOf, Name, Op, Script, Step, TaskKind, Text};
 use std::alloc::Global;
+
+/// A question about a plan.
+#[derive(Clone, Copy)]
+enum PlanCall {
+    CallsBefore,
+    Operation,
+}
+
+/// The verb of each call.
+const PLAN_CALLS: [(&str, PlanCall); 2] = [
+    ("calls_before", PlanCall::CallsBefore),
+    ("operation", PlanCall::Operation),
+];
 
 /// A step that does the operation `times` times.
 fn step(op: Op, times: u32) -> Step
@@ -53,25 +67,23 @@ fn script(alloc: Global, autosleep: &[u8]) -> Result<Script, Mem>
 }
 
 /// What an operation is.
-fn operation_reply(op: Option<&Op>) -> CaseReply {
-    one(match op {
-        Some(Op::Autosleep { .. }) => ReplyWord::Text("autosleep"),
-        Some(Op::State { .. }) => ReplyWord::Text("state"),
-        Some(_) => ReplyWord::Text("another"),
+fn operation_word(op: Option<&Op>) -> ReplyWord {
+    match op {
+        Some(Op::Autosleep { .. }) => ReplyWord::Said(Said::Autosleep),
+        Some(Op::State { .. }) => ReplyWord::Said(Said::State),
+        Some(_) => ReplyWord::Said(Said::Another),
         None => ReplyWord::Nothing,
-    })
+    }
 }
 
-impl CaseRunner for Plan<'_> {
+impl CaseRunner<PlanCall> for Plan<'_> {
     /// Answers a question about the plan.
-    fn answer(&mut self, line: &str, out: &mut Out) {
-        let (word, rest) = cut(line, ' ');
-        let place = rest.parse::<u32>().unwrap_or(0) as usize;
-        out.say(match word {
-            "calls_before" => one(number(self.calls_before(place))),
-            "operation" => operation_reply(self.operation(place)),
-            _ => NO_CALL,
-        });
+    fn answer(&mut self, call: PlanCall, rest: &str, _out: &mut Out) -> CaseReply {
+        let place = number_of(rest) as usize;
+        CaseReply::One(match call {
+            PlanCall::CallsBefore => ReplyWord::Number(self.calls_before(place)),
+            PlanCall::Operation => operation_word(self.operation(place)),
+        })
     }
 }
 
@@ -80,7 +92,7 @@ fn answer_plan(alloc: Global, script: &Script, lines: &str, out: &mut Out) -> Re
     requires { length (operations script.now) ≡ 14 }
 {
     let mut plan = Plan::new(alloc, script, 0)?;
-    answer_lines(&mut plan, lines, out);
+    answer_lines(&mut plan, &PLAN_CALLS, lines, out);
     drop(plan);
     Ok(())
 }
@@ -89,11 +101,12 @@ fn answer_plan(alloc: Global, script: &Script, lines: &str, out: &mut Out) -> Re
 pub fn plans(alloc: Global, text: &str, lines: &str, out: &mut Out) {
     match script(alloc, text.as_bytes()) {
         Ok(script) => {
-            if answer_plan(alloc, &script, lines, out).is_err() {
-                out.lack();
-            }
+            let done = answer_plan(alloc, &script, lines, out);
             drop(script);
+            out.check(done);
         }
-        Err(_) => out.lack(),
+        Err(_) => {
+            out.lack();
+        }
     }
 }

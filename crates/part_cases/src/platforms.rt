@@ -1,40 +1,33 @@
 //! Notifiers, processors and the platform: `platform CPUS PRIORITY ..` with the priority of each notifier.
 
-use crate::asked::{Words, cut, found};
+use crate::asked::{Words, cut, found, number_of};
 use crate::entry_replies::kind_reply;
-use crate::machines::empty_machine;
-use crate::parts::{CaseRunner, answer_all};
-use crate::reply::{CaseReply, NO_CALL, Out, maybe, one};
+use crate::machines::machine_with;
+use crate::parts::CaseRunner;
+use crate::reply::{CaseReply, Out, ReplyWord};
 use platform_steps::Platform;
 use sleep_base::Mem;
-use sleep_model::{ListOf, Machine, Name, Notifier, PlatDo, PlatPart, PlatUndo};
+use sleep_model::{Machine, Name, Notifier, PlatDo, PlatPart, PlatUndo};
 use std::alloc::Global;
 
-/// What comes next.
+/// A question what comes next, or a turn.
 #[derive(Clone, Copy)]
-enum Next {
+pub enum PlatformCall {
     Called,
     Posted,
     CpuOff,
     CpuOn,
+    Turn,
 }
 
-const NEXT: [(&str, Next); 4] = [
-    ("next_called", Next::Called),
-    ("next_posted", Next::Posted),
-    ("next_cpu_off", Next::CpuOff),
-    ("next_cpu_on", Next::CpuOn),
+/// The verb of each call.
+pub const PLATFORM_CALLS: [(&str, PlatformCall); 5] = [
+    ("next_called", PlatformCall::Called),
+    ("next_posted", PlatformCall::Posted),
+    ("next_cpu_off", PlatformCall::CpuOff),
+    ("next_cpu_on", PlatformCall::CpuOn),
+    ("turn", PlatformCall::Turn),
 ];
-
-/// The next notifier or processor of a kind of step.
-fn next_of(platform: &Platform, next: Next) -> Option<u32> {
-    match next {
-        Next::Called => platform.next_notified(),
-        Next::Posted => platform.next_post_notified(),
-        Next::CpuOff => platform.next_cpu_off(),
-        Next::CpuOn => platform.next_cpu_on(),
-    }
-}
 
 /// What a turn does, for the first notifier or processor.
 const STEPS: [(&str, PlatPart); 11] = [
@@ -63,29 +56,29 @@ fn numbered(part: PlatPart, number: u32) -> PlatPart {
 }
 
 /// The entry of a turn: its part, the number, the answer, and whether a wakeup is pending.
-fn turned(platform: &mut Platform, part: PlatPart, words: Words) -> CaseReply {
-    let part = numbered(part, words.number(0));
-    kind_reply(platform.turn(part, words.error(1), words.flag(2)))
-}
-
-/// The same of a part by its name.
-fn turned_by(platform: &mut Platform, text: &str) -> CaseReply {
+fn turned(platform: &mut Platform, text: &str, out: &mut Out) -> CaseReply {
     let (name, rest) = cut(text, ' ');
+    let words = Words::of(rest);
     match found(&STEPS, name) {
-        Some(part) => turned(platform, part, Words::of(rest)),
-        None => NO_CALL,
+        Some(part) => {
+            let part = numbered(part, words.number(0));
+            kind_reply(platform.turn(part, words.error(1), words.flag(2)))
+        }
+        None => out.lack(),
     }
 }
 
-impl CaseRunner for Platform {
+impl CaseRunner<PlatformCall> for Platform {
     /// Answers what is next of the platform, or makes a turn of it.
-    fn answer(&mut self, line: &str, out: &mut Out) {
-        let (word, rest) = cut(line, ' ');
-        let reply = match found(&NEXT, word) {
-            Some(next) => one(maybe(next_of(self, next))),
-            None => turned_by(self, rest),
+    fn answer(&mut self, call: PlatformCall, rest: &str, out: &mut Out) -> CaseReply {
+        let next = match call {
+            PlatformCall::Called => self.next_notified(),
+            PlatformCall::Posted => self.next_post_notified(),
+            PlatformCall::CpuOff => self.next_cpu_off(),
+            PlatformCall::CpuOn => self.next_cpu_on(),
+            PlatformCall::Turn => return turned(self, rest, out),
         };
-        out.say(reply);
+        CaseReply::One(ReplyWord::Maybe(next))
     }
 }
 
@@ -101,33 +94,20 @@ fn notifiers_of(alloc: Global, text: &str) -> Result<Vec<Notifier>, Mem> {
     Ok(notifiers)
 }
 
-/// A machine of that number of processors, with notifiers of these priorities.
-fn machine_of(alloc: Global, text: &str) -> Result<Machine, Mem> {
-    let (cpus, priorities) = cut(text, ' ');
-    let notifiers = notifiers_of(alloc, priorities)?;
-    let mut machine = empty_machine(alloc);
-    machine.cpus = cpus.parse::<u32>().unwrap_or(1);
-    machine.notifiers = ListOf::of_vec(notifiers);
-    Ok(machine)
-}
-
 /// The platform of a machine of few notifiers.
-fn platform_of(alloc: Global, machine: &Machine) -> Result<Platform, Mem> {
+fn few_notified(alloc: Global, machine: &Machine) -> Result<Platform, Mem> {
     if machine.notifiers.len() > 9 {
         return Err(Mem);
     }
     Platform::new(alloc, machine)
 }
 
-/// The platform that a text gives.
-fn platform_in(alloc: Global, text: &str) -> Result<Platform, Mem> {
-    let machine = machine_of(alloc, text)?;
-    let platform = platform_of(alloc, &machine);
+/// The platform of so many processors, with notifiers of these priorities.
+pub fn platform_of(alloc: Global, text: &str) -> Result<Platform, Mem> {
+    let (cpus, priorities) = cut(text, ' ');
+    let notifiers = notifiers_of(alloc, priorities)?;
+    let machine = machine_with(alloc, number_of(cpus), notifiers);
+    let platform = few_notified(alloc, &machine);
     drop(machine);
     platform
-}
-
-/// Answers the lines of a platform.
-pub fn platforms(alloc: Global, text: &str, lines: &str, out: &mut Out) {
-    answer_all(platform_in(alloc, text), lines, out);
 }

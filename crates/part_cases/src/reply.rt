@@ -1,128 +1,60 @@
-//! What a call answers, as words of a line.
+//! What a call answers, as words of a line that borrow nothing.
 
-use crate::asked::ReplyWord;
+use crate::spelled::{
+    Said, actor_word, fault_word, idle_word, kind_word, phase_state_word, said_word, stage_word,
+};
+use device_tree::TreeFault;
+use idle_loop::IdleKind;
 use itoa::Buffer;
 use sleep_base::Errno;
-use sleep_model::EventNow;
+use sleep_model::{
+    Actor, Group, Kind, Phase, PhaseState, PlatDo, PlatUndo, Stage, State, TaskKind, state_word,
+};
 use std::alloc::Global;
 
-/// An answer: its words, or only the first if the others are `End`.
+/// A word of an answer. A value of the model is spelled by its name.
 #[derive(Clone, Copy)]
-pub struct CaseReply {
-    words: [ReplyWord; 5],
+pub enum ReplyWord {
+    /// `-`: none.
+    Nothing,
+    Number(u32),
+    Long(u64),
+    Size(usize),
+    Signed(i64),
+    /// A number, or `-`.
+    Maybe(Option<u32>),
+    /// A long number, or `-`.
+    MaybeLong(Option<u64>),
+    Flag(bool),
+    /// An error, or 0.
+    Error(Option<Errno>),
+    Phase(Phase),
+    PhaseState(PhaseState),
+    Stage(Stage),
+    Group(Group),
+    Do(PlatDo),
+    Undo(PlatUndo),
+    State(State),
+    /// The first word of what an entry says.
+    Kind(Kind),
+    Idle(IdleKind),
+    /// What an actor is, without its number.
+    Actor(Actor),
+    TaskKind(TaskKind),
+    TreeFault(TreeFault),
+    Said(Said),
 }
 
-/// An answer without words.
-pub const NO_REPLY: CaseReply = CaseReply {
-    words: [ReplyWord::End; 5],
-};
-
-/// A line that is no call of its part.
-pub const NO_CALL: CaseReply = CaseReply {
-    words: [
-        ReplyWord::Text("no call"),
-        ReplyWord::End,
-        ReplyWord::End,
-        ReplyWord::End,
-        ReplyWord::End,
-    ],
-};
-
-/// The answer to an entry: no words if the part noted it.
-pub fn noted(done: Option<()>) -> CaseReply {
-    match done {
-        Some(()) => NO_REPLY,
-        None => NO_CALL,
-    }
-}
-
-/// An answer of one word.
-pub fn one(word: ReplyWord) -> CaseReply {
-    five(
-        word,
-        ReplyWord::End,
-        ReplyWord::End,
-        ReplyWord::End,
-        ReplyWord::End,
-    )
-}
-
-/// An answer of two words.
-pub fn two(first: ReplyWord, second: ReplyWord) -> CaseReply {
-    five(
-        first,
-        second,
-        ReplyWord::End,
-        ReplyWord::End,
-        ReplyWord::End,
-    )
-}
-
-/// An answer of three words.
-pub fn three(first: ReplyWord, second: ReplyWord, third: ReplyWord) -> CaseReply {
-    five(first, second, third, ReplyWord::End, ReplyWord::End)
-}
-
-/// An answer of four words.
-pub fn four(first: ReplyWord, second: ReplyWord, third: ReplyWord, fourth: ReplyWord) -> CaseReply {
-    five(first, second, third, fourth, ReplyWord::End)
-}
-
-/// An answer of five words.
-pub fn five(
-    first: ReplyWord,
-    second: ReplyWord,
-    third: ReplyWord,
-    fourth: ReplyWord,
-    fifth: ReplyWord,
-) -> CaseReply {
-    CaseReply {
-        words: [first, second, third, fourth, fifth],
-    }
-}
-
-/// A number as a word.
-pub fn number(number: u32) -> ReplyWord {
-    ReplyWord::Number(i128::from(number))
-}
-
-/// A long number as a word.
-pub fn long(number: u64) -> ReplyWord {
-    ReplyWord::Number(i128::from(number))
-}
-
-/// A count of items as a word.
-pub fn size(count: usize) -> ReplyWord {
-    ReplyWord::Number(count as i128)
-}
-
-/// A number as a word, or `-`.
-pub fn maybe(found: Option<u32>) -> ReplyWord {
-    match found {
-        Some(found) => number(found),
-        None => ReplyWord::Nothing,
-    }
-}
-
-/// A long number as a word, or `-`.
-pub fn maybe_long(found: Option<u64>) -> ReplyWord {
-    match found {
-        Some(found) => long(found),
-        None => ReplyWord::Nothing,
-    }
-}
-
-/// An error as a word, or 0.
-pub fn error(found: Option<Errno>) -> ReplyWord {
-    match found {
-        Some(error) => ReplyWord::Error(error),
-        None => ReplyWord::Number(0),
-    }
-}
-
-/// An answer as a word: 0, or its error.
-pub fn answer(found: Result<(), Errno>) -> ReplyWord {
-    error(found.err())
+/// An answer: the words of its line.
+#[derive(Clone, Copy)]
+pub enum CaseReply {
+    /// No line, or one that is written already.
+    Nothing,
+    One(ReplyWord),
+    Two(ReplyWord, ReplyWord),
+    Three(ReplyWord, ReplyWord, ReplyWord),
+    Four(ReplyWord, ReplyWord, ReplyWord, ReplyWord),
+    Five(ReplyWord, ReplyWord, ReplyWord, ReplyWord, ReplyWord),
 }
 
 /// Lines of answers.
@@ -130,6 +62,8 @@ pub fn answer(found: Result<(), Errno>) -> ReplyWord {
 pub struct Out {
     bytes: Vec<u8>,
     is_short: bool,
+    /// Whether the line has a word.
+    is_begun: bool,
 }
 
 impl Out {
@@ -138,6 +72,7 @@ impl Out {
         Out {
             bytes: Vec::new(alloc),
             is_short: false,
+            is_begun: false,
         }
     }
 
@@ -146,7 +81,7 @@ impl Out {
         self.bytes.as_slice()
     }
 
-    /// Whether memory came short.
+    /// Whether memory came short, or a line had no form.
     pub fn is_short(&self) -> bool {
         self.is_short
     }
@@ -158,20 +93,30 @@ impl Out {
         }
     }
 
-    /// Says that memory came short, or that a line has no form.
-    pub fn lack(&mut self) {
+    /// Says that memory came short, or that a line has no form. No other answer is left.
+    pub fn lack(&mut self) -> CaseReply {
         self.is_short = true;
-        self.put(b"no answer\n");
+        self.line(b"no answer")
     }
 
-    /// Adds a line of that text.
-    pub fn line(&mut self, text: &[u8]) {
+    /// Says it if memory came short.
+    pub fn check<E: Drop>(&mut self, done: Result<(), E>) -> CaseReply {
+        match done {
+            Ok(()) => CaseReply::Nothing,
+            Err(_) => self.lack(),
+        }
+    }
+
+    /// Adds a line of that text. No other answer is left.
+    pub fn line(&mut self, text: &[u8]) -> CaseReply {
         self.put(text);
         self.end();
+        CaseReply::Nothing
     }
 
     /// Ends a line.
     pub fn end(&mut self) {
+        self.is_begun = false;
         self.put(b"\n");
     }
 
@@ -180,80 +125,82 @@ impl Out {
         self.put(digits.format(number).as_bytes());
     }
 
-    /// Adds an event word.
-    fn put_now(&mut self, now: EventNow) {
-        self.put_number(i128::from(now.inpr));
-        self.put(b"/");
-        self.put_number(i128::from(now.count));
-        self.put(b"/");
-        self.put_number(i128::from(now.hard));
-    }
-
-    /// Adds a word.
-    pub fn put_word(&mut self, word: ReplyWord) {
+    /// Adds a word to the line, after a space if it is not the first.
+    pub fn word(&mut self, word: ReplyWord) {
+        if self.is_begun {
+            self.put(b" ");
+        }
+        self.is_begun = true;
         match word {
-            ReplyWord::Number(number) => self.put_number(number),
-            ReplyWord::Now(now) => self.put_now(now),
+            ReplyWord::Number(number) | ReplyWord::Maybe(Some(number)) => {
+                self.put_number(i128::from(number));
+            }
+            ReplyWord::Long(number) | ReplyWord::MaybeLong(Some(number)) => {
+                self.put_number(i128::from(number));
+            }
+            ReplyWord::Size(count) => self.put_number(count as i128),
+            ReplyWord::Signed(number) => self.put_number(i128::from(number)),
             word => self.put(text_of(word).as_bytes()),
         }
     }
 
-    /// Adds a line of these words; none if there is no word.
+    /// Adds a line of these words.
+    pub fn words(&mut self, words: &[ReplyWord]) {
+        for word in words {
+            self.word(*word);
+        }
+        self.end();
+    }
+
+    /// Adds the line of an answer.
     pub fn say(&mut self, reply: CaseReply) {
-        let mut after = false;
-        for word in &reply.words {
-            if !matches!(*word, ReplyWord::End) {
-                if after {
-                    self.put(b" ");
-                }
-                after = true;
-                self.put_word(*word);
+        match reply {
+            CaseReply::Nothing => {}
+            CaseReply::One(first) => self.words(&[first]),
+            CaseReply::Two(first, second) => self.words(&[first, second]),
+            CaseReply::Three(first, second, third) => self.words(&[first, second, third]),
+            CaseReply::Four(first, second, third, fourth) => {
+                self.words(&[first, second, third, fourth]);
             }
-        }
-        if after {
-            self.end();
+            CaseReply::Five(first, second, third, fourth, fifth) => {
+                self.words(&[first, second, third, fourth, fifth]);
+            }
         }
     }
 
-    /// Adds a line of flags.
-    pub fn flags(&mut self, flags: &[bool]) {
-        let mut after = false;
-        for flag in flags {
-            if after {
-                self.put(b" ");
-            }
-            after = true;
-            self.put_word(ReplyWord::Flag(*flag));
-        }
-        self.end();
-    }
-
-    /// Adds a line of numbers, `-` if there is none.
-    pub fn list(&mut self, numbers: &[u32]) {
+    /// Adds a line of numbers, `-` if there is none. No other answer is left.
+    pub fn list(&mut self, numbers: &[u32]) -> CaseReply {
         if numbers.is_empty() {
-            self.put(b"-");
+            self.word(ReplyWord::Nothing);
         }
-        let mut after = false;
-        for found in numbers {
-            if after {
-                self.put(b" ");
-            }
-            after = true;
-            self.put_number(i128::from(*found));
+        for number in numbers {
+            self.word(ReplyWord::Number(*number));
         }
         self.end();
+        CaseReply::Nothing
     }
 }
 
 /// The text of a word that is no number.
 fn text_of(word: ReplyWord) -> &'static str {
     match word {
-        ReplyWord::End | ReplyWord::Number(_) | ReplyWord::Now(_) => "",
-        ReplyWord::Nothing => "-",
         ReplyWord::Flag(true) => "yes",
         ReplyWord::Flag(false) => "no",
+        ReplyWord::Error(Some(error)) => error.name(),
+        ReplyWord::Error(None) => "0",
         ReplyWord::Phase(phase) => phase.name(),
-        ReplyWord::Error(error) => error.name(),
-        ReplyWord::Text(text) => text,
+        ReplyWord::PhaseState(state) => phase_state_word(state),
+        ReplyWord::Stage(stage) => stage_word(stage),
+        ReplyWord::Group(group) => group.name(),
+        ReplyWord::Do(step) => step.name(),
+        ReplyWord::Undo(step) => step.name(),
+        ReplyWord::State(state) => state_word(state),
+        ReplyWord::Kind(kind) => kind_word(kind),
+        ReplyWord::Idle(kind) => idle_word(kind),
+        ReplyWord::Actor(actor) => actor_word(actor),
+        ReplyWord::TaskKind(kind) => kind.name(),
+        ReplyWord::TreeFault(fault) => fault_word(fault),
+        ReplyWord::Said(said) => said_word(said),
+        _ => "-",
     }
 }

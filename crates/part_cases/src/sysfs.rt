@@ -1,11 +1,12 @@
 //! The files of sleep: `sysfs`. In texts a bar is a newline.
 
-use crate::asked::{ReplyWord, Words, cut};
+use crate::asked::{Words, after, now_of};
 use crate::entry_replies::due_reply;
-use crate::reply::{CaseReply, NO_CALL, Out, number, one, two};
+use crate::parts::CaseRunner;
+use crate::reply::{CaseReply, Out, ReplyWord};
 use script_plan::is_autosleep_text;
-use sleep_base::{Errno, Mem};
-use sleep_model::{Kind, State, state_word};
+use sleep_base::Mem;
+use sleep_model::{Due, Kind};
 use sleep_sysfs::{
     decode_state, read_count, saved_number, write_autosleep, write_count, write_state,
 };
@@ -16,6 +17,31 @@ const ATTEMPT: Kind = Kind::Attempt {
     guarded: None,
 };
 
+/// What is due of a write, or of a read: whether another holds the lock, whether autosleep is on, whether the
+/// actor has said that it waits, whether it is asked to freeze. Then come the word and the number that is
+/// written, or whether the text is that of a state. Of a write to autosleep: whether another holds the lock,
+/// whether the writer does, and whether the text is `mem` or `off`. Of a read: the word, whether it has said
+/// that it waits, and whether it is asked to freeze.
+#[derive(Clone, Copy)]
+pub enum SysfsCall {
+    Text,
+    Saved,
+    ReadCount,
+    WriteCount,
+    WriteState,
+    WriteAutosleep,
+}
+
+/// The verb of each call.
+pub const SYSFS_CALLS: [(&str, SysfsCall); 6] = [
+    ("text", SysfsCall::Text),
+    ("saved_number", SysfsCall::Saved),
+    ("read_count", SysfsCall::ReadCount),
+    ("write_count", SysfsCall::WriteCount),
+    ("write_state", SysfsCall::WriteState),
+    ("write_autosleep", SysfsCall::WriteAutosleep),
+];
+
 /// A text with a newline in place of each bar.
 pub fn text_in(alloc: Global, text: &str) -> Result<Vec<u8>, Mem> {
     let mut bytes = Vec::new(alloc);
@@ -25,70 +51,47 @@ pub fn text_in(alloc: Global, text: &str) -> Result<Vec<u8>, Mem> {
     Ok(bytes)
 }
 
-/// The reply on a text of a state.
-fn sysfs_reply(state: Result<State, Errno>) -> ReplyWord {
-    match state {
-        Ok(state) => ReplyWord::Text(state_word(state)),
-        Err(error) => ReplyWord::Error(error),
+/// The state that a text is, and whether autosleep takes it.
+fn text_reply(text: &[u8]) -> CaseReply {
+    let state = match decode_state(text) {
+        Ok(state) => ReplyWord::State(state),
+        Err(error) => ReplyWord::Error(Some(error)),
+    };
+    CaseReply::Two(state, ReplyWord::Flag(is_autosleep_text(text)))
+}
+
+/// What is due of a write, or of a read.
+fn due_of(call: SysfsCall, text: &str) -> Due {
+    let words = Words::of(text);
+    let (first, second) = (words.flag(0), words.flag(1));
+    let (third, fourth) = (words.flag(2), words.flag(3));
+    match call {
+        SysfsCall::ReadCount => read_count(now_of(text), second, third),
+        SysfsCall::WriteCount => {
+            let (now, count) = (now_of(after(text, 4)), words.number(5));
+            write_count(first, second, third, fourth, now, count)
+        }
+        SysfsCall::WriteState => {
+            write_state(first, second, third, fourth, words.flag(4), ATTEMPT)
+        }
+        _ => write_autosleep(first, second, third, fourth),
     }
 }
 
-/// The state of a text, and whether autosleep takes it.
-fn text_reply(alloc: Global, text: &str) -> Result<CaseReply, Mem> {
-    let text = text_in(alloc, text)?;
-    Ok(two(
-        sysfs_reply(decode_state(&text)),
-        ReplyWord::Flag(is_autosleep_text(&text)),
-    ))
-}
-
-/// What is due of a write, or of a read: whether another holds the lock, whether autosleep is on, whether the
-/// actor has said that it waits, whether it is asked to freeze. Then come the word and the number that is
-/// written, or whether the text is that of a state. Of a write to autosleep: whether another holds the lock,
-/// whether the writer does, and whether the text is `mem` or `off`. Of a read: the word, whether it has said
-/// that it waits, and whether it is asked to freeze.
-fn call_reply(word: &str, words: Words) -> CaseReply {
-    let (first, second, third, fourth) = (
-        words.flag(0),
-        words.flag(1),
-        words.flag(2),
-        words.flag(3),
-    );
-    match word {
-        "read_count" => due_reply(read_count(words.now(0), second, third)),
-        "write_count" => due_reply(write_count(
-            first,
-            second,
-            third,
-            fourth,
-            words.now(4),
-            words.number(5),
-        )),
-        "write_state" => due_reply(write_state(
-            first,
-            second,
-            third,
-            fourth,
-            words.flag(4),
-            ATTEMPT,
-        )),
-        "write_autosleep" => due_reply(write_autosleep(first, second, third, fourth)),
-        "saved_number" => one(number(saved_number(words.maybe(0), words.maybe(1)))),
-        _ => NO_CALL,
-    }
-}
-
-/// Answers each line about these files.
-pub fn sysfs(alloc: Global, lines: &str, out: &mut Out) {
-    for line in lines.split('\n') {
-        let (word, text) = cut(line, ' ');
-        let reply = match word {
-            "text" => text_reply(alloc, text),
-            _ => Ok(call_reply(word, Words::of(text))),
-        };
-        match reply {
-            Ok(reply) => out.say(reply),
-            Err(_) => out.lack(),
+impl CaseRunner<SysfsCall> for Global {
+    /// Answers a line about these files.
+    fn answer(&mut self, call: SysfsCall, rest: &str, out: &mut Out) -> CaseReply {
+        match call {
+            SysfsCall::Text => match text_in(*self, rest) {
+                Ok(text) => text_reply(&text),
+                Err(_) => out.lack(),
+            },
+            SysfsCall::Saved => {
+                let words = Words::of(rest);
+                let number = saved_number(words.maybe(0), words.maybe(1));
+                CaseReply::One(ReplyWord::Number(number))
+            }
+            call => due_reply(due_of(call, rest)),
         }
     }
 }

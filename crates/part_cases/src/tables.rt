@@ -1,13 +1,34 @@
 //! Rows of numbers, stacks and flags: `rows COUNT`, `stack`, `flags COUNT`.
 
-use crate::asked::{ReplyWord, Words, cut};
-use crate::parts::{CaseRunner, answer_all, answer_lines};
-use crate::reply::{CaseReply, NO_CALL, NO_REPLY, Out, maybe, one, size};
+use crate::asked::{Words, number_of};
+use crate::parts::{CaseRunner, answer_lines};
+use crate::reply::{CaseReply, Out, ReplyWord};
 use device_rows::{Flags, Rows, Stack};
 use sleep_base::Mem;
 use std::alloc::Global;
 
-/// Pushes a number into a row for which room is made first, if there is such a row.
+/// A call on rows, or a question.
+#[derive(Clone, Copy)]
+pub enum RowCall {
+    Push,
+    Append,
+    AddRow,
+    Len,
+    Row,
+    RowWithin,
+}
+
+/// The verb of each call.
+pub const ROW_CALLS: [(&str, RowCall); 6] = [
+    ("push", RowCall::Push),
+    ("append", RowCall::Append),
+    ("add_row", RowCall::AddRow),
+    ("len", RowCall::Len),
+    ("row", RowCall::Row),
+    ("row_within", RowCall::RowWithin),
+];
+
+/// Pushes a number into a row for which room is made first.
 fn push(rows: &mut Rows, row: u32, number: u32) -> Result<(), Mem> {
     if row as usize >= rows.len() {
         return Err(Mem);
@@ -17,7 +38,7 @@ fn push(rows: &mut Rows, row: u32, number: u32) -> Result<(), Mem> {
     Ok(())
 }
 
-/// Puts a number into a row, which grows, if there is such a row.
+/// Puts a number into a row, which grows.
 fn append(rows: &mut Rows, row: u32, number: u32) -> Result<(), Mem> {
     if row as usize >= rows.len() {
         return Err(Mem);
@@ -33,76 +54,77 @@ fn row_within(rows: &Rows, row: u32) -> &[u32] {
     rows.row_within(row)
 }
 
-fn done_reply(done: Result<(), Mem>) -> CaseReply {
-    one(ReplyWord::Flag(done.is_ok()))
-}
-
-/// What rows answer to a call that changes them.
-fn changed(rows: &mut Rows, word: &str, words: Words) -> CaseReply {
-    let (row, number) = (words.number(0), words.number(1));
-    match word {
-        "push" => done_reply(push(rows, row, number)),
-        "append" => done_reply(append(rows, row, number)),
-        "add_row" => done_reply(rows.add_row()),
-        "len" => one(size(rows.len())),
-        _ => NO_CALL,
-    }
-}
-
-impl CaseRunner for Rows {
+impl CaseRunner<RowCall> for Rows {
     /// Answers a question about rows, or changes them.
-    fn answer(&mut self, line: &str, out: &mut Out) {
-        let (word, rest) = cut(line, ' ');
+    fn answer(&mut self, call: RowCall, rest: &str, out: &mut Out) -> CaseReply {
         let words = Words::of(rest);
-        match word {
-            "row" => out.list(self.row(words.number(0))),
-            "row_within" => out.list(row_within(self, words.number(0))),
-            _ => out.say(changed(self, word, words)),
-        }
+        let (row, number) = (words.number(0), words.number(1));
+        let done = match call {
+            RowCall::Push => push(self, row, number),
+            RowCall::Append => append(self, row, number),
+            RowCall::AddRow => self.add_row(),
+            RowCall::Len => return CaseReply::One(ReplyWord::Size(self.len())),
+            RowCall::Row => return out.list(self.row(row)),
+            RowCall::RowWithin => return out.list(row_within(self, row)),
+        };
+        CaseReply::One(ReplyWord::Flag(done.is_ok()))
     }
 }
 
-/// Answers the lines of rows.
-pub fn rows(alloc: Global, words: Words, lines: &str, out: &mut Out) {
-    answer_all(Rows::with_rows(alloc, words.number(0) as usize), lines, out);
+/// A call on a stack.
+#[derive(Clone, Copy)]
+enum StackCall {
+    Push,
+    Pop,
 }
 
-impl CaseRunner for Stack<u32> {
+/// The verb of each call.
+const STACK_CALLS: [(&str, StackCall); 2] = [("push", StackCall::Push), ("pop", StackCall::Pop)];
+
+impl CaseRunner<StackCall> for Stack<u32> {
     /// Answers a call on a stack.
-    fn answer(&mut self, line: &str, out: &mut Out) {
-        let (word, rest) = cut(line, ' ');
-        out.say(match word {
-            "push" => done_reply(self.push(Words::of(rest).number(0))),
-            _ => one(maybe(self.pop())),
-        });
+    fn answer(&mut self, call: StackCall, rest: &str, _out: &mut Out) -> CaseReply {
+        CaseReply::One(match call {
+            StackCall::Push => ReplyWord::Flag(self.push(number_of(rest)).is_ok()),
+            StackCall::Pop => ReplyWord::Maybe(self.pop()),
+        })
     }
 }
 
 /// Answers the lines of a stack, and says what it has then.
 pub fn stacks(alloc: Global, lines: &str, out: &mut Out) {
     let mut stack = Stack::new(alloc);
-    answer_lines(&mut stack, lines, out);
+    answer_lines(&mut stack, &STACK_CALLS, lines, out);
     let rest = stack.into_vec();
     out.list(&rest);
 }
 
-impl CaseRunner for Flags {
-    /// Answers a call on flags.
-    fn answer(&mut self, line: &str, out: &mut Out) {
-        let (word, rest) = cut(line, ' ');
-        let words = Words::of(rest);
-        out.say(match word {
-            "set" => {
-                self.set(words.number(0), words.flag(1));
-                NO_REPLY
-            }
-            "is_set" => one(ReplyWord::Flag(self.is_set(words.number(0)))),
-            _ => one(size(self.len())),
-        });
-    }
+/// A call on flags.
+#[derive(Clone, Copy)]
+pub enum FlagCall {
+    Set,
+    IsSet,
+    Len,
 }
 
-/// Answers the lines of flags.
-pub fn flags(alloc: Global, words: Words, lines: &str, out: &mut Out) {
-    answer_all(Flags::new(alloc, words.number(0) as usize), lines, out);
+/// The verb of each call.
+pub const FLAG_CALLS: [(&str, FlagCall); 3] = [
+    ("set", FlagCall::Set),
+    ("is_set", FlagCall::IsSet),
+    ("len", FlagCall::Len),
+];
+
+impl CaseRunner<FlagCall> for Flags {
+    /// Answers a call on flags.
+    fn answer(&mut self, call: FlagCall, rest: &str, _out: &mut Out) -> CaseReply {
+        let words = Words::of(rest);
+        match call {
+            FlagCall::Set => {
+                self.set(words.number(0), words.flag(1));
+                CaseReply::Nothing
+            }
+            FlagCall::IsSet => CaseReply::One(ReplyWord::Flag(self.is_set(words.number(0)))),
+            FlagCall::Len => CaseReply::One(ReplyWord::Size(self.len())),
+        }
+    }
 }

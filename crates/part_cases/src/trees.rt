@@ -1,71 +1,72 @@
 //! Devices by name: `tree`, and requests for a runtime status: `requests`.
 
-use crate::asked::{ReplyWord, Words, cut};
+use crate::asked::{Words, cut, number_of};
 use crate::parts::{CaseRunner, answer_lines};
-use crate::reply::{CaseReply, NO_CALL, Out, answer, five, maybe, number, one};
-use device_tree::{Tree, TreeFault, request};
+use crate::reply::{CaseReply, Out, ReplyWord};
+use device_tree::{Tree, request};
 use sleep_model::{Device, DeviceFlags, Name, Runtime};
 use std::alloc::Global;
 
-/// The number of a device that is registered, or why it is not.
-fn registered_reply(answer: Result<u32, TreeFault>) -> ReplyWord {
-    match answer {
-        Ok(device) => number(device),
-        Err(TreeFault::NoParent) => ReplyWord::Text("no parent"),
-        Err(TreeFault::NameTaken) => ReplyWord::Text("name taken"),
-        Err(TreeFault::TooMany) => ReplyWord::Text("too many"),
-        Err(TreeFault::Mem) => ReplyWord::Text("out of memory"),
-    }
+/// A call on a tree of devices, by a name or by a number.
+#[derive(Clone, Copy)]
+enum TreeCall {
+    Register,
+    Find,
+    Children,
+    Parent,
+    Len,
 }
 
-/// Registers a device of that name below a parent.
-fn registered(tree: &mut Tree, name: Name, parent: Option<u32>) -> ReplyWord {
-    registered_reply(tree.register(Device {
+/// The verb of each call.
+const TREE_CALLS: [(&str, TreeCall); 5] = [
+    ("register", TreeCall::Register),
+    ("find", TreeCall::Find),
+    ("children", TreeCall::Children),
+    ("parent", TreeCall::Parent),
+    ("len", TreeCall::Len),
+];
+
+/// The number of a device of that name and parent after it is registered, or why it is not.
+fn registered_word(tree: &mut Tree, name: Name, parent: &str) -> ReplyWord {
+    let registered = tree.register(Device {
         name,
-        parent,
+        parent: parent.parse::<u32>().ok(),
         flags: DeviceFlags::ASYNC,
-    }))
+    });
+    match registered {
+        Ok(device) => ReplyWord::Number(device),
+        Err(fault) => ReplyWord::TreeFault(fault),
+    }
 }
 
 /// The answer of a call with a name.
-fn named(tree: &mut Tree, word: &str, name: Name, parent: Option<u32>) -> ReplyWord {
-    match word {
-        "register" => registered(tree, name, parent),
-        _ => maybe(tree.find(&name)),
+fn named_word(tree: &mut Tree, call: TreeCall, text: &str) -> ReplyWord {
+    let (name, parent) = cut(text, ' ');
+    match (Name::of_bytes(name.as_bytes()), call) {
+        (Some(name), TreeCall::Register) => registered_word(tree, name, parent),
+        (Some(name), _) => ReplyWord::Maybe(tree.find(&name)),
+        (None, _) => ReplyWord::Nothing,
     }
 }
 
-/// The answer of a call without a name.
-fn numbered(tree: &Tree, word: &str, device: u32, out: &mut Out) {
-    match word {
-        "children" => out.list(tree.children(device)),
-        "parent" => out.say(one(maybe(tree.parent(device)))),
-        "len" => out.say(one(number(tree.len()))),
-        _ => out.say(NO_CALL),
-    }
-}
-
-impl CaseRunner for Tree {
-    /// Answers a call on the tree, by a name or a number.
-    fn answer(&mut self, line: &str, out: &mut Out) {
-        let (word, rest) = cut(line, ' ');
-        let (name, parent) = cut(rest, ' ');
-        match Name::of_bytes(name.as_bytes()) {
-            Some(name) if matches!(word, "register" | "find") => {
-                let parent = parent.parse::<u32>().ok();
-                out.say(one(named(self, word, name, parent)));
-            }
-            _ => numbered(self, word, name.parse::<u32>().unwrap_or(0), out),
-        }
+impl CaseRunner<TreeCall> for Tree {
+    /// Answers a call on the tree.
+    fn answer(&mut self, call: TreeCall, rest: &str, out: &mut Out) -> CaseReply {
+        CaseReply::One(match call {
+            TreeCall::Register | TreeCall::Find => named_word(self, call, rest),
+            TreeCall::Children => return out.list(self.children(number_of(rest))),
+            TreeCall::Parent => ReplyWord::Maybe(self.parent(number_of(rest))),
+            TreeCall::Len => ReplyWord::Number(self.len()),
+        })
     }
 }
 
 /// Answers the lines of a tree, and says how many devices it has then.
 pub fn trees(alloc: Global, lines: &str, out: &mut Out) {
     let mut tree = Tree::new(alloc);
-    answer_lines(&mut tree, lines, out);
+    answer_lines(&mut tree, &TREE_CALLS, lines, out);
     let devices = tree.into_devices();
-    out.say(one(ReplyWord::Number(devices.len() as i128)));
+    out.say(CaseReply::One(ReplyWord::Size(devices.len())));
 }
 
 /// The answer to a request, and the state of the device then: suspended or not, prepared or not, its runtime
@@ -79,8 +80,8 @@ fn requested(words: Words) -> CaseReply {
         off_late: words.flag(2),
     };
     let given = request(&mut kept, to_suspended);
-    five(
-        answer(given),
+    CaseReply::Five(
+        ReplyWord::Error(given.err()),
         ReplyWord::Flag(kept.suspended),
         ReplyWord::Flag(kept.prepared),
         ReplyWord::Flag(kept.off_direct),

@@ -1,20 +1,39 @@
 //! JSON values: `json` with texts and whether they are read, and `value TEXT` with questions about what a
 //! text spells.
 
-use crate::asked::{ReplyWord, Words, cut, found};
-use crate::reply::{CaseReply, NO_CALL, Out, maybe_long, one, two};
+use crate::asked::{cut, number_of};
+use crate::parts::{CaseRunner, answer_lines};
+use crate::reply::{CaseReply, Out, ReplyWord};
 use borrowed_json::{
     Scratch, Value, as_array, as_bool, as_i64, as_object, as_str, as_u64, get, read_value,
 };
 use sleep_base::Mem;
 use std::alloc::Global;
 
+/// What is asked of JSON: whether it is read, of `read TEXT`, `bytes NUMBER ..`, `nested DEPTH`; or which
+/// numbers a text is.
+#[derive(Clone, Copy)]
+pub enum JsonCall {
+    Read,
+    Bytes,
+    Nested,
+    Number,
+}
+
+/// The verb of each call.
+pub const JSON_CALLS: [(&str, JsonCall); 4] = [
+    ("read", JsonCall::Read),
+    ("bytes", JsonCall::Bytes),
+    ("nested", JsonCall::Nested),
+    ("number", JsonCall::Number),
+];
+
 /// Whether these bytes are read, by this reader and by serde_json's own.
-fn read_reply(alloc: Global, bytes: &[u8]) -> Result<CaseReply, Mem> {
+fn read_reply(alloc: Global, bytes: &[u8]) -> CaseReply {
     let mut scratch = Scratch::new(alloc);
-    let is_read = read_value(alloc, bytes, &mut scratch)?.is_some();
+    let is_read = matches!(read_value(alloc, bytes, &mut scratch), Ok(Some(_)));
     let is_known = serde_json::Value::from_slice(alloc, bytes).is_ok();
-    Ok(two(ReplyWord::Flag(is_read), ReplyWord::Flag(is_known)))
+    CaseReply::Two(ReplyWord::Flag(is_read), ReplyWord::Flag(is_known))
 }
 
 /// A list in a list, to that depth.
@@ -35,40 +54,40 @@ fn bytes_in(alloc: Global, text: &str) -> Result<Vec<u8>, Mem> {
     Ok(bytes)
 }
 
-/// A whole number with a sign.
-fn signed(number: Option<i64>) -> ReplyWord {
+/// A whole number with a sign, or `-`.
+fn signed_word(number: Option<i64>) -> ReplyWord {
     match number {
-        Some(number) => ReplyWord::Number(i128::from(number)),
+        Some(number) => ReplyWord::Signed(number),
         None => ReplyWord::Nothing,
     }
 }
 
 /// What a text is as a whole number, without and with a sign.
-fn number_reply(alloc: Global, text: &str) -> Result<CaseReply, Mem> {
+fn number_reply(alloc: Global, text: &str, out: &mut Out) -> CaseReply {
     let mut scratch = Scratch::new(alloc);
-    match read_value(alloc, text.as_bytes(), &mut scratch)? {
-        Some(value) => Ok(two(maybe_long(as_u64(&value)), signed(as_i64(&value)))),
-        None => Ok(NO_CALL),
+    match read_value(alloc, text.as_bytes(), &mut scratch) {
+        Ok(Some(value)) => {
+            CaseReply::Two(
+                ReplyWord::MaybeLong(as_u64(&value)),
+                signed_word(as_i64(&value)),
+            )
+        }
+        _ => out.lack(),
     }
 }
 
-/// `read TEXT`, `bytes NUMBER ..`, `nested DEPTH`: whether they are read; `number TEXT`: which numbers it is.
-fn text_reply(alloc: Global, line: &str) -> Result<CaseReply, Mem> {
-    let (word, text) = cut(line, ' ');
-    match word {
-        "read" => read_reply(alloc, text.as_bytes()),
-        "bytes" => read_reply(alloc, &bytes_in(alloc, text)?),
-        "nested" => read_reply(alloc, &nested(alloc, Words::of(text).number(0))?),
-        "number" => number_reply(alloc, text),
-        _ => Ok(NO_CALL),
-    }
-}
-
-/// Says of each text whether it is read.
-pub fn json(alloc: Global, lines: &str, out: &mut Out) {
-    for line in lines.split('\n') {
-        match text_reply(alloc, line) {
-            Ok(reply) => out.say(reply),
+impl CaseRunner<JsonCall> for Global {
+    /// Says of a text whether it is read, or which number it is.
+    fn answer(&mut self, call: JsonCall, rest: &str, out: &mut Out) -> CaseReply {
+        let alloc = *self;
+        let made = match call {
+            JsonCall::Read => return read_reply(alloc, rest.as_bytes()),
+            JsonCall::Number => return number_reply(alloc, rest, out),
+            JsonCall::Bytes => bytes_in(alloc, rest),
+            JsonCall::Nested => nested(alloc, number_of(rest)),
+        };
+        match made {
+            Ok(bytes) => read_reply(alloc, &bytes),
             Err(_) => out.lack(),
         }
     }
@@ -76,7 +95,7 @@ pub fn json(alloc: Global, lines: &str, out: &mut Out) {
 
 /// What a value is asked.
 #[derive(Clone, Copy)]
-enum ValueQuestion {
+enum ValueCall {
     Object,
     Array,
     Bool,
@@ -84,24 +103,17 @@ enum ValueQuestion {
     Text,
 }
 
-const ASKS: [(&str, ValueQuestion); 5] = [
-    ("object", ValueQuestion::Object),
-    ("array", ValueQuestion::Array),
-    ("bool", ValueQuestion::Bool),
-    ("number", ValueQuestion::Number),
-    ("text", ValueQuestion::Text),
+/// The verb of each call.
+const VALUE_CALLS: [(&str, ValueCall); 5] = [
+    ("object", ValueCall::Object),
+    ("array", ValueCall::Array),
+    ("bool", ValueCall::Bool),
+    ("number", ValueCall::Number),
+    ("text", ValueCall::Text),
 ];
 
-/// A count as a word, or `-`.
-fn counted(count: Option<usize>) -> ReplyWord {
-    match count {
-        Some(count) => ReplyWord::Number(count as i128),
-        None => ReplyWord::Nothing,
-    }
-}
-
 /// Says a text between bars, in which a bar is a newline; `-` if there is none.
-fn say_text(text: Option<&str>, out: &mut Out) {
+fn say_text(text: Option<&str>, out: &mut Out) -> CaseReply {
     let Some(text) = text else {
         return out.line(b"-");
     };
@@ -109,23 +121,27 @@ fn say_text(text: Option<&str>, out: &mut Out) {
         out.put(b"|");
         out.put(part.as_bytes());
     }
-    out.line(b"|");
+    out.line(b"|")
 }
 
-/// Says what a value is.
-fn say_value(value: &Value<'_>, asks: ValueQuestion, out: &mut Out) {
-    match asks {
-        ValueQuestion::Object => out.say(one(counted(as_object(value).map(
-            |members| members.len(),
-        )))),
-        ValueQuestion::Array => out.say(one(counted(as_array(value).map(|items| items.len())))),
-        ValueQuestion::Bool => out.say(one(match as_bool(value) {
-            Some(flag) => ReplyWord::Flag(flag),
-            None => ReplyWord::Nothing,
-        })),
-        ValueQuestion::Number => out.say(one(maybe_long(as_u64(value)))),
-        ValueQuestion::Text => say_text(as_str(value), out),
-    }
+/// What a value is.
+fn value_reply(value: &Value<'_>, call: ValueCall, out: &mut Out) -> CaseReply {
+    let size = match call {
+        ValueCall::Object => as_object(value).map(|members| members.len()),
+        ValueCall::Array => as_array(value).map(|items| items.len()),
+        ValueCall::Bool => {
+            return CaseReply::One(match as_bool(value) {
+                Some(flag) => ReplyWord::Flag(flag),
+                None => ReplyWord::Nothing,
+            });
+        }
+        ValueCall::Number => return CaseReply::One(ReplyWord::MaybeLong(as_u64(value))),
+        ValueCall::Text => return say_text(as_str(value), out),
+    };
+    CaseReply::One(match size {
+        Some(size) => ReplyWord::Size(size),
+        None => ReplyWord::Nothing,
+    })
 }
 
 /// The item of a list at an index.
@@ -151,19 +167,13 @@ fn at<'v, 'a>(value: &'v Value<'a>, path: &str) -> Option<&'v Value<'a>> {
     below(below(below(value, first)?, second)?, third)
 }
 
-/// Answers a line about a value: what is asked, and of which value below it.
-fn answer_value(value: &Value<'_>, line: &str, out: &mut Out) {
-    let (word, path) = cut(line, ' ');
-    match (at(value, path), found(&ASKS, word)) {
-        (Some(value), Some(asks)) => say_value(value, asks, out),
-        _ => out.line(b"none"),
-    }
-}
-
-/// Answers the lines about a value.
-fn answer_values(value: &Value<'_>, lines: &str, out: &mut Out) {
-    for line in lines.split('\n') {
-        answer_value(value, line, out);
+impl CaseRunner<ValueCall> for Value<'_> {
+    /// Answers a line about a value: what is asked, and of which value below it.
+    fn answer(&mut self, call: ValueCall, rest: &str, out: &mut Out) -> CaseReply {
+        match at(self, rest) {
+            Some(value) => value_reply(value, call, out),
+            None => out.line(b"none"),
+        }
     }
 }
 
@@ -171,7 +181,9 @@ fn answer_values(value: &Value<'_>, lines: &str, out: &mut Out) {
 pub fn values(alloc: Global, text: &str, lines: &str, out: &mut Out) {
     let mut scratch = Scratch::new(alloc);
     match read_value(alloc, text.as_bytes(), &mut scratch) {
-        Ok(Some(value)) => answer_values(&value, lines, out),
-        _ => out.lack(),
+        Ok(Some(mut value)) => answer_lines(&mut value, &VALUE_CALLS, lines, out),
+        _ => {
+            out.lack();
+        }
     }
 }
