@@ -1,4 +1,4 @@
-//! Short texts that are copied with all of their room, since a copy of a known size costs least.
+//! Short texts, copied by 16 bytes or by all of their room, since a copy of a known size costs least.
 
 ghost use Rattle.std.specs.Prelude.{◌≡◌, drop, take};
 
