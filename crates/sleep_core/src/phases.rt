@@ -151,7 +151,7 @@ impl<'m> Core<'m> {
     }
 
     /// An asynchronous device, by the state of its work.
-    #[inline(never)]
+    #[inline(always)]
     pub(crate) fn device_due(&self, now: EventNow, device: u32) -> Due
         ensures { result ≡ device_due self.now.machine (entries self.now.past) now device
             (async_work self.now.machine (entries self.now.past) device) }

@@ -144,7 +144,7 @@ impl<'m> Core<'m> {
 
     /// A script at its own steps. Most operations are sleeps: one that no freeze is about, while the machine is
     /// awake, is answered here.
-    #[inline(never)]
+    #[inline(always)]
     pub(crate) fn script_due(&self, script: u32, now: EventNow) -> Due
         requires { script < length self.now.machine.actors }
         ensures { result ≡ script_due self.now.machine (entries self.now.past) now script }
