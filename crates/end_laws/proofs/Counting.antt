@@ -20,7 +20,7 @@ use Rattle.sleep_laws.proofs.Made.{StepMade, TaskMade, EntryMade, ByMaker, ByTas
 use Rattle.sleep_laws.proofs.MakingOwn.{entry_made}
 use Rattle.std.proofs.lemmas.Option.{slice_get_within}
 use Rattle.room_laws.proofs.Summing.{total}
-use Rattle.fit_laws.proofs.Sitting.{positions_len}
+use Rattle.room_laws.proofs.Sitting.{positions_len}
 use Rattle.room_laws.specs.AttemptRoom.{is_attempt}
 use Rattle.end_laws.specs.Attempts.{is_own}
 use Rattle.end_laws.specs.Bounds.{but_jumps, one_but_jump}

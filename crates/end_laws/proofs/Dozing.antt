@@ -18,7 +18,7 @@ use Rattle.sleep_model.specs.Legal.{JournalPart}
 use Rattle.sleep_model.specs.Positions.{PositionEffect, Waits, Sets, Sleeps, Reads, Saves, Steps, Exits, Stays, first_position, position_after, position_at, position_effect, positions, positions_after}
 use Rattle.sleep_laws.proofs.Made.{ByMaker, ByTask, EntryMade, Made, StepMade, TaskMade, position_of}
 use Rattle.sleep_laws.proofs.MakingOwn.{entry_made}
-use Rattle.fit_laws.proofs.Sitting.{op_at, position_other, position_own, positions_len}
+use Rattle.room_laws.proofs.Sitting.{op_at, position_other, position_own, positions_len}
 
 -- the operation is a sleep
 abbrev pub IsSleep : Option Op → Type 0

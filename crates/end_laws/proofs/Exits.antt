@@ -58,8 +58,8 @@ use Rattle.sleep_laws.proofs.Ending.{and_left, none_of, not_made}
 use Rattle.sleep_laws.proofs.LockHolding.{StageMaker, lock_agrees}
 use Rattle.sleep_laws.proofs.Made.{ByMaker, ByTask, EntryMade, Made, StepMade, TaskMade, position_of}
 use Rattle.sleep_laws.proofs.MakingOwn.{entry_made}
-use Rattle.fit_laws.proofs.Sitting.{SleepAt, op_at, position_other, position_own, positions_len, sleeper}
-use Rattle.fit_laws.proofs.Waiting.{at_entry, there_at}
+use Rattle.room_laws.proofs.Sitting.{SleepAt, op_at, position_other, position_own, positions_len, sleeper}
+use Rattle.room_laws.proofs.Waiting.{at_entry, there_at}
 use Rattle.end_laws.specs.Exits.{DoneHaveExited, HasExited, HasTurns, NoneWaitStale, StuckNamesAll, names}
 
 -- ---- what is due is an entry, or a wait for something of the machine

@@ -29,7 +29,7 @@ use Rattle.sleep_laws.proofs.Made.{EntryMade, ByMaker, ByTask, ByWork, ByDevice,
 use Rattle.sleep_laws.proofs.MakingOwn.{entry_made}
 use Rattle.sleep_laws.proofs.Telling.{none≢some, some_is}
 use Rattle.room_laws.proofs.Trying.{same_actor}
-use Rattle.fit_laws.proofs.Fitting.{fit_rest}
+use Rattle.room_laws.proofs.FittingHistories.{fit_rest}
 use Rattle.end_laws.specs.Makers.{MakersDetermineEntries, MakersDetermineLogs, call_next, call_or_turn, entry_by, entry_if, first_step, is_inside_call, kind_next, last_source, source_in, step_kind, step_next, time_next}
 use Rattle.end_laws.proofs.Waking.{journal_rest}
 

@@ -47,7 +47,7 @@ use Rattle.sleep_laws.proofs.Telling.{none≢some, some≢none}
 use Rattle.room_laws.proofs.Limiting.{script_tries}
 use Rattle.room_laws.proofs.Running.{work_tries}
 use Rattle.room_laws.proofs.Trying.{is_attempting, passes, steps_if, steps_in}
-use Rattle.fit_laws.proofs.Sitting.{op_at}
+use Rattle.room_laws.proofs.Sitting.{op_at}
 use Rattle.end_laws.specs.Moments.{JumpsWake, LiesAhead, NextMomentsLieAhead, jump_to}
 use Rattle.end_laws.proofs.Dozing.{IsDozing, IsSleep, dozer}
 use Rattle.end_laws.proofs.Waking.{maker_rests, none_due, script_rests, sleeps_entering, work_rests}

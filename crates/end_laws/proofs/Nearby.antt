@@ -40,7 +40,7 @@ use Rattle.sleep_laws.proofs.LockHolding.{entry_of}
 use Rattle.sleep_laws.proofs.Made.{EntryMade, ByMaker, ByTask, ByWork, Made, MayGo, StepMade, TaskMade, WorkMade, position_of}
 use Rattle.sleep_laws.proofs.MakingOwn.{entry_made}
 use Rattle.sleep_laws.proofs.Operations.{entry_operation}
-use Rattle.fit_laws.proofs.Sitting.{position_other, position_own, positions_len}
+use Rattle.room_laws.proofs.Sitting.{position_other, position_own, positions_len}
 use Rattle.end_laws.specs.Moments.{ExpiriesAreBounded, NextMomentsAreBounded}
 
 -- ---- the least of moments

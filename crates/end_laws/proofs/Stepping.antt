@@ -24,7 +24,7 @@ use Rattle.sleep_laws.proofs.MakingOwn.{entry_made}
 use Rattle.room_laws.proofs.Limiting.{script_tries}
 use Rattle.room_laws.proofs.Summing.{total}
 use Rattle.room_laws.proofs.Trying.{done_of, done_other, done_out, done_own, passes, same_actor, steps_if, steps_in}
-use Rattle.fit_laws.proofs.Sitting.{positions_len}
+use Rattle.room_laws.proofs.Sitting.{positions_len}
 use Rattle.end_laws.specs.Bounds.{most_steps}
 use Rattle.end_laws.proofs.Counting.{far, stepped}
 

@@ -36,8 +36,8 @@ use Rattle.sleep_laws.proofs.Lawful.{laws_of_legal}
 use Rattle.end_laws.proofs.Attempts.{all_end}
 use Rattle.end_laws.proofs.Bounding.{all_bounded}
 use Rattle.end_laws.proofs.Waking.{events_first, time_forward}
-use Rattle.fit_laws.specs.Ranged.{is_ranged_entry}
-use Rattle.fit_laws.proofs.Fitted.{log_fits}
+use Rattle.room_laws.specs.Ranged.{is_ranged_entry}
+use Rattle.room_laws.proofs.Fitted.{log_fits}
 use Rattle.wakeup_source.specs.SourceStates.{SourceState}
 use Rattle.machine_rounds.specs.declared.after_idle_round.EndOfRun.{EndOfRun}
 use Rattle.world_workers.specs.declared.fault.RunFault.{RunFault}

@@ -9,7 +9,7 @@ ghost use Rattle.wakeup_source.specs.SourceStates.{unstamped_source, latest};
 
 use crate::run::Run;
 use apart_log::ApartLog;
-use fit_laws::{moments_are_ranged, stats_are_ranged};
+use room_laws::{moments_are_ranged, stats_are_ranged};
 use run_objects::{SeatedSource, close_table};
 use sleep_base::{Mem, drop_for_mem};
 use sleep_core::Core;

@@ -1,7 +1,7 @@
 //! Who can go on after a round that did nothing: its next entry is made by the word that was looked at.
 
 use crate::run::Run;
-use fit_laws::{kinds_are_ranged, moments_are_ranged};
+use room_laws::{kinds_are_ranged, moments_are_ranged};
 use sleep_core::CoreTurn;
 use sleep_model::{Actor, EventNow, Want};
 use std::sync::Wait;

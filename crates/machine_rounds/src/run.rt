@@ -6,7 +6,7 @@ ghost use Rattle.sleep_model.specs.Accepted.{IsAccepted};
 use crate::jobs::Jobs;
 use device_links::Links;
 use event_word::EventTable;
-use fit_laws::{calls_are_ranged, kinds_are_ranged, moments_are_ranged};
+use room_laws::{calls_are_ranged, kinds_are_ranged, moments_are_ranged};
 use machine_plans::MachinePlans;
 use run_objects::{SeatedCore, SeatedSource, seated_sources};
 use sleep_base::{Mem, drop_for_mem};

@@ -21,3 +21,11 @@ pub mod Limiting
 pub mod Running
 pub mod Attempting
 pub mod SourcesFit
+pub mod Fitted
+pub mod FittingHistories
+pub mod Locking
+pub mod Naming
+pub mod Planning
+pub mod Sitting
+pub mod Sourced
+pub mod Waiting

@@ -1,3 +1,4 @@
 -- The definitions of this crate, by file.
 pub mod AttemptRoom
 pub mod SourceRoom
+pub mod Ranged

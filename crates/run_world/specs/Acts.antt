@@ -10,7 +10,7 @@ use Rattle.sleep_model.specs.declared.machine.SourceCall.TheVariants as calls
 use Rattle.sleep_model.specs.declared.word.Stamp.{Stamp}
 use Rattle.sleep_model.specs.Calls.{note}
 use Rattle.sleep_script.specs.Jobs.{IsWanted, JobState, TimerState, after_call, after_expiry, after_turn}
-use Rattle.fit_laws.specs.Ranged.{is_ranged}
+use Rattle.room_laws.specs.Ranged.{is_ranged}
 use Rattle.turn_lock.specs.declared.view.Made.{Made}
 use Rattle.run_laws.specs.Passes.{Noted}
 use Rattle.run_world.specs.Outcomes.{IsReport, IsTurn}

@@ -24,7 +24,7 @@ use Rattle.sleep_laws.proofs.Ending.{no_attempt}
 use Rattle.sleep_laws.proofs.Linking.{links_stand}
 use Rattle.sleep_laws.proofs.Ranks.{ranked}
 use Rattle.sleep_script.specs.Jobs.{JobState}
-use Rattle.fit_laws.proofs.Sourced.{IsNoteOf, call_sourced}
+use Rattle.room_laws.proofs.Sourced.{IsNoteOf, call_sourced}
 use Rattle.wakeup_source.specs.SourceStates.{SourceState, latest}
 use Rattle.wakeup_source.specs.SourceStates as states
 use Rattle.wakeup_source.specs.Shown.{MayCall}

@@ -30,7 +30,7 @@ use Rattle.wakeup_source.specs.Called.{Calls, SourceView, Steps, after_note, aft
 use Rattle.wakeup_source.specs.SourceStates.{IsSettled, SourceState, step_kind}
 use Rattle.wakeup_source.specs.SourceStates as states
 use Rattle.wakeup_source.specs.Shown.{MayCall}
-use Rattle.fit_laws.specs.Ranged.{is_ranged, is_ranged_entry}
+use Rattle.room_laws.specs.Ranged.{is_ranged, is_ranged_entry}
 use Rattle.log_merge.proofs.Reading.{both}
 use Rattle.log_merge.specs.Remainders.{unstamped}
 use Rattle.run_laws.specs.Apart.{IsCall}

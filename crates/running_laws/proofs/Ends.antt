@@ -24,7 +24,7 @@ use Rattle.sleep_script.specs.Jobs.{JobState}
 use Rattle.event_word.specs.Steps.{MadeStep}
 use Rattle.wakeup_source.specs.SourceStates.{SourceState}
 use Rattle.wakeup_source.specs.SourceStates as states
-use Rattle.fit_laws.specs.Ranged.{is_ranged_entry}
+use Rattle.room_laws.specs.Ranged.{is_ranged_entry}
 use Rattle.room_laws.proofs.SourcesFit.{histories_keep}
 use Rattle.log_merge.specs.Remainders.{unstamped}
 use Rattle.run_laws.specs.Apart.{past_of, source_past}

@@ -14,7 +14,7 @@ use Rattle.sleep_script.specs.Jobs.{IsJobOf, JobState, first_job, no_stamp}
 use Rattle.sleep_script.proofs.Following.{first_is_job}
 use Rattle.sleep_core.specs.Cores.{IsActor}
 use Rattle.wakeup_source.specs.SourceStates.{IsSettled, SourceState, new_source}
-use Rattle.fit_laws.specs.Ranged.{is_ranged_entry}
+use Rattle.room_laws.specs.Ranged.{is_ranged_entry}
 use Rattle.log_merge.specs.Remainders.{unstamped}
 use Rattle.run_laws.specs.Invariant.{RunInvariant, nothing}
 use Rattle.run_laws.specs.Turned.{newest_stamp}

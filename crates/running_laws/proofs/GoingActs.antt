@@ -22,7 +22,7 @@ use Rattle.sleep_script.specs.Jobs.{IsJobOf, IsWanted, JobState, TimerState, aft
 use Rattle.sleep_script.proofs.Following.{wanted_source}
 use Rattle.wakeup_source.specs.declared.call_by.CallBy.{CallBy}
 use Rattle.wakeup_source.specs.SourceStates.{SourceState}
-use Rattle.fit_laws.specs.Ranged.{is_ranged}
+use Rattle.room_laws.specs.Ranged.{is_ranged}
 use Rattle.run_laws.proofs.Calling.{same_actor}
 use Rattle.turn_lock.specs.declared.view.Made.{Made}
 use Rattle.run_laws.specs.Passes.{Noted}

@@ -15,7 +15,7 @@ use Rattle.sleep_state.specs.JournalRooms.{entries}
 use Rattle.sleep_script.specs.Jobs.{JobState}
 use Rattle.wakeup_source.specs.declared.call_by.CallBy.{CallBy}
 use Rattle.wakeup_source.specs.SourceStates.{SourceState}
-use Rattle.fit_laws.specs.Ranged.{is_ranged}
+use Rattle.room_laws.specs.Ranged.{is_ranged}
 use Rattle.run_laws.specs.Apart.{IsCall}
 use Rattle.turn_lock.specs.declared.view.Made.{Made}
 use Rattle.turn_lock.specs.Bookings.{placed}

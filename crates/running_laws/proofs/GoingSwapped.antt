@@ -12,7 +12,7 @@ use Rattle.sleep_model.specs.Sources.{expiry}
 use Rattle.sleep_state.specs.JournalRooms.{entries}
 use Rattle.sleep_script.specs.Jobs.{IsJobOf, JobState}
 use Rattle.wakeup_source.specs.SourceStates.{SourceState}
-use Rattle.fit_laws.specs.Ranged.{is_ranged_entry}
+use Rattle.room_laws.specs.Ranged.{is_ranged_entry}
 use Rattle.log_merge.specs.Remainders.{unstamped}
 use Rattle.run_laws.specs.Invariant.{AllOf, RunInvariant}
 use Rattle.run_laws.specs.Turned.{newest_stamp}

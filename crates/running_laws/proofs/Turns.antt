@@ -25,7 +25,7 @@ use Rattle.sleep_script.specs.Jobs.{IsJobOf, JobState, after_turn}
 use Rattle.sleep_script.proofs.Following.{other_entry, own_entry}
 use Rattle.wakeup_source.specs.SourceStates.{SourceState}
 use Rattle.end_laws.proofs.Nearby.{are_bounded}
-use Rattle.fit_laws.specs.Ranged.{is_ranged, is_ranged_entry}
+use Rattle.room_laws.specs.Ranged.{is_ranged, is_ranged_entry}
 use Rattle.log_merge.proofs.Reading.{both}
 use Rattle.run_laws.proofs.Calling.{same_actor}
 use Rattle.run_laws.specs.Acts.{Made, with_entry}

@@ -17,7 +17,7 @@ use Rattle.sleep_core.specs.Cores.{IsActor}
 use Rattle.sleep_script.specs.Jobs.{IsJobOf, JobState}
 use Rattle.wakeup_source.specs.SourceStates.{IsSettled, SourceState}
 use Rattle.end_laws.specs.Moments.{ExpiriesAreBounded}
-use Rattle.fit_laws.specs.Ranged.{is_ranged_entry}
+use Rattle.room_laws.specs.Ranged.{is_ranged_entry}
 use Rattle.log_merge.specs.Remainders.{unstamped}
 use Rattle.run_laws.specs.Acts.{Made}
 use Rattle.run_laws.specs.Called.{knows}

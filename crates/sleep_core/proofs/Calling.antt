@@ -14,7 +14,7 @@ use Rattle.sleep_model.specs.declared.machine.Script.{Script}
 use Rattle.sleep_model.specs.Scripts.{Piece, Calls, Turns, pieces}
 use Rattle.sleep_model.specs.Positions.{position_at, position_effect, position_after, positions_after, positions}
 use Rattle.script_plan.specs.Plans.{calls_before}
-use Rattle.fit_laws.proofs.Planning.{calls_until, calls_counted}
+use Rattle.room_laws.proofs.Planning.{calls_until, calls_counted}
 use Rattle.sleep_core.specs.Cores.{IsActor}
 use Rattle.sleep_core.specs.Reports.{reported_by, counts_of}
 use Rattle.sleep_core.proofs.Reporting.{reported_is}

@@ -15,7 +15,7 @@ use Rattle.sleep_model.specs.Accepted.{AreAnswers}
 use Rattle.sleep_model.specs.Answers.{answer_for, answer_reports, own_or, is_thing, is_for}
 use Rattle.sleep_model.specs.Calls.{calls_due, report_calls}
 use Rattle.sleep_model.specs.Path.{attempts, is_same}
-use Rattle.fit_laws.proofs.Planning.{reports_made, calls_counted}
+use Rattle.room_laws.proofs.Planning.{reports_made, calls_counted}
 use Rattle.sleep_state.specs.JournalRooms.{entries}
 use Rattle.sleep_core.specs.Cores.{IsActor}
 use Rattle.core_history.specs.Histories.{HistoryState, IsOfNone, after_entry}

@@ -15,7 +15,7 @@ use Rattle.sleep_core.specs.declared.turns.CoreTurn.{CoreTurn}
 use Rattle.sleep_core.specs.declared.turns.CoreTurn.TheVariants.{Did, NotYet, Done}
 use Rattle.sleep_script.specs.Jobs.{IsWanted, JobState, TimerState}
 use Rattle.wakeup_source.specs.declared.fault.SourceFault.{SourceFault}
-use Rattle.fit_laws.specs.Ranged.{is_ranged}
+use Rattle.room_laws.specs.Ranged.{is_ranged}
 use Rattle.turn_lock.specs.declared.view.Made.{Made}
 use Rattle.turn_lock.specs.Passes.{LockToken, made_of}
 use Rattle.run_laws.specs.Passes.{Noted}

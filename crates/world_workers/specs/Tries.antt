@@ -9,7 +9,7 @@ use Rattle.sleep_core.specs.declared.turns.CoreTurn.TheVariants.{Did}
 use Rattle.sleep_core.specs.Cores.{IsActor}
 use Rattle.wakeup_source.specs.declared.fault.SourceFault.{SourceFault}
 use Rattle.sleep_script.specs.Jobs.{JobState, TimerState, after_call, after_expiry, after_turn}
-use Rattle.fit_laws.specs.Ranged.{is_ranged}
+use Rattle.room_laws.specs.Ranged.{is_ranged}
 use Rattle.turn_lock.specs.declared.view.Made.{Made}
 use Rattle.turn_lock.specs.Passes.{LockToken, first_of, made_of, number_of}
 use Rattle.run_laws.specs.Passes.{Noted}

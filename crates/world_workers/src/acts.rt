@@ -4,13 +4,13 @@ ghost use Rattle.std.specs.Prelude.{◌≡◌, ◌≤◌, ◌<◌, ◌+◌, ◌^
 ghost use Rattle.sleep_model.specs.declared.log.Want.TheVariants as want;
 ghost use Rattle.sleep_model.specs.Calls.{note};
 ghost use Rattle.sleep_script.specs.Jobs.{IsWanted};
-ghost use Rattle.fit_laws.specs.Ranged.{is_ranged};
+ghost use Rattle.room_laws.specs.Ranged.{is_ranged};
 ghost use Rattle.run_world.specs.declared.task.Task.TheVariants as variant;
 ghost use Rattle.world_workers.specs.Tries.{GoesIn, HasActed, IsRangedTurn, told_source, timer_after_call, told_core, turns_of};
 
 use crate::fault::RunFault;
 use crate::outcome::TurnOutcome;
-use fit_laws::{calls_are_ranged, kinds_are_ranged};
+use room_laws::{calls_are_ranged, kinds_are_ranged};
 use run_world::{Gate, Reply, Task, World, WorldPass};
 use sleep_core::{CoreFault, CoreTurn};
 use sleep_model::{Actor, DeviceFlags, Machine, SourceCall, Stamp, Want};

@@ -16,7 +16,7 @@ ghost use Rattle.world_workers.specs.Workers.{AreFresh, AreWorkersOf, HaveTurned
 use crate::contents::{Burst, BurstContents, BurstPlan};
 use crate::pool::{Brought, came_to, taken_apart, workers_of};
 use crate::worker::Worker;
-use fit_laws::moments_are_ranged;
+use room_laws::moments_are_ranged;
 use run_world::{Gate, SharedWorld, World, WorldObject, close_world, world_objects};
 use sleep_base::{Mem, drop_for_mem};
 use sleep_pool::burst;

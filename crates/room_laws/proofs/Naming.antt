@@ -67,7 +67,7 @@ use Rattle.sleep_laws.proofs.Flags.{first_among}
 use Rattle.sleep_laws.proofs.Linking.{links_stand}
 use Rattle.sleep_laws.proofs.Making.{OnlyMade}
 use Rattle.sleep_laws.proofs.Operations.{Each, entry_operation}
-use Rattle.fit_laws.specs.Ranged.{is_ranged}
+use Rattle.room_laws.specs.Ranged.{is_ranged}
 
 -- ---- small facts
 

@@ -18,10 +18,10 @@ use Rattle.sleep_model.specs.Numbers.{numbers, time_of}
 use Rattle.sleep_model.specs.EntryClasses.{is_in_journal, journal, class_of}
 use Rattle.sleep_model.specs.Sources.{history, stats_at}
 use Rattle.sleep_laws.proofs.Few.{few_moves}
-use Rattle.fit_laws.specs.Ranged.{is_ranged, is_ranged_entry}
-use Rattle.fit_laws.proofs.Fitting.{fit_rest}
-use Rattle.fit_laws.proofs.Naming.{due_fits}
-use Rattle.fit_laws.proofs.Waiting.{stuck_fits}
+use Rattle.room_laws.specs.Ranged.{is_ranged, is_ranged_entry}
+use Rattle.room_laws.proofs.FittingHistories.{fit_rest}
+use Rattle.room_laws.proofs.Naming.{due_fits}
+use Rattle.room_laws.proofs.Waiting.{stuck_fits}
 
 -- ---- small facts
 

@@ -44,8 +44,8 @@ use Rattle.sleep_laws.proofs.Ending.{and_left, and_right, no_alarm, none_of, not
 use Rattle.sleep_laws.proofs.Made.{position_of}
 use Rattle.sleep_laws.proofs.Operations.{Each, each_get, entry_operation}
 use Rattle.sleep_laws.proofs.Telling.{some≢none}
-use Rattle.fit_laws.proofs.Locking.{lock}
-use Rattle.fit_laws.proofs.Sitting.{IsAttempting, IsSetting, LockAt, SetsAt, SleepAt, free, op_at, positions_len, sleeper, step_is}
+use Rattle.room_laws.proofs.Locking.{lock}
+use Rattle.room_laws.proofs.Sitting.{IsAttempting, IsSetting, LockAt, SetsAt, SleepAt, free, op_at, positions_len, sleeper, step_is}
 
 -- ---- small facts
 

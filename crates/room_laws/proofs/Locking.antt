@@ -35,7 +35,7 @@ use Rattle.sleep_laws.proofs.LockHolding.{HolderOf, lock_agrees}
 use Rattle.sleep_laws.proofs.Made.{ByDevice, ByMaker, ByTask, ByTime, ByWork, DeviceMade, EntryMade, Made, MayGo, StepMade, TaskMade, WorkMade, position_of}
 use Rattle.sleep_laws.proofs.MakingOwn.{made}
 use Rattle.sleep_laws.proofs.Telling.{some≢none}
-use Rattle.fit_laws.proofs.Sitting.{IsAttempting, IsLock, IsSetting, LockAt, SetsAt, bad_text, free, op_at, position_other, position_own, positions_len, set_good, step_is}
+use Rattle.room_laws.proofs.Sitting.{IsAttempting, IsLock, IsSetting, LockAt, SetsAt, bad_text, free, op_at, position_other, position_own, positions_len, set_good, step_is}
 
 -- ---- a task
 

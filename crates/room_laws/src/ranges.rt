@@ -1,16 +1,7 @@
-//! What is due of a machine's actors names only things of that machine; so a legal log fits its machine if
-//! its run is over. Each function here is a law, and does nothing. `law_trials` tries the definitions on
-//! worked logs.
-//!
-//! Promises: What is due names only things of the machine. If nobody goes on, each script that has not exited
-//! waits for events to end or for a mark, so a stuck log names somebody; and a legal log that is over fits
-//! its machine. By the clauses of `kinds_are_ranged` and the laws with it; the rest are lemmas.
-//!
-//! Begin reading in `proofs/Naming.antt`, `proofs/Fitted.antt`.
-#![tactic(auto)]
+//! The laws that numbers of the code are in the ranges of their fields.
 
 ghost use Rattle.std.specs.Prelude.{◌≡◌, true};
-ghost use Rattle.fit_laws.specs.Ranged.{is_ranged};
+ghost use Rattle.room_laws.specs.Ranged.{is_ranged};
 ghost use Rattle.sleep_model.specs.Calls.{note};
 ghost use Rattle.sleep_model.specs.Fits.{fits_stats, is_word64};
 

@@ -1,2 +1,0 @@
--- The definitions of this crate, by file.
-pub mod Ranged
