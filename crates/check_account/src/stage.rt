@@ -1,4 +1,5 @@
-//! The stage of the open attempt: which row of its table is under way.
+//! The stage of the open attempt: which row of its table is under way. The checker of logs does not trust the
+//! core. So it repeats on purpose what `sleep_state/src/table.rt` has.
 
 ghost use Rattle.std.specs.Prelude.{◌≡◌};
 ghost use Rattle.sleep_model.specs.Table.{after_done, next_stage, stage_after_down, stage_after_freeze, stage_after_platform_down, stage_after_platform_up, stage_after_thaw, stage_after_up, by_case, by_error, by_froze, failed_freeze, failed_phase, failed_platform_down, stage_after};

@@ -4,7 +4,7 @@
 //! - A machine is a computer that suspends, as a file describes it (`Machine`); a run is its simulation.
 //! - A source is a wakeup source of the machine (`struct wakeup_source`).
 //! - A call on a source is `__pm_stay_awake`, `__pm_relax`, `pm_wakeup_ws_event`, or `pm_wakeup_timer_fn` of
-//!   its timer.
+//!   its timer. It can be refused: then its task stops.
 //! - A script lists the operations of a process, of a kernel thread or of an interrupt line.
 //! - An actor is a script, the autosleep work item, an asynchronous device, the timer of a source, or time.
 //! - An entry records one step of an actor.
@@ -23,7 +23,8 @@
 //!   wait. If any can make an entry, the first of them does. If none can, and nothing is left to do, the run
 //!   is finished. If none can, and nobody waits for a moment of time, it is stuck. Else time jumps to the
 //!   next such moment. The jump is an entry of the journal, too, and time makes it.
-//! - A job says what a script, the autosleep work item or a device does next. A timer needs none.
+//! - A job keeps how far a script, the autosleep work item or a device has come. From it and the journal the
+//!   core decides what is next. A timer needs no job.
 //! - A task is a job or the timer of a source; here it is no `task_struct`.
 //! - A worker is a thread that makes the tries of its share of the tasks.
 //! - In a burst all workers make tries at the same time, and the core and each source have a lock each. A
@@ -248,9 +249,9 @@ impl<'m> Run<'m> {
 
     /// What stays with the calling thread, and the parts that go into a burst. The journal has to be short,
     /// so that no job's count of its entries of the journal overflows in the burst. In a burst a task has at
-    /// most 1,000 tries, and each makes one such entry at most. `MOST_TURNS` of `world_workers` bounds the
-    /// turns of a `Worker`, which has one task; a turn is one try of that task at most. `Mem` if there is no
-    /// memory.
+    /// most 1,000 tries, and each makes one such entry at most. In `world_workers` the type `Worker` is no
+    /// thread: it is one task in a burst. `MOST_TURNS` bounds its turns, and a turn is one try at most. `Mem`
+    /// if there is no memory.
     fn take_apart(self, alloc: Global) -> Result<(RunInBurst<'m>, BurstContents<'m>), Mem>
         requires { length self.journal + 1000 < 2 ^ 63 }
         ensures machine { IfOk result (λ contents. contents.0.machine.now ≡ self.entry.machine) }
@@ -286,8 +287,9 @@ impl<'m> Run<'m> {
     }
 
     /// A burst by `workers` workers. Each goes over its share of the tasks again and again, with at most one
-    /// try of each task in a pass. It ends after a pass that makes no entry in any list, when a task stops,
-    /// or after 1,000 passes. `Mem` if there is no memory.
+    /// try of each task in a pass. A worker ends after a pass in which its share makes no entry, neither in
+    /// the journal nor in a history. It also ends after a task of its share stops, or after 1,000 passes. The
+    /// burst ends with its last worker. `Mem` if there is no memory.
     fn burst<R: Threads + Wait + Sync, G: Gate + Sync>(
         self,
         rt: &R,
@@ -318,7 +320,7 @@ impl<'m> Run<'m> {
         }
     }
 
-    /// Whether a task may have stopped for `fault`, since a call on a source was refused. For `SourceFull`
+    /// Whether `fault` may be why a call on a source was refused, so that its task stopped. For `SourceFull`
     /// that source has to be full. Memory may have run out always, so `Mem` is taken as it is.
     fn is_refused(&self, fault: RunFault) -> bool
         ensures { OnTrue result (IsRefused self.now fault) }

@@ -1,4 +1,4 @@
-//! A run of a machine, turn by turn.
+//! A run of a machine, try by try.
 
 ghost use Rattle.std.specs.Prelude.{◌≡◌, ◌≤◌, ◌<◌, ◌+◌, zero, suc, true, length, IfOk};
 ghost use Rattle.sleep_model.specs.Accepted.{IsAccepted};
@@ -6,8 +6,8 @@ ghost use Rattle.sleep_model.specs.Accepted.{IsAccepted};
 use crate::jobs::Jobs;
 use device_links::Links;
 use event_word::EventTable;
-use room_laws::{calls_are_ranged, kinds_are_ranged, moments_are_ranged};
 use machine_plans::MachinePlans;
+use room_laws::{calls_are_ranged, kinds_are_ranged, moments_are_ranged};
 use run_objects::{SeatedCore, SeatedSource, seated_sources};
 use sleep_base::{Mem, drop_for_mem};
 use sleep_core::{Core, CoreTurn};

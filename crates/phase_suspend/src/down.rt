@@ -102,9 +102,9 @@ impl Down {
         }
     }
 
-    /// What a device does next on the way down (`__device_suspend`), in its own async work or inside the
-    /// walk. It waits for its subordinates. Then it is skipped (after an error, for a pending wakeup, or as
-    /// direct-complete), or its callback begins.
+    /// What a device whose callback has not begun does next on the way down (`__device_suspend`), in its own
+    /// async work or inside the walk. It waits for its subordinates. Then it is skipped (after an error, for
+    /// a pending wakeup, or as direct-complete), or its callback begins.
     pub fn device_due(&self, env: &DownEnv<'_>, p: Phase, device: u32) -> Due
         ensures { result ≡ scheduled_down_on (down_state self.now env.now) p device }
     {

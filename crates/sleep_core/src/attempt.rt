@@ -100,10 +100,10 @@ impl<'m> Core<'m> {
     }
 
     /// The entry by which the next processor is stopped. If a wakeup is pending it is `CpuBusy`: the
-    /// processor stays on, and the stage fails. `self.history` is the journal, no source's history, together
-    /// with values worked out from the journal. Each entry updates these values. One of them is `platform`,
-    /// here not `suspend_ops`: it has the processors that are off, and the notifiers that are owed
-    /// `PM_POST_SUSPEND`.
+    /// processor stays on, and the stage fails. `self.history` is the journal together with values worked out
+    /// from it, which each entry updates. (The history of a wakeup source is another list, of the calls on
+    /// it.) One of these values is `platform`, here not `suspend_ops`: it has the processors that are off,
+    /// and the notifiers that are owed `PM_POST_SUSPEND`.
     fn cpu_off_due(&self, now: EventNow) -> Due
         ensures { result ≡ if_left (cpu_kind (pending (entries self.now.past) now)) (next_cpu_off self.now.machine (entries self.now.past)) }
     {
@@ -216,8 +216,8 @@ impl<'m> Core<'m> {
     }
 
     /// The maker's next step at a stage, or else at the one after it. One look ahead is enough: no two stages
-    /// in a row have nothing to do. It is not inlined: `due_of`, which calls it, works out the steps of the
-    /// devices' phases without it, and these have most entries.
+    /// in a row have nothing to do. `due_of` asks the devices' phases first, which have most entries, and
+    /// calls this only for the rest. So it is not inlined, which keeps `due_of` short.
     #[inline(never)]
     pub(crate) fn stage_or_next(&self, now: EventNow, stage: Stage) -> Due
         requires { FitsPhase stage }

@@ -81,9 +81,9 @@ row (stage.Thaws thaw.All) = always stage.NotifiesPost
 row stage.NotifiesPost = always stage.Ends
 row stage.Ends = always stage.Ends
 -- no attempt comes to this row. Prepare, Complete and the two syscore phases have stages of their own; ResumeNoirq, Early and Resume are
--- phases of Ups. No code reads the first column, which is arbitrary. A log is the journal with the entries of the wakeup sources merged in.
--- The code of the checker of logs (check_account) calls failed_phase of Prepare, and so reads the second. So the second is the same as in
--- the row of Prepares
+-- phases of Ups. No run reads the first column. It is that of Noirq, since the checker of logs (check_account) has one arm for both. A log
+-- is the journal with the entries of the wakeup sources merged in. The checker has a function failed_phase of its own, which it calls for
+-- Prepare. Its contract is failed_phase below, so the second column is the same as in the row of Prepares
 row (stage.Downs _) = may_fail (stage.PlatformDo down.PrepareLate) (stage.PlatformUndo undo.Recover)
 
 -- ---- the columns of the table, for each sort of stage
@@ -164,12 +164,14 @@ after_done p r = if is_down p then by_error r (stage_after_down p) (failed_phase
 -- in the entries below n is the number of an attempt, x of a notifier or a syscore operation, k of a processor; r is an error, or none.
 -- guarded is saved_count, if events_check_enabled was true as the attempt began: pm_wakeup_pending compares with it. busy and CpuBusy: a
 -- wakeup is pending (EBUSY). by_event: a change of the event word (combined_event_count, pm_abort_suspend) ended the sleep, and not the
--- alarm. SyscoreCheck is the entry of the stage ChecksWakeup, Clear of ClearsEventsCheck, Over of Ends
+-- alarm, a length of sleep that the machine's description sets. In the kernel hardware ends the sleep. SyscoreCheck is the entry of the
+-- stage ChecksWakeup, Clear of ClearsEventsCheck, Over of Ends
 
 -- the stage of the open attempt after an entry of the journal. An entry of one device, and one that is not made for the attempt, such as a
--- read of wakeup_count, does not change it. Nor does that of one notifier, processor or syscore operation that succeeds. If all succeed,
--- such a stage is left at the first entry of the next stage. If that entry is the only one of the next stage, it ends that stage, too. So
--- Irqs off leads from StopsCpus to ChecksWakeup: no entry leads to StopsIrqs
+-- read of wakeup_count, does not change it. Nor does that of one notifier, processor or syscore operation that succeeds. A stage of
+-- notifiers, processors or syscore operations has no entry at its end. If all succeed, it is left at the first entry of the next stage. If
+-- that entry is the only one of the next stage, it ends that stage, too. So Irqs off leads from StopsCpus to ChecksWakeup: no entry leads
+-- to StopsIrqs
 -- (enter_state, suspend_devices_and_enter, suspend_enter)
 abbrev pub stage_after : Kind → Option Stage → Option Stage
 stage_after (kind.Attempt n guarded) before = Some stage.Notifies
