@@ -6,7 +6,6 @@ ghost use Rattle.sleep_model.specs.Order.{parents_of};
 ghost use Rattle.sleep_core.specs.Cores.{IsActor};
 ghost use Rattle.core_history.specs.Histories.{last_stamp};
 
-use crate::library_call::{CoreCall, QuietEnd};
 use crate::moving::MovingWord;
 use device_links::Links;
 use event_word::{EventTable, Events, PlainEvents};
@@ -17,6 +16,7 @@ use sleep_core::{Core, CoreTurn};
 use sleep_model::{Actor, Kind, Machine, Stamp, Why};
 use std::alloc::Global;
 use std::sync::Wait;
+use trial_rows::{CoreCall, QuietEnd};
 
 const FIRST: Actor = Actor::Script(0);
 

@@ -3,14 +3,13 @@
 use crate::alone::is_so;
 use crate::first_burst::did_first;
 use crate::formats::{called_laws, of_file, of_log};
-use crate::library_call::LibraryCall;
-use crate::row::Row;
 use crate::seats::takes_calls;
 use crate::sent::are_sent;
 use sleep_base::{Mem, drop_for_mem};
 use std::alloc::Global;
 use std::sync::Wait;
 use std::thread::Threads;
+use trial_rows::{LibraryCall, Row};
 
 /// The bytes of a text.
 pub(crate) fn bytes_of(alloc: Global, text: &str) -> Result<Vec<u8>, Mem> {

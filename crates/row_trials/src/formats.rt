@@ -4,11 +4,7 @@ ghost use Rattle.sleep_model.specs.Accepted.{IsAccepted};
 
 use crate::calls::{answer, bytes_of};
 use crate::chains::is_certified_whole;
-use crate::entries::{ENTRIES, LINK_ENTRIES, finished, lines_of, stuck, text_of_log};
-use crate::library_call::{LogCall, MachineCall};
-use crate::machines::{are_changes, is_shared, is_whole};
 use crate::outcome::sink_of;
-use crate::row::Streams;
 use file_read_back::{
     generated_machines_read_back, log_texts_are_injective, machines_are_named, machines_read_back,
     values_spell_again, versions_spell_alike,
@@ -19,6 +15,10 @@ use machine_file::{ReadMachine, read_machine, write_machine};
 use sleep_base::{Mem, MemSink, drop_for_mem};
 use sleep_model::{Log, Machine};
 use std::alloc::Global;
+use trial_rows::{
+    ENTRIES, LINK_ENTRIES, LogCall, MachineCall, Streams, are_changes, finished, is_shared,
+    is_whole, lines_of, stuck, text_of_log,
+};
 
 /// The laws are calls that do nothing.
 pub(crate) fn called_laws(alloc: Global) -> Result<Vec<u8>, Mem> {

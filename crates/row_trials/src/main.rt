@@ -11,15 +11,15 @@
 //!   all.
 //! - `read fails N`, `write fails N`, `error fails N`: the N-th call on the input, standard output or
 //!   standard error fails.
-//! - `gate N`: the workers pass the gate with the plan N of `src/plans.rt`.
+//! - `gate N`: the workers pass the gate with the plan N of `src/plans.rt` of `trial_rows`.
 //! - `row N`: the row is whole, and N is its number. The program runs.
 //! - `sums N`, `lines N`, `steps N`: the same, and of its output only the length and the checksum are told,
 //!   the number of lines and the last line, the numbers of lines that end in `hard` and in `wake`.
 //! - `judged N`: the same, and then `check` judges the log. `rerun N`: the same, and then `run` runs the
 //!   machine that it wrote; what is told is as after `lines`.
 //! - `asks N`: the row is whole, and N is its number. The words are read only.
-//! - `laws N`, `file N`, `text N` and the other words of `src/line.rt`: the row is whole, and N is its number.
-//!   A library is called over the input.
+//! - `laws N`, `file N`, `text N` and the other words of `src/line.rt` of `trial_rows`: the row is whole, and N
+//!   is its number. A library is called over the input.
 //!
 //! Standard output has a line for each row: its number, the status, how many bytes of the input were left and
 //! how long both texts are. After the line come the two texts, and whether the gate's counters came to what
@@ -27,30 +27,20 @@
 //! how long the text is that it gives, and the text. `tools/dev worked` writes the rows with what they must
 //! give.
 //!
-//! Begin reading in `src/rows.rt`, `src/row.rt`, `src/outcome.rt`, `src/formats.rt`, `src/gate.rt`; `stdin`,
-//! `stdout`.
+//! Begin reading in `src/rows.rt`, `src/outcome.rt`, `src/formats.rt`; `stdin`, `stdout`.
 #![tactic(auto)]
 
 mod alone;
 mod calls;
 mod chains;
 mod command;
-mod entries;
-mod fault;
 mod first_burst;
 mod formats;
-mod gate;
-mod library_call;
-mod line;
-mod machines;
 mod moving;
 mod outcome;
-mod plans;
-mod row;
 mod rows;
 mod seats;
 mod sent;
-mod text;
 
 use rows::run_rows;
 use sleep_base::{StdSink, StdSource, read_all};

@@ -1,14 +1,13 @@
 //! What a call of the program gives.
 
-use crate::gate::{OPEN, RowGate};
-use crate::line::{RowEnd, Telling};
-use crate::row::{Row, Streams};
-use crate::text::{adler32, last_line, lines, lines_with};
 use sleep_base::{Mem, MemSink, MemSource};
 use sleep_commands::run_words;
 use std::alloc::Global;
 use std::sync::Wait;
 use std::thread::Threads;
+use trial_rows::{
+    OPEN, Row, RowEnd, RowGate, Streams, Telling, adler32, last_line, lines, lines_with,
+};
 
 /// The streams of a call of the program, in memory.
 #[derive(Drop)]

@@ -2,14 +2,12 @@
 
 use crate::calls::told_call;
 use crate::command::told_command;
-use crate::fault::RowsFault;
-use crate::line::{RowEnd, RowField, Telling, cut_line};
 use crate::outcome::Outcome;
-use crate::row::Row;
 use sleep_base::{ByteSink, Mem, write_all};
 use std::alloc::Global;
 use std::sync::Wait;
 use std::thread::Threads;
+use trial_rows::{Row, RowEnd, RowField, RowsFault, Telling, cut_line};
 
 /// Takes the lines of one row. How it ends, and what is left then.
 fn fill<'a>(row: &mut Row, alloc: Global, rows: &'a [u8]) -> Result<(RowEnd, &'a [u8]), RowsFault> {

@@ -1,7 +1,7 @@
 """What readers and writers of machine files and logs give, as rows of row_trials, and logs that `stats` reads.
 
 What is written for a file is said by the second writing, or stands in tools/worked/written.txt, by hand. It is read and written
-again. The entries are values in crates/row_trials/src/entries.rt, and the machines in src/machines.rt; the lines of the entries
+again. The entries are values in crates/trial_rows/src/entries.rt, and the machines in its machines.rt; the lines of the entries
 and the files of the machines stand here.
 """
 

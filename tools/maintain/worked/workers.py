@@ -9,7 +9,7 @@ from maintain.worked.case import Case
 from maintain.worked.logs import text_of
 from maintain.worked.runs import file_of, log_of
 
-# The gates, in the order of crates/row_trials/src/plans.rt, from 1.
+# The gates, in the order of crates/trial_rows/src/plans.rt, from 1.
 MACHINE_IS_HELD, TWO_MEET, THREE_MEET, NO_BURST, ONE_SCRIPT, EVENT_ENDS, AUTOSLEEP = range(1, 8)
 
 # Which words bring jobs of the smallest attempt together: of two workers the first has the task and autosleep's work, the other

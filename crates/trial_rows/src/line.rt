@@ -4,7 +4,7 @@ use crate::library_call::{CoreCall, LibraryCall, LogCall, MachineCall, QuietEnd}
 
 /// What a line says of its row.
 #[derive(Clone, Copy)]
-pub(crate) enum RowField {
+pub enum RowField {
     Words,
     Repeat,
     Input,
@@ -20,7 +20,7 @@ pub(crate) enum RowField {
 
 /// What the program does with a whole row, and what is told of it.
 #[derive(Clone, Copy)]
-pub(crate) enum Telling {
+pub enum Telling {
     /// It runs, and both texts are told.
     Whole,
     /// It runs. The length and the checksum of its output are told.
@@ -41,16 +41,16 @@ pub(crate) enum Telling {
 
 /// A line: what it says, and its number.
 #[derive(Clone, Copy)]
-pub(crate) struct Line {
-    pub(crate) verb: RowField,
-    pub(crate) number: usize,
+pub struct Line {
+    pub verb: RowField,
+    pub number: usize,
 }
 
 /// How a row ends: what is told of it, and its number.
 #[derive(Clone, Copy)]
-pub(crate) struct RowEnd {
-    pub(crate) telling: Telling,
-    pub(crate) number: usize,
+pub struct RowEnd {
+    pub telling: Telling,
+    pub number: usize,
 }
 
 /// The words before a line's number that say something of its row.
@@ -170,7 +170,7 @@ pub(crate) fn cut_text(bytes: &[u8]) -> Option<(&str, &[u8])> {
 }
 
 /// The first line, and the bytes after it.
-pub(crate) fn cut_line(bytes: &[u8]) -> Option<(Line, &[u8])> {
+pub fn cut_line(bytes: &[u8]) -> Option<(Line, &[u8])> {
     let (text, after) = cut_text(bytes)?;
     let line = line_of(text)?;
     Some((line, after))

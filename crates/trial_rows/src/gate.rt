@@ -1,8 +1,8 @@
 //! The gate that the workers of a row's run pass. It counts their turns, and by its plan some turns wait
 //! there for others.
 
+use run_world::Gate;
 use sleep_model::Actor;
-use sleep_run::Gate;
 use std::sync::atomic::{AtomicU64, Ordering};
 use std::thread::yield_now;
 
@@ -22,21 +22,21 @@ pub(crate) const OTHERS: usize = 8;
 pub(crate) const WAITS: usize = 9;
 
 /// A counter, and a number of it.
-pub(crate) type Count = (usize, u64);
+pub type Count = (usize, u64);
 
 /// What happens at a gate.
 #[derive(Clone, Copy, Drop)]
-pub(crate) struct GatePlan {
+pub struct GatePlan {
     /// Which turns wait, each after so many of its counter, and up to which number of another counter.
-    pub(crate) waits: &'static [(Count, Count)],
+    pub waits: &'static [(Count, Count)],
     /// Numbers that counters have at the end.
-    pub(crate) exact: &'static [Count],
+    pub exact: &'static [Count],
     /// Numbers that counters have at least at the end.
-    pub(crate) least: &'static [Count],
+    pub least: &'static [Count],
 }
 
 /// A gate at which nobody waits.
-pub(crate) const OPEN: GatePlan = GatePlan {
+pub const OPEN: GatePlan = GatePlan {
     waits: &[],
     exact: &[],
     least: &[],
@@ -44,7 +44,7 @@ pub(crate) const OPEN: GatePlan = GatePlan {
 
 /// A gate in use.
 #[derive(Drop)]
-pub(crate) struct RowGate {
+pub struct RowGate {
     plan: GatePlan,
     counts: [AtomicU64; 10],
 }
@@ -71,7 +71,7 @@ impl Gate for RowGate {
 
 impl RowGate {
     /// A gate with that plan.
-    pub(crate) fn new(plan: GatePlan) -> Self {
+    pub fn new(plan: GatePlan) -> Self {
         let counts = [
             AtomicU64::new(0),
             AtomicU64::new(0),
@@ -126,7 +126,7 @@ impl RowGate {
     }
 
     /// Whether the counters are at the end as the plan says.
-    pub(crate) fn is_kept(&self) -> bool {
+    pub fn is_kept(&self) -> bool {
         let (exact, least) = (self.plan.exact, self.plan.least);
         exact.iter().all(|count| self.number(count.0) == count.1)
             && least.iter().all(|count| self.number(count.0) >= count.1)

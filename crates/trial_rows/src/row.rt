@@ -9,17 +9,17 @@ use std::alloc::Global;
 
 /// How the streams behave. A call whose number is 0 is none.
 #[derive(Clone, Copy)]
-pub(crate) struct Streams {
+pub struct Streams {
     /// The most bytes that a read or a write takes.
-    pub(crate) chunk: usize,
+    pub chunk: usize,
     /// The most bytes that standard output takes in all.
-    pub(crate) room: usize,
+    pub room: usize,
     /// The read that fails.
-    pub(crate) read_fails: usize,
+    pub read_fails: usize,
     /// The write of standard output that fails.
-    pub(crate) write_fails: usize,
+    pub write_fails: usize,
     /// The write of standard error that fails.
-    pub(crate) error_fails: usize,
+    pub error_fails: usize,
 }
 
 /// Streams that take 4,096 bytes a call, and of which no call fails.
@@ -33,12 +33,12 @@ const GOOD: Streams = Streams {
 
 /// A row that is read.
 #[derive(Drop)]
-pub(crate) struct Row {
-    pub(crate) words: Vec<String>,
-    pub(crate) input: Vec<u8>,
-    pub(crate) streams: Streams,
+pub struct Row {
+    pub words: Vec<String>,
+    pub input: Vec<u8>,
+    pub streams: Streams,
     /// The gate that its workers pass, if it names one.
-    pub(crate) plan: Option<GatePlan>,
+    pub plan: Option<GatePlan>,
     /// How often the input has the next piece.
     repeat: usize,
 }
@@ -65,12 +65,12 @@ impl Row {
     }
 
     /// A row without words and input.
-    pub(crate) fn new(alloc: Global) -> Self {
+    pub fn new(alloc: Global) -> Self {
         Self::over(Vec::new(alloc), Vec::new(alloc))
     }
 
     /// A row of these words over that input.
-    pub(crate) fn of(alloc: Global, words: &[&str], input: Vec<u8>) -> Result<Self, Mem> {
+    pub fn of(alloc: Global, words: &[&str], input: Vec<u8>) -> Result<Self, Mem> {
         let words = texts(alloc, words)?;
         Ok(Self::over(words, input))
     }
@@ -114,7 +114,7 @@ impl Row {
     }
 
     /// Takes a line, and off `left` what belongs to it. What is left then.
-    pub(crate) fn take<'a>(
+    pub fn take<'a>(
         &mut self,
         alloc: Global,
         line: Line,

@@ -10,7 +10,7 @@ use std::alloc::Global;
 
 /// An entry by its moment, the events that are registered, its actor and its kind; no event is in progress,
 /// and none was hard.
-pub(crate) type EntryRow = (u64, u32, Actor, Kind);
+pub type EntryRow = (u64, u32, Actor, Kind);
 
 const TASK: Actor = Actor::Script(0);
 
@@ -32,7 +32,7 @@ const ATTEMPT: Kind = Kind::Attempt {
 const TIMEOUT: FrozeEnd = FrozeEnd::Timeout { left: 1, first: 1 };
 
 /// Steps of tasks, of the phases of a device and of attempts.
-pub(crate) const ENTRIES: [EntryRow; 19] = [
+pub const ENTRIES: [EntryRow; 19] = [
     (0, 0, TASK, Kind::Read(0)),
     (0, 0, TASK, Kind::Saved(0)),
     (0, 1, TASK, Kind::SaveErr(0, Errno::EINVAL)),
@@ -81,7 +81,7 @@ const NOT_SET: Kind = Kind::LinkState {
 };
 
 /// A task adds a link, or sets its state, or is refused.
-pub(crate) const LINK_ENTRIES: [EntryRow; 4] = [
+pub const LINK_ENTRIES: [EntryRow; 4] = [
     (0, 0, TASK, ADDED),
     (0, 0, TASK, NOT_ADDED),
     (0, 0, TASK, SET),
@@ -147,19 +147,19 @@ fn stuck_end(waiting: Vec<Waiting>) -> LogEnd {
 }
 
 /// A log without entries, of a run that is over: a source had an event of 50 ms.
-pub(crate) fn finished(alloc: Global) -> Result<Log, Mem> {
+pub fn finished(alloc: Global) -> Result<Log, Mem> {
     let stats = vec![in alloc; stats(1, 50), stats(0, 0)]?;
     Ok(log_of(EntryList::new(alloc), stats, LogEnd::Finished))
 }
 
 /// A log without entries, of a run that is stuck.
-pub(crate) fn stuck(alloc: Global) -> Result<Log, Mem> {
+pub fn stuck(alloc: Global) -> Result<Log, Mem> {
     let waiting = WAITS.to_vec(alloc)?;
     Ok(log_of(EntryList::new(alloc), Vec::new(alloc), stuck_end(waiting)))
 }
 
 /// The text of a log, if it could be made.
-pub(crate) fn text_of_log(
+pub fn text_of_log(
     alloc: Global,
     machine: &Machine,
     log: Result<Log, Mem>,
@@ -184,11 +184,7 @@ fn add_line(
 }
 
 /// The lines of entries, each of which makes its line by itself.
-pub(crate) fn lines_of(
-    alloc: Global,
-    machine: &Machine,
-    rows: &[EntryRow],
-) -> Result<Vec<u8>, Mem> {
+pub fn lines_of(alloc: Global, machine: &Machine, rows: &[EntryRow]) -> Result<Vec<u8>, Mem> {
     let mut lines = Vec::new(alloc);
     for row in rows {
         if add_line(&mut lines, alloc, machine, *row).is_err() {

@@ -7,7 +7,7 @@ use sleep_model::{
 };
 
 /// Whether it is the machine that has something in each list, with the devices in that order.
-pub(crate) fn is_whole(machine: &Machine, order: &[u32]) -> bool {
+pub fn is_whole(machine: &Machine, order: &[u32]) -> bool {
     are_numbers(machine)
         && are_devices(machine.devices.as_slice())
         && is_link(machine.links.as_slice(), order)
@@ -112,7 +112,7 @@ fn is_state(op: &Op, wanted: bool) -> bool {
 }
 
 /// Whether it is the machine with a dormant link, whose script sets its state and adds another one.
-pub(crate) fn are_changes(machine: &Machine) -> bool {
+pub fn are_changes(machine: &Machine) -> bool {
     is_dormant(machine.links.as_slice()) && change_links(machine.actors.as_slice())
 }
 
@@ -156,7 +156,7 @@ fn adds_link(op: &Op) -> bool {
 }
 
 /// Whether it is the machine with two writers that share marks, and a callback that reports.
-pub(crate) fn is_shared(machine: &Machine) -> bool {
+pub fn is_shared(machine: &Machine) -> bool {
     are_marks(machine.marks.as_slice())
         && are_writers(machine.actors.as_slice())
         && have_reports(machine.answers.as_slice())

@@ -4,7 +4,7 @@ use std::alloc::{AllocError, AllocFailed};
 
 /// Why the rows end before their end.
 #[derive(Clone, Copy)]
-pub(crate) enum RowsFault {
+pub enum RowsFault {
     /// A line is of no form, or what belongs to it is missing.
     Form,
     /// What a row says could not be written.

@@ -2,7 +2,7 @@
 
 /// A call of a library.
 #[derive(Clone, Copy)]
-pub(crate) enum LibraryCall {
+pub enum LibraryCall {
     /// The laws of what is written and read back are called.
     Laws,
     /// The input is a machine file.
@@ -24,7 +24,7 @@ pub(crate) enum LibraryCall {
 
 /// What is asked of the machine of a file.
 #[derive(Clone, Copy)]
-pub(crate) enum MachineCall {
+pub enum MachineCall {
     /// The file that is written for it.
     File,
     /// The lines of entries of all sorts, each by itself.
@@ -45,7 +45,7 @@ pub(crate) enum MachineCall {
 
 /// What is asked of a machine and its log.
 #[derive(Clone, Copy)]
-pub(crate) enum LogCall {
+pub enum LogCall {
     /// The text that is written for the log.
     Text,
     /// The text that is streamed, over standard output as the row says.
@@ -56,7 +56,7 @@ pub(crate) enum LogCall {
 
 /// What is asked of the turns of the first script, or of each actor.
 #[derive(Clone, Copy)]
-pub(crate) enum CoreCall {
+pub enum CoreCall {
     /// Whether its attempt enters if no event comes.
     Quiet,
     /// Whether it does over the table of the event word, by as many entries.
@@ -76,7 +76,7 @@ pub(crate) enum CoreCall {
 
 /// How turns end.
 #[derive(Clone, Copy)]
-pub(crate) enum QuietEnd {
+pub enum QuietEnd {
     /// The machine sleeps till its alarm.
     Asleep,
     /// The script is stopped, and so are all.
