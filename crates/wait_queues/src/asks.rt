@@ -147,6 +147,9 @@ impl Asks {
         ensures next { IsNextNumber self.now from many result }
         ensures below { IfSome result (λ n. n < many) }
     {
+        if self.is_empty() {
+            return None;
+        }
         let left = word_of(&self.words, (from / 64) as usize) & (u64::MAX << (from % 64));
         if left != 0 {
             return lowest_of(from / 64, left, many);

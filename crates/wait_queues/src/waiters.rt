@@ -6,7 +6,7 @@ use sleep_base::Mem;
 use sleep_model::{Actor, Device, DeviceFlags, Why};
 use std::alloc::Global;
 
-/// Scripts that wait for something else than a mark.
+/// Scripts that wait for something else than a mark. Those that sleep or are frozen are in no set.
 #[derive(Drop)]
 struct ScriptWaiters {
     /// Scripts that read the count, and wait until no event is in progress.
@@ -14,9 +14,6 @@ struct ScriptWaiters {
     /// Scripts that wait for a wakeup, for the machine to wake, or as makers of an attempt for tasks.
     for_word: Asks,
     for_lock: Asks,
-    /// Scripts that sleep.
-    asleep: Asks,
-    frozen: Asks,
 }
 
 /// Scripts that wait for marks.
@@ -39,6 +36,8 @@ struct MarkWaiters {
 #[derive(Drop)]
 pub struct Waiters {
     scripts: Asks,
+    /// The scripts that have not exited.
+    remaining: Asks,
     devices: Asks,
     /// The asynchronous devices.
     asynchronous: Asks,
@@ -97,8 +96,6 @@ impl ScriptWaiters {
             readers: Asks::new(alloc, scripts)?,
             for_word: Asks::new(alloc, scripts)?,
             for_lock: Asks::new(alloc, scripts)?,
-            asleep: Asks::new(alloc, scripts)?,
-            frozen: Asks::new(alloc, scripts)?,
         })
     }
 }
@@ -123,6 +120,7 @@ impl Waiters {
     {
         Ok(Waiters {
             scripts: all_scripts(alloc, scripts)?,
+            remaining: all_scripts(alloc, scripts)?,
             devices: Asks::new(alloc, devices.len())?,
             asynchronous: asynchronous_of(alloc, devices)?,
             waiting: ScriptWaiters::new(alloc, scripts)?,
@@ -193,10 +191,16 @@ impl Waiters {
     #[inline(never)]
     pub fn is_exited(&mut self, who: Actor) {
         match who {
-            Actor::Script(script) => self.scripts.remove(script),
+            Actor::Script(script) => self.script_exits(script),
             Actor::Dev(device) => self.device_waits(device),
             _ => self.auto = false,
         }
+    }
+
+    /// The script has exited.
+    fn script_exits(&mut self, script: u32) {
+        self.scripts.remove(script);
+        self.remaining.remove(script);
     }
 
     /// The script waits, for that.
@@ -206,8 +210,7 @@ impl Waiters {
             Why::Mark(mark) => self.waits_for_mark(script, mark),
             Why::InProgress => self.waiting.readers.insert(script),
             Why::LockHeld => self.waiting.for_lock.insert(script),
-            Why::Until(_) => self.waiting.asleep.insert(script),
-            Why::Frozen => self.waiting.frozen.insert(script),
+            Why::Until(_) | Why::Frozen => {}
             Why::Device(device) => {
                 self.awaited = Some(device);
                 self.maker = Some(script);
@@ -248,7 +251,6 @@ impl Waiters {
     pub fn sleeps(&mut self, who: Actor) {
         if let Actor::Script(script) = who {
             self.scripts.remove(script);
-            self.waiting.asleep.insert(script);
         }
     }
 
@@ -427,13 +429,11 @@ impl Waiters {
     #[inline(never)]
     pub fn wake_scripts(&mut self) {
         self.wake_but_sleepers();
-        self.scripts.take(&mut self.waiting.asleep);
-        self.scripts.take(&mut self.waiting.frozen);
+        self.scripts.add(&self.remaining);
     }
 
     /// Wakes a script whose sleep has come to its end.
     pub fn wake_sleeper(&mut self, script: u32) {
-        self.waiting.asleep.remove(script);
         self.scripts.insert(script);
     }
 
