@@ -1,5 +1,5 @@
 -- The scripts that sleep, and those that are awake.
-use Rattle.std.proofs.Common.{◌≡◌, ◌≤◌, ◌<◌, ◌+◌, ◌∙◌, ℕ, zero, suc, Bool, true, false, not, ◌&&◌, ◌||◌, nat_eq, nat_lt, List, [], ◌∷◌, length, map, replicate, Option, Some, None, is_none, slice_get, slice_index_or, slice_set, refl, sym, ap, ap₂, subst, arith}
+use Rattle.std.proofs.Common.{◌≡◌, ◌≤◌, ◌<◌, ◌+◌, ◌∙◌, ℕ, zero, suc, Bool, true, false, not, ◌&&◌, ◌||◌, nat_eq, nat_lt, List, [], ◌∷◌, length, map, min, replicate, Option, Some, None, is_none, slice_get, slice_index_or, slice_set, refl, sym, ap, ap₂, subst, arith}
 use Rattle.std.proofs.Math.ListN.{get_or-map}
 use Rattle.std.proofs.lemmas.Bool.Decides.{nat_tests}
 use Rattle.std.proofs.lemmas.List.{length-map}
@@ -9,7 +9,7 @@ use Rattle.sleep_model.specs.Legal.{sooner}
 use Rattle.sleep_model.specs.Places.{one_if}
 use Rattle.sleep_model.specs.Positions.{first_position, position_at, all_exited}
 use Rattle.sleep_state.specs.Sleepers.{is_awake, is_there, count_of, earliest_end, is_later, sleeps_past, is_stopped, AreStopped}
-use Rattle.sleep_state.specs.Trees.{least_among, least_of}
+use Rattle.sleep_state.specs.Trees.{never, last, moment_of, least_among, least_of}
 
 -- ---- how many have such a position
 
@@ -74,18 +74,40 @@ set_outside [] i x l = refl
 set_outside (y ∷ ys) zero x l = absurd (omega (arith, l))
 set_outside (y ∷ ys) (suc i) x l = ap (λ zs. y ∷ zs) (set_outside ys i x (omega (arith, l)))
 
-pub ends_first : (n : ℕ) → map (λ (x : ScriptPosition). x.until) (replicate n first_position) ≡ replicate n None
+pub ends_first : (n : ℕ) → map (λ (x : ScriptPosition). moment_of x.until) (replicate n first_position) ≡ replicate n never
 ends_first zero = refl
-ends_first (suc n) = ap (λ xs. None ∷ xs) (ends_first n)
+ends_first (suc n) = ap (λ xs. never ∷ xs) (ends_first n)
 
 -- ---- the least end
 
-least_end_among : (positions : List ScriptPosition) (n : ℕ) → least_among (map (λ (x : ScriptPosition). x.until) positions) n ≡ earliest_end positions n
-least_end_among positions zero = refl
-least_end_among positions (suc n) = ap₂ sooner (get_or-map (λ (x : ScriptPosition). x.until) positions n first_position) (least_end_among positions n)
+sooner_moment : (a b : Option ℕ) → min (moment_of a) (moment_of b) ≡ moment_of (sooner a b)
+sooner_moment None None = refl
+sooner_moment None (Some b) = omega arith
+sooner_moment (Some a) None = omega arith
+sooner_moment (Some a) (Some b) = omega arith
 
-pub least_end_is : (positions : List ScriptPosition) → least_of (map (λ (x : ScriptPosition). x.until) positions) ≡ earliest_end positions (length positions)
-least_end_is positions = ap (least_among (map (λ (x : ScriptPosition). x.until) positions)) (length-map positions (λ (x : ScriptPosition). x.until)) ∙ least_end_among positions (length positions)
+ends_among : (positions : List ScriptPosition) (n : ℕ) → least_among (map (λ (x : ScriptPosition). moment_of x.until) positions) n ≡ moment_of (earliest_end positions n)
+ends_among positions zero = refl
+ends_among positions (suc n) =
+    ap₂ min (get_or-map (λ (x : ScriptPosition). moment_of x.until) positions n first_position) (ends_among positions n)
+    ∙ sooner_moment (position_at positions n).until (earliest_end positions n)
+
+pub least_end_is : (positions : List ScriptPosition) → least_of (map (λ (x : ScriptPosition). moment_of x.until) positions) ≡ moment_of (earliest_end positions (length positions))
+least_end_is positions = ap (least_among (map (λ (x : ScriptPosition). moment_of x.until) positions)) (length-map positions (λ (x : ScriptPosition). moment_of x.until)) ∙ ends_among positions (length positions)
+
+-- a moment that is no sleep's
+pub ends_never : (o : Option ℕ) → moment_of o ≡ never → o ≡ None
+ends_never None e = refl
+ends_never (Some u) e = absurd (omega (arith, e))
+
+-- one that is a sleep's own
+pub ends_then : (o : Option ℕ) (at : ℕ) → moment_of o ≡ at → at < last → o ≡ Some at
+ends_then None at e l = absurd (omega (arith, e, l))
+ends_then (Some u) at e l = ap Some (omega (arith, e, l))
+
+pub later_moment : (o : Option ℕ) (time : ℕ) → nat_lt time (moment_of o) ≡ true → is_later o time ≡ true
+later_moment None time h = refl
+later_moment (Some u) time h = grind (arith, nat_tests)
 
 later_than : (a b : Option ℕ) (time : ℕ) → is_later (sooner a b) time ≡ true → (is_later a time ≡ true) × (is_later b time ≡ true)
 later_than None b time h = (refl, h)

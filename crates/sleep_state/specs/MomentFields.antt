@@ -1,10 +1,10 @@
 -- What the fields of the moments are.
-use Rattle.std.specs.Prelude.{◌≡◌, ◌*◌, ℕ, List, Option, drop, length}
+use Rattle.std.specs.Prelude.{◌≡◌, ◌*◌, ℕ, List, drop, length}
 use Rattle.sleep_state.specs.declared.moments.Moments.TheInside.{Inside}
 use Rattle.sleep_state.specs.Trees.{AreLeastBelow}
 
 -- the things' own moments are the last
-abbrev pub own : Inside → List (Option ℕ)
+abbrev pub own : Inside → List ℕ
 own m = drop m.many m.nodes.items
 
 -- the nodes are a tree

@@ -1,34 +1,50 @@
 //! The least of many moments, each of which may change.
 
-ghost use Rattle.std.specs.Prelude.{◌≡◌, ◌≤◌, ◌<◌, ◌+◌, ◌*◌, ◌^◌, false, None, drop, length, slice_index_or};
-ghost use Rattle.std.specs.Bool.{OnTrue};
+ghost use Rattle.std.specs.Prelude.{◌≡◌, ◌≤◌, ◌<◌, ◌*◌, false, drop, length, nat_lt, slice_index_or, IfSome};
 ghost use Rattle.sleep_model.specs.Legal.{sooner};
 ghost use Rattle.sleep_state.specs.Sleepers.{is_later};
-ghost use Rattle.sleep_state.specs.Trees.{AreLeastBelow, AreJoinedBut};
+ghost use Rattle.sleep_state.specs.Trees.{never, moment_of, AreLeastBelow, AreJoinedBut};
 
 use sleep_base::Mem;
 use std::alloc::Global;
 use std::marker::Model;
 
-/// A moment or none for each of some things, and the least of all. The nodes are a tree: node k is above the
-/// nodes 2k and 2k + 1, and has the lesser of their moments, so that the first has the least. The things' own
-/// moments are the last.
+/// The moment of a thing that has none.
+pub(crate) const NEVER: u64 = u64::MAX;
+
+/// The last moment that a thing may have. A sleep up to `NEVER` has it too.
+pub(crate) const LAST: u64 = NEVER - 1;
+
+/// A moment for each of some things, `NEVER` if it has none, and the least of all. The nodes are a tree: node
+/// k is above the nodes 2k and 2k + 1, and has the lesser of their moments, so that the first has the least.
+/// The things' own moments are the last.
 #[derive(Drop)]
 pub(crate) struct Moments {
     many: usize,
-    nodes: Vec<Option<u64>>,
+    nodes: Vec<u64>,
 }
 
 impl Model for Moments {
-    ghost use Rattle.std.specs.Prelude.{ℕ, List, Option};
+    ghost use Rattle.std.specs.Prelude.{ℕ, List};
 
-    ghost Value = { List (Option ℕ) };
+    ghost Value = { List ℕ };
 
     ghost use Rattle.sleep_state.specs.MomentFields.{own, moments_invariant};
 
     ghost view = { own };
 
     ghost invariant = { moments_invariant };
+}
+
+/// The moment at which a sleep up to that one ends, if there is one.
+#[inline(always)]
+pub(crate) fn moment_of(until: Option<u64>) -> u64
+    ensures { result ≡ moment_of until }
+{
+    match until {
+        Some(until) => until.min(LAST),
+        None => NEVER,
+    }
 }
 
 /// The lesser of two moments, if there are any.
@@ -45,42 +61,30 @@ pub fn sooner(one: Option<u64>, other: Option<u64>) -> Option<u64>
 
 /// The moment of a node, if there is that node.
 #[inline(always)]
-fn node(nodes: &[Option<u64>], at: usize) -> Option<u64>
-    ensures { result ≡ slice_index_or nodes.now at None }
+fn node(nodes: &[u64], at: usize) -> u64
+    ensures { result ≡ slice_index_or nodes.now at never }
 {
     match nodes.get(at) {
         Some(moment) => *moment,
-        None => None,
+        None => NEVER,
     }
 }
 
 /// The moment of a node that is there.
 #[inline(always)]
 #[tactic(auto, using(crate::proofs::Rising::read_is))]
-fn node_there(nodes: &[Option<u64>], at: usize) -> Option<u64>
+fn node_there(nodes: &[u64], at: usize) -> u64
     requires { at < length nodes.now }
-    ensures { result ≡ slice_index_or nodes.now at None }
+    ensures { result ≡ slice_index_or nodes.now at never }
 {
     nodes[at]
-}
-
-/// Whether they are the same moment, or none.
-#[inline(always)]
-fn is_same(one: Option<u64>, other: Option<u64>) -> bool
-    ensures { OnTrue result (one ≡ other) }
-{
-    match (one, other) {
-        (None, None) => true,
-        (Some(one), Some(other)) => one == other,
-        _ => false,
-    }
 }
 
 /// Each node above one that has changed has the lesser moment of the two below it again: those above
 /// one that stays as it was do too.
 #[inline(never)]
 #[tactic(auto, using(crate::proofs::Rising::joined_here))]
-fn rise(nodes: &mut [Option<u64>], many: usize, above: usize)
+fn rise(nodes: &mut [u64], many: usize, above: usize)
     requires size { length nodes.old ≡ 2 * many }
     requires within { above < many }
     requires joined { AreJoinedBut many above nodes.old }
@@ -90,27 +94,12 @@ fn rise(nodes: &mut [Option<u64>], many: usize, above: usize)
 {
     let mut at = above;
     while at > 0 {
-        let least = sooner(node_there(nodes, 2 * at), node_there(nodes, 2 * at + 1));
-        if is_same(node_there(nodes, at), least) {
+        let least = node_there(nodes, 2 * at).min(node_there(nodes, 2 * at + 1));
+        if node_there(nodes, at) == least {
             return;
         }
         nodes[at] = least;
         at /= 2;
-    }
-}
-
-/// The node after this one and all below it, in the order in which each node precedes those below it; 0 if
-/// there is none.
-#[inline(always)]
-fn next_node(at: usize) -> usize {
-    if at % 2 == 0 {
-        return at.saturating_add(1);
-    }
-    let above = at >> (!at).trailing_zeros().min(63);
-    if above == 0 {
-        0
-    } else {
-        above.saturating_add(1)
     }
 }
 
@@ -125,102 +114,114 @@ pub(crate) fn is_later(moment: Option<u64>, time: u64) -> bool
     }
 }
 
-/// The node of a thing whose moment is not later than now, if the least is not: of each node that is above
-/// others, one of the two below has its moment.
+/// The node of a thing whose moment is not later than now, from a node on whose moment is not: of each node
+/// that is above others, one of the two below has its moment.
 #[tactic(auto, using(crate::proofs::Coming::come_other))]
-fn come_below(nodes: &[Option<u64>], many: usize, now: u64) -> usize
+fn come_below(nodes: &[u64], many: usize, from: usize, now: u64) -> usize
     requires size { length nodes.now ≡ 2 * many }
     requires joined { AreLeastBelow many nodes.now }
-    requires come { is_later (slice_index_or nodes.now 1 None) now ≡ false }
+    requires from { (0 < from) × (from < 2 * many) }
+    requires come { nat_lt now (slice_index_or nodes.now from never) ≡ false }
     ensures own { many ≤ result }
-    ensures come { is_later (slice_index_or nodes.now result None) now ≡ false }
+    ensures come { nat_lt now (slice_index_or nodes.now result never) ≡ false }
 {
-    let mut at = 1;
+    let mut at = from;
     while at < many {
         at *= 2;
-        if is_later(node_there(nodes, at), now) {
+        if now < node_there(nodes, at) {
             at += 1;
         }
     }
     at
 }
 
+/// The first node to the right of one and of those above it whose moment is not later than now: that beside
+/// one that is the first of two.
+fn come_beside(nodes: &[u64], many: usize, from: usize, now: u64) -> Option<usize>
+    requires size { length nodes.now ≡ 2 * many }
+    requires within { from < 2 * many }
+    ensures within { IfSome result (λ at. (0 < at) × (at < 2 * many)) }
+    ensures come { IfSome result (λ at. nat_lt now (slice_index_or nodes.now at never) ≡ false) }
+{
+    let mut at = from;
+    while at > 1 {
+        if at % 2 == 0 && node_there(nodes, at + 1) <= now {
+            return Some(at + 1);
+        }
+        at /= 2;
+    }
+    None
+}
+
 impl Moments {
-    ghost use Rattle.std.specs.Prelude.{◌≡◌, ◌<◌, true, false, None, length, replicate, slice_index_or, slice_set, IfOk, IfSome};
-    ghost use Rattle.sleep_state.specs.Trees.{least_of};
-    ghost use Rattle.sleep_state.specs.Sleepers.{is_later};
+    ghost use Rattle.std.specs.Prelude.{◌≡◌, ◌<◌, true, false, None, length, nat_lt, replicate, slice_index_or, slice_set, IfOk, IfSome};
+    ghost use Rattle.sleep_state.specs.Trees.{last, least_of, never};
 
     /// So many things without a moment. `Mem` if there is no memory.
     #[tactic(auto, using(crate::proofs::Rising::own_first))]
     pub(crate) fn new(alloc: Global, many: usize) -> Result<Self, Mem>
-        ensures { IfOk result (λ m. m ≡ replicate many None) }
+        ensures { IfOk result (λ m. m ≡ replicate many never) }
     {
         if many > usize::MAX / 2 {
             return Err(Mem);
         }
-        let nodes = vec![in alloc; None; 2 * many]?;
+        let nodes = vec![in alloc; NEVER; 2 * many]?;
         Ok(Moments { many, nodes })
     }
 
-    /// The least moment, if there is one.
+    /// The least moment, `NEVER` if there is none.
     #[tactic(auto, using(crate::proofs::Rising::first_least))]
-    pub(crate) fn least(&self) -> Option<u64>
+    pub(crate) fn least(&self) -> u64
         ensures { result ≡ least_of self.now }
     {
         node(self.nodes.as_slice(), 1)
     }
 
     /// The first thing whose moment is not later than now, in the order of the tree.
-    #[tactic(auto, using(crate::proofs::Coming::own_come))]
+    #[tactic(auto, using(crate::proofs::Coming::own_come, crate::proofs::Coming::come_within, crate::proofs::Rising::first_least))]
     fn first_come(&self, now: u64) -> Option<usize>
-        ensures found { IfSome result (λ thing. is_later (slice_index_or self.now thing None) now ≡ false) }
-        ensures none { result ≡ None → is_later (least_of self.now) now ≡ true }
+        requires { now < last }
+        ensures found { IfSome result (λ thing. nat_lt now (slice_index_or self.now thing never) ≡ false) }
+        ensures none { result ≡ None → nat_lt now (least_of self.now) ≡ true }
     {
-        if is_later(self.least(), now) {
+        if now < node(self.nodes.as_slice(), 1) {
             return None;
         }
-        let at = come_below(self.nodes.as_slice(), self.many, now);
+        let at = come_below(self.nodes.as_slice(), self.many, 1, now);
         Some(at - self.many)
     }
 
-    /// The first thing from that node on, in the order of the tree, whose moment is not later than now. Which
-    /// is found is no part of what is promised.
+    /// The first thing after that one, in the order of the tree, whose moment is not later than now. Which is
+    /// found is no part of what is promised.
     #[tactic(auto, using(crate::proofs::Coming::own_come))]
-    fn come_from(&self, from: usize, now: u64) -> Option<usize>
-        ensures { IfSome result (λ thing. is_later (slice_index_or self.now thing None) now ≡ false) }
+    fn come_after(&self, thing: usize, now: u64) -> Option<usize>
+        ensures { IfSome result (λ thing. nat_lt now (slice_index_or self.now thing never) ≡ false) }
     {
-        let mut at = from;
-        // The tree has at most 64 levels.
-        for _ in 0..256 {
-            if at == 0 || at >= self.nodes.len() {
-                return None;
-            }
-            if is_later(node_there(self.nodes.as_slice(), at), now) {
-                at = next_node(at);
-            } else if at < self.many {
-                at *= 2;
-            } else {
-                return Some(at - self.many);
-            }
+        if thing >= self.many {
+            return None;
         }
-        None
+        let nodes = self.nodes.as_slice();
+        let from = come_beside(nodes, self.many, self.many + thing, now)?;
+        let at = come_below(nodes, self.many, from, now);
+        Some(at - self.many)
     }
 
     /// The next thing after that one, or the first of all, whose moment is not later than now. Things are
     /// gone through in the order of the tree. If the search begins at the first and finds none, each moment
     /// is later.
     pub(crate) fn next_come(&self, after: Option<usize>, now: u64) -> Option<usize>
-        ensures found { IfSome result (λ thing. is_later (slice_index_or self.now thing None) now ≡ false) }
-        ensures none { after ≡ None → result ≡ None → is_later (least_of self.now) now ≡ true }
+        requires { now < last }
+        ensures found { IfSome result (λ thing. nat_lt now (slice_index_or self.now thing never) ≡ false) }
+        ensures none { after ≡ None → result ≡ None → nat_lt now (least_of self.now) ≡ true }
     {
         match after {
-            Some(thing) => self.come_from(next_node(self.many.saturating_add(thing)), now),
+            Some(thing) => self.come_after(thing, now),
             None => self.first_come(now),
         }
     }
 
     /// Another moment of a thing, or none.
-    pub(crate) fn set(&mut self, thing: usize, moment: Option<u64>)
+    pub(crate) fn set(&mut self, thing: usize, moment: u64)
         requires { thing < length self.old }
         ensures { self.new ≡ slice_set self.old thing moment }
     {

@@ -1,12 +1,13 @@
 //! The position of each script of a machine, and which of them sleep.
 
-ghost use Rattle.std.specs.Prelude.{◌≡◌, ◌≤◌, ◌<◌, ◌+◌, ◌^◌, None, length, slice_index_or, slice_set};
+ghost use Rattle.std.specs.Prelude.{◌≡◌, ◌≤◌, ◌<◌, ◌+◌, ◌^◌, length, slice_index_or, slice_set};
 ghost use Rattle.sleep_model.specs.Positions.{first_position, next_step, position_after, position_effect};
 ghost use Rattle.sleep_model.specs.Places.{one_if};
 ghost use Rattle.sleep_state.specs.Sleepers.{is_awake};
 ghost use Rattle.sleep_state.specs.TaskStates.{IsSmallPosition};
+ghost use Rattle.sleep_state.specs.Trees.{never, moment_of};
 
-use crate::moments::{Moments, is_later};
+use crate::moments::{LAST, Moments, NEVER, is_later, moment_of, sooner};
 use sleep_base::Mem;
 use sleep_model::{Kind, ScriptPosition};
 use std::alloc::Global;
@@ -136,11 +137,11 @@ fn recount(was: bool, is: bool, many: usize) -> usize
 /// one.
 fn move_end(ends: &mut Moments, script: usize, was: Option<u64>, is: Option<u64>)
     requires within { script < length ends.old }
-    requires was { was ≡ slice_index_or ends.old script None }
-    ensures { ends.new ≡ slice_set ends.old script is }
+    requires was { moment_of was ≡ slice_index_or ends.old script never }
+    ensures { ends.new ≡ slice_set ends.old script (moment_of is) }
 {
     if was.is_some() || is.is_some() {
-        ends.set(script, is);
+        ends.set(script, moment_of(is));
     }
 }
 
@@ -200,14 +201,34 @@ impl ScriptPositions {
     pub(crate) fn least_end(&self) -> Option<u64>
         ensures { result ≡ earliest_end self.now (length self.now) }
     {
-        self.ends.least()
+        let least = self.ends.least();
+        // In the tree a sleep up to `LAST` and one up to `NEVER` have the same moment.
+        if least < LAST {
+            Some(least)
+        } else if least == NEVER {
+            None
+        } else {
+            self.least_asked()
+        }
+    }
+
+    /// The least end of all sleeps, each script being asked.
+    #[inline(never)]
+    fn least_asked(&self) -> Option<u64>
+        ensures { result ≡ earliest_end self.now (length self.now) }
+    {
+        let mut next = None;
+        for script in 0..self.positions.len() {
+            next = sooner(self.positions[script].until, next);
+        }
+        next
     }
 
     /// Whether each script has exited, or sleeps to a moment later than that.
     pub(crate) fn are_stopped(&self, time: u64) -> bool
         ensures { OnTrue result (AreStopped self.now time) }
     {
-        self.awake == 0 && is_later(self.ends.least(), time)
+        self.awake == 0 && time < self.ends.least()
     }
 
     /// The next script after that one, or the first, whose sleep has come to its end by now. If the search
@@ -217,7 +238,30 @@ impl ScriptPositions {
         ensures found { IfSome result (λ script. HasSlept self.now script now) }
         ensures none { after ≡ None → result ≡ None → NoneSlept self.now now }
     {
-        self.ends.next_come(after, now)
+        if now < LAST {
+            self.ends.next_come(after, now)
+        } else {
+            self.next_asked(after, now)
+        }
+    }
+
+    /// The next script after that one, or the first, whose sleep has come to its end by now, each script being
+    /// asked.
+    #[inline(never)]
+    fn next_asked(&self, after: Option<usize>, now: u64) -> Option<usize>
+        ensures found { IfSome result (λ script. HasSlept self.now script now) }
+        ensures none { after ≡ None → result ≡ None → NoneSlept self.now now }
+    {
+        let from = match after {
+            Some(script) => script.saturating_add(1),
+            None => 0,
+        };
+        for script in from..self.positions.len() {
+            if !is_later(self.positions[script].until, now) {
+                return Some(script);
+            }
+        }
+        None
     }
 
     /// Whether every script has made its exit.

@@ -28,6 +28,7 @@ impl Model for Tasks {
 }
 
 /// A script's own entry moves it.
+#[inline(always)]
 #[tactic(auto, using(crate::proofs::Sleeping::set_outside))]
 fn move_position(positions: &mut ScriptPositions, who: Actor, kind: Kind)
     requires { PositionIsSmall who positions.old }
@@ -42,6 +43,7 @@ fn move_position(positions: &mut ScriptPositions, who: Actor, kind: Kind)
 }
 
 /// A post raises a mark, and a wait that ends lowers it.
+#[inline(always)]
 fn move_marks(marks: &mut Vec<u32>, kind: Kind)
     requires { MarksAreSmall kind marks.old.items }
     ensures { marks.new.items ≡ marks_after kind marks.old.items }
@@ -66,6 +68,7 @@ fn move_marks(marks: &mut Vec<u32>, kind: Kind)
 impl Tasks {
     ghost use Rattle.std.specs.Prelude.{◌≡◌, ◌≤◌, ◌^◌, None, IfOk, IfSome, length};
     ghost use Rattle.std.specs.Bool.{OnTrue};
+    ghost use Rattle.sleep_model.specs.declared.entry.Kind.TheVariants as kind;
     ghost use Rattle.sleep_model.specs.Marks.{mark_at};
     ghost use Rattle.sleep_model.specs.Positions.{position_at, all_exited};
     ghost use Rattle.sleep_state.specs.TaskStates.{PositionIsSmall, MarksAreSmall, tasks_after, first_tasks};
@@ -81,8 +84,52 @@ impl Tasks {
         })
     }
 
-    /// What an entry of that actor does to the tasks.
+    /// What an entry of that actor does to the tasks. Most are of sleeps: each arm gives the kind anew, so that
+    /// the compiler leaves out of it what only others do.
+    #[inline(always)]
     pub fn note(&mut self, who: Actor, kind: Kind)
+        requires position { PositionIsSmall who self.old.positions }
+        requires marks { MarksAreSmall kind self.old.marks }
+        ensures { self.new ≡ tasks_after who kind self.old }
+    {
+        match kind {
+            Kind::Sleep(until) => self.begin_sleep(who, until),
+            Kind::Slept => self.end_sleep(who),
+            other => self.note_other(who, other),
+        }
+    }
+
+    /// An entry by which an actor begins to sleep.
+    #[inline(never)]
+    fn begin_sleep(&mut self, who: Actor, until: u64)
+        requires { PositionIsSmall who self.old.positions }
+        ensures { self.new ≡ tasks_after who (kind.Sleep until) self.old }
+    {
+        self.note_any(who, Kind::Sleep(until));
+    }
+
+    /// An entry by which an actor has slept.
+    #[inline(never)]
+    fn end_sleep(&mut self, who: Actor)
+        requires { PositionIsSmall who self.old.positions }
+        ensures { self.new ≡ tasks_after who kind.Slept self.old }
+    {
+        self.note_any(who, Kind::Slept);
+    }
+
+    /// Another entry.
+    #[inline(never)]
+    fn note_other(&mut self, who: Actor, kind: Kind)
+        requires position { PositionIsSmall who self.old.positions }
+        requires marks { MarksAreSmall kind self.old.marks }
+        ensures { self.new ≡ tasks_after who kind self.old }
+    {
+        self.note_any(who, kind);
+    }
+
+    /// What an entry of that actor does to the tasks, whatever its kind.
+    #[inline(always)]
+    fn note_any(&mut self, who: Actor, kind: Kind)
         requires position { PositionIsSmall who self.old.positions }
         requires marks { MarksAreSmall kind self.old.marks }
         ensures { self.new ≡ tasks_after who kind self.old }
