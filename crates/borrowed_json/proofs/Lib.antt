@@ -2,5 +2,6 @@
 pub mod Digits
 pub mod Looks
 pub mod MembersNamed
-pub mod Ranges
+pub mod Reading
+pub mod Runs
 pub mod Seen

@@ -4,9 +4,8 @@ use Rattle.std.specs.List.{list_any, list_all}
 use Rattle.std.specs.Ordering.{is_eq, nat_cmp, match_ordering}
 use Rattle.std.specs.Cmp.Lexicographic.{slice_cmp, bytes_decides}
 use Rattle.std.proofs.lemmas.Map.Text.{is_eq-slice_cmp}
-use Rattle.json.specs.Value as value
 use Rattle.serde_json.specs.Data.{Data, Members, no_members, member, put}
-use Rattle.borrowed_json.specs.View.{Member, view, data_members, members_view}
+use Rattle.borrowed_json.specs.View.{Member, view, member_view, put_all, members_view}
 use Rattle.borrowed_json.specs.Look.{are_named}
 use Rattle.borrowed_json.proofs.Looks.{list_any_texts}
 
@@ -36,7 +35,7 @@ put_named names k d (member l e ms) = by (slice_cmp nat_cmp k l) refl (put_named
     by Greater is later = ap (λ b. named l && b) later ∙ turned (named l) (named k) (are_named names ms)
 
 members_named : (names : List (Bor (List ℕ))) (ms : List Member) (found : Members)
-    → (list_all (λ m. list_any (λ s. bytes_eq m.0.now s.now) names) ms && are_named (map (λ s. s.now) names) found) ≡ are_named (map (λ s. s.now) names) (data_members (value.members_view ms) found)
+    → (list_all (λ m. list_any (λ s. bytes_eq m.0.now s.now) names) ms && are_named (map (λ s. s.now) names) found) ≡ are_named (map (λ s. s.now) names) (put_all (map member_view ms) found)
 unfolding view
 members_named names [] found = refl
 members_named names (m ∷ ms) found =

@@ -1,4 +1,3 @@
 -- The definitions of this crate.
-pub mod InRange
 pub mod Look
 pub mod View

@@ -7,7 +7,7 @@ ghost use Rattle.borrowed_json.specs.View.{view, items_view};
 ghost use Rattle.borrowed_json.specs.Look.{is_some_and, is_none_or, is_number, is_text, is_list, has_only, text_of, text_at, list_at, must_have, may_have, has_text, list_in, number_at, word_at, truth_at, is_string, is_truth, is_within, is_bounded, is_one_of};
 
 use crate::look::{as_array, as_bool, as_i64, as_object, as_str, as_u64, get};
-use json::Value;
+use crate::tree::{Member, Value};
 
 // ---- single values
 
@@ -280,7 +280,7 @@ pub fn has_only(value: &Value<'_>, names: &[&str]) -> bool
     }
 }
 
-fn are_named(members: &[(&str, Value<'_>)], names: &[&str]) -> bool
+fn are_named(members: &[Member<'_>], names: &[&str]) -> bool
     ensures { result ≡ list_all (λ m. list_any (λ s. bytes_eq m.0.now s.now) names.now) members.now }
 {
     members.iter().all(|member| is_any(member.0, names))

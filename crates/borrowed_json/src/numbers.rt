@@ -1,14 +1,11 @@
-//! The numbers of a text: which ones there are, and that all are in range.
+//! The numbers of a text.
 
 ghost use Rattle.std.specs.Prelude.{◌≡◌, ◌==◌, ◌<◌, IfSome, IsTrue, Some, false, length, option_map, slice_index, true};
 ghost use Rattle.serde_json.specs.Data.{unsigned};
 ghost use Rattle.serde_json.specs.Read.{float_of, number_from, number_of};
 ghost use Rattle.serde_json.specs.View.{number_view};
-ghost use Rattle.json.specs.Value.{items_view, members_view, value_view};
-ghost use Rattle.borrowed_json.specs.InRange.{are_in_range, is_in_range, items_in_range};
 
 use fast_float::Numeral;
-use json::Value;
 use serde_json::Number;
 
 /// The number that a number's text says. None if no float is that large. Most are digits, and need no search
@@ -91,43 +88,4 @@ fn nearest(negative: bool, numeral: &Numeral<'_>) -> Option<Number>
     ensures { option_map number_view result ≡ float_of negative numeral.now }
 {
     Number::from_f64(numeral.to_float::<f64>(negative))
-}
-
-/// Whether each number in the value is in range.
-#[cycle(in_range)]
-pub(crate) fn is_in_range(value: &Value<'_>) -> bool
-    ensures { result ≡ is_in_range (value_view value.now) }
-{
-    match value {
-        Value::Number(text) => number_of(text).is_some(),
-        Value::Array(items) => items_in_range(items),
-        Value::Object(members) => are_in_range(members),
-        Value::Null | Value::Bool(_) | Value::String(_) => true,
-    }
-}
-
-/// Whether all numbers in these items are in range.
-#[cycle(in_range)]
-fn items_in_range(items: &Vec<Value<'_>>) -> bool
-    ensures { result ≡ items_in_range (items_view items.now.items) }
-{
-    for item in items {
-        if !is_in_range(item) {
-            return false;
-        }
-    }
-    true
-}
-
-/// Whether all numbers in these members are in range.
-#[cycle(in_range)]
-fn are_in_range(members: &Vec<(&str, Value<'_>)>) -> bool
-    ensures { result ≡ are_in_range (members_view members.now.items) }
-{
-    for member in members {
-        if !is_in_range(&member.1) {
-            return false;
-        }
-    }
-    true
 }

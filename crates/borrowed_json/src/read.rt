@@ -4,8 +4,9 @@ ghost use Rattle.std.specs.Prelude.{◌≡◌, IfNone, IfOk, IfSome, IsUtf8, Non
 ghost use Rattle.serde_json.specs.Read.{read};
 ghost use Rattle.borrowed_json.specs.View.{view};
 
-use crate::numbers::is_in_range;
-use json::{Error, Reader, Scratch, Value};
+use crate::build::{Unread, next_value};
+use crate::tree::{Scratch, Value};
+use json::Reader;
 use sleep_base::Mem;
 use std::alloc::Global;
 
@@ -14,7 +15,7 @@ const MAX_DEPTH: usize = 127;
 
 /// The value that the bytes are. None exactly if `serde_json` reads none.
 ///
-/// The scratch stores the texts with escapes, and is lent for as long as the value is.
+/// The scratch stores what the value consists of, and is lent for as long as the value is.
 ///
 /// `Mem`: memory ran out.
 pub fn read_value<'a>(
@@ -40,16 +41,14 @@ fn read_text<'a>(
     ensures read { IfOk result (λ o. IfSome o (λ v. read text.now ≡ Some (view v))) }
     ensures none { IfOk result (λ o. IfNone o (read text.now ≡ None)) }
 {
-    let mut reader = Reader::new(text, scratch)?;
-    let value = match Value::read(alloc, &mut reader, MAX_DEPTH) {
+    let Scratch { texts, arena } = scratch;
+    let mut reader = Reader::new(text, texts)?;
+    let value = match next_value(alloc, &mut reader, arena, MAX_DEPTH) {
         Ok(value) => value,
-        Err(Error::OutOfMemory) => return Err(Mem),
-        Err(_) => return Ok(None),
+        Err(Unread::Mem) => return Err(Mem),
+        Err(Unread::Invalid) => return Ok(None),
     };
     if reader.next().is_some() {
-        return Ok(None);
-    }
-    if !is_in_range(&value) {
         return Ok(None);
     }
     Ok(Some(value))

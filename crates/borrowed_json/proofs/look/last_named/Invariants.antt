@@ -1,0 +1,11 @@
+-- The invariant of the loop of `last_named`: no member that was passed has the name.
+use Rattle.std.proofs.Common.{◌≡◌, ◌≤◌, length, take}
+use Rattle.serde_json.specs.Find.{get_member}
+use Rattle.borrowed_json.specs.View.{members_view}
+use Rattle.borrowed_json.proofs.look.last_named.Given as goal
+
+abbrev pub invariant-loop-left : goal.invariant-loop-left
+invariant-loop-left l = (get_member l.name (members_view l.members) ≡ get_member l.name (members_view (take l.left l.members))) × (l.left ≤ length l.members)
+
+abbrev pub decreases-loop-left : goal.decreases-loop-left
+decreases-loop-left l = l.left
