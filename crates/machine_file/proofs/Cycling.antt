@@ -83,7 +83,8 @@ module _ (ps : List (Option ℕ)) (after : EachAfterParent 0 ps) (ls : List Link
 
 -- ---- links that are made at once
 
-older : (ps : List (Option ℕ)) (later ls : List Link) → AreLinks ps (later ++ ls) → AreLinks ps ls
+-- those before are links that may be added, too
+pub older : (ps : List (Option ℕ)) (later ls : List Link) → AreLinks ps (later ++ ls) → AreLinks ps ls
 older ps [] ls h = h
 older ps (l ∷ later) ls h = older ps later ls h.4
 

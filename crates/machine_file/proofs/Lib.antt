@@ -2,6 +2,7 @@
 mod Keeping
 mod KeptAnswers
 mod KeptLinks
+mod Tying
 pub mod Cycling
 pub mod Replying
 pub mod Passed

@@ -17,7 +17,7 @@ ghost use Rattle.file_rules.specs.ValidFiles.{broken_cycle, broken_devices, brok
 
 use crate::fault::Stop;
 use crate::reading::scripts::member_of;
-use crate::rules::cycles::{Linking, linking_with};
+use crate::rules::cycles::{Added, Linking, linking_with, made_at_once};
 use borrowed_json::{Value, has_text, may_be_one_of, text_of};
 use file_rules::{
     Known, Member, NamedDevices, ends_in, has_link_members, is_second, items, link_states,
@@ -99,8 +99,38 @@ pub(crate) fn links_of_file(
     )
 }
 
-/// Adds these links, of which each is between two devices.
+/// Adds these links, of which each is between two devices: mostly all at once.
 pub(crate) fn tied_in(
+    alloc: Global,
+    tree: &Value<'_>,
+    known: &Known<'_>,
+    links: Vec<Link>,
+) -> Result<Linking, Stop>
+    requires form { broken_form (view tree.now) ≡ None }
+    requires devices { broken_devices (view tree.now) ≡ None }
+    requires loose { loose_link (view tree.now) ≡ None }
+    requires knows { Knows known.now (view tree.now) }
+    requires links { links.items ≡ whole_links (view tree.now) }
+    ensures links { IfOk result (λ l. l.links.items ≡ whole_links (view tree.now)) }
+    ensures added { IfOk result (λ l. l.added.links ≡ record { parents = parents_of (whole_devices (view tree.now)); links = reverse (whole_links (view tree.now)) }) }
+    ensures ends { IfOk result (λ _. broken_ends (view tree.now) ≡ None) }
+    ensures cycle { IfOk result (λ _. broken_cycle (view tree.now) ≡ None) }
+    ensures err { IfErr result (StopsUnless (keeps_rules (view tree.now))) }
+{
+    match made_at_once(alloc, tree, known, &links)? {
+        Some(made) => Ok(Linking {
+            links,
+            added: Added {
+                links: made,
+                cycle: None,
+            },
+        }),
+        None => tied_in_turn(alloc, tree, known, links),
+    }
+}
+
+/// Adds these links, which cannot all be made at once.
+fn tied_in_turn(
     alloc: Global,
     tree: &Value<'_>,
     known: &Known<'_>,

@@ -1,11 +1,12 @@
 //! The links between the devices of a file, and the first that closes a cycle.
 
-ghost use Rattle.std.specs.Prelude.{◌≡◌, ◌≤◌, [], map, reverse, length, position, bytes_eq, codes, IfOk, None};
+ghost use Rattle.std.specs.Prelude.{◌≡◌, ◌≤◌, [], map, reverse, length, position, bytes_eq, codes, IfOk, IfSome, None};
 ghost use Rattle.borrowed_json.specs.View.{view};
 ghost use Rattle.file_rules.specs.Spelled.{index_among};
 ghost use Rattle.sleep_model.specs.Order.{EachAfterParent, parents_of};
 ghost use Rattle.borrowed_json.specs.Look.{list_in};
-ghost use Rattle.file_rules.specs.Devices.{whole_devices, whole_links, closes_no_cycle};
+ghost use Rattle.file_rules.specs.Devices.{whole_devices, whole_links, closes_no_cycle, loose_link};
+ghost use Rattle.file_rules.specs.ValidFiles.{broken_cycle, broken_devices, broken_ends};
 ghost use Rattle.file_rules.specs.Joined.{AreJoined};
 ghost use Rattle.file_rules.specs.Places.{first_not_after};
 ghost use Rattle.file_rules.specs.Fresh.{AreFresh, closes_nothing};
@@ -147,6 +148,26 @@ pub(crate) fn linking_with(
     let parents = parents_of(alloc, known.devices.all())?;
     let added = add_links(alloc, &parents, &links)?;
     Ok(Linking { links, added })
+}
+
+/// The links of a file, if they can be made at once: then no rule on their ends and on cycles is broken.
+pub(crate) fn made_at_once(
+    alloc: Global,
+    _tree: &Value<'_>,
+    known: &Known<'_>,
+    links: &[Link],
+) -> Result<Option<Links>, Mem>
+    requires devices { broken_devices (view _tree.now) ≡ None }
+    requires loose { loose_link (view _tree.now) ≡ None }
+    requires knows { Knows known.now (view _tree.now) }
+    requires links { links.now ≡ whole_links (view _tree.now) }
+    ensures made { IfOk result (λ o. IfSome o (λ l. l ≡ record { parents = parents_of (whole_devices (view _tree.now)); links = reverse (whole_links (view _tree.now)) })) }
+    ensures ends { IfOk result (λ o. IfSome o (λ _. broken_ends (view _tree.now) ≡ None)) }
+    ensures cycle { IfOk result (λ o. IfSome o (λ _. broken_cycle (view _tree.now) ≡ None)) }
+{
+    let parents = parents_of(alloc, known.devices.all())?;
+    let made = Links::with_links(alloc, &parents, links)?;
+    Ok(made)
 }
 
 fn links_in(alloc: Global, tree: &Value<'_>, places: &[EndNumbers]) -> Result<Vec<Link>, Mem>
