@@ -28,9 +28,20 @@ impl<V: Booked> LockTable<V> {
         ensures { IfOk result (λ locks. (first_of locks.own ≡ values.items) × (locks.own.me.0.next ≡ 0) × (locks.own.me.0.known ≡ [])) }
     {
         let words = vec![in alloc; 0; values.len()]?;
+        let locks = LockTable::of_words(alloc, words.as_slice(), values);
+        drop(words);
+        locks
+    }
+
+    /// A table with no pass yet, over these words, of which each value has one that is 0.
+    fn of_words(alloc: Global, words: &[u64], values: Vec<V>) -> Result<LockTable<V>, Mem>
+        requires some { 1 ≤ vec_len values }
+        requires words { words.now ≡ replicate (vec_len values) 0 }
+        ensures { IfOk result (λ locks. (first_of locks.own ≡ values.items) × (locks.own.me.0.next ≡ 0) × (locks.own.me.0.known ≡ [])) }
+    {
         let about = Snapshot::of(&values);
         let slots = slotted(alloc, values)?;
-        let Ok((cells, own)) = Table::new(alloc, words.as_slice(), slots, &about) else {
+        let Ok((cells, own)) = Table::new(alloc, words, slots, &about) else {
             return Err(Mem);
         };
         Ok(LockTable { cells, own })

@@ -1,7 +1,0 @@
--- Proof that `LockTable::empty` meets what `new` requires.
-use Rattle.std.proofs.Common.{rules}
-use Rattle.turn_lock.proofs.Invariance.{opens}
-use Rattle.turn_lock.proofs.table.LockTable.empty.Goals as goal
-
-pub new-requires : goal.new-requires
-new-requires g c = rw (c.in_ok-slots.ensures, c.of-about.ensures) (opens g.V.Booked.root g.V.Booked.entries c.args.values.items c.as_slice.result.now (search rules))
