@@ -1,5 +1,6 @@
 -- When a run is idle, and how it ends.
 use Rattle.std.proofs.Common.{◌≡◌, ◌≤◌, ◌<◌, ◌+◌, ◌++◌, ◌∙◌, ◌⊎◌, inl, inr, ℕ, zero, suc, Bool, true, false, not, ◌&&◌, ◌||◌, List, [], ◌∷◌, length, reverse, drop, Option, Some, None, is_none, slice_get, Result, Ok, Err, refl, sym, ap, ap₂, subst, cond, append_assoc, arith}
+use Rattle.std.proofs.lemmas.Bool.Decides.{nat_tests}
 use Rattle.std.specs.List.{list_all}
 use Rattle.std.proofs.lemmas.List.{length-reverse, length-set, length-replicate, drop_all}
 use Rattle.sleep_model.specs.declared.entry.Actor.{Actor}
@@ -21,12 +22,13 @@ use Rattle.sleep_model.specs.Attempt.{attempt_due}
 use Rattle.sleep_model.specs.Due.{due, own_due, have_all_exited}
 use Rattle.sleep_model.specs.Fits.{fits_stats}
 use Rattle.sleep_model.specs.Freezer.{freezing}
-use Rattle.sleep_model.specs.Legal.{IsLegalLog, IsFinishedLog, IsStuckLog, is_enabled, next_time, none_enabled, put_waiting, waiting, waiting_from}
+use Rattle.sleep_model.specs.Legal.{IsLegalLog, IsFinishedLog, IsStuckLog, is_enabled, next_expiry, next_time, none_enabled, none_expires, put_waiting, sooner, waiting, waiting_from}
 use Rattle.sleep_model.specs.Merge.{merge}
 use Rattle.sleep_model.specs.Numbers.{time_of}
 use Rattle.sleep_model.specs.Path.{maker, is_actor}
 use Rattle.sleep_model.specs.Places.{places}
 use Rattle.sleep_model.specs.Scripts.{entry_steps}
+use Rattle.sleep_model.specs.Sources.{expiry, has_expired}
 use Rattle.sleep_model.specs.Positions.{PositionEffect, positions, positions_after, position_at, position_effect, first_position}
 use Rattle.sleep_model.specs.Steps.{position_due, task_due}
 use Rattle.sleep_state.specs.JournalRooms.{entries}
@@ -79,6 +81,21 @@ try_then first second third true true h g = omega (arith, h, g)
 try_then first second third false true h g = omega (arith, g, made_same first second h)
 try_then first second third true false h g = omega (arith, h, made_same second third g)
 try_then first second third false false h g = same_then first second third h g
+
+-- ---- expiries
+
+-- neither of two moments has come if the sooner one has not
+not_sooner : (a b : Option ℕ) (time : ℕ) → has_expired (sooner a b) time ≡ false → (has_expired a time ≡ false) × (has_expired b time ≡ false)
+not_sooner None b time h = (refl, h)
+not_sooner (Some a) None time h = (h, refl)
+not_sooner (Some a) (Some b) time h = (grind (arith, nat_tests), grind (arith, nat_tests))
+
+-- no source is to expire if the least expiry has not come
+pub none_due : (n : ℕ) (of : ℕ → List Entry) (time : ℕ) → has_expired (next_expiry n of) time ≡ false → none_expires n of time ≡ true
+none_due zero of time h = refl
+none_due (suc n) of time h =
+    let both = not_sooner (expiry (of n)) (next_expiry n of) time h in
+    ap₂ (λ (x y : Bool). not x && y) both.0 (none_due n of time both.1)
 
 -- ---- nobody goes on
 

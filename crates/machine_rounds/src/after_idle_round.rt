@@ -79,6 +79,14 @@ fn wake_waiters(core: &Core<'_>, waiters: &mut Waiters, is_due: bool) {
     wake_sleepers(core, waiters);
 }
 
+/// Whether the least expiry of the sources, if there is one, is not later than that moment.
+fn is_due(soonest: Option<u64>, to: u64) -> bool {
+    match soonest {
+        Some(at) => at <= to,
+        None => false,
+    }
+}
+
 impl<'m> Run<'m> {
     ghost use Rattle.std.specs.Prelude.{◌≡◌, ◌<◌, true, IfOk, OnOk, IfErr};
     ghost use Rattle.std.specs.List.{list_all};
@@ -89,18 +97,17 @@ impl<'m> Run<'m> {
     ghost use Rattle.running_laws.specs.Running.{histories, journal_histories};
     ghost use Rattle.machine_rounds.specs.Runs.{IsClosed, IsHalted, IsLastLook, IsAfterIdleRound, IsAtEnd, EndsSo, Fails, IsRefused, IsRun, entries_made};
 
-    /// Wakes whoever may wait for the moment to which time has jumped.
-    fn wake_for_time(&mut self)
+    /// Wakes whoever may wait for the moment to which time has jumped, a timer among them or not.
+    fn wake_for_time(&mut self, is_due: bool)
         ensures { self.new ≡ self.old }
     {
-        let is_due = self.expired_source().is_some();
         wake_waiters(self.seated.core(), &mut self.waiters, is_due);
     }
 
     /// Time jumps to the next pending moment, if nobody can make anything by the word that was looked at
     /// last. A run makes so few entries that the clock and the ticks of stamps stay in their range. `Mem` if
-    /// there is no memory.
-    fn jump(&mut self, word: EventNow, to: u64) -> Result<(), RunFault>
+    /// there is no memory. A timer is due then, or none.
+    fn jump(&mut self, word: EventNow, to: u64, is_due: bool) -> Result<(), RunFault>
         requires least { JumpStep self.old.machine (entries self.old.journal) (histories self.old.sources) word to }
         requires seen { IsLastLook self.old word }
         requires later { time_of (entries self.old.journal) < to }
@@ -110,7 +117,7 @@ impl<'m> Run<'m> {
     {
         moments_are_ranged(to);
         self.floor = self.seated.jump(word, to, self.floor)?;
-        self.wake_for_time();
+        self.wake_for_time(is_due);
         Ok(())
     }
 
@@ -121,15 +128,16 @@ impl<'m> Run<'m> {
         ensures after { IsAfterIdleRound self.old self.new result }
     {
         let word = self.look(rt);
-        if self.go_by(rt, word)? {
+        let soonest = self.next_expiry();
+        if self.go_by(rt, word, soonest)? {
             return Ok(None);
         }
         if self.is_whole() {
             return Ok(Some(EndOfRun::Finished(word)));
         }
-        match self.next_time() {
+        match self.next_time(soonest) {
             Some(to) => {
-                self.jump(word, to)?;
+                self.jump(word, to, is_due(soonest, to))?;
                 Ok(None)
             }
             None => Ok(Some(EndOfRun::Stuck(word))),

@@ -13,7 +13,7 @@ impl<'m> Run<'m> {
     ghost use Rattle.sleep_model.specs.declared.entry.Actor.TheVariants.{Script, Dev};
     ghost use Rattle.sleep_model.specs.Calls.{calls_due};
     ghost use Rattle.sleep_model.specs.Due.{due};
-    ghost use Rattle.sleep_model.specs.Legal.{is_enabled, is_made, none_enabled, none_expires};
+    ghost use Rattle.sleep_model.specs.Legal.{is_enabled, is_made, next_expiry, none_enabled, none_expires};
     ghost use Rattle.sleep_model.specs.Numbers.{time_of};
     ghost use Rattle.sleep_model.specs.Sources.{expiry, has_expired};
     ghost use Rattle.sleep_state.specs.JournalRooms.{entries};
@@ -92,8 +92,9 @@ impl<'m> Run<'m> {
         }
     }
 
-    /// The first source whose event in progress is to end now.
-    pub(crate) fn expired_source(&self) -> Option<u32>
+    /// The first source whose event in progress is to end now, each source being asked.
+    #[inline(never)]
+    fn expired_source(&self) -> Option<u32>
         ensures there { IfSome result (λ s. s ≤ length self.now.machine.sources) }
         ensures due { IfSome result (λ s. has_expired (expiry (histories self.now.sources s)) (time_of (entries self.now.journal)) ≡ true) }
         ensures none { IfNone result (none_expires (length self.now.machine.sources + 1) (histories self.now.sources) (time_of (entries self.now.journal)) ≡ true) }
@@ -104,6 +105,20 @@ impl<'m> Run<'m> {
             }
         }
         None
+    }
+
+    /// The first source whose event in progress is to end now, if `soonest` is their least expiry. Most often
+    /// none is due, and so none is asked.
+    fn first_expired(&self, soonest: Option<u64>) -> Option<u32>
+        requires { soonest ≡ next_expiry (length self.now.machine.sources + 1) (histories self.now.sources) }
+        ensures there { IfSome result (λ s. s ≤ length self.now.machine.sources) }
+        ensures due { IfSome result (λ s. has_expired (expiry (histories self.now.sources s)) (time_of (entries self.now.journal)) ≡ true) }
+        ensures none { IfNone result (none_expires (length self.now.machine.sources + 1) (histories self.now.sources) (time_of (entries self.now.journal)) ≡ true) }
+    {
+        match soonest {
+            Some(at) if at <= self.time() => self.expired_source(),
+            _ => None,
+        }
     }
 
     /// A turn of an actor that has made its calls and of which something is due, by the word that was looked
@@ -155,9 +170,15 @@ impl<'m> Run<'m> {
     }
 
     /// The next entry of the first who can go on by the word that was looked at last, if anybody can. All
-    /// actors are asked again after it. Whether it was made.
-    pub(crate) fn go_by<R: Wait>(&mut self, rt: &R, word: EventNow) -> Result<bool, RunFault>
-        requires { IsLastLook self.old word }
+    /// actors are asked again after it. Whether it was made. `soonest` is the least expiry of the sources.
+    pub(crate) fn go_by<R: Wait>(
+        &mut self,
+        rt: &R,
+        word: EventNow,
+        soonest: Option<u64>,
+    ) -> Result<bool, RunFault>
+        requires seen { IsLastLook self.old word }
+        requires soonest { soonest ≡ next_expiry (length self.old.machine.sources + 1) (histories self.old.sources) }
         ensures machine { self.new.machine ≡ self.old.machine }
         ensures after { AfterGoing self.old self.new word result }
     {
@@ -166,7 +187,7 @@ impl<'m> Run<'m> {
             self.act_by(rt, who, word)?;
             return Ok(true);
         }
-        if let Some(source) = self.expired_source() {
+        if let Some(source) = self.first_expired(soonest) {
             self.waiters.wake_all();
             self.expire(rt, source)?;
             return Ok(true);

@@ -71,7 +71,7 @@ impl<'m> Run<'m> {
     }
 
     /// The least expiry of the sources.
-    fn next_expiry(&self) -> Option<u64>
+    pub(crate) fn next_expiry(&self) -> Option<u64>
         ensures { result ≡ next_expiry (length self.now.machine.sources + 1) (histories self.now.sources) }
     {
         let mut next = None;
@@ -81,14 +81,15 @@ impl<'m> Run<'m> {
         next
     }
 
-    /// The next pending moment in ms, if there is one.
-    pub(crate) fn next_time(&self) -> Option<u64>
+    /// The next pending moment in ms, if there is one. `soonest` is the least expiry of the sources.
+    pub(crate) fn next_time(&self, soonest: Option<u64>) -> Option<u64>
+        requires { soonest ≡ next_expiry (length self.now.machine.sources + 1) (histories self.now.sources) }
         ensures is { result ≡ next_time self.now.machine (entries self.now.journal) (histories self.now.sources) }
         // If nobody can make anything and no moment is pending no attempt is open.
         ensures closed { (word : EventNow) → result ≡ None → nobody_enabled self.now word ≡ true → maker (entries self.now.journal) ≡ None }
         // If nobody can make anything and the run is not over it is later than now.
         ensures ahead { (word : EventNow) → nobody_enabled self.now word ≡ true → is_over self.now word ≡ false → IfSome result (λ at. time_of (entries self.now.journal) < at) }
     {
-        sooner(self.core().next_time(), self.next_expiry())
+        sooner(self.core().next_time(), soonest)
     }
 }

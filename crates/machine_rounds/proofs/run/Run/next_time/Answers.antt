@@ -14,8 +14,8 @@ pub returns-clause-is : goal.returns-clause-is
 returns-clause-is c =
     let s = c.args.self.now in
     c.sooner.ensures
-    ∙ (ap (λ (o : Option ℕ). sooner o c.next_expiry.result) (c.next_time.ensures ∙ ap (λ (x : CoreState). journal_time x.machine (entries x.past)) c.core.ensures.is)
-    ∙ ap (sooner (journal_time s.machine (entries s.journal))) c.next_expiry.ensures)
+    ∙ (ap (λ (o : Option ℕ). sooner o c.args.soonest) (c.next_time.ensures ∙ ap (λ (x : CoreState). journal_time x.machine (entries x.past)) c.core.ensures.is)
+    ∙ ap (sooner (journal_time s.machine (entries s.journal))) c.requires)
 
 pub returns-clause-closed : goal.returns-clause-closed
 returns-clause-closed c word none rests =
