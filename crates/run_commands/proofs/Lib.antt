@@ -1,3 +1,4 @@
 -- The lemmas of this crate.
 mod Filling
 mod Generating
+mod Writing

@@ -1,5 +1,6 @@
 -- What was read and written by the time that a run of a file, gen or soak ends (own).
 use Rattle.std.specs.Prelude.{◌≡◌, ℕ, Bool, true, false, List, string_bytes, Some, Result, Ok, Err}
+use Rattle.sleep_base.specs.declared.outside.Failed.{Failed}
 use Rattle.sleep_base.specs.Faults.{Rose}
 use Rattle.sleep_model.specs.declared.log.Log.{Log}
 use Rattle.sleep_model.specs.declared.log.LogEnd.{LogEnd}
@@ -80,6 +81,12 @@ pub record IsRunOf (bytes : List ℕ) (m : Machine) (log : Log) : Type 0 where
 abbrev pub GivesRun : List ℕ → Result Ran Ending → Type 0
 GivesRun bytes (Ok ran) = IsRunOf bytes ran.machine ran.log
 GivesRun bytes (Err ending) = Refuses (RefusesRun bytes) ending
+
+-- how the program ends once the text of a run, which was stuck or not, was written so
+abbrev pub ending_of : Result Unit Failed → Bool → Ending
+ending_of (Ok _) true = Stuck
+ending_of (Ok _) false = Done
+ending_of (Err _) stuck = WriteFault
 
 -- the text of a machine's log was written, or a prefix of it, or memory ran out before
 abbrev pub WritesText : Machine → Log → Stream → Stream → Ending → Type 0

@@ -3,14 +3,14 @@
 ghost use Rattle.std.specs.Prelude.{◌≡◌, ◌≤◌, length};
 ghost use Rattle.machine_rounds.specs.Runs.{Fails};
 ghost use Rattle.program_ending.specs.Streams.{stream, streams};
-ghost use Rattle.run_commands.specs.Endings.{GivesRun, IsEndingOfRun, IsFullNamed, RunEnded, WritesLog, WritesText};
+ghost use Rattle.run_commands.specs.Endings.{GivesRun, IsEndingOfRun, IsFullNamed, RunEnded, WritesLog, WritesText, ending_of};
 
 use crate::counts::is_stuck;
 use apart_log::{ApartLog, SlicedText};
 use log_text::LogText;
 use machine_file::{MachineFault, ReadMachine, read_machine};
 use program_ending::{Ending, MOST_MACHINE, Refusal, read_input};
-use sleep_base::{ByteSink, ByteSource};
+use sleep_base::{ByteSink, ByteSource, Failed};
 use sleep_model::{Log, Machine, Name};
 use sleep_run::{Gate, RunFault, run_machine};
 use std::alloc::Global;
@@ -76,19 +76,25 @@ fn run_of_bytes<R: Threads + Wait + Sync, G: Gate + Sync>(
     }
 }
 
+/// How the program ends once the text of a run, which was stuck or not, was written so.
+fn ending_of(written: Result<(), Failed>, stuck: bool) -> Ending
+    ensures { result ≡ ending_of written stuck }
+{
+    match written {
+        Ok(()) if stuck => Ending::Stuck,
+        Ok(()) => Ending::Done,
+        Err(_) => Ending::WriteFault,
+    }
+}
+
 /// Writes the text of a machine's log as it is put together. Ends as `write_whole`.
 fn write_text<K: ByteSink>(alloc: Global, out: &mut K, machine: &Machine, log: &Log) -> Ending
     ensures { WritesText machine.now log.now (stream (K.written out.old) (K.faults out.old)) (stream (K.written out.new) (K.faults out.new)) result }
 {
-    let text = match LogText::new(alloc, machine, log) {
-        Ok(text) => text,
-        Err(_) => return Ending::NoMemory,
+    let Ok(text) = LogText::new(alloc, machine, log) else {
+        return Ending::NoMemory;
     };
-    match text.write_to(out) {
-        Ok(()) if is_stuck(&log.end) => Ending::Stuck,
-        Ok(()) => Ending::Done,
-        Err(_) => Ending::WriteFault,
-    }
+    ending_of(text.write_to(out), is_stuck(&log.end))
 }
 
 /// Writes the log of a run as its text is put together: `Done`, or `Stuck` if the run was stuck. `NoMemory`
@@ -106,6 +112,25 @@ fn write_whole<K: ByteSink>(alloc: Global, out: &mut K, ran: Ran) -> Ending
     ending
 }
 
+/// Writes the text of a machine's log, which is made in slices on threads, one for each worker. Ends as
+/// `write_whole`.
+fn write_sliced_text<R: Threads + Sync, K: ByteSink>(
+    rt: &R,
+    alloc: Global,
+    out: &mut K,
+    machine: &Machine,
+    log: ApartLog,
+    workers: u8,
+) -> Ending
+    ensures { WritesText machine.now log (stream (K.written out.old) (K.faults out.old)) (stream (K.written out.new) (K.faults out.new)) result }
+{
+    let stuck = is_stuck(log.end());
+    let Ok(text) = SlicedText::new(rt, alloc, machine, log, workers) else {
+        return Ending::NoMemory;
+    };
+    ending_of(text.write_to(out), stuck)
+}
+
 /// Writes the log of a run, whose text is made in slices on threads, one for each worker. Ends as
 /// `write_whole`.
 fn write_slices<R: Threads + Sync, K: ByteSink>(
@@ -118,16 +143,9 @@ fn write_slices<R: Threads + Sync, K: ByteSink>(
     ensures { WritesLog ran (stream (K.written out.old) (K.faults out.old)) (stream (K.written out.new) (K.faults out.new)) result }
 {
     let Ran { machine, log } = ran;
-    let stuck = is_stuck(log.end());
-    let text = match SlicedText::new(rt, alloc, &machine, log, workers) {
-        Ok(text) => text,
-        Err(_) => return Ending::NoMemory,
-    };
-    match text.write_to(out) {
-        Ok(()) if stuck => Ending::Stuck,
-        Ok(()) => Ending::Done,
-        Err(_) => Ending::WriteFault,
-    }
+    let ending = write_sliced_text(rt, alloc, out, &machine, log, workers);
+    drop(machine);
+    ending
 }
 
 /// Writes the log of a run by this number of workers, who make its text in slices if that is worth their
