@@ -1,8 +1,8 @@
 //! What a call of the program gives.
 
-use sleep_base::{Mem, MemSink, MemSource};
+use sleep_base::{Mem, MemSink, MemSource, drop_for_mem};
 use sleep_commands::run_words;
-use std::alloc::Global;
+use std::alloc::{AllocError, Global};
 use std::sync::Wait;
 use std::thread::Threads;
 use trial_rows::{
@@ -118,27 +118,26 @@ impl Outcome {
     }
 
     /// What is told of its output by a line.
-    fn told(&self, alloc: Global, telling: Telling) -> Result<String, Mem> {
+    fn told(&self, alloc: Global, telling: Telling) -> Result<String, AllocError> {
         let (out, err) = (self.out(), self.err().len());
-        let text = match telling {
+        match telling {
             Telling::Lines | Telling::Rerun => {
                 let lines = lines(out);
-                format!(in alloc; "lines {lines} err {err}\n")?
+                format!(in alloc; "lines {lines} err {err}\n")
             }
             Telling::Steps => {
                 let (hard, wake) = (lines_with(out, " hard"), lines_with(out, " wake"));
-                format!(in alloc; "hard {hard} wake {wake} err {err}\n")?
+                format!(in alloc; "hard {hard} wake {wake} err {err}\n")
             }
             Telling::Sums => {
                 let (size, sum) = (out.len(), adler32(out));
-                format!(in alloc; "out {size} adler32 {sum} err {err}\n")?
+                format!(in alloc; "out {size} adler32 {sum} err {err}\n")
             }
             _ => {
                 let size = out.len();
-                format!(in alloc; "out {size} err {err}\n")?
+                format!(in alloc; "out {size} err {err}\n")
             }
-        };
-        Ok(text)
+        }
     }
 
     /// What is shown of its output.
@@ -159,17 +158,30 @@ impl Outcome {
         }
     }
 
-    /// The report of the row of that number.
-    pub(crate) fn report(&self, alloc: Global, end: RowEnd) -> Result<Vec<u8>, Mem> {
+    /// The line of a row before its texts.
+    fn head(&self, alloc: Global, end: RowEnd) -> Result<String, Mem> {
         let (number, status) = (end.number, self.status);
         let left = self.ends.source.left().len();
         let told = self.told(alloc, end.telling)?;
-        let head = format!(in alloc; "row {number} status {status} left {left} {told}")?;
-        let mut text = head.into_bytes();
-        text.extend_from_slice(self.shown(end.telling))?;
+        let head = format!(in alloc; "row {number} status {status} left {left} {told}");
+        drop(told);
+        Ok(head?)
+    }
+
+    /// Puts the texts of the row after its line.
+    fn add_texts(&self, text: &mut Vec<u8>, telling: Telling) -> Result<(), Mem> {
+        text.extend_from_slice(self.shown(telling))?;
         text.extend_from_slice(self.err())?;
         text.push(b'\n')?;
-        text.extend_from_slice(self.gate_line())?;
-        Ok(text)
+        Ok(text.extend_from_slice(self.gate_line())?)
+    }
+
+    /// The report of the row of that number.
+    pub(crate) fn report(&self, alloc: Global, end: RowEnd) -> Result<Vec<u8>, Mem> {
+        let mut text = self.head(alloc, end)?.into_bytes();
+        match self.add_texts(&mut text, end.telling) {
+            Ok(()) => Ok(text),
+            Err(_) => Err(drop_for_mem(text)),
+        }
     }
 }

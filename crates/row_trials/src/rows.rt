@@ -3,7 +3,7 @@
 use crate::calls::told_call;
 use crate::command::told_command;
 use crate::outcome::Outcome;
-use sleep_base::{ByteSink, Mem, write_all};
+use sleep_base::{ByteSink, Mem, drop_for_mem, write_all};
 use std::alloc::Global;
 use std::sync::Wait;
 use std::thread::Threads;
@@ -51,11 +51,24 @@ fn with_output<R: Threads + Wait + Sync>(
     text: Vec<u8>,
 ) -> Result<Vec<u8>, Mem> {
     let mut text = text;
-    let outcome = Outcome::new(rt, alloc, row)?;
+    let Ok(outcome) = Outcome::new(rt, alloc, row) else {
+        return Err(drop_for_mem(text));
+    };
     let added = text.extend_from_slice(outcome.out());
     drop(outcome);
-    added?;
-    Ok(text)
+    match added {
+        Ok(()) => Ok(text),
+        Err(_) => Err(drop_for_mem(text)),
+    }
+}
+
+/// A line of these bytes.
+fn line_of(alloc: Global, bytes: &[u8]) -> Result<Vec<u8>, Mem> {
+    let mut line = bytes.to_vec(alloc)?;
+    match line.push(b'\n') {
+        Ok(()) => Ok(line),
+        Err(_) => Err(drop_for_mem(line)),
+    }
 }
 
 /// What `check` says of a row's input and the log that the program writes for it.
@@ -65,10 +78,12 @@ fn told_verdict<R: Threads + Wait + Sync>(
     row: Row,
     end: RowEnd,
 ) -> Result<Vec<u8>, Mem> {
-    let mut file = row.input.to_vec(alloc)?;
-    file.push(b'\n')?;
+    let Ok(file) = line_of(alloc, &row.input) else {
+        return Err(drop_for_mem(row));
+    };
     let input = with_output(rt, alloc, row, file)?;
-    told_outcome(rt, alloc, Row::of(alloc, &["sleep", "check"], input)?, end)
+    let checked = Row::of(alloc, &["sleep", "check"], input)?;
+    told_outcome(rt, alloc, checked, end)
 }
 
 /// What a run by one worker writes for the machine that the program writes for a row.
