@@ -8,8 +8,8 @@
 //! entries. A source is full only if the machine's calls may fill it, and a call on a full one is never
 //! answered as out of memory. By the clauses of `Run::new`, `to_end`.
 //!
-//! Begin reading in `src/rounds.rt`, `src/bursts.rt`, `src/after_idle_round.rt`, `src/going.rt`,
-//! `specs/Runs.antt`.
+//! Begin reading in `src/rounds.rt`, `src/tries.rt`, `src/bursts.rt`, `src/after_idle_round.rt`,
+//! `src/going.rt`, `specs/Runs.antt`.
 #![tactic(auto)]
 
 mod after_idle_round;
@@ -21,6 +21,7 @@ mod pace;
 mod rounds;
 mod run;
 mod tasks;
+mod tries;
 
 pub use run::Run;
 pub use world_workers::RunFault;

@@ -61,10 +61,11 @@ impl<'m> Run<'m> {
         }
     }
 
-    /// The try of an actor, which is not asked again until something may have ended its wait. Whether entries
-    /// were made.
-    #[inline(always)]
-    fn ask_once<R: Wait>(&mut self, rt: &R, who: Actor) -> Result<bool, RunFault>
+    /// The try of an actor by the rules for all actors. It is not asked again until something may have ended
+    /// its wait. Whether entries were made. It stays out of line, so that the tries that come often do not
+    /// pay for it.
+    #[inline(never)]
+    pub(crate) fn ask_once<R: Wait>(&mut self, rt: &R, who: Actor) -> Result<bool, RunFault>
         requires { IsActor self.old.machine who }
         ensures machine { self.new.machine ≡ self.old.machine }
         ensures after { AfterTry self.old self.new result }
@@ -101,15 +102,15 @@ impl<'m> Run<'m> {
 
     /// The first device from a number on that may have something to do.
     #[inline(always)]
-    fn next_device(&self, from: u32) -> Option<u32>
+    pub(crate) fn next_device(&self, from: u32) -> Option<u32>
         ensures { IfSome result (λ n. n < length self.now.machine.devices) }
     {
         let devices = self.machine.devices.len() as u32;
         self.waiters.next_device(from, devices)
     }
 
-    /// The tries of the scripts that may have something to do, in order. If one of them is the only actor that
-    /// may, it is asked on: each such try is a round of its own. Whether entries were made.
+    /// The tries of the scripts that may have something to do, in order. If one of them is the only actor
+    /// that may, it is asked on: each such try is a round of its own. Whether entries were made.
     #[inline(always)]
     fn ask_scripts<R: Wait>(&mut self, rt: &R) -> Result<bool, RunFault>
         ensures machine { self.new.machine ≡ self.old.machine }
@@ -122,7 +123,7 @@ impl<'m> Run<'m> {
                 break;
             };
             let who = Actor::Script(script);
-            made = self.ask_once(rt, who)? | made;
+            made = self.ask_script(rt, script)? | made;
             if !self.waiters.is_alone(who) {
                 next = self.next_script(script.saturating_add(1));
             }
@@ -130,8 +131,8 @@ impl<'m> Run<'m> {
         Ok(made)
     }
 
-    /// The tries of the autosleep work, while it may have something to do and nobody else. Whether entries were
-    /// made.
+    /// The tries of the autosleep work, while it may have something to do and nobody else. Whether entries
+    /// were made.
     #[inline(never)]
     fn ask_auto<R: Wait>(&mut self, rt: &R) -> Result<bool, RunFault>
         ensures machine { self.new.machine ≡ self.old.machine }
@@ -143,24 +144,6 @@ impl<'m> Run<'m> {
             if !self.waiters.is_alone(Actor::Auto) {
                 break;
             }
-        }
-        Ok(made)
-    }
-
-    /// The tries of the devices that may have something to do, in order. Whether entries were made.
-    #[inline(always)]
-    fn ask_devices<R: Wait>(&mut self, rt: &R) -> Result<bool, RunFault>
-        ensures machine { self.new.machine ≡ self.old.machine }
-        ensures after { AfterTry self.old self.new result }
-    {
-        let mut made = false;
-        let mut from = 0;
-        for _ in 0..u64::MAX {
-            let Some(device) = self.next_device(from) else {
-                return Ok(made);
-            };
-            made = self.ask_once(rt, Actor::Dev(device))? | made;
-            from = device.saturating_add(1);
         }
         Ok(made)
     }

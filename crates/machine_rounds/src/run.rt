@@ -165,6 +165,7 @@ impl<'m> Run<'m> {
     }
 
     /// Looks at the event word, at or after all that was made.
+    #[inline(always)]
     pub(crate) fn look<R: Wait>(&mut self, rt: &R) -> EventNow
         ensures same { MadeNothing self.old self.new }
         ensures seen { IsLastLook self.new result }

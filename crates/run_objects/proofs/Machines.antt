@@ -1,21 +1,26 @@
 -- A look, a turn and a jump leave each word of the journal one that the seat looked at.
-use Rattle.std.proofs.Common.{◌≡◌, ◌≤◌, ℕ, Bool, true, false, ◌==◌, ◌||◌, List, ◌∷◌, Some, Result, Ok, Err, refl, sym, subst, arith}
+use Rattle.std.proofs.Common.{◌≡◌, ◌≤◌, ℕ, Bool, true, false, ◌==◌, ◌||◌, List, ◌∷◌, Some, Result, Ok, Err, IfOk, OnErr, refl, sym, subst, arith}
 use Rattle.std.specs.List.{list_any}
 use Rattle.std.proofs.lemmas.Bool.Decides.{nat_tests}
 use Rattle.sleep_model.specs.declared.entry.Actor.{Actor}
 use Rattle.sleep_model.specs.declared.entry.Actor.TheVariants as actor
 use Rattle.sleep_model.specs.declared.entry.JournalEntry.{JournalEntry}
+use Rattle.sleep_model.specs.declared.entry.Kind.{Kind}
 use Rattle.sleep_model.specs.declared.entry.Kind.TheVariants as kind
+use Rattle.sleep_model.specs.declared.progress.Due.TheVariants.{Makes}
 use Rattle.sleep_model.specs.declared.word.EventNow.{EventNow}
 use Rattle.sleep_model.specs.declared.word.Stamp.{Stamp}
+use Rattle.sleep_model.specs.Due.{due}
 use Rattle.sleep_model.specs.Merge.{is_word, is_word_step}
+use Rattle.sleep_model.specs.Path.{attempts}
 use Rattle.sleep_model.specs.Word.{position}
 use Rattle.event_word.specs.Looks.{GrewTo}
 use Rattle.event_word.specs.Seats.{IsLook, IsUnused, floor_of, looked_of}
+use Rattle.sleep_state.specs.JournalRooms.{entries}
 use Rattle.sleep_core.specs.declared.turns.CoreFault.{CoreFault}
 use Rattle.sleep_core.specs.declared.turns.CoreTurn.{CoreTurn}
 use Rattle.sleep_core.specs.declared.turns.CoreTurn.TheVariants.{Did, NotYet, Done}
-use Rattle.sleep_core.specs.Cores.{CoreState, made_entry}
+use Rattle.sleep_core.specs.Cores.{CoreState, core_after, made_entry, next_stamp}
 use Rattle.core_history.specs.Histories.{last_stamp}
 use Rattle.sleep_core.specs.Turned.{AfterTurn}
 use Rattle.run_laws.specs.ClosedOver.{has_position}
@@ -99,3 +104,11 @@ turned_by result old new who word floor kept seen newest after = record { seat =
     by (Ok (NotYet why)) t = stays t.1
     by (Ok Done) t = stays t.1
     by (Err fault) t = stays t.2
+
+-- the machine after an entry of an actor who makes no attempt, or without it
+pub made_own : (result : Result Stamp CoreFault) (old : SeatedCoreState) (new : CoreState) (who : Actor) (word : EventNow) (k : Kind) (floor : Stamp) → IsSeatedCore old → list_any (is_word word) (looked_of old.seat) ≡ true
+    → position word ≡ floor_of old.seat → due old.core.machine (entries old.core.past) who word ≡ Makes k
+    → IfOk result (λ stamp. (stamp ≡ next_stamp old.core.past floor word) × (new ≡ core_after old.core (made_entry old.core.past who word floor k))) → OnErr result (new ≡ old.core) → IsSeatedCore (record { core = new; seat = old.seat })
+made_own (Ok stamp) old new who word k floor kept seen newest makes did same =
+    turned_by (Ok (Did stamp k (attempts (entries new.past)))) old new who word floor kept seen newest (makes, did.1, did.0, refl)
+made_own (Err fault) old new who word k floor kept seen newest makes did same = subst (λ (c : CoreState). IsSeatedCore (record { core = c; seat = old.seat })) (sym same) kept

@@ -1,18 +1,21 @@
 //! The machine's core with the seat by which it looks at the event word.
 
-ghost use Rattle.std.specs.Prelude.{◌≡◌, ◌≤◌, ◌<◌, ◌+◌, ◌-◌, ◌^◌, [], true, Some, IfOk, IsSome, OnErr};
+ghost use Rattle.std.specs.Prelude.{◌≡◌, ◌≤◌, ◌<◌, ◌+◌, ◌-◌, ◌^◌, [], false, true, Some, IfOk, IsSome, OnErr};
 ghost use Rattle.std.specs.List.{list_any};
+ghost use Rattle.sleep_model.specs.declared.progress.Due.TheVariants.{Makes};
 ghost use Rattle.sleep_model.specs.declared.word.EventNow.{EventNow};
 ghost use Rattle.sleep_model.specs.Calls.{calls_due};
+ghost use Rattle.sleep_model.specs.Due.{due};
 ghost use Rattle.sleep_model.specs.Legal.{JournalPart};
 ghost use Rattle.sleep_model.specs.Merge.{is_word};
 ghost use Rattle.sleep_model.specs.Numbers.{time_of};
+ghost use Rattle.sleep_model.specs.Path.{is_actor, maker};
 ghost use Rattle.sleep_model.specs.Word.{position};
 ghost use Rattle.sleep_state.specs.JournalRooms.{entries};
 ghost use Rattle.event_word.specs.Looks.{GrewTo};
 ghost use Rattle.event_word.specs.Seats.{floor_of, looked_of, source_count};
-ghost use Rattle.sleep_core.specs.Cores.{IsActor, jump_entry, next_stamp, core_after};
-ghost use Rattle.core_history.specs.Histories.{last_stamp};
+ghost use Rattle.sleep_core.specs.Cores.{IsActor, jump_entry, made_entry, next_stamp, core_after};
+ghost use Rattle.core_history.specs.Histories.{IsOfDevice, IsOfNone, last_stamp};
 ghost use Rattle.sleep_core.specs.Turned.{AfterTurn};
 ghost use Rattle.run_objects.specs.Objects.{IsSeatedCore};
 
@@ -20,7 +23,7 @@ use crate::seen::SeenWord;
 use event_word::{EventTable, LookSeat, look_from};
 use sleep_base::Mem;
 use sleep_core::{Core, CoreFault, CoreTurn};
-use sleep_model::{Actor, EventNow, Journal, Stamp};
+use sleep_model::{Actor, EventNow, Journal, Kind, Stamp};
 use std::marker::Model;
 use std::sync::Wait;
 
@@ -79,6 +82,7 @@ impl<'m> SeatedCore<'m> {
     }
 
     /// Looks at the event word until its position is at least `floor`.
+    #[inline(always)]
     pub fn look<R: Wait>(&mut self, rt: &R, table: &EventTable, floor: u64) -> EventNow
         requires table { self.old.seat.table_id ≡ table.now.cells.shared.table_id }
         ensures core { self.new.core ≡ self.old.core }
@@ -146,6 +150,59 @@ impl<'m> SeatedCore<'m> {
     {
         let mut seen = SeenWord::new(word);
         self.core.turn(rt, &mut seen, who, calls, floor, now)
+    }
+
+    /// Makes the entry, of no device, that is due of an actor who makes no attempt, by the word that was looked
+    /// at last. Answers its stamp. `Mem` if it comes of the core; nothing has changed then.
+    #[inline(always)]
+    pub fn make_own<R: Wait>(
+        &mut self,
+        rt: &R,
+        who: Actor,
+        word: EventNow,
+        kind: Kind,
+        floor: Stamp,
+    ) -> Result<Stamp, CoreFault>
+        requires seen { list_any (is_word word) (looked_of self.old.seat) ≡ true }
+        requires newest { position word ≡ floor_of self.old.seat }
+        requires other { IsOfNone kind }
+        requires actor { IsActor self.old.core.machine who }
+        requires makes { is_actor who (maker (entries self.old.core.past)) ≡ false }
+        requires due { due self.old.core.machine (entries self.old.core.past) who word ≡ Makes kind }
+        ensures ok { IfOk result (λ stamp. (stamp ≡ next_stamp self.old.core.past floor word)
+            × (self.new.core ≡ core_after self.old.core (made_entry self.old.core.past who word floor kind))) }
+        ensures err { OnErr result (self.new.core ≡ self.old.core) }
+        ensures legal { JournalPart self.new.core.machine (entries self.new.core.past) }
+        ensures seat { self.new.seat ≡ self.old.seat }
+    {
+        self.core.make_own(rt, who, word, kind, floor)
+    }
+
+    /// Makes the entry of a device that is due of the actor, by the word that was looked at last. Answers its
+    /// stamp.
+    #[inline(always)]
+    pub fn make_of_device<R: Wait>(
+        &mut self,
+        rt: &R,
+        who: Actor,
+        word: EventNow,
+        kind: Kind,
+        calls: u32,
+        floor: Stamp,
+    ) -> Stamp
+        requires seen { list_any (is_word word) (looked_of self.old.seat) ≡ true }
+        requires newest { position word ≡ floor_of self.old.seat }
+        requires device { IsOfDevice kind }
+        requires actor { IsActor self.old.core.machine who }
+        requires due { due self.old.core.machine (entries self.old.core.past) who word ≡ Makes kind }
+        requires calls { calls ≡ calls_due self.old.core.machine who (entries self.old.core.past) }
+        ensures made { self.new.core ≡ core_after self.old.core (made_entry self.old.core.past who word floor kind) }
+        ensures stamp { result ≡ next_stamp self.old.core.past floor word }
+        ensures legal { JournalPart self.new.core.machine (entries self.new.core.past) }
+        ensures seat { self.new.seat ≡ self.old.seat }
+    {
+        let _ = calls;
+        self.core.make_of_device(rt, who, word, kind, floor)
     }
 
     /// Time jumps to `to` ms, later than now, as seen at the word that was looked at last. That the moment is

@@ -27,7 +27,7 @@ impl<'m> Core<'m> {
     /// What is due of an actor that sees this word, and that makes the open attempt or not. A walk over
     /// devices always has something to do, or waits, so that the stage after it is not asked.
     #[inline(always)]
-    pub(crate) fn due_of(&self, makes: bool, who: Actor, now: EventNow) -> Due
+    pub fn due_of(&self, makes: bool, who: Actor, now: EventNow) -> Due
         requires makes { makes ≡ is_actor who (maker (entries self.now.past)) }
         requires actor { IsActor self.now.machine who }
         ensures { result ≡ due self.now.machine (entries self.now.past) who now }

@@ -21,6 +21,7 @@ mod start;
 mod state;
 mod steps;
 mod tasks;
+mod turn_parts;
 mod turns;
 
 pub use state::Core;

@@ -22,10 +22,10 @@ impl<'m> Core<'m> {
         self.answered(What::Device(device, p))
     }
 
-    /// What the machine answers for a device in that phase of the open attempt. Most machines answer nothing at
-    /// all.
+    /// What the machine answers for a device in that phase of the open attempt. Most machines answer nothing
+    /// at all.
     #[inline(always)]
-    fn device_error(&self, p: Phase, device: u32) -> Option<Errno>
+    pub(crate) fn device_error(&self, p: Phase, device: u32) -> Option<Errno>
         ensures { result ≡ device_error self.now.machine (entries self.now.past) p device }
     {
         if self.machine().answers.len() > 0 {
@@ -74,6 +74,7 @@ impl<'m> Core<'m> {
     }
 
     /// A phase on the way down, at its walk.
+    #[inline(always)]
     pub(crate) fn down_due(&self, now: EventNow, p: Phase) -> Due
         requires { is_down p ≡ true }
         ensures { result ≡ down_due self.now.machine (entries self.now.past) now p (callback (entries self.now.past)) }
@@ -85,6 +86,7 @@ impl<'m> Core<'m> {
     }
 
     /// A phase on the way up, at its walk.
+    #[inline(always)]
     pub(crate) fn up_due(&self, p: Phase) -> Due
         requires { is_up p ≡ true }
         ensures { result ≡ up_due self.now.machine (entries self.now.past) p (callback (entries self.now.past)) }
@@ -150,16 +152,25 @@ impl<'m> Core<'m> {
         }
     }
 
+    /// An asynchronous device, by that state of its work.
+    #[inline(always)]
+    pub(crate) fn device_due_at(&self, now: EventNow, device: u32, work: AsyncWork) -> Due
+        requires { work ≡ async_work self.now.machine (entries self.now.past) device }
+        ensures { result ≡ device_due self.now.machine (entries self.now.past) now device work }
+    {
+        match work {
+            AsyncWork::Idle => Due::Waits(Why::NotScheduled),
+            AsyncWork::Scheduled(p) => self.scheduled_due(now, p, device),
+            AsyncWork::Inside(p) => Due::Makes(Kind::End(p, device, self.device_error(p, device))),
+        }
+    }
+
     /// An asynchronous device, by the state of its work.
     #[inline(always)]
     pub(crate) fn device_due(&self, now: EventNow, device: u32) -> Due
         ensures { result ≡ device_due self.now.machine (entries self.now.past) now device
             (async_work self.now.machine (entries self.now.past) device) }
     {
-        match self.board().work(device) {
-            AsyncWork::Idle => Due::Waits(Why::NotScheduled),
-            AsyncWork::Scheduled(p) => self.scheduled_due(now, p, device),
-            AsyncWork::Inside(p) => Due::Makes(Kind::End(p, device, self.device_error(p, device))),
-        }
+        self.device_due_at(now, device, self.board().work(device))
     }
 }

@@ -93,7 +93,7 @@ impl<'m> Core<'m> {
     }
 
     /// The number of the attempt that was begun last.
-    pub(crate) fn attempts(&self) -> u32
+    pub fn attempts(&self) -> u32
         ensures is { result ≡ attempts (entries self.now.past) }
         ensures few { result + 1 < 2 ^ 32 }
     {
@@ -109,7 +109,8 @@ impl<'m> Core<'m> {
     }
 
     /// Whether that actor makes the open attempt.
-    pub(crate) fn is_maker(&self, who: Actor) -> bool
+    #[inline(always)]
+    pub fn is_maker(&self, who: Actor) -> bool
         ensures { result ≡ is_actor who (maker (entries self.now.past)) }
     {
         is_actor(who, self.history.attempt().maker())

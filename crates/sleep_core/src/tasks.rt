@@ -1,7 +1,8 @@
 //! What a task, or the autosleep work, does next outside attempts of its own (`kernel/power/main.c`,
 //! `kernel/power/autosleep.c`).
 
-ghost use Rattle.std.specs.Prelude.{◌≡◌, ◌≤◌, ◌<◌, ◌^◌, length, slice_get, option_copied, Some};
+ghost use Rattle.std.specs.Prelude.{◌≡◌, ◌≤◌, ◌<◌, ◌^◌, length, slice_get, option_copied, Some, IfSome};
+ghost use Rattle.sleep_model.specs.declared.word.EventNow.{EventNow};
 ghost use Rattle.sleep_model.specs.Due.{script_due};
 ghost use Rattle.sleep_model.specs.Steps.{step_due, task_due};
 ghost use Rattle.sleep_state.specs.JournalRooms.{entries};
@@ -126,8 +127,8 @@ impl<'m> Core<'m> {
         }
     }
 
-    /// A script at its own steps, whatever it does. It stays out of line, so that a sleep pays for none of the
-    /// other operations.
+    /// A script at its own steps, whatever it does. It stays out of line, so that a sleep pays for none of
+    /// the other operations.
     #[inline(never)]
     fn any_script_due(&self, script: u32, now: EventNow) -> Due
         requires { script < length self.now.machine.actors }
@@ -142,24 +143,36 @@ impl<'m> Core<'m> {
         self.task_due(now, freezing, self.kind_of(script), position, op)
     }
 
-    /// A script at its own steps. Most operations are sleeps: one that no freeze is about, while the machine is
-    /// awake, is answered here.
+    /// What is due of a script that has exited, or that is at a sleep which no freeze is about, while the
+    /// machine is awake.
     #[inline(always)]
-    pub(crate) fn script_due(&self, script: u32, now: EventNow) -> Due
+    pub(crate) fn sleep_due(&self, script: u32) -> Option<Due>
         requires { script < length self.now.machine.actors }
-        ensures { result ≡ script_due self.now.machine (entries self.now.past) now script }
+        ensures { (now : EventNow) → IfSome result (λ due. due ≡ script_due self.now.machine (entries self.now.past) now script) }
     {
         let position = self.history.tasks().position(script);
         if position.exited {
-            return Due::Nothing;
+            return Some(Due::Nothing);
         }
         let freezing = self.history.freezer().freezing(script);
         let op = self.plan(script).operation(position.done);
         match (op, freezing.frozen, freezing.asked, self.is_asleep()) {
             (Some(Op::Sleep { ms }), false, false, false) => {
-                steps::sleep_due(*ms, position, self.time_ms())
+                Some(steps::sleep_due(*ms, position, self.time_ms()))
             }
-            _ => self.any_script_due(script, now),
+            _ => None,
+        }
+    }
+
+    /// A script at its own steps. Most operations are sleeps, which are decided here.
+    #[inline(always)]
+    pub(crate) fn script_due(&self, script: u32, now: EventNow) -> Due
+        requires { script < length self.now.machine.actors }
+        ensures { result ≡ script_due self.now.machine (entries self.now.past) now script }
+    {
+        match self.sleep_due(script) {
+            Some(due) => due,
+            None => self.any_script_due(script, now),
         }
     }
 }

@@ -2,6 +2,7 @@
 
 ghost use Rattle.std.specs.Prelude.{◌≡◌, ◌≤◌, ◌<◌, ◌+◌, ◌^◌, false, length, max, OnOk, OnErr, ◌||◌};
 ghost use Rattle.std.specs.Bool.{OnTrue, OnFalse};
+ghost use Rattle.sleep_model.specs.declared.entry.Kind.TheVariants.{Begin};
 ghost use Rattle.sleep_model.specs.declared.progress.Due.TheVariants.{Makes};
 ghost use Rattle.sleep_model.specs.declared.word.EventNow.{EventNow};
 ghost use Rattle.sleep_model.specs.Calls.{calls_due, report_calls};
@@ -24,7 +25,7 @@ ghost use Rattle.sleep_core.specs.Turned.{AfterTurn};
 use crate::state::Core;
 use event_word::{Events, look_from};
 use sleep_base::Mem;
-use sleep_model::{Actor, Due, EventNow, Kind, Stamp, What, Why, pos};
+use sleep_model::{Actor, Due, EventNow, Kind, Phase, Stamp, What, Why, pos};
 use sleep_state::is_device;
 use std::sync::Wait;
 use thiserror::Error;
@@ -54,7 +55,8 @@ pub enum CoreFault {
 }
 
 /// The tick after these two; a tick that would pass its range waits for ever.
-fn next_tick<R: Wait>(rt: &R, one: u64, other: u64) -> u64
+#[inline(always)]
+pub(crate) fn next_tick<R: Wait>(rt: &R, one: u64, other: u64) -> u64
     ensures { result ≡ max one other + 1 }
 {
     let last = one.max(other);
@@ -67,6 +69,7 @@ fn next_tick<R: Wait>(rt: &R, one: u64, other: u64) -> u64
 
 impl<'m> Core<'m> {
     /// Whether the number of attempts stays in its range.
+    #[inline(always)]
     fn leaves_attempts(&self, kind: Kind) -> bool
         ensures fits { OnTrue result (attempts_after kind (attempts (entries self.now.past)) + 1 < 2 ^ 32) }
         ensures counted { OnFalse result (IsCounted kind) }
@@ -79,6 +82,7 @@ impl<'m> Core<'m> {
     }
 
     /// Whether the number of the work's runs stays in its range.
+    #[inline(always)]
     fn leaves_runs(&self, kind: Kind) -> bool
         ensures fits { OnTrue result (runs_after kind (runs (entries self.now.past)) < 2 ^ 32) }
         ensures counted { OnFalse result (IsCounted kind) }
@@ -91,6 +95,7 @@ impl<'m> Core<'m> {
     }
 
     /// Whether a mark's number stays in its range.
+    #[inline(always)]
     fn leaves_marks(&self, kind: Kind) -> bool
         ensures fits { OnTrue result (MarksAreSmall kind (raised (length self.now.machine.marks) (entries self.now.past))) }
         ensures counted { OnFalse result (IsCounted kind) }
@@ -102,6 +107,7 @@ impl<'m> Core<'m> {
     }
 
     /// Whether the numbers that an entry raises stay in their ranges.
+    #[inline(always)]
     fn leaves(&self, kind: Kind) -> bool
         ensures fits { OnTrue result (NumbersStayInRange self.now.machine kind (entries self.now.past)) }
         ensures counted { OnFalse result (IsCounted kind) }
@@ -111,6 +117,7 @@ impl<'m> Core<'m> {
 
     /// Whether an entry of that actor, which makes the open attempt or not, is of the attempt: its maker's,
     /// or a device's.
+    #[inline(always)]
     fn is_own(&self, makes: bool, who: Actor) -> bool
         requires { makes ≡ is_actor who (maker (entries self.now.past)) }
         ensures { result ≡ (is_actor who (maker (entries self.now.past)) || is_device who) }
@@ -118,16 +125,35 @@ impl<'m> Core<'m> {
         makes || is_device(who)
     }
 
+    /// How many calls on sources the machine's answers have for a callback of the open attempt.
+    #[inline(never)]
+    fn answered_reports(&self, phase: Phase, device: u32) -> u32
+        ensures { result ≡ length (report_calls self.now.machine (attempts (entries self.now.past)) (Begin phase device)) }
+    {
+        let what = What::Device(device, phase);
+        let answers = self.plans.answers();
+        answers.reports(what, self.attempts()).len() as u32
+    }
+
+    /// How many calls on sources a callback of the open attempt reports. Most machines answer nothing at all.
+    #[inline(always)]
+    fn callback_reports(&self, phase: Phase, device: u32) -> u32
+        ensures { result ≡ length (report_calls self.now.machine (attempts (entries self.now.past)) (Begin phase device)) }
+    {
+        if self.machine().answers.len() > 0 {
+            self.answered_reports(phase, device)
+        } else {
+            0
+        }
+    }
+
     /// How many calls on sources the callback reports that an entry begins.
+    #[inline(always)]
     fn reports_in(&self, kind: Kind) -> u32
         ensures { result ≡ length (report_calls self.now.machine (attempts (entries self.now.past)) kind) }
     {
         match kind {
-            Kind::Begin(phase, device) => {
-                let what = What::Device(device, phase);
-                let answers = self.plans.answers();
-                answers.reports(what, self.attempts()).len() as u32
-            }
+            Kind::Begin(phase, device) => self.callback_reports(phase, device),
             _ => 0,
         }
     }
@@ -135,7 +161,7 @@ impl<'m> Core<'m> {
     /// Makes an entry of a device that is due. Its place is reserved, and of its numbers only that of reports
     /// grows.
     #[inline(always)]
-    fn make_device(&mut self, who: Actor, now: EventNow, kind: Kind, stamp: Stamp)
+    pub(crate) fn make_device(&mut self, who: Actor, now: EventNow, kind: Kind, stamp: Stamp)
         requires device { IsOfDevice kind }
         requires actor { IsActor self.old.machine who }
         requires due { due self.old.machine (entries self.old.past) who now ≡ Makes kind }
@@ -153,7 +179,7 @@ impl<'m> Core<'m> {
     /// Makes another entry that is due. `Mem` if there is no memory for it, or no number; never for the maker
     /// of the open attempt, nor for a device.
     #[inline(always)]
-    fn make_other(
+    pub(crate) fn make_other(
         &mut self,
         makes: bool,
         who: Actor,

@@ -1,0 +1,266 @@
+//! Tries of the kinds that come often: a callback of a device, a step of a walk over devices, a sleep. Each
+//! kind of entry has code of its own, so that it pays for no other. `Run::ask_once` has the rules for all
+//! actors.
+
+ghost use Rattle.std.specs.Prelude.{◌≡◌, ◌<◌, false, length, IfSome, OnOk, IfErr};
+ghost use Rattle.sleep_model.specs.declared.progress.Due.TheVariants.{Makes};
+ghost use Rattle.sleep_model.specs.Due.{due};
+ghost use Rattle.sleep_model.specs.Path.{is_actor, maker};
+ghost use Rattle.sleep_state.specs.JournalRooms.{entries};
+ghost use Rattle.sleep_core.specs.Cores.{IsActor};
+ghost use Rattle.core_history.specs.Histories.{IsOfDevice, IsOfNone};
+ghost use Rattle.machine_rounds.specs.Runs.{AfterTry, IsLastLook, IsRefused, MadeNothing, entries_made};
+ghost use Rattle.machine_rounds.specs.Tries.{AfterWalk, HasCalled};
+
+use crate::run::Run;
+use room_laws::{kinds_are_ranged, moments_are_ranged};
+use sleep_model::{Actor, AsyncWork, Due, EventNow, Kind, Want};
+use std::sync::Wait;
+use world_workers::RunFault;
+
+impl<'m> Run<'m> {
+    /// The word as an actor sees it now, if it has made its calls on sources, so that a turn of the core is
+    /// next.
+    #[inline(always)]
+    fn look_for<R: Wait>(&mut self, rt: &R, who: Actor) -> Option<EventNow>
+        requires { IsActor self.old.machine who }
+        ensures same { MadeNothing self.old self.new }
+        ensures seen { IfSome result (IsLastLook self.new) }
+        ensures called { IfSome result (λ _. HasCalled self.new who) }
+    {
+        match self.jobs.next(who) {
+            Want::Core => Some(self.look(rt)),
+            _ => None,
+        }
+    }
+
+    /// Makes the entry of a device that is due of an actor, by the word that was looked at last.
+    #[inline(always)]
+    fn make_device<R: Wait>(&mut self, rt: &R, who: Actor, word: EventNow, kind: Kind)
+        requires actor { IsActor self.old.machine who }
+        requires calls { HasCalled self.old who }
+        requires seen { IsLastLook self.old word }
+        requires device { IsOfDevice kind }
+        requires due { due self.old.machine (entries self.old.journal) who word ≡ Makes kind }
+        ensures machine { self.new.machine ≡ self.old.machine }
+        ensures made { entries_made self.old < entries_made self.new }
+    {
+        // A journal is shorter than 2^63, so the job's number of turns stays in its range.
+        let _made = self.core().len();
+        let calls = self.jobs.calls(who);
+        // What the fields are makes known here that their numbers are in range.
+        moments_are_ranged(self.core().time());
+        kinds_are_ranged(kind);
+        let stamp = self
+            .seated
+            .make_of_device(rt, who, word, kind, calls, self.floor);
+        let attempt = self.seated.core().attempts();
+        self.floor = stamp;
+        self.jobs.told_core(who, stamp, kind, attempt);
+        self.wake_after(who, kind);
+    }
+
+    /// The turn of an actor of whom that is due, by the word that was looked at last. Each kind that devices
+    /// have most of has code of its own. Whether it made an entry; `None` if it is of another kind.
+    #[inline(always)]
+    fn phase_turn<R: Wait>(&mut self, rt: &R, who: Actor, word: EventNow, next: Due) -> Option<bool>
+        requires actor { IsActor self.old.machine who }
+        requires calls { HasCalled self.old who }
+        requires seen { IsLastLook self.old word }
+        requires due { next ≡ due self.old.machine (entries self.old.journal) who word }
+        ensures machine { self.new.machine ≡ self.old.machine }
+        ensures after { AfterWalk self.old self.new result }
+    {
+        match next {
+            Due::Makes(Kind::Begin(phase, device)) => {
+                self.make_device(rt, who, word, Kind::Begin(phase, device))
+            }
+            Due::Makes(Kind::End(phase, device, r)) => {
+                self.make_device(rt, who, word, Kind::End(phase, device, r))
+            }
+            Due::Makes(Kind::Schedule(phase, device)) => {
+                self.make_device(rt, who, word, Kind::Schedule(phase, device))
+            }
+            Due::Makes(Kind::Skip(phase, device, cause)) => {
+                self.make_device(rt, who, word, Kind::Skip(phase, device, cause))
+            }
+            Due::Makes(Kind::Prepare { device, r }) => {
+                self.make_device(rt, who, word, Kind::Prepare { device, r })
+            }
+            Due::Makes(Kind::Complete(device)) => {
+                self.make_device(rt, who, word, Kind::Complete(device))
+            }
+            Due::Waits(why) => {
+                self.waiters.waits(who, why);
+                return Some(false);
+            }
+            _ => return None,
+        }
+        Some(true)
+    }
+
+    /// The try of a device. Whether it made an entry; `None` if the try is to be made by the rules for all
+    /// actors.
+    #[inline(always)]
+    fn device_try<R: Wait>(&mut self, rt: &R, device: u32) -> Option<bool>
+        requires { device < length self.old.machine.devices }
+        ensures machine { self.new.machine ≡ self.old.machine }
+        ensures after { AfterWalk self.old self.new result }
+    {
+        let who = Actor::Dev(device);
+        let Some(word) = self.look_for(rt, who) else {
+            return None;
+        };
+        match self.core().async_work(device) {
+            AsyncWork::Inside(phase) => {
+                let due = self
+                    .core()
+                    .due_of_device(device, AsyncWork::Inside(phase), word);
+                self.phase_turn(rt, who, word, due)
+            }
+            AsyncWork::Scheduled(phase) => {
+                let due = self
+                    .core()
+                    .due_of_device(device, AsyncWork::Scheduled(phase), word);
+                self.phase_turn(rt, who, word, due)
+            }
+            AsyncWork::Idle => None,
+        }
+    }
+
+    /// The tries of the devices that may have something to do, in order. Whether entries were made.
+    #[inline(never)]
+    pub(crate) fn ask_devices<R: Wait>(&mut self, rt: &R) -> Result<bool, RunFault>
+        ensures machine { self.new.machine ≡ self.old.machine }
+        ensures after { AfterTry self.old self.new result }
+    {
+        let mut made = false;
+        let mut from = 0;
+        for _ in 0..u64::MAX {
+            let Some(device) = self.next_device(from) else {
+                return Ok(made);
+            };
+            made = match self.device_try(rt, device) {
+                Some(by_device) => by_device | made,
+                None => self.ask_once(rt, Actor::Dev(device))? | made,
+            };
+            from = device.saturating_add(1);
+        }
+        Ok(made)
+    }
+
+    /// The try of a script that makes an attempt, if it is about devices. Whether it made an entry; `None` if
+    /// the try is to be made by the rules for all actors.
+    #[inline(always)]
+    fn walk_try<R: Wait>(&mut self, rt: &R, script: u32) -> Option<bool>
+        requires { script < length self.old.machine.actors }
+        ensures machine { self.new.machine ≡ self.old.machine }
+        ensures after { AfterWalk self.old self.new result }
+    {
+        let who = Actor::Script(script);
+        let Some(word) = self.look_for(rt, who) else {
+            return None;
+        };
+        if !self.core().is_maker(who) {
+            return None;
+        }
+        if let Some((phase, device, r)) = self.core().callback_end(who, word) {
+            self.make_device(rt, who, word, Kind::End(phase, device, r));
+            return Some(true);
+        }
+        let due = self.core().due_of(true, who, word);
+        self.phase_turn(rt, who, word, due)
+    }
+
+    /// The tries of a script that makes an attempt, while it may have something to do and nobody else.
+    /// Whether entries were made.
+    #[inline(never)]
+    fn ask_maker<R: Wait>(&mut self, rt: &R, script: u32) -> Result<bool, RunFault>
+        requires { script < length self.old.machine.actors }
+        ensures machine { self.new.machine ≡ self.old.machine }
+        ensures after { AfterTry self.old self.new result }
+    {
+        let who = Actor::Script(script);
+        let mut made = false;
+        for _ in 0..u64::MAX {
+            made = match self.walk_try(rt, script) {
+                Some(by_walk) => by_walk | made,
+                None => self.ask_once(rt, who)? | made,
+            };
+            if !self.waiters.is_alone(who) {
+                break;
+            }
+        }
+        Ok(made)
+    }
+
+    /// Makes the entry, of no device, that is due of an actor who makes no attempt, by the word that was
+    /// looked at last.
+    #[inline(always)]
+    fn make_own<R: Wait>(
+        &mut self,
+        rt: &R,
+        who: Actor,
+        word: EventNow,
+        kind: Kind,
+    ) -> Result<(), RunFault>
+        requires actor { IsActor self.old.machine who }
+        requires calls { HasCalled self.old who }
+        requires makes { is_actor who (maker (entries self.old.journal)) ≡ false }
+        requires seen { IsLastLook self.old word }
+        requires other { IsOfNone kind }
+        requires due { due self.old.machine (entries self.old.journal) who word ≡ Makes kind }
+        ensures machine { self.new.machine ≡ self.old.machine }
+        ensures made { OnOk result (entries_made self.old < entries_made self.new) }
+        ensures fault { IfErr result (IsRefused self.new) }
+    {
+        // A journal is shorter than 2^63, so the job's number of turns stays in its range.
+        let _made = self.core().len();
+        // What the fields are makes known here that their numbers are in range.
+        moments_are_ranged(self.core().time());
+        kinds_are_ranged(kind);
+        let stamp = self.seated.make_own(rt, who, word, kind, self.floor)?;
+        let attempt = self.seated.core().attempts();
+        self.floor = stamp;
+        self.jobs.told_core(who, stamp, kind, attempt);
+        self.wake_after(who, kind);
+        Ok(())
+    }
+
+    /// The try of a script that begins or ends a sleep. The two kinds have code of their own. Whether it made
+    /// an entry; if it made none the try is to be made by the rules for all actors.
+    #[inline(always)]
+    fn sleep_try<R: Wait>(&mut self, rt: &R, script: u32) -> Result<bool, RunFault>
+        requires { script < length self.old.machine.actors }
+        ensures machine { self.new.machine ≡ self.old.machine }
+        ensures after { AfterTry self.old self.new result }
+    {
+        let who = Actor::Script(script);
+        let Some(word) = self.look_for(rt, who) else {
+            return Ok(false);
+        };
+        match self.core().sleep_step(script, word) {
+            Some(Kind::Sleep(until)) => self.make_own(rt, who, word, Kind::Sleep(until))?,
+            Some(Kind::Slept) => self.make_own(rt, who, word, Kind::Slept)?,
+            _ => return Ok(false),
+        }
+        Ok(true)
+    }
+
+    /// The try of a script. Whether it made entries.
+    #[inline(always)]
+    pub(crate) fn ask_script<R: Wait>(&mut self, rt: &R, script: u32) -> Result<bool, RunFault>
+        requires { script < length self.old.machine.actors }
+        ensures machine { self.new.machine ≡ self.old.machine }
+        ensures after { AfterTry self.old self.new result }
+    {
+        let who = Actor::Script(script);
+        if self.core().is_maker(who) {
+            return self.ask_maker(rt, script);
+        }
+        if self.sleep_try(rt, script)? {
+            return Ok(true);
+        }
+        self.ask_once(rt, who)
+    }
+}
