@@ -1,5 +1,6 @@
 -- Devices that are registered in turn.
-use Rattle.std.specs.Prelude.{◌≡◌, ℕ, List, [], not, length, map, codes, bytes_eq, position, unwrap_or, Option, Some, None, option_map, All}
+use Rattle.std.specs.Prelude.{◌≡◌, ◌≤◌, ℕ, List, [], not, length, map, codes, bytes_eq, position, unwrap_or, Option, Some, None, option_map, All}
+use Rattle.std.specs.Borrow.{Bor}
 use Rattle.serde_json.specs.Data.{Data}
 use Rattle.sleep_model.specs.declared.machine.Device.{Device}
 use Rattle.device_tree.specs.declared.fault.TreeFault.{TreeFault}
@@ -14,6 +15,11 @@ use Rattle.file_rules.specs.Rules.{name_of}
 -- devices with names of 1 to 32 bytes
 abbrev pub AreShort : List Device → Type 0
 AreShort devices = All (λ d. IsShort d.name) devices
+
+-- these are the names of the devices, which are no more than a machine may have
+pub record AreNumbered (devices : List Device) (numbers : List (Bor (List ℕ))) : Type 0 where
+  pub names : map (λ s. s.now) numbers ≡ map (λ d. d.name) devices
+  pub few : length numbers ≤ 1000
 
 -- the number of a device's parent among those of these names; if it is none of them, a number that none of them has
 abbrev pub parent_after : List (List ℕ) → Data → Option ℕ

@@ -14,26 +14,27 @@ ghost use Rattle.file_rules.specs.Registered.{AreRegistered, Stops, device_after
 ghost use Rattle.file_rules.specs.Spelled.{index_among};
 ghost use Rattle.file_rules.specs.Whole.{broken_at};
 
-use crate::names::known::repeated;
+use crate::names::known::{index_of_name, named_in, repeated};
 use crate::names::name_of_text;
 use crate::rules::Broken;
 use crate::value::place::{Member, Place, items};
 use bitflags::Flags;
 use borrowed_json::{Value, has_text, text_at, truth_at, word_at};
 use device_tree::{Tree, TreeFault};
-use sleep_base::Mem;
+use key_index::KeyIndex;
+use sleep_base::{Mem, drop_for_mem};
 use sleep_model::{Device, DeviceFlags, Name, runtime_word};
 use std::alloc::Global;
 use std::marker::Model;
 
-/// The devices of a file, of which each is found by its name of 1 to 32 bytes. Contracts see the list of the
+/// Devices that are registered in turn, each with a name of 1 to 32 bytes. Contracts see the list of the
 /// devices.
 #[derive(Drop)]
-pub struct NamedDevices {
+struct Registry {
     tree: Tree,
 }
 
-impl Model for NamedDevices {
+impl Model for Registry {
     ghost use Rattle.std.specs.Prelude.{List};
     ghost use Rattle.sleep_model.specs.declared.machine.Device.{Device};
     ghost use Rattle.file_rules.specs.Registered.{AreShort};
@@ -45,17 +46,17 @@ impl Model for NamedDevices {
     ghost invariant = { λ d. AreShort d.tree };
 }
 
-impl NamedDevices {
+impl Registry {
     ghost use Rattle.std.specs.Prelude.{◌≡◌, ◌++◌, ◌∷◌, [], bytes_eq, length, OnOk, position};
     ghost use Rattle.device_tree.specs.Refusal.{refusal, RefusesDevice};
     ghost use Rattle.file_rules.specs.Fitting.{IsShort};
     ghost use Rattle.file_rules.specs.Knows.{names};
 
-    fn new(alloc: Global) -> NamedDevices
+    fn new(alloc: Global) -> Registry
         ensures { result ≡ [] }
     {
         let tree = Tree::new(alloc);
-        NamedDevices { tree }
+        Registry { tree }
     }
 
     fn register(&mut self, device: Device) -> Result<u32, TreeFault>
@@ -67,7 +68,7 @@ impl NamedDevices {
     }
 
     /// The number of the device of a name.
-    pub fn find(&self, name: &str) -> Option<u32>
+    fn find(&self, name: &str) -> Option<u32>
         ensures { result ≡ position (bytes_eq name.now) (names self.now) }
     {
         match Name::of_bytes(name.as_bytes()) {
@@ -81,12 +82,46 @@ impl NamedDevices {
     {
         self.tree.len()
     }
+}
+
+/// The devices of a file, of which each is found by its name. Contracts see the list of the devices.
+#[derive(Drop)]
+pub struct NamedDevices<'v> {
+    devices: Vec<Device>,
+    numbers: KeyIndex<&'v str>,
+}
+
+impl<'v> Model for NamedDevices<'v> {
+    ghost use Rattle.std.specs.Prelude.{◌≡◌, List};
+    ghost use Rattle.sleep_model.specs.declared.machine.Device.{Device};
+    ghost use Rattle.file_rules.specs.Registered.{AreNumbered};
+
+    ghost Value = { List Device };
+
+    ghost view = { λ d. d.devices.items };
+
+    ghost invariant = { λ d. AreNumbered d.devices.items d.numbers };
+}
+
+impl<'v> NamedDevices<'v> {
+    ghost use Rattle.std.specs.Prelude.{◌≡◌, bytes_eq, position};
+    ghost use Rattle.file_rules.specs.Knows.{names};
+
+    /// The number of the device of a name.
+    pub fn find(&self, name: &str) -> Option<u32>
+        ensures { result ≡ position (bytes_eq name.now) (names self.now) }
+    {
+        match index_of_name(&self.numbers, name) {
+            Some(number) => Some(number as u32),
+            None => None,
+        }
+    }
 
     /// The devices, in the order of their registration.
     pub fn all(&self) -> &[Device]
         ensures { result.now ≡ self.now }
     {
-        self.tree.devices()
+        self.devices.as_slice()
     }
 }
 
@@ -106,7 +141,7 @@ pub fn device_named(value: &Value<'_>, member: &str, devices: &NamedDevices) -> 
 
 /// The number of a device's parent. If the parent is none of these devices, it is one that none of them has,
 /// and the tree refuses it.
-fn parent_of(device: &Value<'_>, devices: &NamedDevices) -> Option<u32>
+fn parent_of(device: &Value<'_>, devices: &Registry) -> Option<u32>
     ensures { result ≡ parent_after (names devices.now) (view device.now) }
 {
     let parent = word_at(device, "parent")?;
@@ -133,7 +168,7 @@ fn flags_of(device: &Value<'_>) -> DeviceFlags
 }
 
 /// A device as it is registered after these.
-fn device_of(device: &Value<'_>, devices: &NamedDevices) -> Device
+fn device_of(device: &Value<'_>, devices: &Registry) -> Device
     requires { HasShortName (view device.now) }
     ensures { result ≡ device_after (names devices.now) (view device.now) }
 {
@@ -152,7 +187,7 @@ struct Refused {
 }
 
 /// Registers these devices in turn, up to the first that is refused.
-fn register_all(devices: &mut NamedDevices, list: &[Value<'_>]) -> Result<(), Refused>
+fn register_all(devices: &mut Registry, list: &[Value<'_>]) -> Result<(), Refused>
     requires empty { devices.old ≡ [] }
     requires few { length list.now ≤ 1000 }
     requires short { All HasShortName (map view list.now) }
@@ -193,19 +228,35 @@ fn rule_broken(alloc: Global, tree: &Value<'_>, refused: Refused) -> Result<Brok
     }
 }
 
+/// These devices of a file, with their names.
+fn numbered<'v>(alloc: Global, tree: &Value<'v>, devices: Registry) -> Result<NamedDevices<'v>, Mem>
+    requires devices { devices ≡ whole_devices (view tree.now) }
+    requires few { length (list_in (codes "devices") (view tree.now)) ≤ 1000 }
+    ensures { IfOk result (λ d. d ≡ whole_devices (view tree.now)) }
+{
+    let Ok(numbers) = named_in(alloc, tree, Member::Devices) else {
+        return Err(drop_for_mem(devices));
+    };
+    let Registry { tree } = devices;
+    Ok(NamedDevices {
+        devices: tree.into_devices(),
+        numbers,
+    })
+}
+
 /// The devices of a file, or the first rule on their names and parents that is broken.
-pub(crate) fn devices_in(
+pub(crate) fn devices_in<'v>(
     alloc: Global,
-    tree: &Value<'_>,
-) -> Result<Result<NamedDevices, Broken>, Mem>
+    tree: &Value<'v>,
+) -> Result<Result<NamedDevices<'v>, Broken>, Mem>
     requires { HasDevices (view tree.now) }
     ensures broken { IfOk result (λ r. IfErr r (λ b. broken_devices (view tree.now) ≡ Some (broken_view b))) }
     ensures unbroken { IfOk result (λ r. IfOk r (λ _. broken_devices (view tree.now) ≡ None)) }
     ensures devices { IfOk result (λ r. IfOk r (λ d. d ≡ whole_devices (view tree.now))) }
 {
-    let mut devices = NamedDevices::new(alloc);
+    let mut devices = Registry::new(alloc);
     match register_all(&mut devices, items(tree, Member::Devices)) {
-        Ok(()) => Ok(Ok(devices)),
+        Ok(()) => Ok(Ok(numbered(alloc, tree, devices)?)),
         Err(refused) => {
             drop(devices);
             let broken = rule_broken(alloc, tree, refused)?;

@@ -26,7 +26,7 @@ use std::alloc::Global;
 #[derive(Drop)]
 pub struct Known<'v> {
     /// The devices, by name and number.
-    pub devices: NamedDevices,
+    pub devices: NamedDevices<'v>,
     pub syscore: KeyIndex<&'v str>,
     pub notifiers: KeyIndex<&'v str>,
     pub sources: KeyIndex<&'v str>,
@@ -35,7 +35,11 @@ pub struct Known<'v> {
 }
 
 /// The names of a list of objects, each with its place.
-fn named_in<'v>(alloc: Global, tree: &Value<'v>, list: Member) -> Result<KeyIndex<&'v str>, Mem>
+pub(crate) fn named_in<'v>(
+    alloc: Global,
+    tree: &Value<'v>,
+    list: Member,
+) -> Result<KeyIndex<&'v str>, Mem>
     ensures { IfOk result (λ p. texts p ≡ names_in (member_name list) (view tree.now)) }
 {
     let names = names_in(alloc, tree, list)?;
@@ -72,7 +76,11 @@ pub fn known_of_file<'v>(alloc: Global, tree: &Value<'v>) -> Result<Result<Known
 }
 
 /// The names of the things of a file, whose devices these are.
-fn known_in<'v>(alloc: Global, tree: &Value<'v>, devices: NamedDevices) -> Result<Known<'v>, Mem>
+fn known_in<'v>(
+    alloc: Global,
+    tree: &Value<'v>,
+    devices: NamedDevices<'v>,
+) -> Result<Known<'v>, Mem>
     requires { devices ≡ whole_devices (view tree.now) }
     ensures { IfOk result (λ k. Knows k (view tree.now)) }
 {

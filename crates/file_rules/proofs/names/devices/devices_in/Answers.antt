@@ -21,6 +21,12 @@ register_all-requires c =
       short = subst (All HasShortName) (sym c.items.ensures) c.requires.short;
     }
 
-pub returns-in-Ok-clause-unbroken : goal.returns-in-Ok-clause-unbroken
-returns-in-Ok-clause-unbroken c =
+pub returns-in_ok-numbered-in-Ok-clause-unbroken : goal.returns-in_ok-numbered-in-Ok-clause-unbroken
+returns-in_ok-numbered-in-Ok-clause-unbroken c =
     none_broken (view c.args.tree.now) c.register_all.new.devices (subst (λ (ds : List Data). AreRegistered ds c.register_all.new.devices) c.items.ensures c.in-Ok.ensures.registered)
+
+pub numbered-requires : goal.numbered-requires
+numbered-requires c = record {
+  devices = (subst (λ (ds : List Data). AreRegistered ds c.register_all.new.devices) c.items.ensures c.in-Ok.ensures.registered).is;
+  few = c.requires.few;
+}

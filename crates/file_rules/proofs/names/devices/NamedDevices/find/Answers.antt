@@ -1,8 +1,14 @@
--- Proof that `Devices::find` meets its contract.
-use Rattle.std.proofs.Common.{◌∙◌, ◌<◌, ◌≤◌, List, ℕ, length, ap, subst, bytes_eq, position}
+-- Proof that `NamedDevices::find` meets its contract: the names that it asks are those of the devices.
+use Rattle.std.proofs.Common.{◌∙◌, ap, bytes_eq, position}
 use Rattle.file_rules.specs.Knows.{names}
-use Rattle.file_rules.proofs.Registering.{nowhere}
 use Rattle.file_rules.proofs.names.devices.NamedDevices.find.Goals as goal
 
+pub returns-in-Some : goal.returns-in-Some
+returns-in-Some c =
+    let is = bytes_eq c.args.name.now in
+    c.in-Some.ensures.place ∙ ap (position is) c.self.invariant.names ∙ ap (λ ds. position is (names ds)) c.self.view_is
+
 pub returns-in-None : goal.returns-in-None
-returns-in-None c = nowhere c.args.name.now c.self.inside.tree c.self.invariant (subst (λ (t : List ℕ). (0 < length t) → (length t ≤ 32) → ⊥) c.as_bytes.ensures.value c.in-None.ensures.none) ∙ ap (λ ds. position (bytes_eq c.args.name.now) (names ds)) c.self.view_is
+returns-in-None c =
+    let is = bytes_eq c.args.name.now in
+    c.in-None.ensures.place ∙ ap (position is) c.self.invariant.names ∙ ap (λ ds. position is (names ds)) c.self.view_is
