@@ -158,7 +158,9 @@ fn runs_after(kind: Kind, before: u32) -> u32
 }
 
 impl Autosleep {
-    ghost use Rattle.std.specs.Prelude.{◌≡◌, ◌<◌, ◌^◌};
+    ghost use Rattle.std.specs.Prelude.{◌≡◌, ◌<◌, ◌^◌, false};
+    ghost use Rattle.std.specs.Bool.{OnTrue};
+    ghost use Rattle.sleep_model.specs.declared.progress.Work.TheVariants.{Resting};
     ghost use Rattle.sleep_model.specs.Autosleep.{runs_after};
     ghost use Rattle.autosleep_loop.specs.Autosleeps.{autosleep_after, idle_work};
 
@@ -206,6 +208,17 @@ impl Autosleep {
         ensures { result ≡ self.now.work }
     {
         self.work
+    }
+
+    /// Whether the work rests and is not queued.
+    #[inline(always)]
+    pub fn is_unqueued(&self) -> bool
+        ensures { OnTrue result ((self.now.work ≡ Resting) × (self.now.queued ≡ false)) }
+    {
+        match self.work {
+            Work::Resting if !self.queued => true,
+            _ => false,
+        }
     }
 
     /// How often the work has run.

@@ -6,6 +6,8 @@ use Rattle.sleep_model.specs.declared.entry.Actor.{Actor}
 use Rattle.sleep_model.specs.declared.entry.Actor.TheVariants as actor
 use Rattle.sleep_model.specs.declared.machine.Machine.{Machine}
 use Rattle.sleep_model.specs.declared.word.EventNow.{EventNow}
+use Rattle.sleep_model.specs.declared.progress.Work.TheVariants.{Resting}
+use Rattle.sleep_model.specs.Autosleep.{is_queued, work}
 use Rattle.sleep_model.specs.Calls.{calls_due}
 use Rattle.sleep_model.specs.Due.{due}
 use Rattle.sleep_model.specs.Legal.{is_made, is_enabled, none_enabled}
@@ -15,7 +17,7 @@ use Rattle.sleep_model.specs.Positions.{positions, position_at}
 use Rattle.sleep_state.specs.JournalRooms.{entries}
 use Rattle.sleep_state.specs.Sleepers.{is_stopped, AreStopped}
 use Rattle.sleep_core.specs.Cores.{IsActor}
-use Rattle.sleep_core.proofs.Stopped.{still_rests, device_rests}
+use Rattle.sleep_core.proofs.Stopped.{still_rests, device_rests, work_waits}
 use Rattle.sleep_script.proofs.Following.{all_made}
 use Rattle.running_laws.specs.Running.{IsRunning, calls_made, histories}
 use Rattle.running_laws.proofs.Asked.{legal_journal}
@@ -61,6 +63,10 @@ module _ (run : RunState) (on : IsGoingOn run) where
   pub no_script : IsQuiescent run → (now : EventNow) → AreStopped (positions (length m.actors) (entries run.journal)) (time_of (entries run.journal))
       → none_enabled m (entries run.journal) (histories run.sources) now actor.Script (length m.actors) ≡ true
   no_script quiescent now still = scripts_rest quiescent now still (length m.actors) (omega arith)
+
+  -- nor is the autosleep work, while it rests and is not queued
+  pub work_rests : IsQuiescent run → (now : EventNow) → work (entries run.journal) ≡ Resting → is_queued (entries run.journal) ≡ false → is_enabled m (entries run.journal) (histories run.sources) now actor.Auto ≡ false
+  work_rests quiescent now rest unqueued = rests quiescent now actor.Auto tt (work_waits m (entries run.journal) now quiescent.closed rest unqueued)
 
   devices_rest : IsQuiescent run → (now : EventNow) (n : ℕ) → n ≤ length m.devices → none_enabled m (entries run.journal) (histories run.sources) now actor.Dev n ≡ true
   devices_rest quiescent now zero l = refl

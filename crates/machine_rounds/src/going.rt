@@ -10,7 +10,7 @@ use world_workers::RunFault;
 impl<'m> Run<'m> {
     ghost use Rattle.std.specs.Bool.{OnTrue};
     ghost use Rattle.std.specs.Prelude.{◌≡◌, ◌≤◌, ◌<◌, ◌+◌, true, length, IfSome, IfNone, OnOk, IfErr};
-    ghost use Rattle.sleep_model.specs.declared.entry.Actor.TheVariants.{Script, Dev};
+    ghost use Rattle.sleep_model.specs.declared.entry.Actor.TheVariants.{Script, Auto, Dev};
     ghost use Rattle.sleep_model.specs.Calls.{calls_due};
     ghost use Rattle.sleep_model.specs.Due.{due};
     ghost use Rattle.sleep_model.specs.Legal.{is_enabled, is_made, next_expiry, none_enabled, none_expires};
@@ -79,6 +79,19 @@ impl<'m> Run<'m> {
         None
     }
 
+    /// Whether the autosleep work can make anything that sees this word. If the run is quiescent, it cannot
+    /// while it rests and is not queued.
+    #[inline(always)]
+    fn may_work(&self, quiescent: bool, word: EventNow) -> bool
+        requires { OnTrue quiescent (IsQuiescent self.now) }
+        ensures { result ≡ is_enabled self.now.machine (entries self.now.journal) (histories self.now.sources) word Auto }
+    {
+        if quiescent && self.core().is_unqueued() {
+            return false;
+        }
+        self.is_enabled(Actor::Auto, word)
+    }
+
     /// The first of the scripts, the autosleep work and the devices that can.
     fn enabled_actor(&self, word: EventNow) -> Option<Actor>
         ensures one { IfSome result (CanGoOn self.now word) }
@@ -87,7 +100,7 @@ impl<'m> Run<'m> {
         let quiescent = self.is_quiescent();
         match self.enabled_script(quiescent, word) {
             Some(who) => Some(who),
-            None if self.is_enabled(Actor::Auto, word) => Some(Actor::Auto),
+            None if self.may_work(quiescent, word) => Some(Actor::Auto),
             None => self.enabled_device(quiescent, word),
         }
     }

@@ -1,4 +1,4 @@
--- While no attempt is open, a script that has exited or sleeps on makes nothing, nor does a device.
+-- While no attempt is open, a script that has exited or sleeps on makes nothing, nor does a device, nor the autosleep work that is not queued.
 use Rattle.std.proofs.Common.{◌≡◌, ◌≤◌, ◌<◌, ◌+◌, ◌∙◌, ◌⊎◌, inl, inr, ℕ, zero, suc, Bool, true, false, not, ◌&&◌, ◌||◌, nat_lt, nat_le, List, [], ◌∷◌, length, map, slice_get, slice_set, Option, Some, None, is_some, refl, sym, ap, ap₂, subst, cond, arith}
 use Rattle.std.proofs.lemmas.Bool.Decides.{nat_tests}
 use Rattle.sleep_model.specs.declared.entry.Actor.{Actor}
@@ -20,11 +20,13 @@ use Rattle.sleep_model.specs.declared.log.Why.TheVariants as why
 use Rattle.sleep_model.specs.declared.word.EventNow.{EventNow}
 use Rattle.phase_table.specs.declared.phase.Phase.{Phase}
 use Rattle.phase_table.specs.declared.phase.Phase.TheVariants as phase
-use Rattle.sleep_model.specs.Attempt.{attempt_due, sleeps_now}
+use Rattle.sleep_model.specs.Attempt.{attempt_due, freeze_since, sleep_of, sleeps_now}
+use Rattle.sleep_model.specs.declared.progress.Work.TheVariants.{Resting}
+use Rattle.sleep_model.specs.Autosleep.{auto_due, is_queued, naps_until, runs, work, work_due}
 use Rattle.sleep_model.specs.Devices.{work_by, device_due, state_in, is_async_device}
-use Rattle.sleep_model.specs.Due.{due, own_due}
+use Rattle.sleep_model.specs.Due.{due, is_over, own_due}
 use Rattle.sleep_model.specs.Freezer.{unasked, freezing_at, freezing}
-use Rattle.sleep_model.specs.Legal.{JournalPart, is_made, sooner, pending_sleep, next_sleep}
+use Rattle.sleep_model.specs.Legal.{JournalPart, alarm_at, deadline_at, is_made, journal_time, pending_nap, sooner, pending_sleep, next_sleep}
 use Rattle.sleep_model.specs.Numbers.{time_of}
 use Rattle.sleep_model.specs.Path.{maker, is_actor}
 use Rattle.sleep_model.specs.Scripts.{entry_steps}
@@ -32,6 +34,7 @@ use Rattle.sleep_model.specs.Positions.{PositionEffect, position_at, position_ef
 use Rattle.sleep_model.specs.Steps.{slept_due, step_due, task_due, position_due}
 use Rattle.sleep_model.specs.Tasks.{is_line}
 use Rattle.sleep_laws.proofs.Answering.{Side, side_invariant}
+use Rattle.sleep_laws.proofs.Asking.{IsAsked, asked_invariant}
 use Rattle.sleep_laws.proofs.Boards.{at, at_is, three}
 use Rattle.sleep_laws.proofs.LockHolding.{at_stage, stage_none}
 use Rattle.sleep_laws.proofs.Made.{Down, InSuspend, InLate, InNoirq, Made, StepMade, TaskMade, EntryMade, ByMaker, ByTask, ByWork, ByDevice, ByTime}
@@ -177,6 +180,20 @@ still_rests m past now i h closed still =
     ∙ (ap (λ f. is_made (position_due m past now f (slice_get m.actors i) (position_at (positions (length m.actors) past) i))) (thawed m past i h closed)
     ∙ position_still m past now (slice_get m.actors i) (position_at (positions (length m.actors) past) i) (sleeps_if m past i h) still)
 
+-- ---- the autosleep work
+
+-- the autosleep work makes nothing while it rests, is not queued, and no attempt is open
+pub work_waits : (m : Machine) (past : List Entry) (now : EventNow) → maker past ≡ None → work past ≡ Resting → is_queued past ≡ false → is_made (due m past actor.Auto now) ≡ false
+work_waits m past now closed rest unqueued =
+    ap (λ o. is_made (cond (is_actor actor.Auto o) (attempt_due m past now) (own_due m past actor.Auto now))) closed ∙ by_state (sleeps_now past) (is_over m past)
+  where
+    by_state : (asleep over : Bool) → is_made (auto_due m past now asleep over) ≡ false
+    by_state true over = refl
+    by_state false true = refl
+    by_state false false =
+        ap (λ w. is_made (work_due m past now w)) rest
+        ∙ ap (λ q. is_made (cond (q && nat_lt (runs past) m.auto_cycles) (Makes kind.AutoRun) (Waits why.NoWork))) unqueued
+
 -- ---- the least end of a sleep
 
 awake : (m : Machine) (past : List Entry) → JournalPart m past → maker past ≡ None → sleeps_now past ≡ false
@@ -200,6 +217,15 @@ ends_among m past (suc n) l h closed =
 -- while no attempt is open, the least end of all sleeps is pending
 pub ends_pending : (m : Machine) (past : List Entry) → JournalPart m past → maker past ≡ None → earliest_end (positions (length m.actors) past) (length (positions (length m.actors) past)) ≡ next_sleep m past (length m.actors)
 ends_pending m past h closed = ap (earliest_end (positions (length m.actors) past)) (positions_len (length m.actors) past) ∙ ends_among m past (length m.actors) (omega arith) h closed
+
+-- while no attempt is open, only the ends of the work's nap and of all sleeps are pending
+pub closed_time : (m : Machine) (past : List Entry) → JournalPart m past → maker past ≡ None
+    → sooner (naps_until (work past)) (earliest_end (positions (length m.actors) past) (length (positions (length m.actors) past))) ≡ journal_time m past
+closed_time m past h closed =
+    let side : sleep_of past ≡ None = subst (λ (o : Option Stage). Side o past) (stage_none m past h closed) (at_stage m Side (side_invariant m) past h) in
+    let asked : IsAsked m None past = subst (λ (o : Option Stage). IsAsked m o past) (stage_none m past h closed) (at_stage m (IsAsked m) (asked_invariant m) past h) in
+    ap₂ sooner (sym (ap (λ b. cond b None (naps_until (work past))) (awake m past h closed))) (ends_pending m past h closed)
+    ∙ ap₂ (λ s f. sooner (alarm_at m s) (sooner (deadline_at f) (sooner (pending_nap past) (next_sleep m past (length m.actors))))) (sym side) (sym asked.0)
 
 -- ---- a device
 

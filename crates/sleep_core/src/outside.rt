@@ -1,7 +1,9 @@
 //! What a run asks of the core between turns: jumps of time, calls that are due, and whether all is over.
 
-ghost use Rattle.std.specs.Prelude.{◌≡◌, ◌≤◌, ◌<◌, ◌+◌, ◌-◌, ◌^◌, ◌||◌, nat_lt, length, None, is_some, IfOk, IfSome, OnErr};
+ghost use Rattle.std.specs.Prelude.{◌≡◌, ◌≤◌, ◌<◌, ◌+◌, ◌-◌, ◌^◌, ◌||◌, false, nat_lt, length, None, is_some, IfOk, IfSome, OnErr};
 ghost use Rattle.std.specs.Bool.{OnTrue};
+ghost use Rattle.sleep_model.specs.declared.progress.Work.TheVariants.{Resting};
+ghost use Rattle.sleep_model.specs.Autosleep.{is_queued, work};
 ghost use Rattle.sleep_model.specs.Calls.{calls_due, pieces_in};
 ghost use Rattle.sleep_model.specs.Due.{due, is_over};
 ghost use Rattle.sleep_model.specs.Legal.{JournalPart, is_made};
@@ -152,6 +154,14 @@ impl<'m> Core<'m> {
     {
         let position = self.history.tasks().position(script);
         position.exited || sleeps_past(position.until, self.time_ms())
+    }
+
+    /// Whether the autosleep work rests and is not queued.
+    #[inline(always)]
+    pub fn is_unqueued(&self) -> bool
+        ensures { OnTrue result ((work (entries self.now.past) ≡ Resting) × (is_queued (entries self.now.past) ≡ false)) }
+    {
+        self.history.autosleep().is_unqueued()
     }
 
     /// The next script after that one, or the first, whose sleep has come to its end, in an order of its own.

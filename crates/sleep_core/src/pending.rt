@@ -57,17 +57,6 @@ impl<'m> Core<'m> {
         }
     }
 
-    /// The least end of the scripts' sleeps. While no attempt is open each is pending.
-    fn next_sleep(&self) -> Option<u64>
-        ensures { result ≡ next_sleep self.now.machine (entries self.now.past) (length self.now.machine.actors) }
-    {
-        if self.is_open() {
-            self.least_sleep()
-        } else {
-            self.history.tasks().least_end()
-        }
-    }
-
     /// The least end of those scripts' sleeps that are pending, each script being asked.
     fn least_sleep(&self) -> Option<u64>
         ensures { result ≡ next_sleep self.now.machine (entries self.now.past) (length self.now.machine.actors) }
@@ -79,11 +68,24 @@ impl<'m> Core<'m> {
         next
     }
 
-    /// The least pending time in ms, the sources' expiries left out. None if none is pending.
+    /// The least pending time in ms, the sources' expiries left out, while an attempt may be open.
+    #[inline(never)]
+    fn open_time(&self) -> Option<u64>
+        ensures { result ≡ journal_time self.now.machine (entries self.now.past) }
+    {
+        let sleeps = sooner(self.pending_nap(), self.least_sleep());
+        sooner(self.alarm_at(), sooner(self.deadline_at(), sleeps))
+    }
+
+    /// The least pending time in ms, the sources' expiries left out. None if none is pending. While no attempt is
+    /// open, only the ends of the work's nap and of all sleeps are pending.
     pub fn next_time(&self) -> Option<u64>
         ensures { result ≡ journal_time self.now.machine (entries self.now.past) }
     {
-        let sleeps = sooner(self.pending_nap(), self.next_sleep());
-        sooner(self.alarm_at(), sooner(self.deadline_at(), sleeps))
+        if self.is_open() {
+            return self.open_time();
+        }
+        let nap = self.history.autosleep().naps_until();
+        sooner(nap, self.history.tasks().least_end())
     }
 }
