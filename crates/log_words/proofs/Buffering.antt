@@ -1,7 +1,7 @@
 -- The buffer after more was put into it.
 use Rattle.std.proofs.Common.{ap, sym, refl, ◌≡◌, ◌<◌, ◌≤◌, ◌+◌, ◌-◌, ◌∷◌, [], ◌++◌, ◌∙◌, ℕ, List, length, length-set, set, take, drop, append_assoc, arith}
 use Rattle.std.proofs.Math.Seq.{take-append-add}
-use Rattle.std.proofs.lemmas.List.{length-take-le, take-append-drop, take-append-le, take_at, take_more_set}
+use Rattle.std.proofs.lemmas.List.{length-take-le, take-append-drop, take-append-le, take-take, take_at, take_more_set}
 use Rattle.std.proofs.lemmas.Slice.{take-put_mid}
 use borrow.Rule.Slice.PartMut.{put_mid, post_of}
 
@@ -31,6 +31,17 @@ of_both room len many within more =
     let long : length head + (len - many) ≡ len = omega (arith, length-take-le many room within, more) in
     ap (λ (t : List ℕ). t ++ take (len - many) tail) (of_head room many many within (omega arith))
     ∙ (sym (take-append-add head tail (len - many)) ∙ (ap (λ (n : ℕ). take n (head ++ tail)) long ∙ ap (take len) (take-append-drop many room)))
+
+-- fewer of the bytes that were put there
+pub of_less : (old new bytes : List ℕ) (used many len : ℕ) → used ≤ length old → len ≤ many → take (used + many) new ≡ take used old ++ take many bytes
+    → take (used + len) new ≡ take used old ++ take len bytes
+of_less old new bytes used many len within few written =
+    let before : length (take used old) ≡ used = length-take-le used old within in
+    sym (take-take (used + len) (used + many) new (omega (arith, few)))
+    ∙ (ap (take (used + len)) written
+    ∙ (ap (λ (n : ℕ). take (n + len) (take used old ++ take many bytes)) (sym before)
+    ∙ (take-append-add (take used old) (take many bytes) len
+    ∙ ap (λ (t : List ℕ). take used old ++ t) (take-take len many bytes few))))
 
 -- digits that were put there, with what followed them before
 pub held_digits : (old new digits rest : List ℕ) (used : ℕ) → used ≤ length old → take used new ≡ take used old → drop used new ≡ digits ++ rest → take (used + length digits) new ≡ take used old ++ digits

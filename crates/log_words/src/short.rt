@@ -83,12 +83,13 @@ impl ShortText {
         ensures end { result ≤ used + 56 }
     {
         let (head, tail) = split_room(&self.room);
-        let end = copy_room(buffer, used, head, self.len.min(16));
+        let len = self.len;
+        let end = copy_room(buffer, used, head, 16);
         // Few texts have more bytes.
-        if self.len <= 16 {
-            return end;
+        if len <= 16 {
+            return used + len;
         }
-        copy_room(buffer, end, tail, self.len - 16)
+        copy_room(buffer, end, tail, len - 16)
     }
 }
 
