@@ -22,5 +22,6 @@ pub mod ReadBack
 pub mod Passed
 pub mod Lists
 pub mod Pieces
+pub mod Same
 pub mod OtherVerbs
 mod OtherKinds

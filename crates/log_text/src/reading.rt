@@ -19,4 +19,5 @@ pub(crate) mod quick_actors;
 pub(crate) mod quick_sources;
 pub(crate) mod read;
 pub(crate) mod reader;
+pub(crate) mod same;
 pub(crate) mod steps;

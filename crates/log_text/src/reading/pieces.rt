@@ -6,18 +6,20 @@ ghost use Rattle.sleep_model.specs.Fits.{is_word32, is_word64};
 ghost use Rattle.sleep_model.specs.Text.{newline, space};
 
 use crate::reading::number::{digits_first, short};
+use crate::reading::same::are_same;
 use log_words::put_decimal;
 use sleep_model::Phase;
 
 /// What follows a piece at the beginning of a text. None if the text begins otherwise.
 #[inline(always)]
-#[tactic(auto, using(crate::proofs::Pieces::front_is))]
 pub fn after_piece<'a>(text: &'a [u8], piece: &[u8]) -> Option<&'a [u8]>
     ensures { IfSome result (λ rest. text.now ≡ piece.now ++ rest.now) }
 {
-    match text.strip_prefix(piece) {
-        None => None,
-        Some(rest) => Some(rest),
+    let (front, rest) = text.split_at_checked(piece.len())?;
+    if are_same(front, piece) {
+        Some(rest)
+    } else {
+        None
     }
 }
 
