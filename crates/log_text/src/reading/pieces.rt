@@ -5,9 +5,8 @@ ghost use Rattle.phase_table.specs.Phases.{phase_name};
 ghost use Rattle.sleep_model.specs.Fits.{is_word32, is_word64};
 ghost use Rattle.sleep_model.specs.Text.{newline, space};
 
-use crate::reading::number::{digits_first, short};
+use crate::reading::number::{digit_of, first_digit, long, short, with_last};
 use crate::reading::same::are_same;
-use log_words::put_decimal;
 use sleep_model::Phase;
 
 /// What follows a piece at the beginning of a text. None if the text begins otherwise.
@@ -50,25 +49,22 @@ pub fn after_last_word<'a>(text: &'a [u8], word: &str) -> Option<&'a [u8]>
     after_byte(after_piece(text, word.as_bytes())?, b'\n')
 }
 
-/// What follows that number, in its one spelling, and that byte. None if the text begins otherwise.
-#[tactic(auto, using(log_words::proofs::Decimals::decimal_short))]
-fn after_number(text: &[u8], number: u64, end: u8) -> Option<&[u8]>
-    ensures { IfSome result (λ rest. text.now ≡ decimal number ++ end ∷ rest.now) }
-{
-    let mut room = [0_u8; 20];
-    let len = put_decimal(&mut room, 0, number);
-    after_byte(after_piece(text, &room[..len])?, end)
-}
-
 /// The number of 64 bits that a text begins with in its one spelling, and what follows it and that byte. None
 /// if the text begins otherwise.
+#[inline(always)]
 pub fn number_first(text: &[u8], end: u8) -> Option<(u64, &[u8])>
     ensures text { IfSome result (λ r. text.now ≡ decimal r.0 ++ end ∷ r.1.now) }
     ensures fits { IfSome result (λ r. is_word64 r.0 ≡ true) }
 {
-    let (number, _) = digits_first(text)?;
-    let rest = after_number(text, number, end)?;
-    Some((number, rest))
+    let (first, _) = text.split_first()?;
+    let mut number = first_digit(*first)?;
+    for i in 1..text.len() {
+        let Some(digit) = digit_of(text[i]) else {
+            return Some((long(number), after_byte(&text[i..], end)?));
+        };
+        number = with_last(number, digit)?;
+    }
+    None
 }
 
 /// The same of 32 bits.
