@@ -5,6 +5,7 @@ pub(crate) mod cut;
 pub(crate) mod devices;
 pub(crate) mod ends;
 pub(crate) mod entries;
+pub(crate) mod guesses;
 pub(crate) mod index;
 pub(crate) mod kinds;
 pub(crate) mod last_named;

@@ -57,6 +57,18 @@ impl<'a> MachineNames<'a> {
         &self.names
     }
 
+    /// A guess at the device whose name and that byte a text begins with, which the caller compares.
+    #[inline(always)]
+    pub fn guessed_device(&self, text: &[u8], end: u8) -> u32 {
+        self.indexes.devices.guess(text, end)
+    }
+
+    /// The same of scripts.
+    #[inline(always)]
+    pub fn guessed_script(&self, text: &[u8], end: u8) -> u32 {
+        self.indexes.scripts.guess(text, end)
+    }
+
     /// The device of that name. None if there is none.
     pub fn device(&self, word: &[u8]) -> Option<u32>
         ensures place { result ≡ device_in self.now word.now }

@@ -38,6 +38,7 @@ fn after_device<'a>(
 }
 
 /// The device whose name and that byte a text begins with, by that name.
+#[inline(never)]
 fn device_named<'a>(
     machine_names: &MachineNames,
     text: &'a [u8],
@@ -46,32 +47,14 @@ fn device_named<'a>(
     ensures text { IfSome result (λ r. text.now ≡ device_of machine_names.now r.0 ++ end ∷ r.1.now) }
     ensures fits { IfSome result (λ r. nat_lt r.0 (length machine_names.now.devices) ≡ true) }
 {
+    let guessed = machine_names.guessed_device(text, end);
+    if let Some(rest) = after_device(machine_names, guessed, text, end) {
+        return Some((guessed, rest));
+    }
     let (name, _) = cut(text, end);
     let device = machine_names.device(name)?;
     let rest = after_device(machine_names, device, text, end)?;
     Some((device, rest))
-}
-
-/// The same, mostly one beside the device that the line before names.
-#[inline(never)]
-fn other_device_first<'a>(
-    machine_names: &MachineNames,
-    last: &LastNamed,
-    text: &'a [u8],
-    end: u8,
-) -> Option<(u32, &'a [u8])>
-    ensures text { IfSome result (λ r. text.now ≡ device_of machine_names.now r.0 ++ end ∷ r.1.now) }
-    ensures fits { IfSome result (λ r. nat_lt r.0 (length machine_names.now.devices) ≡ true) }
-{
-    let next = last.next_device;
-    if let Some(rest) = after_device(machine_names, next, text, end) {
-        return Some((next, rest));
-    }
-    let former = last.former_device;
-    if let Some(rest) = after_device(machine_names, former, text, end) {
-        return Some((former, rest));
-    }
-    device_named(machine_names, text, end)
 }
 
 /// The device whose name and that byte a text begins with, and what follows them: mostly the device that the
@@ -90,7 +73,7 @@ fn device_first<'a>(
     if let Some(rest) = after_device(machine_names, same, text, end) {
         return Some((same, rest));
     }
-    other_device_first(machine_names, last, text, end)
+    device_named(machine_names, text, end)
 }
 
 /// The phase and the device that a text names after that verb, and what follows them and that byte. None if

@@ -25,7 +25,7 @@ fn is_there(machine_names: &MachineNames, who: Actor) -> bool
 }
 
 /// What follows that actor and a space. None if the text begins otherwise, or if there is no such actor.
-#[inline]
+#[inline(always)]
 fn after_actor<'a>(machine_names: &MachineNames, who: Actor, text: &'a [u8]) -> Option<&'a [u8]>
     ensures text { IfSome result (λ rest. text.now ≡ maker_text machine_names.now who ++ rest.now) }
     ensures fits { IfSome result (λ _. fits_actor machine_names.now who ≡ true) }
@@ -38,6 +38,7 @@ fn after_actor<'a>(machine_names: &MachineNames, who: Actor, text: &'a [u8]) -> 
 }
 
 /// Who makes an entry, by the name.
+#[inline(never)]
 fn actor_named<'a>(machine_names: &MachineNames, text: &'a [u8]) -> Option<(Actor, &'a [u8])>
     ensures text { IfSome result (λ r. text.now ≡ maker_text machine_names.now r.0 ++ r.1.now) }
     ensures fits { IfSome result (λ r. fits_actor machine_names.now r.0 ≡ true) }
@@ -48,7 +49,8 @@ fn actor_named<'a>(machine_names: &MachineNames, text: &'a [u8]) -> Option<(Acto
     Some((who, rest))
 }
 
-/// A device that makes an entry, if it is the one that was named last, or one beside it.
+/// A device that makes an entry: the one that was named last, or one guessed by its name.
+#[inline(never)]
 fn device_guessed<'a>(
     machine_names: &MachineNames,
     last: &LastNamed,
@@ -57,22 +59,40 @@ fn device_guessed<'a>(
     ensures text { IfSome result (λ r. text.now ≡ maker_text machine_names.now r.0 ++ r.1.now) }
     ensures fits { IfSome result (λ r. fits_actor machine_names.now r.0 ≡ true) }
 {
-    let next = Actor::Dev(last.next_device);
-    if let Some(rest) = after_actor(machine_names, next, text) {
-        return Some((next, rest));
-    }
-    let former = Actor::Dev(last.former_device);
-    if let Some(rest) = after_actor(machine_names, former, text) {
-        return Some((former, rest));
-    }
     let same = Actor::Dev(last.device);
-    let rest = after_actor(machine_names, same, text)?;
-    Some((same, rest))
+    if let Some(rest) = after_actor(machine_names, same, text) {
+        return Some((same, rest));
+    }
+    let name = after_piece(text, b"dev:")?;
+    let named = Actor::Dev(machine_names.guessed_device(name, b' '));
+    let rest = after_actor(machine_names, named, text)?;
+    Some((named, rest))
 }
 
-/// A script that makes an entry, if it is the one after the last or the last, or time, or the timer of the
-/// source that was named last.
-fn task_guessed<'a>(
+/// The name of a script that makes an entry, with what follows it.
+#[inline(always)]
+fn script_name(text: &[u8]) -> Option<&[u8]> {
+    match after_piece(text, b"task:") {
+        None => after_piece(text, b"irq:"),
+        name => name,
+    }
+}
+
+/// A script that makes an entry, guessed by its name.
+#[inline(never)]
+fn script_named<'a>(machine_names: &MachineNames, text: &'a [u8]) -> Option<(Actor, &'a [u8])>
+    ensures text { IfSome result (λ r. text.now ≡ maker_text machine_names.now r.0 ++ r.1.now) }
+    ensures fits { IfSome result (λ r. fits_actor machine_names.now r.0 ≡ true) }
+{
+    let name = script_name(text)?;
+    let named = Actor::Script(machine_names.guessed_script(name, b' '));
+    let rest = after_actor(machine_names, named, text)?;
+    Some((named, rest))
+}
+
+/// A script that makes an entry: the one after the last, the last, or one guessed by its name.
+#[inline]
+fn script_guessed<'a>(
     machine_names: &MachineNames,
     last: &LastNamed,
     text: &'a [u8],
@@ -84,12 +104,27 @@ fn task_guessed<'a>(
     if let Some(rest) = after_actor(machine_names, next, text) {
         return Some((next, rest));
     }
-    if let Some(rest) = after_actor(machine_names, Actor::Time, text) {
-        return Some((Actor::Time, rest));
-    }
     let same = Actor::Script(last.script);
     if let Some(rest) = after_actor(machine_names, same, text) {
         return Some((same, rest));
+    }
+    script_named(machine_names, text)
+}
+
+/// A script that makes an entry, or time, or the timer of the source that was named last.
+fn task_guessed<'a>(
+    machine_names: &MachineNames,
+    last: &LastNamed,
+    text: &'a [u8],
+) -> Option<(Actor, &'a [u8])>
+    ensures text { IfSome result (λ r. text.now ≡ maker_text machine_names.now r.0 ++ r.1.now) }
+    ensures fits { IfSome result (λ r. fits_actor machine_names.now r.0 ≡ true) }
+{
+    if let Some((script, rest)) = script_guessed(machine_names, last, text) {
+        return Some((script, rest));
+    }
+    if let Some(rest) = after_actor(machine_names, Actor::Time, text) {
+        return Some((Actor::Time, rest));
     }
     let timer = Actor::Timer(last.source);
     let rest = after_actor(machine_names, timer, text)?;

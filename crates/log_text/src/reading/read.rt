@@ -211,7 +211,7 @@ fn read_whole(alloc: Global, machine_names: &MachineNames, bytes: &[u8]) -> Resu
     ensures fits { IfOk result (λ log. IsWritable machine_names.now log) }
     ensures line { IfErr result (λ e. AtLine e (λ n. AreNamed machine_names.now → IsFirstBad machine_names.now bytes.now n)) }
 {
-    match LineReader::new(alloc, machine_names) {
+    match LineReader::new(alloc) {
         Ok(mut reader) => match read_entries(alloc, machine_names, &mut reader, bytes) {
             Ok((entries, left, number)) => {
                 read_closing(alloc, machine_names, &mut reader, entries, left, number)

@@ -13,7 +13,7 @@ ghost use Rattle.log_text.specs.Named.{AreNamed};
 use crate::reading::ends::{stats_in, waiting_in};
 use crate::reading::entries::entry_in;
 use crate::reading::kinds::kind_in;
-use crate::reading::last_named::{DeviceOrder, LastNamed};
+use crate::reading::last_named::LastNamed;
 use crate::reading::lines::first_line;
 use crate::reading::machine_names::MachineNames;
 use crate::reading::number::{digits_first, digits32_first};
@@ -48,20 +48,17 @@ pub struct LineReader {
     spelled: LineWriter,
     front: LineFront,
     last: LastNamed,
-    order: DeviceOrder,
 }
 
 impl LineReader {
     /// A reader of lines. `Mem` if there is no memory for it.
-    pub fn new(alloc: Global, machine_names: &MachineNames) -> Result<Self, Mem> {
-        let order = DeviceOrder::new(alloc, machine_names.machine().devices.len())?;
+    pub fn new(alloc: Global) -> Result<Self, Mem> {
         let front = LineFront::start();
         let spelled = LineWriter::with_room(alloc, 0)?;
         Ok(LineReader {
             spelled,
             front,
             last: LastNamed::first(),
-            order,
         })
     }
 
@@ -164,12 +161,11 @@ impl LineReader {
         ensures text { IfOk result (λ o. IfSome o (λ r. text.now ≡ body machine_names.now r.0 ++ newline ++ r.1.now)) }
         ensures fits { IfOk result (λ o. IfSome o (λ r. fits_kind machine_names.now r.0 ≡ true)) }
     {
-        let last = self.last;
-        let Some((kind, rest)) = kind_first(machine_names, &last, text) else {
+        let Some((kind, rest)) = kind_first(machine_names, &self.last, text) else {
             // Unpacked apart, so that what most lines say is not read and written once more.
             return Ok(self.other_first(machine_names, text)?);
         };
-        self.last = self.order.with_kind(last, kind);
+        self.last.note_kind(kind);
         Ok(Some((kind, rest)))
     }
 
@@ -186,11 +182,10 @@ impl LineReader {
         ensures fits { IfOk result (λ o. IfSome o (λ r. fits_entry machine_names.now r.0 ≡ true)) }
     {
         let (time, now) = (self.front.time(), self.front.word());
-        let last = self.last;
-        let Some((actor, entry_text)) = actor_first(machine_names, &last, text) else {
+        let Some((actor, entry_text)) = actor_first(machine_names, &self.last, text) else {
             return Ok(None);
         };
-        self.last = self.order.with_actor(last, actor);
+        self.last.note_actor(actor);
         match self.first_of_text(machine_names, entry_text)? {
             None => Ok(None),
             Some((kind, rest)) => Ok(Some((
