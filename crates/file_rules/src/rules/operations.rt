@@ -64,11 +64,13 @@ pub(crate) enum OperationTest {
 /// `machine_file` reads and writes by the last two, with functions of its own.
 #[macro_export]
 macro_rules! by_operation {
-    (@name $from:expr; $($word:ident $name:literal $version:literal $makers:ident $members:tt $form:block $read:block [$op:pat] $written:block)*) => {
-        match $from { $(Word::$word => $name,)* }
-    };
     (@named $text:expr; $($word:ident $name:literal $version:literal $makers:ident $members:tt $form:block $read:block [$op:pat] $written:block)*) => {
-        [$(Word::$word),*].iter().copied().find(|word| word.is($text))
+        {
+            $(if is_same($text, $name) {
+                return Some(Word::$word);
+            })*
+            None
+        }
     };
     (@version $from:expr; $($word:ident $name:literal $version:literal $makers:ident $members:tt $form:block $read:block [$op:pat] $written:block)*) => {
         match $from { $(Word::$word => $version,)* }
@@ -210,21 +212,8 @@ impl Word {
     ghost use Rattle.std.specs.Prelude.{◌≡◌, bytes_eq, find};
     ghost use Rattle.file_rules.specs.OperationRows.{operation_of_word, words};
 
-    /// The word as a file spells it, such as `link_state`.
-    fn name(self) -> &'static str
-        ensures { result.now ≡ (operation_of_word self).word }
-    {
-        by_operation!(name of self)
-    }
-
-    /// Whether a text is the word.
-    fn is(self, text: &str) -> bool
-        ensures { result ≡ bytes_eq text.now (operation_of_word self).word }
-    {
-        is_same(text, self.name())
-    }
-
-    /// The word that a text is. None if it is none of the table.
+    /// The word that a text is. None if it is none of the table. Row after row is compared with the text, since
+    /// most names differ from it in length.
     fn of_text(text: &str) -> Option<Word>
         ensures { result ≡ find (λ w. bytes_eq text.now (operation_of_word w).word) words }
     {
