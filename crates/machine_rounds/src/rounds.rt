@@ -53,7 +53,7 @@ impl<'m> Run<'m> {
 
     /// Wakes the readers of the count, if no event is in progress.
     #[inline(always)]
-    fn wake_readers<R: Wait>(&mut self, rt: &R)
+    pub(crate) fn wake_readers<R: Wait>(&mut self, rt: &R)
         ensures { MadeNothing self.old self.new }
     {
         if self.waiters.has_readers() && self.look(rt).inpr == 0 {

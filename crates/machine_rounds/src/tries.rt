@@ -247,6 +247,24 @@ impl<'m> Run<'m> {
         Ok(true)
     }
 
+    /// The try of an actor that has a call on a source to make. Whether it made the call; if it has none to
+    /// make it did nothing.
+    #[inline(always)]
+    fn call_try<R: Wait>(&mut self, rt: &R, who: Actor) -> Result<bool, RunFault>
+        requires { IsActor self.old.machine who }
+        ensures machine { self.new.machine ≡ self.old.machine }
+        ensures after { AfterTry self.old self.new result }
+    {
+        match self.jobs.next(who) {
+            Want::Source(source, call) => {
+                self.call(rt, who, source, call)?;
+                self.wake_readers(rt);
+                Ok(true)
+            }
+            _ => Ok(false),
+        }
+    }
+
     /// The try of a script. Whether it made entries.
     #[inline(always)]
     pub(crate) fn ask_script<R: Wait>(&mut self, rt: &R, script: u32) -> Result<bool, RunFault>
@@ -257,6 +275,9 @@ impl<'m> Run<'m> {
         let who = Actor::Script(script);
         if self.core().is_maker(who) {
             return self.ask_maker(rt, script);
+        }
+        if self.call_try(rt, who)? {
+            return Ok(true);
         }
         if self.sleep_try(rt, script)? {
             return Ok(true);
