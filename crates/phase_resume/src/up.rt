@@ -10,6 +10,7 @@ use sleep_model::{Due, Kind, Phase, Why};
 /// device that the mirror phase suspended. Then it takes the synchronous ones from the first to the last,
 /// each once all above it are up. It ends once all are up. It brings up no device that the mirror phase did
 /// not suspend.
+#[inline(always)]
 pub fn walk_due(board: &Board, p: Phase) -> Due
     ensures { result ≡ walk_up_due_on board.now p }
 {
@@ -25,6 +26,7 @@ pub fn walk_due(board: &Board, p: Phase) -> Due
 
 /// What a device does next that a phase on the way up has scheduled or taken
 /// (`dpm_wait_for_superior`, `device_resume`): it waits for all above it, and then begins.
+#[inline(always)]
 pub fn device_due(board: &Board, p: Phase, device: u32) -> Due
     ensures { result ≡ scheduled_up_on board.now p device }
 {

@@ -48,6 +48,7 @@ pub struct DownEnv<'a> {
 /// suspend did. The kernel differs: there a consumer by a dormant link counts, too
 /// (`dpm_clear_superiors_direct_complete`). Here only those count for which the device waits;
 /// docs/BEHAVIOUR.md lists what departs from the kernel.
+#[inline(always)]
 fn is_direct(env: &DownEnv<'_>, p: Phase, device: u32) -> bool
     ensures { (down : Down) → result ≡ is_direct_on (down_state down env.now) p device }
 {
@@ -65,6 +66,7 @@ fn is_direct(env: &DownEnv<'_>, p: Phase, device: u32) -> bool
 /// The entry of a device that waits for no other, if there is no error. The device is skipped if a wakeup is
 /// pending and the phase checks for one, as suspend and late do. Else it is skipped as direct-complete, or
 /// its callback begins.
+#[inline(always)]
 fn begin_or_skip(env: &DownEnv<'_>, p: Phase, device: u32) -> Kind
     ensures { (down : Down) → result ≡ begin_or_skip_on (down_state down env.now) p device }
 {
@@ -93,6 +95,7 @@ impl Down {
     /// (`dpm_list`), and ends with the first. It schedules an asynchronous one. For a synchronous one it
     /// waits for its subordinates, then skips it or begins its callback. After an error, or when no device is
     /// left, it waits for all that were scheduled, and ends.
+    #[inline(always)]
     pub fn walk_due(&self, env: &DownEnv<'_>, p: Phase) -> Due
         ensures { result ≡ walk_down_due_on (down_state self.now env.now) p }
     {
@@ -105,6 +108,7 @@ impl Down {
     /// What a device whose callback has not begun does next on the way down (`__device_suspend`), in its own
     /// async work or inside the walk. It waits for its subordinates. Then it is skipped (after an error, for
     /// a pending wakeup, or as direct-complete), or its callback begins.
+    #[inline(always)]
     pub fn device_due(&self, env: &DownEnv<'_>, p: Phase, device: u32) -> Due
         ensures { result ≡ scheduled_down_on (down_state self.now env.now) p device }
     {
@@ -115,6 +119,7 @@ impl Down {
     }
 
     /// The entry of a device that waits for no other. After an error the device is skipped.
+    #[inline(always)]
     fn device_step(&self, env: &DownEnv<'_>, p: Phase, device: u32) -> Kind
         ensures { result ≡ unless_failed self.now.async_error p device
             (begin_or_skip_on (down_state self.now env.now) p device) }
@@ -127,6 +132,7 @@ impl Down {
 
     /// The walk's next step at `device`, if there is no error. It schedules an asynchronous device; for a
     /// synchronous one it does what the device does (`device_due`).
+    #[inline(always)]
     fn walk_device(&self, env: &DownEnv<'_>, p: Phase, device: u32) -> Due
         requires { self.now.async_error ≡ None }
         ensures { result ≡ walk_device_on (down_state self.now env.now) p device }

@@ -36,6 +36,7 @@ impl<'m> Core<'m> {
     }
 
     /// The walk of a phase on the way down, inside no callback.
+    #[inline(always)]
     fn walk_down(&self, now: EventNow, p: Phase) -> Due
         requires { is_down p ≡ true }
         ensures { result ≡ down_due self.now.machine (entries self.now.past) now p None }
@@ -48,6 +49,7 @@ impl<'m> Core<'m> {
     }
 
     /// A device that is scheduled on the way down.
+    #[inline(always)]
     fn scheduled_down(&self, now: EventNow, p: Phase, device: u32) -> Due
         requires { is_down p ≡ true }
         ensures { result ≡ scheduled_due self.now.machine (entries self.now.past) now p device }
@@ -60,6 +62,7 @@ impl<'m> Core<'m> {
     }
 
     /// What a phase on the way down looks at.
+    #[inline(always)]
     fn down_env(&self, now: EventNow) -> DownEnv<'_>
         ensures { IsDownEnvOf self.now now result }
     {
@@ -98,6 +101,7 @@ impl<'m> Core<'m> {
     }
 
     /// Prepare, at its walk.
+    #[inline(always)]
     pub(crate) fn prepare_due(&self) -> Due
         ensures { result ≡ prepare_due self.now.machine (entries self.now.past) (phase_failed (entries self.now.past))
             (next_prepared self.now.machine (entries self.now.past)) }
@@ -120,6 +124,7 @@ impl<'m> Core<'m> {
     }
 
     /// Complete, at its walk.
+    #[inline(always)]
     pub(crate) fn complete_due(&self) -> Due
         ensures { result ≡ complete_due (next_completed self.now.machine (entries self.now.past)) }
     {
@@ -141,6 +146,7 @@ impl<'m> Core<'m> {
     }
 
     /// An asynchronous device that is scheduled in that phase.
+    #[inline(always)]
     fn scheduled_due(&self, now: EventNow, p: Phase, device: u32) -> Due
         requires { (is_down p ≡ true) ⊎ (is_up p ≡ true) }
         ensures { result ≡ scheduled_due self.now.machine (entries self.now.past) now p device }
