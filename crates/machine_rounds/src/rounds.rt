@@ -123,8 +123,10 @@ impl<'m> Run<'m> {
                 break;
             };
             let who = Actor::Script(script);
+            // `ask_maker` asks the maker of an attempt on itself, while nobody else may have something to do.
+            let is_maker = self.core().is_maker(who);
             made = self.ask_script(rt, script)? | made;
-            if !self.waiters.is_alone(who) {
+            if is_maker || !self.waiters.is_alone(who) {
                 next = self.next_script(script.saturating_add(1));
             }
         }

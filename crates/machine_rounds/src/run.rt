@@ -256,7 +256,7 @@ impl<'m> Run<'m> {
     }
 
     /// A script that has begun to sleep is not asked again before its sleep ends.
-    #[inline(never)]
+    #[inline(always)]
     fn sleeps_until(&mut self, who: Actor, until: u64)
         ensures { self.new ≡ self.old }
     {
