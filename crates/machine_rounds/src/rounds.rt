@@ -163,6 +163,9 @@ impl<'m> Run<'m> {
         } else {
             by_script
         };
+        if self.waiters.asks_nobody() {
+            return Ok(by_task);
+        }
         let by_actor = self.ask_devices(rt)? | by_task;
         Ok(by_actor)
     }
