@@ -3,8 +3,10 @@
 ghost use Rattle.std.specs.Prelude.{◌≡◌};
 
 use crate::cut::{TextSource, texts};
+use crate::merged::MergedEntries;
 use crate::range::Range;
 use log_merge::merge_journal;
+use log_text::TextFrame;
 use sleep_base::Mem;
 use sleep_model::{Journal, ListOf, Log, LogEnd, Machine, SourceList, Stats};
 use std::alloc::Global;
@@ -71,10 +73,10 @@ fn last_position(histories: &[SourceList]) -> u64 {
 }
 
 impl ApartLog {
-    ghost use Rattle.std.specs.Prelude.{◌≡◌, true, reverse, IfOk, flat_map, map};
+    ghost use Rattle.std.specs.Prelude.{◌≡◌, ◌++◌, true, reverse, IfOk, flat_map, map};
     ghost use Rattle.std.specs.List.{list_all};
     ghost use Rattle.sleep_model.specs.Merge.{merge, of_source, rises};
-    ghost use Rattle.sleep_model.specs.Text.{entry_line};
+    ghost use Rattle.sleep_model.specs.Text.{end_text, entry_line, source_lines, source_names};
     ghost use Rattle.apart_log.specs.Slices.{joined_texts};
 
     /// The log of a journal and of the sources' histories, along each of which ticks and positions rise, with
@@ -121,6 +123,28 @@ impl ApartLog {
             stats,
             end,
         })
+    }
+
+    /// The entries of the log in order, which stay where they are stored. `Mem` if there is no memory for
+    /// their order.
+    pub(crate) fn merged(&self, alloc: Global) -> Result<MergedEntries<'_>, Mem>
+        ensures { IfOk result (λ entries. entries ≡ self.now.entries) }
+    {
+        MergedEntries::new(alloc, &self.journal, &self.histories)
+    }
+
+    /// What the text of the log has besides its entries. `Mem` if there is no memory for it.
+    pub(crate) fn frame<'m>(
+        &self,
+        alloc: Global,
+        machine: &'m Machine,
+    ) -> Result<TextFrame<'m>, Mem>
+        ensures { IfOk result (λ frame. frame ≡ record {
+          machine = machine.now;
+          closing = source_lines (source_names machine.now) self.now.stats ++ end_text machine.now self.now.end;
+        }) }
+    {
+        TextFrame::new(alloc, machine, self.stats.as_slice(), &self.end)
     }
 
     /// The texts of slices of the entries; one after the other they are the text of all. Workers make them,

@@ -16,5 +16,5 @@ mod with_counts;
 
 pub use journal::rises;
 pub use merged::merge;
-pub use sources::{in_order, with_history};
-pub use with_counts::merge_journal;
+pub use sources::{in_order, sorted, with_history};
+pub use with_counts::{leads, merge_journal};

@@ -59,7 +59,7 @@ pub fn in_order(mut entries: Vec<&SourceEntry>) -> Result<Vec<&SourceEntry>, Mem
 
 /// The entries of all sources in the order of the one log, equal ones history by history. `Mem` if there is
 /// no memory.
-pub(crate) fn sorted(alloc: Global, histories: &[SourceList]) -> Result<Vec<&SourceEntry>, Mem>
+pub fn sorted(alloc: Global, histories: &[SourceList]) -> Result<Vec<&SourceEntry>, Mem>
     ensures { IfOk result (λ all. seen all.items ≡ in_order (sources_entries histories.now)) }
 {
     let entries = gathered(alloc, histories)?;

@@ -16,7 +16,7 @@ use std::alloc::Global;
 
 /// Whether that entry of a source stands before the next of a journal, or none is left of it.
 #[inline(always)]
-fn leads(next: &Option<JournalEntry>, other: &SourceEntry) -> bool
+pub fn leads(next: &Option<JournalEntry>, other: &SourceEntry) -> bool
     ensures { result ≡ leads_next (of_source other.now) next.now }
 {
     match next {

@@ -15,6 +15,14 @@ pub passes_all : (old mid : Option (List ℕ)) (before then : ℕ) (buffer left 
 passes_all old mid before then buffer left bytes is wrote later none = λ rest new now result h.
     both_written old mid new before then now buffer rest result (subst (Appends old mid) is wrote) later (subst (λ (bs : List ℕ). WriteAll mid new then now (bs ++ rest) result) none h)
 
+-- a line was put after what is left of the buffer
+pub passes_line : (old mid : Option (List ℕ)) (before then : ℕ) (buffer left put line : List ℕ) → Passes old mid before then buffer left → put ≡ left ++ line
+    → Passes old mid before then (buffer ++ line) put
+passes_line old mid before then buffer left put line passes is = λ rest new now result h.
+    let behind : put ++ rest ≡ left ++ (line ++ rest) = ap (λ (bs : List ℕ). bs ++ rest) is ∙ append_assoc left line rest in
+    subst (λ (bs : List ℕ). WriteAll old new before now bs result) (sym (append_assoc buffer line rest))
+    (passes (line ++ rest) new now result (subst (λ (bs : List ℕ). WriteAll mid new then now bs result) behind h))
+
 -- at first all is left
 pub taken_first : (old : Option (List ℕ)) (before : ℕ) (all buffer rest : List ℕ) → buffer ≡ [] → rest ≡ all → Takes old old before before all (buffer ++ rest)
 taken_first old before all buffer rest none is = λ new now result h.
@@ -28,6 +36,14 @@ taken_on old mid next before then later all buffer left put line more rest told 
     let behind : put ++ rest ≡ left ++ (line ++ rest) = ap (λ (bs : List ℕ). bs ++ rest) is ∙ append_assoc left line rest in
     let passed = passes (line ++ rest) new now result (subst (λ (bs : List ℕ). WriteAll next new later now bs result) behind h) in
     told new now result (subst (λ (bs : List ℕ). WriteAll mid new then now (buffer ++ bs) result) (sym first) passed)
+
+-- the same, if the line was put with what was held back
+pub taken_line : (old mid next : Option (List ℕ)) (before then later : ℕ) (all buffer left line more rest : List ℕ)
+    → Takes old mid before then all (buffer ++ more) → Passes mid next then later (buffer ++ line) left → more ≡ line ++ rest
+    → Takes old next before later all (left ++ rest)
+taken_line old mid next before then later all buffer left line more rest told passes first = λ new now result h.
+    let behind : buffer ++ more ≡ (buffer ++ line) ++ rest = ap (λ (bs : List ℕ). buffer ++ bs) first ∙ sym (append_assoc buffer line rest) in
+    told new now result (subst (λ (bs : List ℕ). WriteAll mid new then now bs result) (sym behind) (passes rest new now result h))
 
 -- the buffer could not be written
 pub taken_failed : (old mid new : Option (List ℕ)) (before then now : ℕ) (all buffer more : List ℕ) (fault : Failed)

@@ -2,6 +2,7 @@
 pub mod MachineNames
 pub mod Cutting
 pub mod Faults
+pub mod Framed
 pub mod Grammar
 pub mod Named
 pub mod Passing

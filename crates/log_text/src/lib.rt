@@ -21,4 +21,4 @@ pub use laws::{first_bad_line_is_one, log_text_is_injective, written_lines_are_g
 pub use reading::read::read_log;
 pub use writing::log::write_log;
 pub use writing::referred::write_entries;
-pub use writing::stream::LogText;
+pub use writing::stream::{LineStream, LogText, TextFrame};

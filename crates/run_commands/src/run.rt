@@ -6,12 +6,11 @@ ghost use Rattle.program_ending.specs.Streams.{stream, streams};
 ghost use Rattle.run_commands.specs.Endings.{GivesRun, IsEndingOfRun, IsFullNamed, RunEnded, WritesLog, WritesText, ending_of};
 
 use crate::counts::is_stuck;
-use apart_log::{ApartLog, SlicedText};
-use log_text::LogText;
+use apart_log::{ApartLog, MergedText, SlicedText};
 use machine_file::{MachineFault, ReadMachine, read_machine};
 use program_ending::{Ending, MOST_MACHINE, Refusal, read_input};
 use sleep_base::{ByteSink, ByteSource, Failed};
-use sleep_model::{Log, Machine, Name};
+use sleep_model::{Machine, Name};
 use sleep_run::{Gate, RunFault, run_machine};
 use std::alloc::Global;
 use std::sync::Wait;
@@ -87,14 +86,15 @@ fn ending_of(written: Result<(), Failed>, stuck: bool) -> Ending
     }
 }
 
-/// Writes the text of a machine's log as it is put together. Ends as `write_whole`.
-fn write_text<K: ByteSink>(alloc: Global, out: &mut K, machine: &Machine, log: &Log) -> Ending
+/// Writes the text of a machine's log as it is put together: the entries stay where they are stored. Ends as
+/// `write_whole`.
+fn write_text<K: ByteSink>(alloc: Global, out: &mut K, machine: &Machine, log: &ApartLog) -> Ending
     ensures { WritesText machine.now log.now (stream (K.written out.old) (K.faults out.old)) (stream (K.written out.new) (K.faults out.new)) result }
 {
-    let Ok(text) = LogText::new(alloc, machine, log) else {
+    let Ok(text) = MergedText::new(alloc, machine, log) else {
         return Ending::NoMemory;
     };
-    ending_of(text.write_to(out), is_stuck(&log.end))
+    ending_of(text.write_to(out), is_stuck(log.end()))
 }
 
 /// Writes the log of a run as its text is put together: `Done`, or `Stuck` if the run was stuck. `NoMemory`
@@ -103,10 +103,6 @@ fn write_whole<K: ByteSink>(alloc: Global, out: &mut K, ran: Ran) -> Ending
     ensures { WritesLog ran (stream (K.written out.old) (K.faults out.old)) (stream (K.written out.new) (K.faults out.new)) result }
 {
     let Ran { machine, log } = ran;
-    let Ok(log) = log.into_log(alloc) else {
-        drop(machine);
-        return Ending::NoMemory;
-    };
     let ending = write_text(alloc, out, &machine, &log);
     drop((machine, log));
     ending

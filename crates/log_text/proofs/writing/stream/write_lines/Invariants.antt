@@ -1,5 +1,5 @@
--- The lines in the buffer, those of the entries that are left and those after are all lines.
-use Rattle.std.proofs.Common.{◌≤◌, ◌++◌, length, flat_map}
+-- The lines that are held back, those of the entries that are left and those after are all lines.
+use Rattle.std.proofs.Common.{◌≡◌, ◌≤◌, ◌++◌, length, flat_map}
 use Rattle.sleep_model.specs.Text.{entry_line}
 use Rattle.sleep_model.specs.Interleaved.{unread}
 use Rattle.log_text.specs.Passing.{Takes}
@@ -7,7 +7,8 @@ use Rattle.log_text.proofs.writing.stream.write_lines.Given as goal
 
 abbrev pub invariant-loop-entry : goal.invariant-loop-entry
 invariant-loop-entry g l = record {
-  told : Takes (g.K.ByteSink.written l.initial.sink) (g.K.ByteSink.written l.sink) (g.K.ByteSink.faults l.initial.sink) (g.K.ByteSink.faults l.sink) (flat_map (entry_line l.names) l.entries ++ l.closing) (l.buffer ++ (flat_map (entry_line l.names) (unread l.reader) ++ l.closing));
+  machine : l.stream.machine ≡ l.frame.machine;
+  told : Takes (g.K.ByteSink.written l.initial.sink) (g.K.ByteSink.written l.sink) (g.K.ByteSink.faults l.initial.sink) (g.K.ByteSink.faults l.sink) (flat_map (entry_line l.frame.machine) l.entries ++ l.frame.closing) (l.stream.buffered ++ (flat_map (entry_line l.frame.machine) (unread l.reader) ++ l.frame.closing));
   later : g.K.ByteSink.faults l.initial.sink ≤ g.K.ByteSink.faults l.sink;
 }
 
