@@ -40,10 +40,9 @@ impl<'a> Others<'a> {
     pub(crate) fn are_next(self, journal: &JournalReader<'_>) -> bool
         ensures { result ≡ is_others_turn journal.now (others_of self.entry) }
     {
-        let next = journal.peek();
         match self.split_first() {
-            Some((other, _)) => leads(&next, other),
-            None => next.is_none(),
+            Some((other, _)) => leads(&journal.peek(), other),
+            None => journal.peek().is_none(),
         }
     }
 }

@@ -79,6 +79,7 @@ fn put_before<K: ByteSink>(
 
 /// Writes a line for each entry of a journal and of sources, and then the lines after those. `Failed` at the
 /// first write that fails: a front of all lines was written.
+#[inline(never)]
 pub(crate) fn write_merged<K: ByteSink>(
     sink: &mut K,
     frame: &TextFrame<'_>,

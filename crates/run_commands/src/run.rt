@@ -47,19 +47,21 @@ pub struct Ran {
 
 /// The machine that the bytes spell with the log of its run by this number of workers, or how the program
 /// ends without one. It is `Broken` if they break a rule and so spell none, `SourceFull` if a source's
-/// history has no room for a call, `NoMemory` if there is no memory.
+/// history has no room for a call, `NoMemory` if there is no memory. The bytes are let go before the run.
 #[tactic(auto, using(crate::proofs::Filling::ended_fault))]
 fn run_of_bytes<R: Threads + Wait + Sync, G: Gate + Sync>(
     rt: &R,
     alloc: Global,
-    bytes: &[u8],
+    bytes: Vec<u8>,
     workers: u8,
     gate: &G,
 ) -> Result<Ran, Ending>
     requires { 1 ≤ workers }
-    ensures { GivesRun bytes.now result }
+    ensures { GivesRun bytes.items result }
 {
-    let ReadMachine { machine, links } = match read_machine(alloc, bytes) {
+    let read = read_machine(alloc, &bytes);
+    drop(bytes);
+    let ReadMachine { machine, links } = match read {
         Ok(read) => read,
         Err(MachineFault::Rule { rule, place }) => {
             return Err(Ending::Refused(Refusal::Broken { rule, place }));
@@ -182,7 +184,7 @@ pub fn run_file<R: Threads + Wait + Sync, S: ByteSource, K: ByteSink, G: Gate + 
         Ok(bytes) => bytes,
         Err(ending) => return ending,
     };
-    match run_of_bytes(rt, alloc, &bytes, workers, gate) {
+    match run_of_bytes(rt, alloc, bytes, workers, gate) {
         Ok(ran) => write_log(rt, alloc, out, ran, workers),
         Err(ending) => ending,
     }

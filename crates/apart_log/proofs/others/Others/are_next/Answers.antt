@@ -11,4 +11,4 @@ returns-in-Some c =
     let first = of_source c.in-Some.other.now in
     let journal = c.args.journal.now in
     c.leads.ensures
-    ∙ (ap (leads_next first) c.peek-next.ensures ∙ (leads_same first journal ∙ ap (is_others_turn journal) (sym c.in-Some.ensures)))
+    ∙ (ap (leads_next first) c.peek.ensures ∙ (leads_same first journal ∙ ap (is_others_turn journal) (sym c.in-Some.ensures)))
