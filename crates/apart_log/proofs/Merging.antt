@@ -20,7 +20,7 @@ pub line_of_other : (m : Machine) (journal others rest : List JournalEntry) (oth
 line_of_other m journal others rest other is turn u v =
     ap (λ (l : List JournalEntry). lines_of m journal l) is
     ∙ ap (flat_map (entry_line m)) (other_first other journal rest (subst (λ (l : List JournalEntry). is_others_turn journal l ≡ true) is turn) u
-        (subst (λ (l : List JournalEntry). is_in_order l ≡ true) is v))
+    (subst (λ (l : List JournalEntry). is_in_order l ≡ true) is v))
 
 -- else the journal's next is
 pub line_of_journal : (m : Machine) (journal rest others : List JournalEntry) (e : JournalEntry) → journal ≡ e ∷ rest → is_others_turn journal others ≡ false
@@ -29,7 +29,7 @@ pub line_of_journal : (m : Machine) (journal rest others : List JournalEntry) (e
 line_of_journal m journal rest others e is turn u v =
     ap (λ (l : List JournalEntry). lines_of m l others) is
     ∙ ap (flat_map (entry_line m)) (journal_first e rest others (own others (subst (λ (l : List JournalEntry). is_others_turn l others ≡ false) is turn))
-        (subst (λ (l : List JournalEntry). is_in_order l ≡ true) is u) v)
+    (subst (λ (l : List JournalEntry). is_in_order l ≡ true) is u) v)
   where
     own : (os : List JournalEntry) → is_others_turn (e ∷ rest) os ≡ false → is_journals_turn (e ∷ rest) os ≡ true
     own [] h = refl
