@@ -19,9 +19,9 @@ use std::marker::Model;
 #[derive(Drop)]
 pub(crate) struct MergedEntries<'a> {
     journal: &'a Journal,
-    /// The only history that has entries. If several have, it is empty,
+    /// The only history that has entries. It is empty if several have.
     history: &'a [SourceEntry],
-    /// and these are the entries of all, in order.
+    /// The entries of all histories, in order, if several have any.
     sorted: Vec<&'a SourceEntry>,
 }
 

@@ -23,7 +23,8 @@ use std::sync::Wait;
 
 impl<'m> Core<'m> {
     /// The entry that is due of a script which makes no attempt, if it begins or ends a sleep that no freeze
-    /// is about, while the machine is awake. `None` may also mean that something else is due.
+    /// is about, while the machine is awake. `None` may also mean that something else is due. The word is an
+    /// argument for the clauses only.
     #[inline(always)]
     pub fn sleep_step(&self, script: u32, now: EventNow) -> Option<Kind>
         requires { script < length self.now.machine.actors }
@@ -75,7 +76,7 @@ impl<'m> Core<'m> {
     }
 
     /// The end of a callback that the maker of the attempt runs in a walk over devices: its phase, device and
-    /// answer. `None` if it runs none.
+    /// answer. `None` if it runs none. The actor and the word are arguments for the clauses only.
     #[inline(always)]
     pub fn callback_end(&self, who: Actor, now: EventNow) -> Option<(Phase, u32, Option<Errno>)>
         requires { is_actor who (maker (entries self.now.past)) ≡ true }
