@@ -60,10 +60,10 @@ impl<'m> Run<'m> {
         self.wake_after(who, kind);
     }
 
-    /// The turn of an actor of whom that is due, by the word that was looked at last. Each kind that devices
-    /// have most of has code of its own. Whether it made an entry; `None` if it is of another kind.
+    /// Begins the callback that is due of an actor, or has it wait, by the word that was looked at last.
+    /// Whether it made an entry; `None` if something else is due.
     #[inline(always)]
-    fn phase_turn<R: Wait>(&mut self, rt: &R, who: Actor, word: EventNow, next: Due) -> Option<bool>
+    fn begin_turn<R: Wait>(&mut self, rt: &R, who: Actor, word: EventNow, next: Due) -> Option<bool>
         requires actor { IsActor self.old.machine who }
         requires calls { HasCalled self.old who }
         requires seen { IsLastLook self.old word }
@@ -73,16 +73,51 @@ impl<'m> Run<'m> {
     {
         match next {
             Due::Makes(Kind::Begin(phase, device)) => {
-                self.make_device(rt, who, word, Kind::Begin(phase, device))
+                self.make_device(rt, who, word, Kind::Begin(phase, device));
+                Some(true)
             }
+            Due::Waits(why) => {
+                self.waiters.waits(who, why);
+                Some(false)
+            }
+            _ => None,
+        }
+    }
+
+    /// Ends the callback that a device's own work runs, by the word that was looked at last. `None` if
+    /// something else is due.
+    #[inline(always)]
+    fn end_turn<R: Wait>(&mut self, rt: &R, who: Actor, word: EventNow, next: Due) -> Option<bool>
+        requires actor { IsActor self.old.machine who }
+        requires calls { HasCalled self.old who }
+        requires seen { IsLastLook self.old word }
+        requires due { next ≡ due self.old.machine (entries self.old.journal) who word }
+        ensures machine { self.new.machine ≡ self.old.machine }
+        ensures after { AfterWalk self.old self.new result }
+    {
+        match next {
             Due::Makes(Kind::End(phase, device, r)) => {
-                self.make_device(rt, who, word, Kind::End(phase, device, r))
+                self.make_device(rt, who, word, Kind::End(phase, device, r));
+                Some(true)
             }
+            _ => None,
+        }
+    }
+
+    /// The next step of a walk over devices, by the word that was looked at last. Each kind that walks have
+    /// most of has code of its own. Whether it made an entry; `None` if it is of another kind.
+    #[inline(always)]
+    fn walk_turn<R: Wait>(&mut self, rt: &R, who: Actor, word: EventNow, next: Due) -> Option<bool>
+        requires actor { IsActor self.old.machine who }
+        requires calls { HasCalled self.old who }
+        requires seen { IsLastLook self.old word }
+        requires due { next ≡ due self.old.machine (entries self.old.journal) who word }
+        ensures machine { self.new.machine ≡ self.old.machine }
+        ensures after { AfterWalk self.old self.new result }
+    {
+        match next {
             Due::Makes(Kind::Schedule(phase, device)) => {
                 self.make_device(rt, who, word, Kind::Schedule(phase, device))
-            }
-            Due::Makes(Kind::Skip(phase, device, cause)) => {
-                self.make_device(rt, who, word, Kind::Skip(phase, device, cause))
             }
             Due::Makes(Kind::Prepare { device, r }) => {
                 self.make_device(rt, who, word, Kind::Prepare { device, r })
@@ -90,11 +125,7 @@ impl<'m> Run<'m> {
             Due::Makes(Kind::Complete(device)) => {
                 self.make_device(rt, who, word, Kind::Complete(device))
             }
-            Due::Waits(why) => {
-                self.waiters.waits(who, why);
-                return Some(false);
-            }
-            _ => return None,
+            _ => return self.begin_turn(rt, who, word, next),
         }
         Some(true)
     }
@@ -116,13 +147,13 @@ impl<'m> Run<'m> {
                 let due = self
                     .core()
                     .due_of_device(device, AsyncWork::Inside(phase), word);
-                self.phase_turn(rt, who, word, due)
+                self.end_turn(rt, who, word, due)
             }
             AsyncWork::Scheduled(phase) => {
                 let due = self
                     .core()
                     .due_of_device(device, AsyncWork::Scheduled(phase), word);
-                self.phase_turn(rt, who, word, due)
+                self.begin_turn(rt, who, word, due)
             }
             AsyncWork::Idle => None,
         }
@@ -169,7 +200,7 @@ impl<'m> Run<'m> {
             return Some(true);
         }
         let due = self.core().due_of(true, who, word);
-        self.phase_turn(rt, who, word, due)
+        self.walk_turn(rt, who, word, due)
     }
 
     /// The tries of a script that makes an attempt, while it may have something to do and nobody else.

@@ -81,8 +81,9 @@ fn put_entry_text(out: &mut ByteBuffer, names: &ReadyNames, kind: Kind)
     put!(out; b'\n')
 }
 
-/// Writes what an entry of an event says, to the end of its line.
-#[inline(always)]
+/// Writes what an entry of an event says, to the end of its line. It stands apart from the lines of other
+/// kinds, so that these stay short enough to be written in line.
+#[inline(never)]
 fn put_event(out: &mut ByteBuffer, source: &ShortText, ms: u32, hard: bool)
     requires room { length out.old + 140 ≤ 32768 }
     ensures text { out.new ≡ out.old ++ (codes "event " ++ source.now ++ space ++ decimal ms ++ space ++ hard_word hard ++ newline) }
