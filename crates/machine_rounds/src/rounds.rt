@@ -163,11 +163,11 @@ impl<'m> Run<'m> {
         } else {
             by_script
         };
-        if self.waiters.asks_nobody() {
+        if !self.waiters.asks_devices() {
             return Ok(by_task);
         }
-        let by_actor = self.ask_devices(rt)? | by_task;
-        Ok(by_actor)
+        let by_device = self.ask_devices(rt)? | by_task;
+        Ok(by_device)
     }
 
     /// The try of a source's timer: it makes a call if its moment has come.

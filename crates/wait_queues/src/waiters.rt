@@ -172,6 +172,12 @@ impl Waiters {
         self.auto
     }
 
+    /// Whether any device is to be asked.
+    #[inline(always)]
+    pub fn asks_devices(&self) -> bool {
+        !self.devices.is_empty()
+    }
+
     /// Whether the timers are to be asked.
     pub fn asks_timers(&self) -> bool {
         self.timers
