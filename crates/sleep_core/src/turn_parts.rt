@@ -16,9 +16,9 @@ ghost use Rattle.sleep_core.specs.Cores.{IsActor, core_after, made_entry, next_s
 ghost use Rattle.core_history.specs.Histories.{IsOfDevice, IsOfNone};
 
 use crate::state::Core;
-use crate::turns::{CoreFault, next_tick};
+use crate::turns::CoreFault;
 use sleep_base::Errno;
-use sleep_model::{Actor, AsyncWork, Due, EventNow, Kind, Phase, Stage, Stamp, pos};
+use sleep_model::{Actor, AsyncWork, Due, EventNow, Kind, Phase, Stage, Stamp};
 use std::sync::Wait;
 
 impl<'m> Core<'m> {
@@ -61,11 +61,7 @@ impl<'m> Core<'m> {
         ensures err { OnErr result (self.new ≡ self.old) }
         ensures legal { JournalPart self.new.machine (entries self.new.past) }
     {
-        let tick = next_tick(rt, floor.tick, self.history.last().tick);
-        let stamp = Stamp {
-            pos: pos(word),
-            tick,
-        };
+        let stamp = self.next_stamp(rt, word, floor);
         let made = self.make_other(false, who, word, kind, stamp);
         // A look at the field makes the invariant known here: the journal is legal.
         let _ = &self.history;
@@ -128,11 +124,7 @@ impl<'m> Core<'m> {
         ensures stamp { result ≡ next_stamp self.old.past floor word }
         ensures legal { JournalPart self.new.machine (entries self.new.past) }
     {
-        let tick = next_tick(rt, floor.tick, self.history.last().tick);
-        let stamp = Stamp {
-            pos: pos(word),
-            tick,
-        };
+        let stamp = self.next_stamp(rt, word, floor);
         self.make_device(who, word, kind, stamp);
         // A look at the field makes the invariant known here: the journal is legal.
         let _ = &self.history;

@@ -56,7 +56,7 @@ pub enum CoreFault {
 
 /// The tick after these two; a tick that would pass its range waits for ever.
 #[inline(always)]
-pub(crate) fn next_tick<R: Wait>(rt: &R, one: u64, other: u64) -> u64
+fn next_tick<R: Wait>(rt: &R, one: u64, other: u64) -> u64
     ensures { result ≡ max one other + 1 }
 {
     let last = one.max(other);
@@ -68,6 +68,17 @@ pub(crate) fn next_tick<R: Wait>(rt: &R, one: u64, other: u64) -> u64
 }
 
 impl<'m> Core<'m> {
+    /// The stamp of the entry that is made next, by an actor who saw this word.
+    #[inline(always)]
+    pub(crate) fn next_stamp<R: Wait>(&self, rt: &R, word: EventNow, floor: Stamp) -> Stamp
+        ensures { result ≡ next_stamp self.now.past floor word }
+    {
+        Stamp {
+            pos: pos(word),
+            tick: next_tick(rt, floor.tick, self.history.last().tick),
+        }
+    }
+
     /// Whether the number of attempts stays in its range.
     #[inline(always)]
     fn leaves_attempts(&self, kind: Kind) -> bool
@@ -269,11 +280,7 @@ impl<'m> Core<'m> {
             Due::Waits(why) => Ok(CoreTurn::NotYet(why)),
             Due::Nothing => Ok(CoreTurn::Done),
             Due::Makes(kind) => {
-                let tick = next_tick(rt, floor.tick, self.history.last().tick);
-                let stamp = Stamp {
-                    pos: pos(word),
-                    tick,
-                };
+                let stamp = self.next_stamp(rt, word, floor);
                 let made = self.make(makes, who, word, kind, stamp);
                 let attempt = self.history.attempt().attempts();
                 made?;
