@@ -1,13 +1,14 @@
 //! What a task, or the autosleep work, does next outside attempts of its own (`kernel/power/main.c`,
 //! `kernel/power/autosleep.c`).
 
-ghost use Rattle.std.specs.Prelude.{◌≡◌, ◌≤◌, ◌<◌, ◌^◌, length, slice_get, option_copied, Some, IfSome};
+ghost use Rattle.std.specs.Prelude.{◌≡◌, ◌≤◌, ◌<◌, ◌^◌, ◌||◌, length, slice_get, option_copied, Some, is_some, IfSome};
 ghost use Rattle.sleep_model.specs.declared.word.EventNow.{EventNow};
 ghost use Rattle.sleep_model.specs.Due.{script_due};
+ghost use Rattle.sleep_model.specs.Positions.{position_at, positions};
 ghost use Rattle.sleep_model.specs.Steps.{step_due, task_due};
 ghost use Rattle.sleep_state.specs.JournalRooms.{entries};
 ghost use Rattle.sleep_model.specs.declared.machine.Op.TheVariants as op;
-ghost use Rattle.sleep_core.specs.Steps.{next_attempt};
+ghost use Rattle.sleep_core.specs.Steps.{is_at_sleep, next_attempt};
 
 use crate::state::Core;
 use crate::steps;
@@ -144,11 +145,13 @@ impl<'m> Core<'m> {
     }
 
     /// What is due of a script that has exited, or that is at a sleep which no freeze is about, while the
-    /// machine is awake.
+    /// machine is awake. `None` for each other script.
     #[inline(always)]
     pub(crate) fn sleep_due(&self, script: u32) -> Option<Due>
         requires { script < length self.now.machine.actors }
-        ensures { (now : EventNow) → IfSome result (λ due. due ≡ script_due self.now.machine (entries self.now.past) now script) }
+        ensures due { (now : EventNow) → IfSome result (λ due. due ≡ script_due self.now.machine (entries self.now.past) now script) }
+        ensures at { is_some result ≡ ((position_at (positions (length self.now.machine.actors) (entries self.now.past)) script).exited
+            || is_at_sleep self.now.machine (entries self.now.past) script) }
     {
         let position = self.history.tasks().position(script);
         if position.exited {

@@ -2,7 +2,7 @@
 //! the kind of an entry pays for that kind alone (`drivers/base/power/main.c`, `dpm_suspend`,
 //! `async_suspend`).
 
-ghost use Rattle.std.specs.Prelude.{◌≡◌, ◌<◌, ◌^◌, true, false, length, IfSome, IfOk, OnErr};
+ghost use Rattle.std.specs.Prelude.{◌≡◌, ◌<◌, ◌^◌, true, false, length, is_some, IfSome, IfOk, OnErr};
 ghost use Rattle.sleep_model.specs.declared.entry.Actor.TheVariants.{Dev, Script};
 ghost use Rattle.sleep_model.specs.declared.entry.Kind.TheVariants.{End};
 ghost use Rattle.sleep_model.specs.declared.progress.Due.TheVariants.{Makes};
@@ -13,6 +13,8 @@ ghost use Rattle.sleep_model.specs.Legal.{JournalPart};
 ghost use Rattle.sleep_model.specs.Path.{is_actor, maker};
 ghost use Rattle.sleep_state.specs.JournalRooms.{entries};
 ghost use Rattle.sleep_core.specs.Cores.{IsActor, core_after, made_entry, next_stamp};
+ghost use Rattle.sleep_core.specs.Stages.{runs_callback};
+ghost use Rattle.sleep_core.specs.Steps.{is_sleep_due};
 ghost use Rattle.core_history.specs.Histories.{IsOfDevice, IsOfNone};
 
 use crate::state::Core;
@@ -22,14 +24,15 @@ use sleep_model::{Actor, AsyncWork, Due, EventNow, Kind, Phase, Stage, Stamp};
 use std::sync::Wait;
 
 impl<'m> Core<'m> {
-    /// The entry that is due of a script which makes no attempt, if it begins or ends a sleep that no freeze
-    /// is about, while the machine is awake. `None` may also mean that something else is due. The word is an
-    /// argument for the clauses only.
+    /// The entry by which a script that makes no attempt begins or ends a sleep, if that is due of it, no
+    /// freeze is about, and the machine is awake. `None` exactly if not. The word is an argument for the
+    /// clauses only.
     #[inline(always)]
     pub fn sleep_step(&self, script: u32, now: EventNow) -> Option<Kind>
         requires { script < length self.now.machine.actors }
         ensures makes { IfSome result (λ _. is_actor (Script script) (maker (entries self.now.past)) ≡ false) }
         ensures due { IfSome result (λ kind. due self.now.machine (entries self.now.past) (Script script) now ≡ Makes kind) }
+        ensures step { is_some result ≡ is_sleep_due self.now.machine (entries self.now.past) script now }
     {
         let _ = now;
         if self.is_maker(Actor::Script(script)) {
@@ -72,11 +75,12 @@ impl<'m> Core<'m> {
     }
 
     /// The end of a callback that the maker of the attempt runs in a walk over devices: its phase, device and
-    /// answer. `None` if it runs none. The actor and the word are arguments for the clauses only.
+    /// answer. `None` exactly if it runs none. The actor and the word are arguments for the clauses only.
     #[inline(always)]
     pub fn callback_end(&self, who: Actor, now: EventNow) -> Option<(Phase, u32, Option<Errno>)>
         requires { is_actor who (maker (entries self.now.past)) ≡ true }
-        ensures { IfSome result (λ end. due self.now.machine (entries self.now.past) who now ≡ Makes (End end.0 end.1 end.2)) }
+        ensures due { IfSome result (λ end. due self.now.machine (entries self.now.past) who now ≡ Makes (End end.0 end.1 end.2)) }
+        ensures runs { is_some result ≡ runs_callback (entries self.now.past) }
     {
         let _ = (who, now);
         let c = self.callback()?;
