@@ -1,16 +1,11 @@
 -- Each stage of an attempt has a phase that fits its direction.
 use Rattle.std.proofs.Common.{◌≡◌, true, List, Option, Some, None, IfSome, refl, sym, subst}
 use Rattle.phase_table.specs.declared.phase.Phase.{Phase}
-use Rattle.phase_table.specs.declared.phase.Phase.TheVariants as phase
 use Rattle.phase_table.specs.Phases.{is_down, is_up}
 use Rattle.sleep_model.specs.declared.entry.Entry.{Entry}
-use Rattle.sleep_model.specs.declared.entry.Group.TheVariants as group
-use Rattle.sleep_model.specs.declared.entry.Thaw.TheVariants as thaw
-use Rattle.sleep_model.specs.declared.machine.PlatDo.TheVariants as down
-use Rattle.sleep_model.specs.declared.machine.PlatUndo.TheVariants as undo
 use Rattle.sleep_model.specs.declared.progress.Stage.{Stage}
 use Rattle.sleep_model.specs.declared.progress.Stage.TheVariants as stage
-use Rattle.sleep_model.specs.Table.{stage_of, next_stage}
+use Rattle.sleep_model.specs.Table.{stage_of}
 use Rattle.sleep_laws.proofs.Made.{Down, InSuspend, InLate, InNoirq, Up, InResume, InEarly, InResumeNoirq}
 use Rattle.sleep_laws.proofs.Making.{Proper, ProperIf, stage_proper}
 use Rattle.sleep_core.specs.Stages.{FitsPhase}
@@ -33,26 +28,6 @@ fits_so _ h = tt
 -- the phase of the stage under way fits
 pub fits_of : (past : List Entry) (here : Stage) → stage_of past ≡ Some here → FitsPhase here
 fits_of past here e = fits_so here (subst ProperIf e (stage_proper past))
-
--- so does that of the stage after one whose phase fits
-pub fits_after : (s : Stage) → FitsPhase s → FitsPhase (next_stage s)
-fits_after (stage.Freezes group.User) h = tt
-fits_after (stage.Freezes group.Kernel) h = tt
-fits_after (stage.PlatformDo down.Begin) h = tt
-fits_after (stage.PlatformDo down.Prepare) h = refl
-fits_after (stage.PlatformDo down.PrepareLate) h = tt
-fits_after stage.Prepares h = refl
-fits_after (stage.Downs phase.Late) h = refl
-fits_after (stage.Downs _) h = tt
-fits_after (stage.PlatformUndo undo.Recover) h = refl
-fits_after (stage.PlatformUndo undo.Wake) h = refl
-fits_after (stage.PlatformUndo undo.Finish) h = refl
-fits_after (stage.PlatformUndo undo.End) h = tt
-fits_after (stage.Ups phase.ResumeNoirq) h = refl
-fits_after (stage.Ups _) h = tt
-fits_after (stage.Thaws thaw.Kernel) h = tt
-fits_after (stage.Thaws thaw.All) h = tt
-fits_after _ h = tt
 
 -- it does if there is a stage
 pub fits_if : (past : List Entry) (o : Option Stage) → o ≡ stage_of past → IfSome o FitsPhase

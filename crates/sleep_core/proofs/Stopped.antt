@@ -20,7 +20,7 @@ use Rattle.sleep_model.specs.declared.log.Why.TheVariants as why
 use Rattle.sleep_model.specs.declared.word.EventNow.{EventNow}
 use Rattle.phase_table.specs.declared.phase.Phase.{Phase}
 use Rattle.phase_table.specs.declared.phase.Phase.TheVariants as phase
-use Rattle.sleep_model.specs.Attempt.{attempt_due, freeze_since, sleep_of, sleeps_now}
+use Rattle.sleep_model.specs.Attempt.{attempt_due, sleep_of, sleeps_now}
 use Rattle.sleep_model.specs.declared.progress.Work.TheVariants.{Resting}
 use Rattle.sleep_model.specs.Autosleep.{auto_due, is_queued, naps_until, runs, work, work_due}
 use Rattle.sleep_model.specs.Devices.{work_by, device_due, state_in, is_async_device}
