@@ -51,32 +51,6 @@ fn put_journal<K: ByteSink>(
     Ok(())
 }
 
-/// The same, at once if there are none.
-#[inline(always)]
-fn put_before<K: ByteSink>(
-    sink: &mut K,
-    stream: &mut LineStream<'_>,
-    journal: &mut JournalReader<'_>,
-    others: Others<'_>,
-) -> Result<(), Failed>
-    requires order { is_in_order journal.old ≡ true }
-    requires others { is_in_order (others_of others) ≡ true }
-    ensures machine { stream.new.machine ≡ stream.old.machine }
-    ensures order { OnOk result (is_in_order journal.new ≡ true) }
-    ensures turn { OnOk result (is_others_turn journal.new (others_of others.entry) ≡ true) }
-    ensures passes { OnOk result (Passes (K.written sink.old) (K.written sink.new) (K.faults sink.old) (K.faults sink.new)
-        (stream.old.buffered ++ lines_of stream.old.machine journal.old (others_of others.entry))
-        (stream.new.buffered ++ lines_of stream.old.machine journal.new (others_of others.entry))) }
-    ensures fails { OnErr result (WriteAll (K.written sink.old) (K.written sink.new) (K.faults sink.old) (K.faults sink.new)
-        (stream.old.buffered ++ lines_of stream.old.machine journal.old (others_of others.entry)) result) }
-    ensures faults { K.faults sink.old ≤ K.faults sink.new }
-{
-    if others.are_next(journal) {
-        return Ok(());
-    }
-    put_journal(sink, stream, journal, others)
-}
-
 /// Writes a line for each entry of a journal and of sources, and then the lines after those. `Failed` at the
 /// first write that fails: a front of all lines was written.
 #[inline(never)]
@@ -95,7 +69,9 @@ pub(crate) fn write_merged<K: ByteSink>(
     let mut stream = frame.stream();
     let mut reader = journal.reader();
     while let Some((other, rest)) = others.split_first() {
-        put_before(sink, &mut stream, &mut reader, others)?;
+        if !others.are_next(&reader) {
+            put_journal(sink, &mut stream, &mut reader, others)?;
+        }
         stream.put(sink, other.entry)?;
         others = rest;
     }
