@@ -3,11 +3,11 @@ use Rattle.std.proofs.Common.{◌≡◌, ◌∙◌, true, false, not, List, [], 
 use Rattle.sleep_model.specs.declared.entry.JournalEntry.{JournalEntry}
 use Rattle.sleep_model.specs.declared.entry.SourceEntry.{SourceEntry}
 use Rattle.sleep_model.specs.declared.machine.Machine.{Machine}
-use Rattle.sleep_model.specs.Merge.{in_order, merge, of_source, rises}
+use Rattle.sleep_model.specs.Merge.{of_source, rises}
 use Rattle.sleep_model.specs.Text.{entry_line}
-use Rattle.log_merge.specs.Remainders.{is_in_order, is_journals_turn, leads, leads_next, sources_entries}
-use Rattle.log_merge.proofs.Reading.{both_right, in_order_from, journal_first, log_of_all, order_same, other_first, rising_in_order}
-use Rattle.apart_log.specs.Merged.{either, is_others_turn, lines_of, log_of}
+use Rattle.log_merge.specs.Remainders.{is_in_order, is_journals_turn, leads, leads_next}
+use Rattle.log_merge.proofs.Reading.{both_right, journal_first, other_first, rising_in_order}
+use Rattle.apart_log.specs.Merged.{either, is_others_turn, lines_of}
 
 -- entries in order stay in order without the first
 pub still_in_order : (e : JournalEntry) (all rest : List JournalEntry) → all ≡ e ∷ rest → is_in_order all ≡ true → is_in_order rest ≡ true
@@ -50,13 +50,3 @@ leads_same other (e ∷ rest) = refl
 pub one_in_order : (history : List SourceEntry) → rises (map of_source history) ≡ true → is_in_order (either history []) ≡ true
 one_in_order history h =
     subst (λ (l : List JournalEntry). is_in_order l ≡ true) (sym (append-nil (map of_source history))) (rising_in_order (map of_source history) h)
-
--- they give the definition's log, if no other history has entries
-pub merge_of_one : (journal : List JournalEntry) (history : List SourceEntry) (histories : List (List SourceEntry)) → rises (map of_source history) ≡ true
-    → map of_source history ≡ sources_entries histories
-    → log_of journal (either history []) ≡ merge journal histories
-merge_of_one journal history histories h is =
-    let same : sources_entries histories ≡ in_order (sources_entries histories) =
-    sym (order_same (sources_entries histories) (in_order_from (sources_entries histories) (rising_in_order (sources_entries histories) (subst (λ (l : List JournalEntry). rises l ≡ true) is h)))) in
-    ap (log_of journal) (append-nil (map of_source history) ∙ is ∙ same)
-    ∙ log_of_all journal histories
