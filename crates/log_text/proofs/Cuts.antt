@@ -42,13 +42,6 @@ before_all mark (b ∷ w) h =
     let p = and_parts (not (b == mark)) (is_without mark w) h in
     rw (not_true (b == mark) p.0) (ap (λ (x : List ℕ). b ∷ x) (before_all mark w p.1))
 
--- and nothing after
-pub after_none : (mark : ℕ) (w : List ℕ) → is_without mark w ≡ true → after_first mark w ≡ []
-after_none mark [] h = refl
-after_none mark (b ∷ w) h =
-    let p = and_parts (not (b == mark)) (is_without mark w) h in
-    rw (not_true (b == mark) p.0) (after_none mark w p.1)
-
 -- two texts without such a byte, one after the other
 pub without_append : (mark : ℕ) (v w : List ℕ) → is_without mark v ≡ true → is_without mark w ≡ true → is_without mark (v ++ w) ≡ true
 without_append mark [] w h k = k

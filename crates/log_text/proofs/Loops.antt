@@ -5,19 +5,13 @@ use Rattle.std.proofs.lemmas.Bool.{and_parts, and_from}
 use Rattle.std.proofs.lemmas.List.{drop_more, take_more, drop_all, take_all, length-take, length-append}
 use Rattle.sleep_model.specs.declared.entry.Entry.{Entry}
 use Rattle.sleep_model.specs.declared.log.Stats.{Stats}
-use Rattle.sleep_model.specs.declared.log.Waiting.{Waiting}
 use Rattle.sleep_model.specs.declared.machine.Machine.{Machine}
-use Rattle.sleep_model.specs.Fits.{fits_entry, fits_stats, fits_script, fits_cause}
-use Rattle.sleep_model.specs.Text.{entry_line, source_line, source_lines, source_names, waiting_line}
+use Rattle.sleep_model.specs.Fits.{fits_entry, fits_stats}
+use Rattle.sleep_model.specs.Text.{entry_line, source_line, source_lines, source_names}
 use Rattle.log_text.specs.declared.fault.LogFault.{LogFault}
 use Rattle.log_text.specs.declared.fault.LogFault.TheVariants.{Line, Mem}
 use Rattle.log_text.specs.Faults.{AtLine, IsNoSource}
-use Rattle.log_text.specs.Grammar.{lines, IsEntryLine, IsStuckLine, IsBadEntry, IsBadSource, IsBadEnd, IsBadStuck}
-
--- what holds of a fault's line, and what follows
-pub at_line : (P Q : ℕ → Type 0) (e : LogFault) → ((n : ℕ) → P n → Q n) → AtLine e P → AtLine e Q
-at_line P Q (Line n) f h = f n h
-at_line P Q Mem f h = tt
+use Rattle.log_text.specs.Grammar.{lines, IsEntryLine, IsBadEntry, IsBadSource, IsBadEnd}
 
 pub at_both : (P Q R : ℕ → Type 0) (e : LogFault) → ((n : ℕ) → P n → Q n → R n) → AtLine e P → AtLine e Q → AtLine e R
 at_both P Q R (Line n) f h k = f n h k
@@ -50,19 +44,6 @@ module _ (m : Machine) where
   pub entry_ends : (line left behind : List ℕ) (n bad : ℕ) → lines left ≡ line ∷ lines behind → (IsEntryLine m line → ⊥) → IsBadSource m (source_names m) (lines left) n bad → IsBadEntry m (lines left) n bad
   entry_ends line left behind n bad s other h =
       subst (λ (t : List (List ℕ)). IsBadEntry m t n bad) (sym s) (inr (other, subst (λ (t : List (List ℕ)). IsBadSource m (source_names m) t n bad) s h))
-
-  pub entry_lacks : (left : List ℕ) (n bad : ℕ) → left ≡ [] → IsBadSource m (source_names m) (lines left) n bad → IsBadEntry m (lines left) n bad
-  entry_lacks left n bad e h = subst (λ (t : List ℕ). IsBadEntry m (lines t) n bad) (sym e) (subst (λ (t : List ℕ). IsBadSource m (source_names m) (lines t) n bad) e h)
-
-  -- a stuck script's line is passed
-  pub stuck_passed : (line left behind : List ℕ) (w : Waiting) (n k : ℕ) (P : ℕ → Type 0) → lines left ≡ line ∷ lines behind → fits_script m w.actor ≡ true → fits_cause m w.why ≡ true → line ≡ waiting_line m w → k ≡ n + 1 →
-      ((bad : ℕ) → IsBadStuck m (lines left) n bad → P bad) → (bad : ℕ) → IsBadStuck m (lines behind) k bad → P bad
-  stuck_passed line left behind w n k P s f g is next before bad h =
-      before bad (subst (λ (t : List (List ℕ)). IsBadStuck m t n bad) (sym s) (inl ((w, f, g, is), subst (λ (j : ℕ). IsBadStuck m (lines behind) j bad) next h)))
-
-  -- a line that is no stuck script's
-  pub stuck_ends : (line left behind : List ℕ) (n : ℕ) → lines left ≡ line ∷ lines behind → (IsStuckLine m line → ⊥) → IsBadStuck m (lines left) n n
-  stuck_ends line left behind n s other = subst (λ (t : List (List ℕ)). IsBadStuck m t n n) (sym s) (inr (other, refl))
 
   -- a source's line is passed
   pub source_passed : (name : List ℕ) (names : List (List ℕ)) (left behind : List ℕ) (s : Stats) (n k : ℕ) (P : ℕ → Type 0) → lines left ≡ source_line name s ∷ lines behind → fits_stats s ≡ true → k ≡ n + 1 →

@@ -28,15 +28,6 @@ pub taken_first : (old : Option (List ℕ)) (before : ℕ) (all buffer rest : Li
 taken_first old before all buffer rest none is = λ new now result h.
     subst (λ (bs : List ℕ). WriteAll old new before now bs result) (ap (λ (bs : List ℕ). bs ++ rest) none ∙ is) h
 
--- some of the buffer was written, and a line was put after the rest
-pub taken_on : (old mid next : Option (List ℕ)) (before then later : ℕ) (all buffer left put line more rest : List ℕ)
-    → Takes old mid before then all (buffer ++ more) → Passes mid next then later buffer left → put ≡ left ++ line → more ≡ line ++ rest
-    → Takes old next before later all (put ++ rest)
-taken_on old mid next before then later all buffer left put line more rest told passes is first = λ new now result h.
-    let behind : put ++ rest ≡ left ++ (line ++ rest) = ap (λ (bs : List ℕ). bs ++ rest) is ∙ append_assoc left line rest in
-    let passed = passes (line ++ rest) new now result (subst (λ (bs : List ℕ). WriteAll next new later now bs result) behind h) in
-    told new now result (subst (λ (bs : List ℕ). WriteAll mid new then now (buffer ++ bs) result) (sym first) passed)
-
 -- the same, if the line was put with what was held back
 pub taken_line : (old mid next : Option (List ℕ)) (before then later : ℕ) (all buffer left line more rest : List ℕ)
     → Takes old mid before then all (buffer ++ more) → Passes mid next then later (buffer ++ line) left → more ≡ line ++ rest

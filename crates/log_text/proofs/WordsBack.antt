@@ -19,13 +19,9 @@ use Rattle.sleep_model.specs.declared.machine.PlatDo.TheVariants as down
 use Rattle.sleep_model.specs.Answers.{errno_with, errors}
 use Rattle.sleep_model.specs.Fits.{is_answer}
 use Rattle.sleep_model.specs.Text.{answer_text, prepare_text, cause_text, group_word, down_word}
-use Rattle.log_text.specs.Words.{errno_in, error_number, answer_in, prepare_in, phase_in, cause_in, group_in, down_in}
+use Rattle.log_text.specs.Words.{error_number, answer_in, prepare_in, phase_in, cause_in, group_in, down_in}
 use Rattle.log_text.specs.Reading.{save_kind, state_kind}
 use Rattle.log_text.proofs.Cuts.{is_without}
-
-pub errno_back : (r : Errno) → errno_in (name_of r) ≡ r
-errno_back EINTR = refl
-errno_back _ = refl
 
 pub answer_back : (r : Option Errno) → answer_in (answer_text r) ≡ r
 answer_back None = refl
@@ -55,10 +51,6 @@ phase_plain _ = refl
 pub group_plain : (g : Group) → is_without 32 (group_word g) ≡ true
 group_plain group.User = refl
 group_plain group.Kernel = refl
-
-pub down_plain : (d : PlatDo) → is_without 32 (down_word d) ≡ true
-down_plain down.Begin = refl
-down_plain _ = refl
 
 pub save_err : (r : Errno) (c : ℕ) → save_kind (name_of r) c ≡ kind.SaveErr c r
 save_err EINTR c = refl
