@@ -1,7 +1,8 @@
 //! The lines of entries, of sources and of stuck scripts, written.
-ghost use Rattle.std.specs.Prelude.{◌≡◌, ◌+◌, ◌≤◌, ◌++◌, codes, decimal, length, slice_get};
+ghost use Rattle.std.specs.Prelude.{◌≡◌, ◌+◌, ◌≤◌, ◌++◌, IfSome, codes, decimal, length, slice_get};
+ghost use Rattle.sleep_model.specs.declared.machine.Machine.{Machine};
 ghost use Rattle.log_words.specs.Front.{front_text, maker_text};
-ghost use Rattle.sleep_model.specs.Text.{body, hard_word, newline, space, script_text, waiting_text, entry_line, source_line, counts_text, times_text, waiting_line};
+ghost use Rattle.sleep_model.specs.Text.{body, hard_word, newline, source, space, script_text, waiting_text, entry_line, source_line, counts_text, times_text, waiting_line};
 
 use crate::writing::body::put_body;
 use crate::writing::put::put;
@@ -81,8 +82,8 @@ fn put_entry_text(out: &mut ByteBuffer, names: &ReadyNames, kind: Kind)
     put!(out; b'\n')
 }
 
-/// Writes what an entry of an event says, to the end of its line. It stands apart from the lines of other
-/// kinds, so that these stay short enough to be written in line.
+/// Writes what an entry of an event says, to the end of its line. It stands apart, as `put_sleep` does, so
+/// that a line stays short enough to be written in line: digits take much code.
 #[inline(never)]
 fn put_event(out: &mut ByteBuffer, source: &ShortText, ms: u32, hard: bool)
     requires room { length out.old + 140 ≤ 32768 }
@@ -112,36 +113,47 @@ fn put_of_source(out: &mut ByteBuffer, verb: Piece, source: &ShortText)
     out.put_named(&verb, source, &Piece::newline());
 }
 
+/// Writes until when a script sleeps, to the end of its line.
+#[inline(never)]
+fn put_sleep(out: &mut ByteBuffer, ms: u64)
+    requires room { length out.old + 52 ≤ 32768 }
+    ensures text { out.new ≡ out.old ++ (codes "sleep " ++ decimal ms ++ newline) }
+    ensures few { length out.new ≤ length out.old + 52 }
+{
+    out.put_numbered(&Piece::of(b"sleep           ", 6), ms, &Piece::newline());
+}
+
+/// The verb that an entry has before the name of a source, and the source, if that is all that it says.
+#[inline(always)]
+fn source_words(kind: Kind) -> Option<(Piece, u32)>
+    ensures { IfSome result (λ w. (m : Machine) → body m kind ++ newline ≡ w.0 ++ source m w.1 ++ newline) }
+{
+    match kind {
+        Kind::Expire(source) => Some((Piece::of(b"expire          ", 7), source)),
+        Kind::Start(source) => Some((Piece::of(b"start           ", 6), source)),
+        Kind::Finish(source) => Some((Piece::of(b"finish          ", 7), source)),
+        Kind::Hard(source) => Some((Piece::of(b"hard            ", 5), source)),
+        _ => None,
+    }
+}
+
 /// Writes what an entry says, to the end of its line: of sleeping, of sources and of time what is ready, else
 /// part by part.
 #[inline(always)]
-fn put_rest(out: &mut ByteBuffer, names: &ReadyNames, entry: Entry)
+fn put_rest(out: &mut ByteBuffer, names: &ReadyNames, kind: Kind)
     requires room { length out.old + 576 ≤ 32768 }
-    ensures text { out.new ≡ out.old ++ (body names.now entry.kind ++ newline) }
+    ensures text { out.new ≡ out.old ++ (body names.now kind ++ newline) }
     ensures few { length out.new ≤ length out.old + 576 }
 {
-    match entry.kind {
-        Kind::Sleep(ms) => out.put_numbered(
-            &Piece::of(b"sleep           ", 6),
-            ms,
-            &Piece::newline(),
-        ),
+    if let Some((verb, source)) = source_words(kind) {
+        return put_of_source(out, verb, names.source(source));
+    }
+    match kind {
+        Kind::Sleep(ms) => put_sleep(out, ms),
         Kind::Slept => out.put_piece(&Piece::of(b"slept\n          ", 6)),
         Kind::Event { source, ms, hard } => put_event(out, names.source(source), ms, hard),
-        Kind::Expire(index) => {
-            put_of_source(out, Piece::of(b"expire          ", 7), names.source(index))
-        }
-        Kind::Start(index) => {
-            put_of_source(out, Piece::of(b"start           ", 6), names.source(index))
-        }
-        Kind::Finish(index) => {
-            put_of_source(out, Piece::of(b"finish          ", 7), names.source(index))
-        }
-        Kind::Hard(index) => {
-            put_of_source(out, Piece::of(b"hard            ", 5), names.source(index))
-        }
         Kind::Jump => out.put_piece(&Piece::of(b"jump\n           ", 5)),
-        _ => put_entry_text(out, names, entry.kind),
+        _ => put_entry_text(out, names, kind),
     }
 }
 
@@ -163,7 +175,7 @@ pub fn spell_entry(out: &mut ByteBuffer, names: &ReadyNames, front: &LineFront, 
         out.put_line(front.text(), maker, &words, device);
     } else {
         out.put_start(front.text(), maker);
-        put_rest(out, names, entry);
+        put_rest(out, names, entry.kind);
     }
 }
 
