@@ -37,6 +37,9 @@ impl<'m> Model for History<'m> {
     ghost invariant = { IsHistory };
 }
 
+/// How many places are reserved beyond those that an entry needs.
+const FURTHER_PLACES: usize = 63;
+
 /// An entry of that time, in ms, with its stamp.
 #[inline(always)]
 fn made_at(time: u64, stamp: Stamp, now: EventNow, actor: Actor, kind: Kind) -> JournalEntry
@@ -217,6 +220,19 @@ impl<'m> History<'m> {
         }
     }
 
+    /// Sees that at least `places` places are reserved, and some more, so that few entries ask for memory.
+    /// After an error nothing has changed.
+    #[inline(never)]
+    fn reserve_more(&mut self, places: usize) -> Result<(), AllocError>
+        ensures machine { self.new.machine ≡ self.old.machine }
+        ensures past { self.new.past ≡ self.old.past }
+        ensures room { self.old.room ≤ self.new.room }
+        ensures ok { OnOk result (places ≤ self.new.room) }
+        ensures err { OnErr result (self.new ≡ self.old) }
+    {
+        self.reserve(places.saturating_add(FURTHER_PLACES))
+    }
+
     /// Makes room for an entry: one of the open attempt's own has its room reserved, another needs one more.
     /// After an error nothing has changed.
     #[inline(always)]
@@ -228,7 +244,10 @@ impl<'m> History<'m> {
             return Ok(());
         }
         let places = self.room_for(kind);
-        self.reserve(places)
+        if places <= self.room() {
+            return Ok(());
+        }
+        self.reserve_more(places)
     }
 
     /// How many entries there are. A journal has fewer than 2^63.

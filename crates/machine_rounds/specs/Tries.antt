@@ -7,6 +7,8 @@ use Rattle.running_laws.specs.Running.{calls_made}
 use Rattle.world_workers.specs.declared.outcome.TurnOutcome.{TurnOutcome}
 use Rattle.world_workers.specs.declared.outcome.TurnOutcome.TheVariants.{Made}
 use Rattle.world_workers.specs.declared.fault.RunFault.{RunFault}
+use Rattle.machine_rounds.specs.declared.tries.WalkStep.{WalkStep}
+use Rattle.machine_rounds.specs.declared.tries.WalkStep.TheVariants.{Waits}
 use Rattle.machine_rounds.specs.Runs.{AfterTry, RunState, IsRefused, MadeNothing, entries_made}
 
 -- after an actor's try entries were made, or nothing has changed
@@ -23,3 +25,9 @@ HasCalled run who = calls_made run.machine run.sources who ≡ calls_due run.mac
 abbrev pub AfterWalk : RunState → RunState → Option Bool → Type 0
 AfterWalk old new None = MadeNothing old new
 AfterWalk old new (Some made) = AfterTry old new (Ok made)
+
+-- so after a step of a walk over devices (dpm_suspend)
+abbrev pub AfterStep : RunState → RunState → Option WalkStep → Type 0
+AfterStep old new None = MadeNothing old new
+AfterStep old new (Some Waits) = MadeNothing old new
+AfterStep old new (Some _) = entries_made old < entries_made new

@@ -164,13 +164,13 @@ impl<'m> Run<'m> {
         self.seated.core()
     }
 
-    /// Looks at the event word, at or after all that was made.
+    /// The event word, at or after all that was made.
     #[inline(always)]
     pub(crate) fn look<R: Wait>(&mut self, rt: &R) -> EventNow
         ensures same { MadeNothing self.old self.new }
         ensures seen { IsLastLook self.new result }
     {
-        self.seated.look(rt, &self.table, self.floor.pos)
+        self.seated.word(rt, &self.table, self.floor.pos)
     }
 
     /// An actor makes the call on a source that is next, as a whole: its note, and all steps that it makes.

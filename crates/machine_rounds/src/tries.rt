@@ -3,6 +3,7 @@
 //! actors.
 
 ghost use Rattle.std.specs.Prelude.{◌≡◌, ◌<◌, false, length, IfSome, OnOk, IfErr};
+ghost use Rattle.std.specs.Bool.{OnTrue};
 ghost use Rattle.sleep_model.specs.declared.progress.Due.TheVariants.{Makes};
 ghost use Rattle.sleep_model.specs.Due.{due};
 ghost use Rattle.sleep_model.specs.Path.{is_actor, maker};
@@ -10,7 +11,7 @@ ghost use Rattle.sleep_state.specs.JournalRooms.{entries};
 ghost use Rattle.sleep_core.specs.Cores.{IsActor};
 ghost use Rattle.core_history.specs.Histories.{IsOfDevice, IsOfNone};
 ghost use Rattle.machine_rounds.specs.Runs.{AfterTry, IsLastLook, IsRefused, MadeNothing, entries_made};
-ghost use Rattle.machine_rounds.specs.Tries.{AfterWalk, HasCalled};
+ghost use Rattle.machine_rounds.specs.Tries.{AfterStep, AfterWalk, HasCalled};
 
 use crate::run::Run;
 use room_laws::{kinds_are_ranged, moments_are_ranged};
@@ -18,20 +19,25 @@ use sleep_model::{Actor, AsyncWork, Due, EventNow, Kind, Want};
 use std::sync::Wait;
 use world_workers::RunFault;
 
+/// What came of a step of a walk over devices.
+#[derive(Clone, Copy)]
+pub(crate) enum WalkStep {
+    /// It made an entry that wakes nobody.
+    Made,
+    /// It made an entry by which others may have something to do.
+    Wakes,
+    /// It waits, and made nothing.
+    Waits,
+}
+
 impl<'m> Run<'m> {
-    /// The word as an actor sees it now, if it has made its calls on sources, so that a turn of the core is
-    /// next.
+    /// Whether an actor has made its calls on sources, so that a turn of the core is next.
     #[inline(always)]
-    fn look_for<R: Wait>(&mut self, rt: &R, who: Actor) -> Option<EventNow>
-        requires { IsActor self.old.machine who }
-        ensures same { MadeNothing self.old self.new }
-        ensures seen { IfSome result (IsLastLook self.new) }
-        ensures called { IfSome result (λ _. HasCalled self.new who) }
+    fn has_called(&self, who: Actor) -> bool
+        requires { IsActor self.now.machine who }
+        ensures { OnTrue result (HasCalled self.now who) }
     {
-        match self.jobs.next(who) {
-            Want::Core => Some(self.look(rt)),
-            _ => None,
-        }
+        matches!(self.jobs.next(who), Want::Core)
     }
 
     /// Makes the entry of a device that is due of an actor, by the word that was looked at last.
@@ -43,6 +49,7 @@ impl<'m> Run<'m> {
         requires device { IsOfDevice kind }
         requires due { due self.old.machine (entries self.old.journal) who word ≡ Makes kind }
         ensures machine { self.new.machine ≡ self.old.machine }
+        ensures seen { IsLastLook self.new word }
         ensures made { entries_made self.old < entries_made self.new }
     {
         // A journal is shorter than 2^63, so the job's number of turns stays in its range.
@@ -69,6 +76,7 @@ impl<'m> Run<'m> {
         requires seen { IsLastLook self.old word }
         requires due { next ≡ due self.old.machine (entries self.old.journal) who word }
         ensures machine { self.new.machine ≡ self.old.machine }
+        ensures seen { IsLastLook self.new word }
         ensures after { AfterWalk self.old self.new result }
     {
         match next {
@@ -93,6 +101,7 @@ impl<'m> Run<'m> {
         requires seen { IsLastLook self.old word }
         requires due { next ≡ due self.old.machine (entries self.old.journal) who word }
         ensures machine { self.new.machine ≡ self.old.machine }
+        ensures seen { IsLastLook self.new word }
         ensures after { AfterWalk self.old self.new result }
     {
         match next {
@@ -105,43 +114,58 @@ impl<'m> Run<'m> {
     }
 
     /// The next step of a walk over devices, by the word that was looked at last. Each kind that walks have
-    /// most of has code of its own. Whether it made an entry; `None` if it is of another kind.
+    /// most of has code of its own. `None` if it is of another kind.
     #[inline(always)]
-    fn walk_turn<R: Wait>(&mut self, rt: &R, who: Actor, word: EventNow, next: Due) -> Option<bool>
+    fn walk_turn<R: Wait>(
+        &mut self,
+        rt: &R,
+        who: Actor,
+        word: EventNow,
+        next: Due,
+    ) -> Option<WalkStep>
         requires actor { IsActor self.old.machine who }
         requires calls { HasCalled self.old who }
         requires seen { IsLastLook self.old word }
         requires due { next ≡ due self.old.machine (entries self.old.journal) who word }
         ensures machine { self.new.machine ≡ self.old.machine }
-        ensures after { AfterWalk self.old self.new result }
+        ensures seen { IsLastLook self.new word }
+        ensures after { AfterStep self.old self.new result }
     {
         match next {
             Due::Makes(Kind::Schedule(phase, device)) => {
-                self.make_device(rt, who, word, Kind::Schedule(phase, device))
+                self.make_device(rt, who, word, Kind::Schedule(phase, device));
+                Some(WalkStep::Wakes)
             }
             Due::Makes(Kind::Prepare { device, r }) => {
-                self.make_device(rt, who, word, Kind::Prepare { device, r })
+                self.make_device(rt, who, word, Kind::Prepare { device, r });
+                Some(WalkStep::Made)
             }
             Due::Makes(Kind::Complete(device)) => {
-                self.make_device(rt, who, word, Kind::Complete(device))
+                self.make_device(rt, who, word, Kind::Complete(device));
+                Some(WalkStep::Made)
             }
-            _ => return self.begin_turn(rt, who, word, next),
+            _ => match self.begin_turn(rt, who, word, next) {
+                Some(true) => Some(WalkStep::Made),
+                Some(false) => Some(WalkStep::Waits),
+                None => None,
+            },
         }
-        Some(true)
     }
 
-    /// The try of a device. Whether it made an entry; `None` if the try is to be made by the rules for all
-    /// actors.
+    /// The try of a device, by the word that was looked at last. Whether it made an entry; `None` if the try
+    /// is to be made by the rules for all actors.
     #[inline(always)]
-    fn device_try<R: Wait>(&mut self, rt: &R, device: u32) -> Option<bool>
-        requires { device < length self.old.machine.devices }
+    fn device_try<R: Wait>(&mut self, rt: &R, device: u32, word: EventNow) -> Option<bool>
+        requires device { device < length self.old.machine.devices }
+        requires seen { IsLastLook self.old word }
         ensures machine { self.new.machine ≡ self.old.machine }
+        ensures seen { IsLastLook self.new word }
         ensures after { AfterWalk self.old self.new result }
     {
         let who = Actor::Dev(device);
-        let Some(word) = self.look_for(rt, who) else {
+        if !self.has_called(who) {
             return None;
-        };
+        }
         match self.core().async_work(device) {
             AsyncWork::Inside(phase) => {
                 let due = self
@@ -159,52 +183,57 @@ impl<'m> Run<'m> {
         }
     }
 
-    /// The tries of the devices that may have something to do, in order. Whether entries were made.
+    /// The tries of the devices that may have something to do, in order, by one look at the word for as long
+    /// as nobody makes a step on it. Whether entries were made.
     #[inline(never)]
     pub(crate) fn ask_devices<R: Wait>(&mut self, rt: &R) -> Result<bool, RunFault>
         ensures machine { self.new.machine ≡ self.old.machine }
         ensures after { AfterTry self.old self.new result }
     {
+        let mut word = self.look(rt);
         let mut made = false;
         let mut from = 0;
         for _ in 0..u64::MAX {
             let Some(device) = self.next_device(from) else {
                 return Ok(made);
             };
-            made = match self.device_try(rt, device) {
+            made = match self.device_try(rt, device, word) {
                 Some(by_device) => by_device | made,
-                None => self.ask_once(rt, Actor::Dev(device))? | made,
+                None => {
+                    let by_rules = self.ask_once(rt, Actor::Dev(device))?;
+                    word = self.look(rt);
+                    by_rules | made
+                }
             };
             from = device.saturating_add(1);
         }
         Ok(made)
     }
 
-    /// The try of a script that makes an attempt, if it is about devices. Whether it made an entry; `None` if
-    /// the try is to be made by the rules for all actors.
+    /// The try of a script that makes an attempt, if it is about devices, by the word that was looked at last.
+    /// `None` if the try is to be made by the rules for all actors.
     #[inline(always)]
-    fn walk_try<R: Wait>(&mut self, rt: &R, script: u32) -> Option<bool>
-        requires { script < length self.old.machine.actors }
+    fn walk_try<R: Wait>(&mut self, rt: &R, script: u32, word: EventNow) -> Option<WalkStep>
+        requires script { script < length self.old.machine.actors }
+        requires seen { IsLastLook self.old word }
         ensures machine { self.new.machine ≡ self.old.machine }
-        ensures after { AfterWalk self.old self.new result }
+        ensures seen { IsLastLook self.new word }
+        ensures after { AfterStep self.old self.new result }
     {
         let who = Actor::Script(script);
-        let Some(word) = self.look_for(rt, who) else {
-            return None;
-        };
-        if !self.core().is_maker(who) {
+        if !self.has_called(who) || !self.core().is_maker(who) {
             return None;
         }
         if let Some((phase, device, r)) = self.core().callback_end(who, word) {
             self.make_device(rt, who, word, Kind::End(phase, device, r));
-            return Some(true);
+            return Some(WalkStep::Wakes);
         }
         let due = self.core().due_of(true, who, word);
         self.walk_turn(rt, who, word, due)
     }
 
-    /// The tries of a script that makes an attempt, while it may have something to do and nobody else.
-    /// Whether entries were made.
+    /// The tries of a script that makes an attempt, while it may have something to do and nobody else, by one
+    /// look at the word for as long as nobody makes a step on it. Whether entries were made.
     #[inline(never)]
     fn ask_maker<R: Wait>(&mut self, rt: &R, script: u32) -> Result<bool, RunFault>
         requires { script < length self.old.machine.actors }
@@ -212,13 +241,24 @@ impl<'m> Run<'m> {
         ensures after { AfterTry self.old self.new result }
     {
         let who = Actor::Script(script);
+        let mut word = self.look(rt);
+        let mut is_alone = self.waiters.is_alone(who);
         let mut made = false;
         for _ in 0..u64::MAX {
-            made = match self.walk_try(rt, script) {
-                Some(by_walk) => by_walk | made,
-                None => self.ask_once(rt, who)? | made,
-            };
-            if !self.waiters.is_alone(who) {
+            match self.walk_try(rt, script, word) {
+                Some(WalkStep::Made) => made = true,
+                Some(WalkStep::Wakes) => {
+                    made = true;
+                    is_alone = self.waiters.is_alone(who);
+                }
+                Some(WalkStep::Waits) => is_alone = self.waiters.is_alone(who),
+                None => {
+                    made = self.ask_once(rt, who)? | made;
+                    word = self.look(rt);
+                    is_alone = self.waiters.is_alone(who);
+                }
+            }
+            if !is_alone {
                 break;
             }
         }
@@ -267,9 +307,10 @@ impl<'m> Run<'m> {
         ensures after { AfterTry self.old self.new result }
     {
         let who = Actor::Script(script);
-        let Some(word) = self.look_for(rt, who) else {
+        if !self.has_called(who) {
             return Ok(false);
-        };
+        }
+        let word = self.look(rt);
         match self.core().sleep_step(script, word) {
             Some(Kind::Sleep(until)) => self.make_own(rt, who, word, Kind::Sleep(until))?,
             Some(Kind::Slept) => self.make_own(rt, who, word, Kind::Slept)?,

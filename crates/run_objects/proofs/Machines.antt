@@ -1,5 +1,5 @@
 -- A look, a turn and a jump leave each word of the journal one that the seat looked at.
-use Rattle.std.proofs.Common.{◌≡◌, ◌≤◌, ℕ, Bool, true, false, ◌==◌, ◌||◌, List, ◌∷◌, Some, Result, Ok, Err, IfOk, OnErr, refl, sym, subst, arith}
+use Rattle.std.proofs.Common.{◌≡◌, ◌≤◌, ℕ, Bool, true, false, ◌==◌, ◌||◌, List, ◌∷◌, ◌++◌, Some, Result, Ok, Err, IfOk, OnErr, refl, sym, ap, subst, arith}
 use Rattle.std.specs.List.{list_any}
 use Rattle.std.proofs.lemmas.Bool.Decides.{nat_tests}
 use Rattle.sleep_model.specs.declared.entry.Actor.{Actor}
@@ -25,6 +25,7 @@ use Rattle.core_history.specs.Histories.{last_stamp}
 use Rattle.sleep_core.specs.Turned.{AfterTurn}
 use Rattle.run_laws.specs.ClosedOver.{has_position}
 use Rattle.run_laws.specs.Seated.{StampsAreSeen, sees}
+use Rattle.run_laws.proofs.ClosedOver.{same_word}
 use Rattle.run_laws.proofs.Seated.{watch_keeps}
 use Rattle.run_objects.specs.Objects.{IsSeatedCore, SeatedCoreState}
 use Rattle.run_laws.proofs.Lists.{all_more, all_tail}
@@ -48,6 +49,12 @@ looked old new word kept look unused same grew rises = record {
   seen = subst (λ (c : CoreState). StampsAreSeen (looked_of new.seat) c.past) (sym same) (looked_on (looked_of old.seat) (looked_of new.seat) old.core.past word kept.seen grew);
   low = subst (λ (c : CoreState). (last_stamp c.past).pos ≤ floor_of new.seat) (sym same) (omega (arith, kept.low, rises));
 }
+
+-- the word of a look is one of those that were looked at
+pub looked_last : (looked new : List EventNow) (word : EventNow) → GrewTo word (Some looked) (Some new) → list_any (is_word word) new ≡ true
+looked_last looked new word g =
+    subst (λ (words : List EventNow). list_any (is_word word) words ≡ true) (sym g.1)
+    (ap (λ (b : Bool). b || list_any (is_word word) (g.0 ++ looked)) (same_word word word refl))
 
 -- ---- a turn
 

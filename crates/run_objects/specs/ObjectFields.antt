@@ -1,9 +1,13 @@
 -- What the fields of a seated source and of a seated core are.
-use Rattle.std.specs.Prelude.{◌≡◌, true, [], Option, Some, None, is_some}
+use Rattle.std.specs.Prelude.{◌≡◌, true, [], Option, Some, None, IfSome, is_some}
+use Rattle.std.specs.List.{list_any}
+use Rattle.sleep_model.specs.declared.word.EventNow.{EventNow}
+use Rattle.sleep_model.specs.Merge.{is_word}
+use Rattle.sleep_model.specs.Word.{position}
 use Rattle.event_word.specs.declared.table.EventSeat.{EventSeat}
 use Rattle.event_word.specs.declared.table.LookSeat.{LookSeat}
 use Rattle.event_word.specs.Counting.{source_view}
-use Rattle.event_word.specs.Seats.{WordToken}
+use Rattle.event_word.specs.Seats.{WordToken, floor_of, looked_of}
 use Rattle.run_objects.specs.declared.source.SeatedSource.TheInside as source
 use Rattle.run_objects.specs.declared.machine.SeatedCore.TheInside as machine
 use Rattle.run_objects.specs.Objects.{SeatedSourceState, SeatedCoreState, IsSeatedSource, IsSeatedCore}
@@ -48,7 +52,13 @@ pub record SourceFieldsInvariant (s : source.Inside) : Type 0 where
   pub placed : is_some s.seat ≡ true
   pub kept : IsSeatedSource (source_state s)
 
--- the seat is not out, and is the machine's
+-- the word that a seat looked at last
+pub record IsNewest (t : WordToken) (word : EventNow) : Type 0 where
+  pub seen : list_any (is_word word) (looked_of t) ≡ true
+  pub newest : position word ≡ floor_of t
+
+-- the seat is not out, and is the machine's, and the word that is kept is the one that it looked at last
 pub record CoreFieldsInvariant (s : machine.Inside) : Type 0 where
   pub placed : is_some s.seat ≡ true
   pub kept : IsSeatedCore (core_state s)
+  pub last : IfSome s.last (IsNewest (look_seat s.seat))

@@ -1,6 +1,6 @@
 //! The machine's core with the seat by which it looks at the event word.
 
-ghost use Rattle.std.specs.Prelude.{◌≡◌, ◌≤◌, ◌<◌, ◌+◌, ◌-◌, ◌^◌, [], false, true, Some, IfOk, IsSome, OnErr};
+ghost use Rattle.std.specs.Prelude.{◌≡◌, ◌≤◌, ◌<◌, ◌+◌, ◌-◌, ◌^◌, [], false, true, Some, IfOk, IfSome, IsSome, OnErr};
 ghost use Rattle.std.specs.List.{list_any};
 ghost use Rattle.sleep_model.specs.declared.progress.Due.TheVariants.{Makes};
 ghost use Rattle.sleep_model.specs.declared.word.EventNow.{EventNow};
@@ -12,7 +12,6 @@ ghost use Rattle.sleep_model.specs.Numbers.{time_of};
 ghost use Rattle.sleep_model.specs.Path.{is_actor, maker};
 ghost use Rattle.sleep_model.specs.Word.{position};
 ghost use Rattle.sleep_state.specs.JournalRooms.{entries};
-ghost use Rattle.event_word.specs.Looks.{GrewTo};
 ghost use Rattle.event_word.specs.Seats.{floor_of, looked_of, source_count};
 ghost use Rattle.sleep_core.specs.Cores.{IsActor, jump_entry, made_entry, next_stamp, core_after};
 ghost use Rattle.core_history.specs.Histories.{IsOfDevice, IsOfNone, last_stamp};
@@ -23,7 +22,7 @@ use crate::seen::SeenWord;
 use event_word::{EventTable, LookSeat, look_from};
 use sleep_base::Mem;
 use sleep_core::{Core, CoreFault, CoreTurn};
-use sleep_model::{Actor, EventNow, Journal, Kind, Stamp};
+use sleep_model::{Actor, EventNow, Journal, Kind, Stamp, pos};
 use std::marker::Model;
 use std::sync::Wait;
 
@@ -34,6 +33,8 @@ pub struct SeatedCore<'m> {
     core: Core<'m>,
     // The seat is out only within a call.
     seat: Option<LookSeat>,
+    /// The word as it was looked at last, unless a turn has looked since.
+    last: Option<EventNow>,
 }
 
 impl<'m> Model for SeatedCore<'m> {
@@ -69,6 +70,7 @@ impl<'m> SeatedCore<'m> {
         SeatedCore {
             core,
             seat: Some(seat),
+            last: None,
         }
     }
 
@@ -81,21 +83,39 @@ impl<'m> SeatedCore<'m> {
         &self.core
     }
 
-    /// Looks at the event word until its position is at least `floor`.
+    /// The word as it was looked at last, if it is kept and its position is at least `floor`.
     #[inline(always)]
-    pub fn look<R: Wait>(&mut self, rt: &R, table: &EventTable, floor: u64) -> EventNow
+    fn last_look(&self, floor: u64) -> Option<EventNow>
+        ensures seen { IfSome result (λ word. list_any (is_word word) (looked_of self.now.seat) ≡ true) }
+        ensures newest { IfSome result (λ word. position word ≡ floor_of self.now.seat) }
+        ensures low { IfSome result (λ word. floor ≤ position word) }
+    {
+        let word = self.last?;
+        if pos(word) < floor {
+            return None;
+        }
+        Some(word)
+    }
+
+    /// The event word, at a position of at least `floor`: as it was looked at last if that was no earlier, else
+    /// as it is looked at now.
+    #[inline(always)]
+    pub fn word<R: Wait>(&mut self, rt: &R, table: &EventTable, floor: u64) -> EventNow
         requires table { self.old.seat.table_id ≡ table.now.cells.shared.table_id }
         ensures core { self.new.core ≡ self.old.core }
         ensures table { self.new.seat.table_id ≡ self.old.seat.table_id }
         ensures sources { source_count self.new.seat ≡ source_count self.old.seat }
         ensures seen { list_any (is_word result) (looked_of self.new.seat) ≡ true }
-        ensures grew { GrewTo result (Some (looked_of self.old.seat)) (Some (looked_of self.new.seat)) }
         ensures low { floor ≤ position result }
         ensures above { (floor_of self.old.seat ≤ position result) × (floor_of self.new.seat ≡ position result) }
     {
+        if let Some(word) = self.last_look(floor) {
+            return word;
+        }
         let mut events = taken(&mut self.seat).on(table);
         let word = look_from(rt, &mut events, floor);
         self.seat = Some(events.off());
+        self.last = Some(word);
         word
     }
 
@@ -124,6 +144,7 @@ impl<'m> SeatedCore<'m> {
         let mut events = taken(&mut self.seat).on(table);
         let answer = self.core.turn(rt, &mut events, who, calls, floor, now);
         self.seat = Some(events.off());
+        self.last = None;
         answer
     }
 
@@ -231,7 +252,7 @@ impl<'m> SeatedCore<'m> {
         ensures journal { result.1.past ≡ self.entry.core.past }
         ensures kept { IsSeatedCore self.entry }
     {
-        let SeatedCore { core, mut seat } = self;
+        let SeatedCore { core, mut seat, .. } = self;
         (taken(&mut seat), core.into_journal())
     }
 }

@@ -1,7 +1,11 @@
 -- The invariant of the loop of `Run::ask_devices`.
 use Rattle.std.proofs.Common.{◌≡◌, Ok}
-use Rattle.machine_rounds.specs.Runs.{AfterTry}
+use Rattle.machine_rounds.specs.Runs.{AfterTry, IsLastLook}
 use Rattle.machine_rounds.proofs.run.Run.ask_devices.Given as goal
 
 abbrev pub invariant-loop : goal.invariant-loop
-invariant-loop g l = record { machine : l.self.machine ≡ l.fn.self.machine; after : AfterTry l.fn.self l.self (Ok l.made) }
+invariant-loop g l = record {
+  machine : l.self.machine ≡ l.fn.self.machine;
+  seen : IsLastLook l.self l.word;
+  after : AfterTry l.fn.self l.self (Ok l.made);
+}

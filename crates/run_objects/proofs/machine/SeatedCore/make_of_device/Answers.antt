@@ -23,6 +23,7 @@ invariant_of-self g c =
     let newest = subst (λ (s : SeatedCoreState). position c.args.word ≡ floor_of s.seat) (sym c.self.view_is) c.requires.newest in
     record {
       placed = c.self.invariant.placed;
+      last = c.self.invariant.last;
       kept = turned_by (Ok (Did c.make_of_device.result c.args.kind (attempts (entries new.past)))) (core_state r) new c.args.who c.args.word c.args.floor c.self.invariant.kept seen newest
           (makes, c.make_of_device.ensures.made, c.make_of_device.ensures.stamp, refl);
     }

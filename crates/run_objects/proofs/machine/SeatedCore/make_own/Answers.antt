@@ -20,5 +20,6 @@ invariant_of-self g c =
     let newest = subst (λ (s : SeatedCoreState). position c.args.word ≡ floor_of s.seat) (sym c.self.view_is) c.requires.newest in
     record {
       placed = c.self.invariant.placed;
+      last = c.self.invariant.last;
       kept = made_own c.make_own.result (core_state r) c.make_own.new.self c.args.who c.args.word c.args.kind c.args.floor c.self.invariant.kept seen newest makes c.make_own.ensures.ok c.make_own.ensures.err;
     }

@@ -17,4 +17,4 @@ invariant_of-self g c =
     let is : IsSeatedCore (new c.turn-answer.new.events.token) =
     turned c.turn-answer.result (old c.on-events.result.token) (new c.turn-answer.new.events.token) c.args.who made.0 c.args.floor kept
     c.turn-answer.new.events.seated c.turn-answer.new.events.unused made.2 made.4 c.turn-answer.ensures.floor in
-    record { placed = refl; kept = subst (λ (t : WordToken). IsSeatedCore (new t)) (sym c.off.ensures) is }
+    record { placed = refl; kept = subst (λ (t : WordToken). IsSeatedCore (new t)) (sym c.off.ensures) is; last = tt }

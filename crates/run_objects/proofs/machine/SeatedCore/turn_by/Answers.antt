@@ -21,5 +21,6 @@ invariant_of-self g c =
     let newest = subst (λ (s : SeatedCoreState). position c.args.word ≡ floor_of s.seat) (sym c.self.view_is) c.requires.newest in
     record {
       placed = c.self.invariant.placed;
+      last = c.self.invariant.last;
       kept = turned_by c.turn.result (core_state r) c.turn.new.self c.args.who c.args.word c.args.floor c.self.invariant.kept seen newest after;
     }

@@ -1,10 +1,10 @@
--- Proof that `SeatedCore::look` keeps the invariant of its type.
+-- Proof that `SeatedCore::word` keeps the invariant of its type.
 use Rattle.std.proofs.Common.{◌≡◌, ◌∙◌, ◌≤◌, refl, sym, ap, subst, arith}
-use Rattle.event_word.specs.Seats.{WordToken, floor_of}
+use Rattle.event_word.specs.Seats.{WordToken, floor_of, looked_of}
 use Rattle.run_objects.specs.Objects.{IsSeatedCore, SeatedCoreState}
-use Rattle.run_objects.specs.ObjectFields.{look_seat}
-use Rattle.run_objects.proofs.Machines.{looked}
-use Rattle.run_objects.proofs.machine.SeatedCore.look.Goals as goal
+use Rattle.run_objects.specs.ObjectFields.{IsNewest, look_seat}
+use Rattle.run_objects.proofs.Machines.{looked, looked_last}
+use Rattle.run_objects.proofs.machine.SeatedCore.word.Goals as goal
 
 pub invariant_of-self : goal.invariant_of-self
 invariant_of-self g c =
@@ -16,4 +16,12 @@ invariant_of-self g c =
     let is : IsSeatedCore (on c.look_from-word.new.events.token) =
     looked (on c.on-events.result.token) (on c.look_from-word.new.events.token) c.look_from-word.result kept c.look_from-word.new.events.seated c.look_from-word.new.events.unused
     refl c.look_from-word.ensures.grows rises in
-    record { placed = refl; kept = subst (λ (t : WordToken). IsSeatedCore (on t)) (sym c.off.ensures) is }
+    let last : IsNewest c.look_from-word.new.events.token c.look_from-word.result = record {
+      seen = looked_last (looked_of c.on-events.result.token) (looked_of c.look_from-word.new.events.token) c.look_from-word.result c.look_from-word.ensures.grows;
+      newest = sym c.look_from-word.ensures.floor;
+    } in
+    record {
+      placed = refl;
+      kept = subst (λ (t : WordToken). IsSeatedCore (on t)) (sym c.off.ensures) is;
+      last = subst (λ (t : WordToken). IsNewest t c.look_from-word.result) (sym c.off.ensures) last;
+    }
