@@ -1,5 +1,5 @@
 -- A turn and a jump of a run.
-use Rattle.std.proofs.Common.{◌≡◌, ◌≤◌, ◌∙◌, ◌&&◌, ℕ, true, nat_le, suc, List, [], ◌∷◌, length, refl, sym, ap, ap₂, subst, arith}
+use Rattle.std.proofs.Common.{◌≡◌, ◌≤◌, ◌∙◌, ◌&&◌, ℕ, true, nat_le, suc, List, [], ◌∷◌, length, refl, sym, ap, subst, arith}
 use Rattle.std.specs.List.{list_all}
 use Rattle.std.proofs.lemmas.Bool.Decides.{nat_tests}
 use Rattle.sleep_model.specs.declared.entry.Actor.{Actor}
@@ -21,7 +21,6 @@ use Rattle.sleep_core.specs.Cores.{CoreState, IsActor, core_after, made_entry, n
 use Rattle.core_history.specs.Histories.{last_stamp}
 use Rattle.sleep_script.specs.Jobs.{after_turn}
 use Rattle.sleep_script.proofs.Following.{turns_few}
-use Rattle.wakeup_source.specs.SourceStates.{SourceState}
 use Rattle.room_laws.specs.Ranged.{is_ranged}
 use Rattle.run_objects.specs.Objects.{SeatedCoreState, seats_of, sources_of}
 use Rattle.sleep_laws.proofs.Ending.{and_right}
@@ -33,8 +32,6 @@ use Rattle.running_laws.proofs.Invariant.{all_known}
 use Rattle.machine_rounds.specs.declared.run.Run.TheInside.{Inside}
 use Rattle.machine_rounds.specs.JobsOf.{JobsState, job_at, with_job}
 use Rattle.machine_rounds.specs.RunFields.{RunFieldsInvariant}
-use Rattle.machine_rounds.specs.Runs.{MadeNothing, RunState}
-use Rattle.machine_rounds.specs.Tries.{HasCalled}
 use Rattle.machine_rounds.proofs.JobsChanged.{jobs_with}
 use Rattle.machine_rounds.proofs.SeatedSources.{seats_same}
 
@@ -97,11 +94,3 @@ module _ (r : Inside) (k : RunFieldsInvariant r) where
       (subst (λ (j : JobsState). IsRunning m (e ∷ journal) sources (job_at j) stamp) (sym jobs_are)
       (running_turn m journal sources (job_at r.jobs) k.running who word kind a made high (omega (arith, high, last_low)) (legal_after new e core legal)
       (job_at (with_job r.jobs who job)) stamp attempt stamp_is (attempt_is ∙ ap (λ (p : List JournalEntry). attempts (entries p)) past) (jobs_with m r.jobs who job k.all_jobs a) timed ranged))
-
--- ---- after a look at the word
-
--- a call that was made is made
-pub called_on : (old new : RunState) (who : Actor) → MadeNothing old new → HasCalled old who → HasCalled new who
-called_on old new who same h =
-    ap₂ (λ (m : Machine) (s : List SourceState). calls_made m s who) same.machine same.sources
-    ∙ (h ∙ sym (ap₂ (λ (m : Machine) (j : List JournalEntry). calls_due m who (entries j)) same.machine same.journal))
